@@ -1,0 +1,43 @@
+-- What entries do. The rules of the queues are told entry by entry: what an entry does follows from
+-- what those before it did.
+use Rattle.std.specs.Prelude.{ℕ, ◌==◌, ◌&&◌, List, Bool}
+use Rattle.std.specs.List.{filter}
+use Rattle.std.specs.Str.{bytes_eq}
+use Rattle.cq_base.specs.declared.ask.Entry.{Entry}
+use Rattle.cq_base.specs.declared.reply.Reply.{Reply}
+use Rattle.cq_base.specs.Asks.{queue_of}
+
+-- What an entry did.
+pub record Fact : Type 0 where
+  -- the entry itself
+  pub entry : Entry
+  -- its number was above all earlier numbers of its client
+  pub fresh : Bool
+  -- the number of the incarnation by which its queue lived just before it; 0 if by none, or not fresh
+  pub incarnation : ℕ
+  -- its creation took effect, or its send was accepted
+  pub effective : Bool
+  -- of a creation that took effect, the number of its incarnation; of an accepted send, the sequence
+  -- number of its message; else 0
+  pub count : ℕ
+  -- the sequence numbers of the messages that it handed out, in order
+  pub handed : List ℕ
+  -- what it was answered with
+  pub reply : Reply
+
+-- the fact is of a fresh entry that names the queue
+abbrev pub is_about : List ℕ → Fact → Bool
+is_about queue f = f.fresh && bytes_eq (queue_of f.entry.request.ask) queue
+
+-- The facts of the fresh entries that name a queue. All that a fresh entry does follows from those
+-- about its own queue.
+unfoldable pub about : List ℕ → List Fact → List Fact
+about queue facts = filter (is_about queue) facts
+
+-- the fact is of an entry that came while its queue lived by the incarnation of number n
+abbrev pub is_on : ℕ → Fact → Bool
+is_on n f = f.incarnation == n
+
+-- of the facts about a queue, those on one incarnation
+unfoldable pub on : ℕ → List Fact → List Fact
+on n facts = filter (is_on n) facts

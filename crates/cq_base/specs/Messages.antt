@@ -1,0 +1,75 @@
+-- The messages of one incarnation of a queue. All facts here are those on that incarnation.
+use Rattle.std.specs.Prelude.{ℕ, ◌+◌, ◌*◌, ◌==◌, ◌&&◌, List, length, map, Bool, nat_lt, Option, None, Some}
+use Rattle.std.specs.List.{filter, find, list_any, last_or}
+use Rattle.std.specs.Str.{bytes_eq}
+use Rattle.cq_base.specs.Asks.{is_send, dedup_of, group_of, body_of, timeout_of}
+use Rattle.cq_base.specs.Facts.{Fact}
+
+-- the entry is a send that was accepted
+abbrev pub is_accepted : Fact → Bool
+is_accepted f = f.effective && is_send f.entry.request.ask
+
+-- The accepted sends, in order. Each is a message; its sequence number is the count of accepted sends
+-- up to it.
+unfoldable pub messages : List Fact → List Fact
+messages facts = filter is_accepted facts
+
+-- the five minutes in which a deduplication id counts, in milliseconds
+abbrev pub window : ℕ
+window = 300000
+
+-- the send has that deduplication id, and at that moment its five minutes aren't over
+abbrev pub is_duplicated_by : List ℕ → ℕ → Fact → Bool
+is_duplicated_by id moment f = bytes_eq (dedup_of f.entry.request.ask) id && nat_lt moment (f.entry.moment + window)
+
+-- The accepted send of the same deduplication id less than five minutes before, whatever its group and
+-- its body (SQS API Reference, "SendMessage", `MessageDeduplicationId`).
+unfoldable pub duplicate : List ℕ → ℕ → List Fact → Option Fact
+duplicate id moment facts = find (is_duplicated_by id moment) (messages facts)
+
+-- the entry handed out the message of that sequence number
+abbrev pub hands_it : ℕ → Fact → Bool
+hands_it sequence f = list_any (λ n. n == sequence) f.handed
+
+-- the entries that handed out the message
+unfoldable pub hands : ℕ → List Fact → List Fact
+hands sequence facts = filter (hands_it sequence) facts
+
+-- the moment at which the timeout that an entry gave a message ends
+abbrev pub end_of : ℕ → Fact → ℕ
+end_of default f = f.entry.moment + 1000 * timeout_of default f.entry.request.ask
+
+-- the same of the last of the entries that gave it one; 0 if there is none
+abbrev pub last_end : ℕ → Option Fact → ℕ
+last_end default None = 0
+last_end default (Some f) = end_of default f
+
+-- The moment up to which the message stays hidden, by the timeout of its last handing; 0 if it was
+-- never handed out. `default` is the queue's visibility timeout in seconds (SQS Developer Guide,
+-- "Amazon SQS visibility timeout").
+unfoldable pub until : ℕ → ℕ → List Fact → ℕ
+until default sequence facts = last_end default (last_or None (hands sequence facts))
+
+-- A message as it stands after all these entries.
+pub record Message : Type 0 where
+  pub sequence : ℕ
+  pub group : List ℕ
+  pub body : List ℕ
+  -- how many times it was handed out
+  pub handings : ℕ
+  -- the moment up to which it is hidden; 0 if it was never handed out
+  pub until : ℕ
+
+-- the message of an accepted send
+unfoldable pub message_of : ℕ → List Fact → Fact → Message
+message_of default facts f = record {
+  sequence = f.count;
+  group = group_of f.entry.request.ask;
+  body = body_of f.entry.request.ask;
+  handings = length (hands f.count facts);
+  until = until default f.count facts;
+}
+
+-- the messages as they stand, in order of sending
+unfoldable pub standing : ℕ → List Fact → List Message
+standing default facts = map (message_of default facts) (messages facts)

@@ -1,0 +1,115 @@
+ghost use Rattle.std.specs.Prelude.{◌≡◌, IfOk};
+ghost use Rattle.cq_base.specs.Asks.{queue_of};
+
+use crate::fault::NoMemory;
+use crate::number::{BatchSize, Moment, Seconds};
+use crate::text::{Body, DedupId, GroupId, QueueName};
+
+/// What a client asks of a queue.
+#[derive(Debug, PartialEq, Eq, Drop)]
+pub enum Ask {
+    /// Makes the queue, unless it lives already (SQS API Reference, "CreateQueue").
+    Create {
+        queue: QueueName,
+        visibility: Seconds,
+    },
+    /// Adds a message to the end of its group (SQS API Reference, "SendMessage").
+    Send {
+        queue: QueueName,
+        group: GroupId,
+        dedup: DedupId,
+        body: Body,
+    },
+    /// Hands out messages of open groups (SQS API Reference, "ReceiveMessage"). Without a visibility
+    /// timeout it takes the queue's.
+    Receive {
+        queue: QueueName,
+        size: BatchSize,
+        visibility: Option<Seconds>,
+    },
+}
+
+impl Ask {
+    /// The queue that it names.
+    pub fn queue(&self) -> &QueueName
+        ensures { result.now ≡ queue_of self.now }
+    {
+        match self {
+            Ask::Create { queue, .. } => queue,
+            Ask::Send { queue, .. } => queue,
+            Ask::Receive { queue, .. } => queue,
+        }
+    }
+
+    /// The same ask. It shares the texts: O(1).
+    pub fn try_copy(&self) -> Result<Ask, NoMemory>
+        ensures { IfOk result (λ copy. copy ≡ self.now) }
+    {
+        Ok(match self {
+            Ask::Create { queue, visibility } => Ask::Create {
+                queue: queue.try_copy()?,
+                visibility: *visibility,
+            },
+            Ask::Send {
+                queue,
+                group,
+                dedup,
+                body,
+            } => Ask::Send {
+                queue: queue.try_copy()?,
+                group: group.try_copy()?,
+                dedup: dedup.try_copy()?,
+                body: body.try_copy()?,
+            },
+            Ask::Receive {
+                queue,
+                size,
+                visibility,
+            } => Ask::Receive {
+                queue: queue.try_copy()?,
+                size: *size,
+                visibility: *visibility,
+            },
+        })
+    }
+}
+
+/// An ask of a client under a number of its own, by which a repeat is known.
+#[derive(Debug, PartialEq, Eq, Drop)]
+pub struct Request {
+    pub client: u32,
+    pub number: u64,
+    pub ask: Ask,
+}
+
+impl Request {
+    /// The same request. It shares the texts: O(1).
+    pub fn try_copy(&self) -> Result<Request, NoMemory>
+        ensures { IfOk result (λ copy. copy ≡ self.now) }
+    {
+        Ok(Request {
+            client: self.client,
+            number: self.number,
+            ask: self.ask.try_copy()?,
+        })
+    }
+}
+
+/// A request and the moment at which it counts.
+#[derive(Debug, PartialEq, Eq, Drop)]
+pub struct Entry {
+    pub moment: Moment,
+    pub request: Request,
+}
+
+impl Entry {
+    /// The same entry. It shares the texts: O(1).
+    pub fn try_copy(&self) -> Result<Entry, NoMemory>
+        ensures { IfOk result (λ copy. copy ≡ self.now) }
+    {
+        Ok(Entry {
+            moment: self.moment,
+            request: self.request.try_copy()?,
+        })
+    }
+}

@@ -1,0 +1,183 @@
+ghost use Rattle.std.specs.Prelude.{◌≡◌, ℕ, ◌^◌, ◌<◌, ◌≤◌, ◌↔◌, IsSome, IfSome};
+
+use std::marker::Model;
+
+/// The largest moment, in milliseconds.
+pub const MOMENT_LIMIT: u64 = 1_152_921_504_606_846_976;
+
+/// The longest visibility timeout, in seconds: twelve hours.
+pub const SECONDS_LIMIT: u32 = 43_200;
+
+/// The most messages that one receive may ask for.
+pub const BATCH_LIMIT: u8 = 10;
+
+/// The most servers that a chain may have.
+pub const CHAIN_LIMIT: u8 = 8;
+
+/// A moment in milliseconds, at most 2^60.
+#[derive(Clone, Copy, Debug, PartialEq, Eq, PartialOrd, Ord)]
+pub struct Moment {
+    milliseconds: u64,
+}
+
+impl Model for Moment {
+    ghost Value = { ℕ };
+
+    ghost view = { λ m. m.milliseconds };
+
+    ghost invariant = { λ m. m.milliseconds ≤ 2 ^ 60 };
+
+    ghost inverse = { λ n. record { milliseconds = n } };
+}
+
+impl Moment {
+    /// The moment so many milliseconds after the first; none above 2^60.
+    pub fn new(milliseconds: u64) -> Option<Moment>
+        ensures valid { IsSome result ↔ (milliseconds ≤ 2 ^ 60) }
+        ensures value { IfSome result (λ moment. moment ≡ milliseconds) }
+    {
+        if milliseconds <= MOMENT_LIMIT {
+            Some(Moment { milliseconds })
+        } else {
+            None
+        }
+    }
+
+    /// The first moment.
+    pub fn zero() -> Moment
+        ensures { result ≡ 0 }
+    {
+        Moment { milliseconds: 0 }
+    }
+
+    /// In milliseconds.
+    pub fn get(self) -> u64
+        ensures value { result ≡ self }
+        ensures limit { result ≤ 2 ^ 60 }
+    {
+        self.milliseconds
+    }
+}
+
+/// A visibility timeout in whole seconds, at most twelve hours (SQS Developer Guide, "Amazon SQS
+/// visibility timeout").
+#[derive(Clone, Copy, Debug, PartialEq, Eq, PartialOrd, Ord)]
+pub struct Seconds {
+    seconds: u32,
+}
+
+impl Model for Seconds {
+    ghost Value = { ℕ };
+
+    ghost view = { λ s. s.seconds };
+
+    ghost invariant = { λ s. s.seconds ≤ 43200 };
+
+    ghost inverse = { λ n. record { seconds = n } };
+}
+
+impl Seconds {
+    /// So many seconds; none above 43,200.
+    pub fn new(seconds: u32) -> Option<Seconds>
+        ensures valid { IsSome result ↔ (seconds ≤ 43200) }
+        ensures value { IfSome result (λ timeout. timeout ≡ seconds) }
+    {
+        if seconds <= SECONDS_LIMIT {
+            Some(Seconds { seconds })
+        } else {
+            None
+        }
+    }
+
+    /// No time at all.
+    pub fn zero() -> Seconds
+        ensures { result ≡ 0 }
+    {
+        Seconds { seconds: 0 }
+    }
+
+    /// In seconds.
+    pub fn get(self) -> u32
+        ensures value { result ≡ self }
+        ensures limit { result ≤ 43200 }
+    {
+        self.seconds
+    }
+}
+
+/// How many messages a receive asks for, from 1 to 10 (SQS API Reference, "ReceiveMessage",
+/// `MaxNumberOfMessages`).
+#[derive(Clone, Copy, Debug, PartialEq, Eq, PartialOrd, Ord)]
+pub struct BatchSize {
+    messages: u8,
+}
+
+impl Model for BatchSize {
+    ghost Value = { ℕ };
+
+    ghost view = { λ s. s.messages };
+
+    ghost invariant = { λ s. (1 ≤ s.messages) × (s.messages ≤ 10) };
+
+    ghost inverse = { λ n. record { messages = n } };
+}
+
+impl BatchSize {
+    /// So many messages; none for 0 and above 10.
+    pub fn new(messages: u8) -> Option<BatchSize>
+        ensures valid { IsSome result ↔ ((1 ≤ messages) × (messages ≤ 10)) }
+        ensures value { IfSome result (λ size. size ≡ messages) }
+    {
+        if 1 <= messages && messages <= BATCH_LIMIT {
+            Some(BatchSize { messages })
+        } else {
+            None
+        }
+    }
+
+    pub fn get(self) -> u8
+        ensures value { result ≡ self }
+        ensures positive { 1 ≤ result }
+        ensures limit { result ≤ 10 }
+    {
+        self.messages
+    }
+}
+
+/// How many servers a chain begins with, from 1 to 8.
+#[derive(Clone, Copy, Debug, PartialEq, Eq, PartialOrd, Ord)]
+pub struct ChainSize {
+    servers: u8,
+}
+
+impl Model for ChainSize {
+    ghost Value = { ℕ };
+
+    ghost view = { λ s. s.servers };
+
+    ghost invariant = { λ s. (1 ≤ s.servers) × (s.servers ≤ 8) };
+
+    ghost inverse = { λ n. record { servers = n } };
+}
+
+impl ChainSize {
+    /// So many servers; none for 0 and above 8.
+    pub fn new(servers: u8) -> Option<ChainSize>
+        ensures valid { IsSome result ↔ ((1 ≤ servers) × (servers ≤ 8)) }
+        ensures value { IfSome result (λ size. size ≡ servers) }
+    {
+        if 1 <= servers && servers <= CHAIN_LIMIT {
+            Some(ChainSize { servers })
+        } else {
+            None
+        }
+    }
+
+    pub fn get(self) -> u8
+        ensures value { result ≡ self }
+        ensures positive { 1 ≤ result }
+        ensures limit { result ≤ 8 }
+    {
+        self.servers
+    }
+}

@@ -1,0 +1,355 @@
+ghost use Rattle.std.specs.Prelude.{◌≡◌, ◌↔◌, true, false, List, ℕ, length, Some, IfOk, IfErr, IsErrOf};
+ghost use Rattle.std.specs.Arc.{arc_str_bytes};
+ghost use Rattle.std.specs.List.{list_all};
+ghost use Rattle.std.specs.Str.{bytes_eq};
+ghost use Rattle.std.specs.Cmp.Rules.{comparing};
+ghost use Rattle.std.proofs.Common.{rules};
+ghost use Rattle.cq_base.specs.Texts.{is_within, is_name_byte, is_queue_name, is_id, is_body_character, has_body_characters, has_body_length, is_body};
+
+use crate::fault::{BaseFault, NoMemory};
+use std::alloc::Global;
+use std::fmt;
+use std::marker::Model;
+use std::sync::ArcStr;
+
+/// The most bytes of a queue name, its suffix among them.
+const NAME_LIMIT: usize = 80;
+
+/// The most bytes of a message group id or a message deduplication id.
+const ID_LIMIT: usize = 128;
+
+/// The most bytes of a message body.
+const BODY_LIMIT: usize = 262_144;
+
+fn is_name_byte(byte: u8) -> bool
+    ensures { result ≡ is_name_byte byte }
+{
+    matches!(byte, b'a'..=b'z' | b'A'..=b'Z' | b'0'..=b'9' | b'-' | b'_')
+}
+
+fn are_name_bytes(bytes: &[u8]) -> bool
+    ensures { result ≡ list_all is_name_byte bytes.now }
+{
+    bytes.iter().all(|byte| is_name_byte(*byte))
+}
+
+fn is_queue_name(bytes: &[u8]) -> bool
+    ensures { result ≡ is_queue_name bytes.now }
+{
+    let fits = bytes.len() <= NAME_LIMIT && 5 < bytes.len() && bytes.ends_with(b".fifo");
+    fits && are_name_bytes(&bytes[..bytes.len() - 5])
+}
+
+fn are_id_bytes(bytes: &[u8]) -> bool
+    ensures { result ≡ list_all (is_within 33 126) bytes.now }
+{
+    bytes.iter().all(|byte| 33 <= *byte && *byte <= 126)
+}
+
+fn is_id(bytes: &[u8]) -> bool
+    ensures { result ≡ is_id bytes.now }
+{
+    1 <= bytes.len() && bytes.len() <= ID_LIMIT && are_id_bytes(bytes)
+}
+
+fn is_body_character(character: char) -> bool
+    ensures { result ≡ is_body_character character }
+{
+    matches!(character, '\t' | '\n' | '\r' | ' '..='\u{d7ff}' | '\u{e000}'..='\u{fffd}' | '\u{10000}'..='\u{10ffff}')
+}
+
+fn has_body_characters(text: &str) -> bool
+    ensures { result ≡ has_body_characters text.now }
+{
+    text.chars().all(|character| is_body_character(character))
+}
+
+fn has_body_length(text: &str) -> bool
+    ensures { result ≡ has_body_length text.now }
+{
+    1 <= text.len() && text.len() <= BODY_LIMIT
+}
+
+/// The name of a FIFO queue: at most 80 bytes, with `.fifo` at its end (SQS API Reference, "CreateQueue").
+#[derive(Debug, Drop)]
+pub struct QueueName {
+    text: ArcStr,
+}
+
+impl Model for QueueName {
+    ghost Value = { List ℕ };
+
+    ghost view = { λ t. arc_str_bytes t.text };
+
+    ghost invariant = { λ t. is_queue_name (arc_str_bytes t.text) ≡ true };
+}
+
+impl QueueName {
+    /// The queue name with that text. It takes a copy of the text, O(length of the text).
+    pub fn new(alloc: Global, text: &str) -> Result<QueueName, BaseFault>
+        ensures value { IfOk result (λ made. made ≡ text.now) }
+        ensures bad { IsErrOf result BaseFault.BadQueueName ↔ (is_queue_name text.now ≡ false) }
+        ensures memory { IfErr result (λ fault. is_queue_name text.now ≡ true → fault ≡ BaseFault.NoMemory) }
+    {
+        if !is_queue_name(text.as_bytes()) {
+            return Err(BaseFault::BadQueueName);
+        }
+        Ok(QueueName {
+            text: ArcStr::from_str(alloc, text)?,
+        })
+    }
+
+    pub fn as_str(&self) -> &str
+        ensures text { result.now ≡ self.now }
+        ensures valid { is_queue_name self.now ≡ true }
+    {
+        let _ = &self.text;
+        self.text.as_str()
+    }
+
+    /// The same name. It shares the text, so that its cost does not grow with the text.
+    pub fn try_copy(&self) -> Result<QueueName, NoMemory>
+        ensures { IfOk result (λ copy. copy ≡ self.now) }
+    {
+        Ok(QueueName {
+            text: self.text.clone()?,
+        })
+    }
+}
+
+impl PartialEq for QueueName {
+    ghost eq = { bytes_eq };
+
+    ghost laws = { Prim.search (comparing, rules) };
+
+    fn eq(&self, other: &QueueName) -> bool {
+        self.as_str() == other.as_str()
+    }
+}
+
+impl Eq for QueueName {
+    ghost laws = { Prim.search (comparing, rules) };
+}
+
+impl fmt::Display for QueueName {
+    ghost output = { λ t. Some t };
+
+    fn fmt<W: fmt::Write>(&self, f: &mut fmt::Formatter<W>) -> fmt::Result {
+        f.pad(self.as_str())
+    }
+}
+
+/// A message group id, 1 to 128 bytes (SQS API Reference, "SendMessage", `MessageGroupId`).
+#[derive(Debug, Drop)]
+pub struct GroupId {
+    text: ArcStr,
+}
+
+impl Model for GroupId {
+    ghost Value = { List ℕ };
+
+    ghost view = { λ t. arc_str_bytes t.text };
+
+    ghost invariant = { λ t. is_id (arc_str_bytes t.text) ≡ true };
+}
+
+impl GroupId {
+    /// The id with that text. It takes a copy of the text, O(length of the text).
+    pub fn new(alloc: Global, text: &str) -> Result<GroupId, BaseFault>
+        ensures value { IfOk result (λ made. made ≡ text.now) }
+        ensures bad { IsErrOf result BaseFault.BadGroup ↔ (is_id text.now ≡ false) }
+        ensures memory { IfErr result (λ fault. is_id text.now ≡ true → fault ≡ BaseFault.NoMemory) }
+    {
+        if !is_id(text.as_bytes()) {
+            return Err(BaseFault::BadGroup);
+        }
+        Ok(GroupId {
+            text: ArcStr::from_str(alloc, text)?,
+        })
+    }
+
+    pub fn as_str(&self) -> &str
+        ensures text { result.now ≡ self.now }
+        ensures valid { is_id self.now ≡ true }
+    {
+        let _ = &self.text;
+        self.text.as_str()
+    }
+
+    /// The same id. It shares the text, so that its cost does not grow with the text.
+    pub fn try_copy(&self) -> Result<GroupId, NoMemory>
+        ensures { IfOk result (λ copy. copy ≡ self.now) }
+    {
+        Ok(GroupId {
+            text: self.text.clone()?,
+        })
+    }
+}
+
+impl PartialEq for GroupId {
+    ghost eq = { bytes_eq };
+
+    ghost laws = { Prim.search (comparing, rules) };
+
+    fn eq(&self, other: &GroupId) -> bool {
+        self.as_str() == other.as_str()
+    }
+}
+
+impl Eq for GroupId {
+    ghost laws = { Prim.search (comparing, rules) };
+}
+
+impl fmt::Display for GroupId {
+    ghost output = { λ t. Some t };
+
+    fn fmt<W: fmt::Write>(&self, f: &mut fmt::Formatter<W>) -> fmt::Result {
+        f.pad(self.as_str())
+    }
+}
+
+/// A message deduplication id, 1 to 128 bytes (SQS API Reference, "SendMessage",
+/// `MessageDeduplicationId`).
+#[derive(Debug, Drop)]
+pub struct DedupId {
+    text: ArcStr,
+}
+
+impl Model for DedupId {
+    ghost Value = { List ℕ };
+
+    ghost view = { λ t. arc_str_bytes t.text };
+
+    ghost invariant = { λ t. is_id (arc_str_bytes t.text) ≡ true };
+}
+
+impl DedupId {
+    /// The id with that text. It takes a copy of the text, O(length of the text).
+    pub fn new(alloc: Global, text: &str) -> Result<DedupId, BaseFault>
+        ensures value { IfOk result (λ made. made ≡ text.now) }
+        ensures bad { IsErrOf result BaseFault.BadDedup ↔ (is_id text.now ≡ false) }
+        ensures memory { IfErr result (λ fault. is_id text.now ≡ true → fault ≡ BaseFault.NoMemory) }
+    {
+        if !is_id(text.as_bytes()) {
+            return Err(BaseFault::BadDedup);
+        }
+        Ok(DedupId {
+            text: ArcStr::from_str(alloc, text)?,
+        })
+    }
+
+    pub fn as_str(&self) -> &str
+        ensures text { result.now ≡ self.now }
+        ensures valid { is_id self.now ≡ true }
+    {
+        let _ = &self.text;
+        self.text.as_str()
+    }
+
+    /// The same id. It shares the text, so that its cost does not grow with the text.
+    pub fn try_copy(&self) -> Result<DedupId, NoMemory>
+        ensures { IfOk result (λ copy. copy ≡ self.now) }
+    {
+        Ok(DedupId {
+            text: self.text.clone()?,
+        })
+    }
+}
+
+impl PartialEq for DedupId {
+    ghost eq = { bytes_eq };
+
+    ghost laws = { Prim.search (comparing, rules) };
+
+    fn eq(&self, other: &DedupId) -> bool {
+        self.as_str() == other.as_str()
+    }
+}
+
+impl Eq for DedupId {
+    ghost laws = { Prim.search (comparing, rules) };
+}
+
+impl fmt::Display for DedupId {
+    ghost output = { λ t. Some t };
+
+    fn fmt<W: fmt::Write>(&self, f: &mut fmt::Formatter<W>) -> fmt::Result {
+        f.pad(self.as_str())
+    }
+}
+
+/// A message body, 1 to 262,144 bytes of text (SQS API Reference, "SendMessage", `MessageBody`).
+#[derive(Debug, Drop)]
+pub struct Body {
+    text: ArcStr,
+}
+
+impl Model for Body {
+    ghost Value = { List ℕ };
+
+    ghost view = { λ t. arc_str_bytes t.text };
+
+    ghost invariant = { λ t. is_body (arc_str_bytes t.text) ≡ true };
+}
+
+impl Body {
+    /// The body with that text. It takes a copy of the text, O(length of the text). The characters are
+    /// looked at before the length.
+    pub fn new(alloc: Global, text: &str) -> Result<Body, BaseFault>
+        ensures value { IfOk result (λ made. made ≡ text.now) }
+        ensures contents { IsErrOf result BaseFault.InvalidMessageContents
+            ↔ (has_body_characters text.now ≡ false) }
+        ensures length { has_body_characters text.now ≡ true
+            → (IsErrOf result BaseFault.BodyLength ↔ (has_body_length text.now ≡ false)) }
+        ensures memory { IfErr result (λ fault. is_body text.now ≡ true → fault ≡ BaseFault.NoMemory) }
+    {
+        if !has_body_characters(text) {
+            return Err(BaseFault::InvalidMessageContents);
+        }
+        if !has_body_length(text) {
+            return Err(BaseFault::BodyLength);
+        }
+        Ok(Body {
+            text: ArcStr::from_str(alloc, text)?,
+        })
+    }
+
+    pub fn as_str(&self) -> &str
+        ensures text { result.now ≡ self.now }
+        ensures valid { is_body self.now ≡ true }
+    {
+        let _ = &self.text;
+        self.text.as_str()
+    }
+
+    /// The same body. It shares the text, so that its cost does not grow with the text.
+    pub fn try_copy(&self) -> Result<Body, NoMemory>
+        ensures { IfOk result (λ copy. copy ≡ self.now) }
+    {
+        Ok(Body {
+            text: self.text.clone()?,
+        })
+    }
+}
+
+impl PartialEq for Body {
+    ghost eq = { bytes_eq };
+
+    ghost laws = { Prim.search (comparing, rules) };
+
+    fn eq(&self, other: &Body) -> bool {
+        self.as_str() == other.as_str()
+    }
+}
+
+impl Eq for Body {
+    ghost laws = { Prim.search (comparing, rules) };
+}
+
+impl fmt::Display for Body {
+    ghost output = { λ t. Some t };
+
+    fn fmt<W: fmt::Write>(&self, f: &mut fmt::Formatter<W>) -> fmt::Result {
+        f.pad(self.as_str())
+    }
+}
