@@ -1,0 +1,4 @@
+pub mod Hands
+pub mod Lasts
+pub mod Scans
+pub mod Stood
