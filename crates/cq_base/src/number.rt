@@ -173,6 +173,13 @@ impl ChainSize {
         }
     }
 
+    /// One server alone.
+    pub fn one() -> ChainSize
+        ensures { result ≡ 1 }
+    {
+        ChainSize { servers: 1 }
+    }
+
     pub fn get(self) -> u8
         ensures value { result ≡ self }
         ensures positive { 1 ≤ result }

@@ -1,0 +1,13 @@
+-- lines in
+pub mod JsonText
+pub mod Members
+pub mod Sizes
+pub mod Cutting
+pub mod ReadSoFar
+pub mod Ends
+-- lines out
+pub mod Floats
+pub mod Texts
+-- what a script does
+pub mod Replayed
+pub mod WorldStates

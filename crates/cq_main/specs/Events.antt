@@ -1,0 +1,73 @@
+-- The events that JSON objects say: which keys an object has, and in which order its faults count.
+-- All members are read before a text is looked at, so an object with any other fault is bad.
+use Rattle.std.specs.Prelude.{◌-◌, ◌^◌, ◌&&◌, ◌==◌, [], ◌∷◌, codes, if◌then◌else◌, Result, Ok, Err, unwrap_or}
+use Rattle.std.specs.Str.{bytes_eq}
+use Rattle.serde_json.specs.Data.{Data}
+use Rattle.cq_base.specs.declared.ask.Ask.{Ask}
+use Rattle.cq_base.specs.declared.ask.Ask.TheVariants.{Create, Send, Receive}
+use Rattle.cq_main.specs.Fields.{Reason, bad, ◌>>=◌, has_only, member_at, text_at, number_at, number_if_at, queue_name, group_id, dedup_id, message_body}
+use Rattle.cq_main.specs.declared.script.event.Event.{Event}
+use Rattle.cq_main.specs.declared.script.event.Event.TheVariants.{Arrive, Put}
+
+-- A queue is made with a visibility timeout of 30 seconds where none is said (SQS API Reference,
+-- "CreateQueue", `VisibilityTimeout`).
+unfoldable pub create_in : Data → Result Ask Reason
+create_in d = if has_only (codes "kind" ∷ codes "queue" ∷ codes "visibility" ∷ []) d then (do
+  name ← text_at (codes "queue") d
+  visibility ← number_if_at 0 43200 (codes "visibility") d
+  queue ← queue_name name
+  Ok (Create queue (unwrap_or visibility 30))) else Err bad
+
+-- A send names its group and its deduplication id itself (SQS API Reference, "SendMessage").
+unfoldable pub send_in : Data → Result Ask Reason
+send_in d = if has_only (codes "kind" ∷ codes "queue" ∷ codes "group" ∷ codes "dedup" ∷ codes "body" ∷ []) d then (do
+  queue_text ← text_at (codes "queue") d
+  group_text ← text_at (codes "group") d
+  dedup_text ← text_at (codes "dedup") d
+  body_text ← text_at (codes "body") d
+  queue ← queue_name queue_text
+  group ← group_id group_text
+  dedup ← dedup_id dedup_text
+  body ← message_body body_text
+  Ok (Send queue group dedup body)) else Err bad
+
+-- A receive asks for one message where no size is said (SQS API Reference, "ReceiveMessage",
+-- `MaxNumberOfMessages`).
+unfoldable pub receive_in : Data → Result Ask Reason
+receive_in d = if has_only (codes "kind" ∷ codes "queue" ∷ codes "size" ∷ codes "visibility" ∷ []) d then (do
+  name ← text_at (codes "queue") d
+  size ← number_if_at 1 10 (codes "size") d
+  visibility ← number_if_at 0 43200 (codes "visibility") d
+  queue ← queue_name name
+  Ok (Receive queue (unwrap_or size 1) visibility)) else Err bad
+
+-- the ask that the object says, by its kind
+unfoldable pub ask_in : Data → Result Ask Reason
+ask_in d = do
+  kind ← text_at (codes "kind") d
+  if bytes_eq kind (codes "create") then create_in d else (if bytes_eq kind (codes "send") then send_in d else (if bytes_eq kind (codes "receive") then receive_in d else Err bad))
+
+-- A request of a client reaches a server. Servers count from 1, and moments go up to 2^60 (choices of
+-- this project).
+unfoldable pub arrive_in : Data → Result Event Reason
+arrive_in d = if has_only (codes "op" ∷ codes "at" ∷ codes "clock" ∷ codes "client" ∷ codes "number" ∷ codes "ask" ∷ []) d then (do
+  at ← number_at 1 (2 ^ 32 - 1) (codes "at") d
+  clock ← number_at 0 (2 ^ 60) (codes "clock") d
+  client ← number_at 0 (2 ^ 32 - 1) (codes "client") d
+  number ← number_at 0 (2 ^ 64 - 1) (codes "number") d
+  inner ← member_at (codes "ask") d
+  ask ← ask_in inner
+  Ok (Arrive at clock (record { client = client; number = number; ask = ask }))) else Err bad
+
+-- The first answer that waits is given. Server 1 alone gives answers, and to the clients alone.
+unfoldable pub put_in : Data → Result Event Reason
+put_in d = if has_only (codes "op" ∷ codes "from" ∷ codes "to" ∷ []) d then (do
+  from ← number_at 1 (2 ^ 32 - 1) (codes "from") d
+  to ← text_at (codes "to") d
+  if from == 1 && bytes_eq to (codes "clients") then Ok Put else Err bad) else Err bad
+
+-- the event that the object says, by its operation
+unfoldable pub event_in : Data → Result Event Reason
+event_in d = do
+  op ← text_at (codes "op") d
+  if bytes_eq op (codes "arrive") then arrive_in d else (if bytes_eq op (codes "put") then put_in d else Err bad)

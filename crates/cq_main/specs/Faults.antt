@@ -1,0 +1,29 @@
+-- The number and the name of each fault.
+use Rattle.std.specs.Prelude.{ℕ, List, codes}
+use Rattle.cq_main.specs.declared.script.fault.ScriptFault.{ScriptFault}
+use Rattle.cq_main.specs.declared.script.fault.ScriptFault.TheVariants.{BadLine, LineTooLong, TooManyLines, ReadFailed, WriteFailed, NoMemory}
+
+abbrev pub code_of : ScriptFault → ℕ
+code_of (BadLine n) = 61
+code_of (LineTooLong n) = 62
+code_of TooManyLines = 63
+code_of ReadFailed = 64
+code_of WriteFailed = 65
+code_of NoMemory = 20
+
+abbrev pub name_of : ScriptFault → List ℕ
+name_of (BadLine n) = codes "BadLine"
+name_of (LineTooLong n) = codes "LineTooLong"
+name_of TooManyLines = codes "TooManyLines"
+name_of ReadFailed = codes "ReadFailed"
+name_of WriteFailed = codes "WriteFailed"
+name_of NoMemory = codes "NoMemory"
+
+-- the status with which the program ends: 2 where the script is at fault, and else 3
+abbrev pub status_of : ScriptFault → ℕ
+status_of (BadLine n) = 2
+status_of (LineTooLong n) = 2
+status_of TooManyLines = 2
+status_of ReadFailed = 3
+status_of WriteFailed = 3
+status_of NoMemory = 3

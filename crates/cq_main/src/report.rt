@@ -1,0 +1,66 @@
+ghost use Rattle.std.specs.Prelude.{◌≡◌};
+ghost use Rattle.cq_main.specs.Faults.{status_of};
+
+use crate::script::ScriptFault;
+use std::io;
+use std::io::Write;
+
+/// The line of the script at which the fault is, if it is at one.
+fn line_of(fault: &ScriptFault) -> Option<u64> {
+    match fault {
+        ScriptFault::BadLine(line) | ScriptFault::LineTooLong(line) => Some(*line),
+        ScriptFault::TooManyLines
+        | ScriptFault::ReadFailed
+        | ScriptFault::WriteFailed
+        | ScriptFault::NoMemory => None,
+    }
+}
+
+fn write_fault<W: Write>(fault: &ScriptFault, writer: &mut W) -> io::Result<()> {
+    let code = fault.code();
+    let name = fault.name();
+    match line_of(fault) {
+        Some(line) => writeln!(writer, "cq: {code} {name} line {line}"),
+        None => writeln!(writer, "cq: {code} {name}"),
+    }
+}
+
+/// Writes the line of a fault, such as `cq: 61 BadLine line 3`, and gives the status with which the program
+/// ends: 2 where the script is at fault, and else 3. That the line can't be written changes nothing.
+pub fn report<W: Write>(fault: &ScriptFault, writer: &mut W) -> u8
+    ensures { result ≡ status_of fault.now }
+{
+    let _ = write_fault(fault, writer);
+    match fault {
+        ScriptFault::BadLine(_) | ScriptFault::LineTooLong(_) | ScriptFault::TooManyLines => 2,
+        ScriptFault::ReadFailed | ScriptFault::WriteFailed | ScriptFault::NoMemory => 3,
+    }
+}
+
+#[cfg(test)]
+mod tests {
+    use super::*;
+    use std::test::Fail;
+
+    #[test]
+    fn tells_the_fault_and_the_status(rt: HostRuntime) -> Result<(), Fail> {
+        let cases = [
+            (ScriptFault::BadLine(3), 2, "cq: 61 BadLine line 3\n"),
+            (
+                ScriptFault::LineTooLong(1),
+                2,
+                "cq: 62 LineTooLong line 1\n",
+            ),
+            (ScriptFault::TooManyLines, 2, "cq: 63 TooManyLines\n"),
+            (ScriptFault::ReadFailed, 3, "cq: 64 ReadFailed\n"),
+            (ScriptFault::WriteFailed, 3, "cq: 65 WriteFailed\n"),
+            (ScriptFault::NoMemory, 3, "cq: 20 NoMemory\n"),
+        ];
+        for (fault, status, text) in cases {
+            let mut written = Vec::new(rt.alloc());
+            assert_eq!(rt; report(&fault, &mut written), status);
+            assert_eq!(rt; written.as_slice(), text.as_bytes());
+        }
+        Ok(())
+    }
+}
