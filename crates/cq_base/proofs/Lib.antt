@@ -1,2 +1,3 @@
+pub mod HandleTexts
 pub mod Histories
 pub mod Rows

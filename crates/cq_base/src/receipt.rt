@@ -1,9 +1,10 @@
-ghost use Rattle.std.specs.Prelude.{◌≡◌, ◌<◌, ◌↔◌, ◌++◌, IsSome, IfSome, OnOk, OnErr, Some};
-ghost use Rattle.cq_base.specs.Handle.{Handle, handle_text};
+ghost use Rattle.std.specs.Prelude.{◌≡◌, ◌≢◌, ◌<◌, ◌↔◌, ◌++◌, IsSome, IfSome, IfNone, OnOk, OnErr, Some, ℕ};
+ghost use Rattle.std.specs.Fmt.{decimal};
+ghost use Rattle.cq_base.specs.Handle.{Handle, IsHandle, IsHandleNumber, handle_text};
 
 use crate::fault::NoMemory;
-use std::fmt;
 use std::marker::Model;
+use std::{fmt, str};
 
 /// A receipt handle: the incarnation of the queue, the message's sequence number in it, and which
 /// handing of that message it stands for (SQS API Reference, "Message", `ReceiptHandle`).
@@ -24,6 +25,19 @@ impl Model for Receipt {
     ghost inverse = { λ h. record { incarnation = h.incarnation; sequence = h.sequence; handing = h.handing } };
 }
 
+/// The number from 1 to 2^64 - 1 that the text gives in decimal, without leading zeros; none for any
+/// other text.
+fn read_number(text: &str) -> Option<u64>
+    ensures found { IfSome result (λ n. text.now ≡ decimal n) }
+    ensures in_range { IfSome result IsHandleNumber }
+    ensures none { IfNone result ((n : ℕ) → IsHandleNumber n → text.now ≢ decimal n) }
+{
+    if text.starts_with('0') || text.starts_with('+') {
+        return None;
+    }
+    text.parse().ok()
+}
+
 impl Receipt {
     /// The receipt of these three numbers; none if one of them is 0.
     pub fn new(incarnation: u64, sequence: u64, handing: u64) -> Option<Receipt>
@@ -38,6 +52,25 @@ impl Receipt {
             incarnation,
             sequence,
             handing,
+        })
+    }
+
+    /// The receipt with that text: three decimal numbers from 1 to 2^64 - 1, without leading zeros,
+    /// with `-` between them; none for any other bytes. It takes no memory.
+    pub fn read(bytes: &[u8]) -> Option<Receipt>
+        ensures found { IfSome result (λ receipt. bytes.now ≡ handle_text receipt) }
+        ensures in_range { IfSome result IsHandle }
+        ensures only { IfSome result (λ receipt. (h : Handle) → IsHandle h
+            → bytes.now ≡ handle_text h → h ≡ receipt) }
+        ensures none { IfNone result ((h : Handle) → IsHandle h → bytes.now ≢ handle_text h) }
+    {
+        let text = str::from_utf8(bytes).ok()?;
+        let (incarnation, rest) = text.split_once('-')?;
+        let (sequence, handing) = rest.split_once('-')?;
+        Some(Receipt {
+            incarnation: read_number(incarnation)?,
+            sequence: read_number(sequence)?,
+            handing: read_number(handing)?,
         })
     }
 

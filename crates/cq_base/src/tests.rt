@@ -148,6 +148,33 @@ fn receipts_are_written(rt: HostRuntime) -> Result<(), Fail> {
     Ok(())
 }
 
+#[test]
+fn receipts_are_read(rt: HostRuntime) -> Result<(), Fail> {
+    for text in ["1-2-3", "18446744073709551615-1-1"] {
+        let receipt = Receipt::read(text.as_bytes()).ok_or("no receipt")?;
+        let mut again = Vec::new(rt.alloc());
+        receipt.write_into(&mut again)?;
+        assert_eq!(rt; again.as_slice(), text.as_bytes());
+    }
+    assert_eq!(rt; Receipt::read(b"1-2-3"), Receipt::new(1, 2, 3));
+    for text in [
+        "01-2-3",
+        "0-1-1",
+        "1-2",
+        "1-2-3-",
+        "-1-2-3",
+        "+1-1-1",
+        "1--1",
+        "18446744073709551616-1-1",
+        "1-2-3 ",
+        "",
+    ] {
+        assert_eq!(rt; Receipt::read(text.as_bytes()), None, "{text}");
+    }
+    assert_eq!(rt; Receipt::read(b"1-\xff-3"), None);
+    Ok(())
+}
+
 fn entry(alloc: Global, ask: Ask) -> Result<Entry, Fail> {
     let moment = Moment::new(7).ok_or("no moment")?;
     let request = Request {
