@@ -1,2 +1,4 @@
 pub mod Scans
 pub mod Stands
+pub mod Relations
+pub mod Laws

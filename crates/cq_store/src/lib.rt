@@ -4,6 +4,8 @@
 mod clients;
 mod effects;
 mod kept;
+/// Laws of the queue object, each the contract of a function, for every list of entries.
+pub mod laws;
 mod lifetimes;
 mod messages;
 mod receive;

@@ -1,0 +1,79 @@
+-- Fronts of lists, and of what is made from lists.
+use Rattle.std.proofs.Common.{◌≡◌, ℕ, ◌<◌, ◌∙◌, ap, sym, List, [], ◌∷◌, ◌++◌, map, take, drop, Bool, true, false, eqb, append_assoc, append-nil, arith, inl, inr, subst, refl}
+use Rattle.std.specs.List.{filter, flat_map}
+use Rattle.std.proofs.lemmas.Bool.{cases_Bool, or_cases, or_left, or_right, eqb-true, eq-eqb, not_from_true, not_from_false, false_from_ne_true, false≢true}
+use Rattle.std.proofs.lemmas.List.{take-append-drop, map-append}
+use Rattle.std.proofs.lemmas.List.Elements.{filter-append}
+use Rattle.cq_store.specs.Laws.{is_in, is_new_to}
+use Rattle.cq_store.specs.Relations.{Among, Pairwise, Front}
+use Rattle.cq_store.proofs.Among.{among-filter, among-kept, among-right}
+use Rattle.cq_store.proofs.Filters.{filter-none, filter-swapped, filter-all}
+use Rattle.cq_store.proofs.Pairs.{pairwise-apart}
+
+-- a front of a list is one of a longer list
+pub front-longer : {X : Type 0} (xs ys zs : List X) → Front xs ys → Front xs (ys ++ zs)
+front-longer xs ys zs h = (h.0 ++ zs, ap (λ us. us ++ zs) h.1 ∙ append_assoc xs h.0 zs)
+
+-- a front of a front is one
+pub front-front : {X : Type 0} (xs ys zs : List X) → Front xs ys → Front ys zs → Front xs zs
+front-front xs ys zs h k = (h.0 ++ k.0, k.1 ∙ ap (λ us. us ++ k.0) h.1 ∙ append_assoc xs h.0 k.0)
+
+-- what passes of a front is a front of what passes
+pub front-filter : {X : Type 0} (p : X → Bool) (xs ys : List X) → Front xs ys → Front (filter p xs) (filter p ys)
+front-filter p xs ys h = (filter p h.0, ap (λ us. filter p us) h.1 ∙ filter-append p xs h.0)
+
+-- the image of a front is a front of the image
+pub front-map : {X Y : Type 0} (f : X → Y) (xs ys : List X) → Front xs ys → Front (map f xs) (map f ys)
+front-map f xs ys h = (map f h.0, ap (λ us. map f us) h.1 ∙ map-append f xs h.0)
+
+-- the first elements are a front
+pub front-take : {X : Type 0} (n : ℕ) (xs : List X) → Front (take n xs) xs
+front-take n xs = (drop n xs, sym (take-append-drop n xs))
+
+-- where each gives nothing, nothing is joined
+flat-none : {X Y : Type 0} (f : X → List Y) (xs : List X) → ((x : X) → Among x xs → f x ≡ []) → flat_map f xs ≡ []
+flat-none f [] h = refl
+flat-none f (x ∷ xs) h = ap (λ ys. ys ++ flat_map f xs) (h x (inl refl)) ∙ flat-none f xs (λ y m. h y (inr m))
+
+-- where one element at most gives the list, and the others give nothing, they give a front of it
+pub flat-front : {X Y : Type 0} (p : X → Bool) (f : X → List Y) (ys : List Y) (xs : List X) → ((x : X) → p x ≡ true → f x ≡ ys) → ((x : X) → p x ≡ false → f x ≡ []) → Pairwise (λ a b. p a ≡ true → p b ≡ false) xs → Front (flat_map f xs) ys
+flat-front p f ys [] gives lacks h = (ys, refl)
+flat-front p f ys (x ∷ xs) gives lacks h = elim (cases_Bool (p x)) [
+  | inl own ↦ ([], sym (append-nil (f x ++ flat_map f xs) ∙ ap (λ us. f x ++ us) (flat-none f xs (λ y m. lacks y (h.0 y m own))) ∙ append-nil (f x) ∙ gives x own))
+  | inr other ↦ subst (λ us. Front (us ++ flat_map f xs) ys) (sym (lacks x other)) (flat-front p f ys xs gives lacks h.1)
+]
+
+-- the test for a number in a list, and that it is among it
+pub in-among : (numbers : List ℕ) (n : ℕ) → is_in numbers n ≡ true → Among n numbers
+in-among [] n h = absurd (false≢true h)
+in-among (m ∷ numbers) n h = elim (or_cases (eqb m n) (is_in numbers n) h) [ inl e ↦ inl (sym (eqb-true m n e)) | inr r ↦ inr (in-among numbers n r) ]
+
+-- what is among them is found by the test
+pub among-in : (numbers : List ℕ) (n : ℕ) → Among n numbers → is_in numbers n ≡ true
+among-in [] n h = absurd h
+among-in (m ∷ numbers) n (inl e) = or_left (eqb m n) (is_in numbers n) (eq-eqb m n (sym e))
+among-in (m ∷ numbers) n (inr h) = or_right (eqb m n) (is_in numbers n) (among-in numbers n h)
+
+-- of a rising list, what stands after those that were seen wasn't seen
+rest_new : (numbers seen rest : List ℕ) → Pairwise (λ a b. a < b) numbers → numbers ≡ filter (is_in numbers) seen ++ rest → (n : ℕ) → Among n rest → is_new_to seen n ≡ true
+rest_new numbers seen rest rising split n at = not_from_false (is_in seen n) (false_from_ne_true (is_in seen n) (λ known.
+    let own = among-in numbers n (subst (λ ns. Among n ns) (sym split) (among-right n (filter (is_in numbers) seen) rest at)) in
+    let front = among-kept (is_in numbers) n seen own (in-among seen n known) in
+    let less : n < n = pairwise-apart (λ a b. a < b) (filter (is_in numbers) seen) rest n n (subst (λ ns. Pairwise (λ a b. a < b) ns) split rising) front at in absurd (omega arith)))
+
+-- those that weren't seen are what stands after those that were
+unseen-rest : (numbers seen rest : List ℕ) → Pairwise (λ a b. a < b) numbers → numbers ≡ filter (is_in numbers) seen ++ rest → filter (is_new_to seen) numbers ≡ rest
+unseen-rest numbers seen rest rising split =
+    ap (λ ns. filter (is_new_to seen) ns) split
+    ∙ filter-append (is_new_to seen) (filter (is_in numbers) seen) rest
+    ∙ ap (λ ns. ns ++ filter (is_new_to seen) rest) (filter-none (is_new_to seen) (filter (is_in numbers) seen) (λ n m. not_from_true (is_in seen n) (among-in seen n (among-filter (is_in numbers) n seen m).0)))
+    ∙ filter-all (is_new_to seen) rest (rest_new numbers seen rest rising split)
+
+-- Where those that were seen are a front of a rising list, and those that are handed out are one too, the
+-- new ones of these stand at the end of that front.
+pub front-more : (numbers seen handed : List ℕ) → Pairwise (λ a b. a < b) numbers → Front (filter (is_in numbers) seen) numbers → Front (filter (is_in numbers) handed) numbers → Front (filter (is_in numbers) (seen ++ filter (is_new_to seen) handed)) numbers
+front-more numbers seen handed rising old more =
+    let new = filter (is_new_to seen) (filter (is_in numbers) handed) in
+    let joined : filter (is_in numbers) (seen ++ filter (is_new_to seen) handed) ≡ filter (is_in numbers) seen ++ new = filter-append (is_in numbers) seen (filter (is_new_to seen) handed) ∙ ap (λ ns. filter (is_in numbers) seen ++ ns) (filter-swapped (is_new_to seen) (is_in numbers) handed) in
+    let split : old.0 ≡ new ++ filter (is_new_to seen) more.0 = sym (unseen-rest numbers seen old.0 rising old.1) ∙ ap (λ ns. filter (is_new_to seen) ns) more.1 ∙ filter-append (is_new_to seen) (filter (is_in numbers) handed) more.0 in
+    (filter (is_new_to seen) more.0, old.1 ∙ ap (λ ns. filter (is_in numbers) seen ++ ns) split ∙ sym (append_assoc (filter (is_in numbers) seen) new (filter (is_new_to seen) more.0)) ∙ ap (λ ns. ns ++ filter (is_new_to seen) more.0) (sym joined))

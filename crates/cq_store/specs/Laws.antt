@@ -1,0 +1,149 @@
+-- The laws of the queue object: what holds of every list of entries, in the words of the rules rather
+-- than of the definitions.
+use Rattle.std.specs.Prelude.{not, ◌==◌, ◌+◌, ◌<◌, ◌++◌, ◌&&◌, nat_lt, Some, ◌≡◌, ◌≤◌, ℕ, List, [], ◌∷◌, length, map, Bool, true, false}
+use Rattle.std.specs.List.{filter, fold, list_any}
+use Rattle.std.specs.Str.{bytes_eq}
+use Rattle.cq_base.specs.declared.ask.Entry.{Entry}
+use Rattle.cq_base.specs.declared.reply.Reply.TheVariants.{Sent}
+use Rattle.cq_base.specs.Clients.{of_client, is_fresh, is_stale, is_fresh_with}
+use Rattle.cq_base.specs.Asks.{queue_of, is_send, group_of, dedup_of, visibility_of}
+use Rattle.cq_base.specs.Facts.{Fact, about, on}
+use Rattle.cq_base.specs.Lifetimes.{live}
+use Rattle.cq_base.specs.Messages.{messages, until}
+use Rattle.cq_base.specs.History.{fact_of, history, reply_to}
+use Rattle.cq_store.specs.Relations.{Among, Pairwise, Front}
+
+-- what the fresh entries of that client and number did
+abbrev pub fresh_facts : ℕ → ℕ → List Fact → List Fact
+fresh_facts client number facts = filter (is_fresh_with number) (of_client client facts)
+
+-- A client's number takes effect at most once: of the entries that have it, at most one is fresh.
+abbrev pub FreshOnce : Type 0
+FreshOnce = (entries : List Entry) (client number : ℕ) → length (fresh_facts client number (history entries)) ≤ 1
+
+-- An entry whose number is neither fresh nor stale repeats one fresh entry of its client and number, and
+-- no other, and has its reply.
+abbrev pub RepeatsAreAnswered : Type 0
+RepeatsAreAnswered = (entries : List Entry) (e : Entry)
+    → is_fresh e.request.client e.request.number (history entries) ≡ false
+    → is_stale e.request.client e.request.number (history entries) ≡ false
+    → (f : Fact) × (fresh_facts e.request.client e.request.number (history entries) ≡ f ∷ []) × (reply_to entries e ≡ f.reply)
+
+-- the number of the entry is fresh after these
+abbrev pub IsFresh : List Entry → Entry → Type 0
+IsFresh entries e = is_fresh e.request.client e.request.number (history entries) ≡ true
+
+-- An entry that isn't fresh does nothing to any queue.
+abbrev pub OthersDoNothing : Type 0
+OthersDoNothing = (entries : List Entry) (e : Entry) (queue : List ℕ)
+    → is_fresh e.request.client e.request.number (history entries) ≡ false
+    → about queue (history (entries ++ e ∷ [])) ≡ about queue (history entries)
+
+-- the fact is of a fresh entry that names the queue
+abbrev pub is_naming : List ℕ → Fact → Bool
+is_naming queue f = f.fresh && bytes_eq (queue_of f.entry.request.ask) queue
+
+-- of the entries, those that are fresh and name the queue
+abbrev pub naming : List ℕ → List Entry → List Entry
+naming queue entries = map (λ f. f.entry) (filter (is_naming queue) (history entries))
+
+-- What the fresh entries that name a queue do is what they would do if there were no other entries.
+abbrev pub EachQueueAlone : Type 0
+EachQueueAlone = (entries : List Entry) (queue : List ℕ) → about queue (history entries) ≡ history (naming queue entries)
+
+-- A fresh entry is answered as it would be if there were no entries but those that name its queue.
+abbrev pub EachReplyAlone : Type 0
+EachReplyAlone = (entries : List Entry) (e : Entry)
+    → IsFresh entries e
+    → reply_to entries e ≡ reply_to (naming (queue_of e.request.ask) entries) e
+
+-- the queue that the entry names lives after these, by that creation
+abbrev pub LivesBy : List Entry → Entry → Fact → Type 0
+LivesBy entries e creation = live (about (queue_of e.request.ask) (history entries)) ≡ Some creation
+
+-- what these did on the incarnation of that creation
+abbrev pub so_far : List Entry → Entry → Fact → List Fact
+so_far entries e creation = on creation.count (about (queue_of e.request.ask) (history entries))
+
+-- the sequence numbers of the messages that the entry hands out after these
+abbrev pub handed_by : List Entry → Entry → List ℕ
+handed_by entries e = (fact_of (history entries) e).handed
+
+-- the message of an accepted send is in flight: the timeout of its last handing lasts
+abbrev pub is_hidden : Fact → List Fact → ℕ → Fact → Bool
+is_hidden creation facts moment y = nat_lt moment (until (visibility_of creation.entry.request.ask) y.count facts)
+
+-- An entry that hands out a message is fresh, its queue lives, and the message is one that the queue's
+-- incarnation accepted.
+abbrev pub HandsWhatWasSent : Type 0
+HandsWhatWasSent = (entries : List Entry) (e : Entry) (sequence : ℕ) → Among sequence (handed_by entries e)
+    → IsFresh entries e × ((creation : Fact) × LivesBy entries e creation × ((x : Fact) × Among x (messages (so_far entries e creation)) × (x.count ≡ sequence)))
+
+-- Where a fresh entry hands out a message, no message of its group is in flight just before.
+abbrev pub NoneInFlight : Type 0
+NoneInFlight = (entries : List Entry) (e : Entry) (creation x y : Fact) → IsFresh entries e → LivesBy entries e creation
+    → Among x (messages (so_far entries e creation)) → Among x.count (handed_by entries e)
+    → Among y (messages (so_far entries e creation)) → group_of y.entry.request.ask ≡ group_of x.entry.request.ask
+    → is_hidden creation (so_far entries e creation) e.moment y ≡ false
+
+-- no entry is stamped with an earlier moment than one before it
+abbrev pub Stamped : List Entry → Type 0
+Stamped entries = Pairwise (λ d e. d.moment ≤ e.moment) entries
+
+-- the send has that deduplication id, and came less than 300,000 ms before the moment
+abbrev pub counts_at : List ℕ → ℕ → Fact → Bool
+counts_at id moment y = bytes_eq (dedup_of y.entry.request.ask) id && nat_lt moment (y.entry.moment + 300000)
+
+-- A fresh send isn't accepted less than 300,000 ms after an accepted send of its incarnation and its
+-- deduplication id: it is answered with that one's sequence number. There is no other such send.
+abbrev pub OneAcceptancePerWindow : Type 0
+OneAcceptancePerWindow = (entries : List Entry) (e : Entry) (creation earlier : Fact) → Stamped (entries ++ e ∷ []) → IsFresh entries e → LivesBy entries e creation
+    → is_send e.request.ask ≡ true
+    → Among earlier (messages (so_far entries e creation)) → dedup_of earlier.entry.request.ask ≡ dedup_of e.request.ask → e.moment < earlier.entry.moment + 300000
+    → ((fact_of (history entries) e).effective ≡ false)
+    × (reply_to entries e ≡ Sent earlier.count)
+    × (filter (counts_at (dedup_of e.request.ask) e.moment) (messages (so_far entries e creation)) ≡ earlier ∷ [])
+
+-- A fresh send to a queue that lives is accepted, with the next sequence number, if each accepted send of
+-- its incarnation and its deduplication id came 300,000 ms before or earlier.
+abbrev pub OthersAreAccepted : Type 0
+OthersAreAccepted = (entries : List Entry) (e : Entry) (creation : Fact) → IsFresh entries e → LivesBy entries e creation
+    → is_send e.request.ask ≡ true
+    → ((y : Fact) → Among y (messages (so_far entries e creation)) → dedup_of y.entry.request.ask ≡ dedup_of e.request.ask → y.entry.moment + 300000 ≤ e.moment)
+    → ((fact_of (history entries) e).effective ≡ true)
+    × ((fact_of (history entries) e).count ≡ length (messages (so_far entries e creation)) + 1)
+    × (reply_to entries e ≡ Sent (length (messages (so_far entries e creation)) + 1))
+
+-- the number is one of these
+abbrev pub is_in : List ℕ → ℕ → Bool
+is_in numbers n = list_any (λ m. m == n) numbers
+
+-- the number is none of these
+abbrev pub is_new_to : List ℕ → ℕ → Bool
+is_new_to numbers n = not (is_in numbers n)
+
+-- with the numbers that are handed out and weren't before, in order
+abbrev pub with_handed : List ℕ → Fact → List ℕ
+with_handed seen f = seen ++ filter (is_new_to seen) f.handed
+
+-- the sequence numbers of the messages that were handed out, in the order in which they first were
+unfoldable pub first_handings : List Fact → List ℕ
+first_handings facts = fold with_handed [] facts
+
+-- the send is of the group
+abbrev pub is_of_group : List ℕ → Fact → Bool
+is_of_group group f = bytes_eq (group_of f.entry.request.ask) group
+
+-- the sequence numbers of the group's accepted sends, in order of sending
+abbrev pub numbers_of : List ℕ → List Fact → List ℕ
+numbers_of group facts = map (λ f. f.count) (filter (is_of_group group) (messages facts))
+
+-- the messages of the group that were handed out are its first ones, and they first were in order of
+-- sending
+abbrev pub IsHandedInOrder : List ℕ → List Fact → Type 0
+IsHandedInOrder group facts = Front (filter (is_in (numbers_of group facts)) (first_handings facts)) (numbers_of group facts)
+
+-- On each incarnation of each queue, messages of each group are first handed out in order of sending, and
+-- none is left out.
+abbrev pub FirstHandingsInOrder : Type 0
+FirstHandingsInOrder = (entries : List Entry) (queue : List ℕ) (n : ℕ) (group : List ℕ) → IsHandedInOrder group (on n (about queue (history entries)))

@@ -1,0 +1,40 @@
+//! Laws of the queue object, for every list of entries. A function here does nothing: its contract is a
+//! law, which is proved with it.
+
+ghost use Rattle.cq_store.specs.Laws.{FreshOnce, RepeatsAreAnswered, OthersDoNothing, EachQueueAlone, EachReplyAlone, HandsWhatWasSent, NoneInFlight, OneAcceptancePerWindow, OthersAreAccepted, FirstHandingsInOrder};
+
+/// Of the entries of a client under one number at most one is fresh, and the others do nothing to any
+/// queue. An entry that is neither fresh nor stale repeats the fresh one, and has its reply.
+pub fn one_effect_per_number()
+    ensures once { FreshOnce }
+    ensures repeats { RepeatsAreAnswered }
+    ensures idle { OthersDoNothing }
+{}
+
+/// What the fresh entries that name a queue do, and what they are answered with, follows from these
+/// alone.
+pub fn other_queues_do_not_matter()
+    ensures facts { EachQueueAlone }
+    ensures replies { EachReplyAlone }
+{}
+
+/// Only a fresh entry hands out messages, and only those that its queue's incarnation accepted. Where it
+/// hands one out, no message of that group is in flight just before.
+pub fn no_handing_while_in_flight()
+    ensures sent { HandsWhatWasSent }
+    ensures landed { NoneInFlight }
+{}
+
+/// Of the sends to an incarnation with one deduplication id no two are accepted less than 300,000 ms
+/// apart: the later one is answered with the number of the one that was accepted. All other fresh sends
+/// to a queue that lives are accepted.
+pub fn one_acceptance_per_window()
+    ensures one { OneAcceptancePerWindow }
+    ensures others { OthersAreAccepted }
+{}
+
+/// On each incarnation of a queue the messages of a group are first handed out in order of sending, and
+/// none is left out.
+pub fn first_handings_in_order()
+    ensures { FirstHandingsInOrder }
+{}
