@@ -1,3 +1,12 @@
+pub mod Among
+pub mod Deletes
+pub mod Ends
+pub mod Filters
+pub mod Finds
 pub mod HandleTexts
 pub mod Histories
+pub mod Lists
+pub mod Numbers
+pub mod Pairs
 pub mod Rows
+pub mod Steps

@@ -1,19 +1,21 @@
 -- Worked lists of entries, each computed by the definitions to the replies that the rules of the queues
 -- give. The replies were worked out by hand.
-use Rattle.std.proofs.Common.{◌≡◌, ℕ, suc, List, [], ◌∷◌, map, None, codes, refl}
+use Rattle.std.proofs.Common.{◌≡◌, ℕ, suc, List, [], ◌∷◌, map, take, None, Some, true, false, codes, refl}
 use Rattle.cq_base.specs.declared.ask.Ask.{Ask}
-use Rattle.cq_base.specs.declared.ask.Ask.TheVariants.{Create, Send, Receive}
+use Rattle.cq_base.specs.declared.ask.Ask.TheVariants.{Create, Remove, Send, Receive, Delete, Change}
 use Rattle.cq_base.specs.declared.ask.Entry.{Entry}
 use Rattle.cq_base.specs.declared.reply.Delivery.{Delivery}
-use Rattle.cq_base.specs.declared.reply.Refusal.TheVariants.{QueueDoesNotExist, QueueNameExists, StaleNumber}
+use Rattle.cq_base.specs.declared.reply.Refusal.TheVariants.{QueueDoesNotExist, QueueNameExists, QueueDeletedRecently, ReceiptHandleIsInvalid, MessageNotInflight, VisibilityBeyondLimit, StaleNumber}
 use Rattle.cq_base.specs.declared.reply.Reply.{Reply}
-use Rattle.cq_base.specs.declared.reply.Reply.TheVariants.{Created, Sent, Received, Refused}
-use Rattle.cq_base.specs.Facts.{about, on}
+use Rattle.cq_base.specs.declared.reply.Reply.TheVariants.{Created, Removed, Sent, Received, Deleted, Changed, Counts, Refused}
 use Rattle.cq_base.specs.Clients.{of_client, is_fresh, is_stale, kept_reply}
-use Rattle.cq_base.specs.Lifetimes.{live, creations}
-use Rattle.cq_base.specs.Messages.{messages, duplicate, hands, until, message_of, standing}
+use Rattle.cq_base.specs.Effects.{effect_on, effect_off, effect_of}
+use Rattle.cq_base.specs.Facts.{about, on}
+use Rattle.cq_base.specs.Handle.{Handle}
+use Rattle.cq_base.specs.History.{fresh_fact, reply_again, fact_of, history, last_moment, counts_after}
+use Rattle.cq_base.specs.Lifetimes.{live, creations, removed_lately}
+use Rattle.cq_base.specs.Messages.{messages, duplicate, is_sent, hands, touches, until, is_deleted, message_of, standing}
 use Rattle.cq_base.specs.Receiving.{in_turn, to_hand}
-use Rattle.cq_base.specs.History.{effect_on, effect_off, effect_of, fresh_fact, reply_again, fact_of, history}
 
 -- the entry of a client's request
 abbrev entry : ℕ → ℕ → ℕ → Ask → Entry
@@ -27,8 +29,15 @@ numbered number (a ∷ asks) = entry a.0 1 number a.1 ∷ numbered (suc number) 
 abbrev name : List ℕ
 name = codes "q.fifo"
 
-abbrev create : ℕ → ℕ × Ask
-create moment = (moment, Create name 30)
+-- the asks after the creation of the queue at moment 0, with a visibility timeout of 30 s
+abbrev created : List (ℕ × Ask) → List Entry
+created asks = entry 0 1 1 (Create name 30) ∷ numbered 2 asks
+
+abbrev create : ℕ → ℕ → ℕ × Ask
+create moment visibility = (moment, Create name visibility)
+
+abbrev remove : ℕ → ℕ × Ask
+remove moment = (moment, Remove name)
 
 -- a body is its own deduplication id
 abbrev send : ℕ → List ℕ → List ℕ → ℕ × Ask
@@ -37,39 +46,400 @@ send moment group body = (moment, Send name group body body)
 abbrev receive : ℕ → ℕ → ℕ × Ask
 receive moment size = (moment, Receive name size None)
 
--- the replies to the asks after the creation at moment 0
+abbrev receive_for : ℕ → ℕ → ℕ → ℕ × Ask
+receive_for moment size visibility = (moment, Receive name size (Some visibility))
+
+-- the receipt of the first incarnation's message with that number, for that handing of it
+abbrev receipt : ℕ → ℕ → Handle
+receipt sequence handing = record { incarnation = 1; sequence = sequence; handing = handing }
+
+abbrev delete : ℕ → ℕ → ℕ → ℕ × Ask
+delete moment sequence handing = (moment, Delete name (receipt sequence handing))
+
+abbrev change : ℕ → ℕ → ℕ → ℕ → ℕ × Ask
+change moment sequence handing visibility = (moment, Change name (receipt sequence handing) visibility)
+
+-- the replies to all the entries
 abbrev replies : List Entry → List Reply
 replies entries = map (λ f. f.reply) (history entries)
 
+-- one message as it is handed out
 abbrev handed : List ℕ → List ℕ → ℕ → ℕ → Delivery
-handed group body sequence handing = record { receipt = record { incarnation = 1; sequence = sequence; handing = handing }; group = group; body = body }
+handed group body sequence handing = record { receipt = receipt sequence handing; group = group; body = body }
 
--- A deduplication id counts for less than five minutes from its accepted send, in the whole queue.
-five_minutes : replies (numbered 1 (create 0 ∷ send 0 (codes "a") (codes "x") ∷ receive 1 1 ∷ send 299999 (codes "a") (codes "x") ∷ send 300000 (codes "a") (codes "x") ∷ send 300000 (codes "b") (codes "x") ∷ [])) ≡ Created 1 ∷ Sent 1 ∷ Received (handed (codes "a") (codes "x") 1 1 ∷ []) ∷ Sent 1 ∷ Sent 2 ∷ Sent 2 ∷ []
-unfolding about on of_client is_fresh is_stale kept_reply live creations messages duplicate hands until message_of standing in_turn to_hand effect_on effect_off effect_of fresh_fact reply_again fact_of history
+abbrev nothing : Reply
+nothing = Received []
+
+-- A deduplication id counts for less than five minutes from its accepted send, in the whole queue, and a
+-- delete of the message does not end them.
+abbrev five_minutes_asks : List (ℕ × Ask)
+five_minutes_asks =
+    send 0 (codes "a") (codes "x")
+    ∷ receive 1 1
+    ∷ delete 2 1 1
+    ∷ send 299999 (codes "a") (codes "x")
+    ∷ receive 299999 1
+    ∷ send 300000 (codes "a") (codes "x")
+    ∷ send 300000 (codes "b") (codes "x")
+    ∷ receive 300000 10
+    ∷ []
+
+abbrev five_minutes_replies : List Reply
+five_minutes_replies =
+    Created 1
+    ∷ Sent 1
+    ∷ Received (handed (codes "a") (codes "x") 1 1 ∷ [])
+    ∷ Deleted true
+    ∷ Sent 1
+    ∷ nothing
+    ∷ Sent 2
+    ∷ Sent 2
+    ∷ Received (handed (codes "a") (codes "x") 2 1 ∷ [])
+    ∷ []
+
+five_minutes : replies (created five_minutes_asks) ≡ five_minutes_replies
+unfolding about on of_client is_fresh is_stale kept_reply live creations removed_lately messages duplicate is_sent hands touches until is_deleted message_of standing in_turn to_hand effect_on effect_off effect_of fresh_fact reply_again fact_of history
 five_minutes = refl
 
 -- A group of which a message is in flight is closed.
-groups : replies (numbered 1 (create 0 ∷ send 0 (codes "a") (codes "a1") ∷ send 0 (codes "a") (codes "a2") ∷ send 0 (codes "a") (codes "a3") ∷ send 0 (codes "b") (codes "b1") ∷ receive 1 2 ∷ receive 2 2 ∷ receive 3 2 ∷ [])) ≡ Created 1 ∷ Sent 1 ∷ Sent 2 ∷ Sent 3 ∷ Sent 4 ∷ Received (handed (codes "a") (codes "a1") 1 1 ∷ handed (codes "a") (codes "a2") 2 1 ∷ []) ∷ Received (handed (codes "b") (codes "b1") 4 1 ∷ []) ∷ Received ([]) ∷ []
-unfolding about on of_client is_fresh is_stale kept_reply live creations messages duplicate hands until message_of standing in_turn to_hand effect_on effect_off effect_of fresh_fact reply_again fact_of history
+abbrev groups_asks : List (ℕ × Ask)
+groups_asks =
+    send 0 (codes "a") (codes "a1")
+    ∷ send 0 (codes "a") (codes "a2")
+    ∷ send 0 (codes "a") (codes "a3")
+    ∷ send 0 (codes "b") (codes "b1")
+    ∷ receive 1 2
+    ∷ receive 2 2
+    ∷ receive 3 2
+    ∷ delete 4 1 1
+    ∷ receive 5 10
+    ∷ delete 6 2 1
+    ∷ receive 7 10
+    ∷ []
+
+abbrev groups_replies : List Reply
+groups_replies =
+    Created 1
+    ∷ Sent 1
+    ∷ Sent 2
+    ∷ Sent 3
+    ∷ Sent 4
+    ∷ Received (handed (codes "a") (codes "a1") 1 1 ∷ handed (codes "a") (codes "a2") 2 1 ∷ [])
+    ∷ Received (handed (codes "b") (codes "b1") 4 1 ∷ [])
+    ∷ nothing
+    ∷ Deleted true
+    ∷ nothing
+    ∷ Deleted true
+    ∷ Received (handed (codes "a") (codes "a3") 3 1 ∷ [])
+    ∷ []
+
+groups : replies (created groups_asks) ≡ groups_replies
+unfolding about on of_client is_fresh is_stale kept_reply live creations removed_lately messages duplicate is_sent hands touches until is_deleted message_of standing in_turn to_hand effect_on effect_off effect_of fresh_fact reply_again fact_of history
 groups = refl
 
+-- Before the first delete one message waits, and three are in flight.
+groups_counts : counts_after (created (take 7 groups_asks)) name ≡ Counts 1 3
+unfolding about on of_client is_fresh is_stale kept_reply live creations removed_lately messages duplicate is_sent hands touches until is_deleted message_of standing in_turn to_hand effect_on effect_off effect_of fresh_fact reply_again fact_of history last_moment counts_after
+groups_counts = refl
+
 -- A group opens again when the timeouts of its messages end.
-expiry : replies (numbered 1 (create 0 ∷ send 0 (codes "a") (codes "a1") ∷ send 0 (codes "a") (codes "a2") ∷ send 0 (codes "a") (codes "a3") ∷ receive 1000 2 ∷ receive 30999 10 ∷ receive 31000 10 ∷ [])) ≡ Created 1 ∷ Sent 1 ∷ Sent 2 ∷ Sent 3 ∷ Received (handed (codes "a") (codes "a1") 1 1 ∷ handed (codes "a") (codes "a2") 2 1 ∷ []) ∷ Received ([]) ∷ Received (handed (codes "a") (codes "a1") 1 2 ∷ handed (codes "a") (codes "a2") 2 2 ∷ handed (codes "a") (codes "a3") 3 1 ∷ []) ∷ []
-unfolding about on of_client is_fresh is_stale kept_reply live creations messages duplicate hands until message_of standing in_turn to_hand effect_on effect_off effect_of fresh_fact reply_again fact_of history
+abbrev expiry_asks : List (ℕ × Ask)
+expiry_asks =
+    send 0 (codes "a") (codes "a1")
+    ∷ send 0 (codes "a") (codes "a2")
+    ∷ send 0 (codes "a") (codes "a3")
+    ∷ receive 1000 2
+    ∷ delete 2000 2 1
+    ∷ receive 30999 10
+    ∷ receive 31000 10
+    ∷ []
+
+abbrev expiry_replies : List Reply
+expiry_replies =
+    Created 1
+    ∷ Sent 1
+    ∷ Sent 2
+    ∷ Sent 3
+    ∷ Received (handed (codes "a") (codes "a1") 1 1 ∷ handed (codes "a") (codes "a2") 2 1 ∷ [])
+    ∷ Deleted true
+    ∷ nothing
+    ∷ Received (handed (codes "a") (codes "a1") 1 2 ∷ handed (codes "a") (codes "a3") 3 1 ∷ [])
+    ∷ []
+
+expiry : replies (created expiry_asks) ≡ expiry_replies
+unfolding about on of_client is_fresh is_stale kept_reply live creations removed_lately messages duplicate is_sent hands touches until is_deleted message_of standing in_turn to_hand effect_on effect_off effect_of fresh_fact reply_again fact_of history
 expiry = refl
 
+-- A delete takes effect with the receipt of the last handing alone, also after its timeout.
+abbrev old_receipts_asks : List (ℕ × Ask)
+old_receipts_asks =
+    send 0 (codes "a") (codes "x")
+    ∷ receive_for 0 1 10
+    ∷ receive_for 10000 1 10
+    ∷ delete 10000 1 3
+    ∷ delete 10000 1 1
+    ∷ delete 20000 1 2
+    ∷ delete 20000 1 2
+    ∷ delete 20000 1 9
+    ∷ delete 20000 2 1
+    ∷ []
+
+abbrev old_receipts_replies : List Reply
+old_receipts_replies =
+    Created 1
+    ∷ Sent 1
+    ∷ Received (handed (codes "a") (codes "x") 1 1 ∷ [])
+    ∷ Received (handed (codes "a") (codes "x") 1 2 ∷ [])
+    ∷ Refused ReceiptHandleIsInvalid
+    ∷ Deleted false
+    ∷ Deleted true
+    ∷ Deleted false
+    ∷ Deleted false
+    ∷ Refused ReceiptHandleIsInvalid
+    ∷ []
+
+old_receipts : replies (created old_receipts_asks) ≡ old_receipts_replies
+unfolding about on of_client is_fresh is_stale kept_reply live creations removed_lately messages duplicate is_sent hands touches until is_deleted message_of standing in_turn to_hand effect_on effect_off effect_of fresh_fact reply_again fact_of history
+old_receipts = refl
+
+-- A change counts from its own moment, and ends twelve hours after the last handing at the latest.
+abbrev change_of_timeouts_asks : List (ℕ × Ask)
+change_of_timeouts_asks =
+    send 0 (codes "a") (codes "x")
+    ∷ send 0 (codes "a") (codes "y")
+    ∷ receive 0 1
+    ∷ change 5 1 1 0
+    ∷ receive_for 5 1 43200
+    ∷ change 5 1 2 43200
+    ∷ change 6 1 2 43200
+    ∷ change 6 1 2 43199
+    ∷ change 6 1 1 1
+    ∷ change 6 2 1 1
+    ∷ change 43199006 1 2 10
+    ∷ delete 43199006 1 2
+    ∷ change 43199006 1 2 10
+    ∷ []
+
+abbrev change_of_timeouts_replies : List Reply
+change_of_timeouts_replies =
+    Created 1
+    ∷ Sent 1
+    ∷ Sent 2
+    ∷ Received (handed (codes "a") (codes "x") 1 1 ∷ [])
+    ∷ Changed
+    ∷ Received (handed (codes "a") (codes "x") 1 2 ∷ [])
+    ∷ Changed
+    ∷ Refused VisibilityBeyondLimit
+    ∷ Changed
+    ∷ Refused ReceiptHandleIsInvalid
+    ∷ Refused ReceiptHandleIsInvalid
+    ∷ Refused MessageNotInflight
+    ∷ Deleted true
+    ∷ Refused MessageNotInflight
+    ∷ []
+
+change_of_timeouts : replies (created change_of_timeouts_asks) ≡ change_of_timeouts_replies
+unfolding about on of_client is_fresh is_stale kept_reply live creations removed_lately messages duplicate is_sent hands touches until is_deleted message_of standing in_turn to_hand effect_on effect_off effect_of fresh_fact reply_again fact_of history
+change_of_timeouts = refl
+
+-- A removal ends the queue and its messages at once; the name is free again after a minute.
+abbrev removal_asks : List (ℕ × Ask)
+removal_asks =
+    send 0 (codes "a") (codes "x")
+    ∷ receive 1 1
+    ∷ create 1 30
+    ∷ create 1 31
+    ∷ remove 100000
+    ∷ receive 100000 1
+    ∷ remove 100000
+    ∷ create 159999 30
+    ∷ create 160000 30
+    ∷ delete 160000 1 1
+    ∷ receive 160000 10
+    ∷ send 160000 (codes "a") (codes "x")
+    ∷ []
+
+abbrev removal_replies : List Reply
+removal_replies =
+    Created 1
+    ∷ Sent 1
+    ∷ Received (handed (codes "a") (codes "x") 1 1 ∷ [])
+    ∷ Created 1
+    ∷ Refused QueueNameExists
+    ∷ Removed
+    ∷ Refused QueueDoesNotExist
+    ∷ Refused QueueDoesNotExist
+    ∷ Refused QueueDeletedRecently
+    ∷ Created 2
+    ∷ Refused ReceiptHandleIsInvalid
+    ∷ nothing
+    ∷ Sent 1
+    ∷ []
+
+removal : replies (created removal_asks) ≡ removal_replies
+unfolding about on of_client is_fresh is_stale kept_reply live creations removed_lately messages duplicate is_sent hands touches until is_deleted message_of standing in_turn to_hand effect_on effect_off effect_of fresh_fact reply_again fact_of history
+removal = refl
+
 -- Groups go by their oldest message, and each hands out all it has before the next.
-order_of_groups : replies (numbered 1 (create 0 ∷ send 0 (codes "x") (codes "x1") ∷ send 0 (codes "w") (codes "w1") ∷ send 0 (codes "w") (codes "w2") ∷ send 0 (codes "y") (codes "y1") ∷ send 0 (codes "x") (codes "x2") ∷ send 0 (codes "z") (codes "z1") ∷ send 0 (codes "w") (codes "w3") ∷ send 0 (codes "x") (codes "x3") ∷ send 0 (codes "z") (codes "z2") ∷ send 0 (codes "w") (codes "w4") ∷ send 0 (codes "x") (codes "x4") ∷ send 0 (codes "z") (codes "z3") ∷ receive 1 10 ∷ receive 1 10 ∷ [])) ≡ Created 1 ∷ Sent 1 ∷ Sent 2 ∷ Sent 3 ∷ Sent 4 ∷ Sent 5 ∷ Sent 6 ∷ Sent 7 ∷ Sent 8 ∷ Sent 9 ∷ Sent 10 ∷ Sent 11 ∷ Sent 12 ∷ Received (handed (codes "x") (codes "x1") 1 1 ∷ handed (codes "x") (codes "x2") 5 1 ∷ handed (codes "x") (codes "x3") 8 1 ∷ handed (codes "x") (codes "x4") 11 1 ∷ handed (codes "w") (codes "w1") 2 1 ∷ handed (codes "w") (codes "w2") 3 1 ∷ handed (codes "w") (codes "w3") 7 1 ∷ handed (codes "w") (codes "w4") 10 1 ∷ handed (codes "y") (codes "y1") 4 1 ∷ handed (codes "z") (codes "z1") 6 1 ∷ []) ∷ Received ([]) ∷ []
-unfolding about on of_client is_fresh is_stale kept_reply live creations messages duplicate hands until message_of standing in_turn to_hand effect_on effect_off effect_of fresh_fact reply_again fact_of history
+abbrev order_of_groups_asks : List (ℕ × Ask)
+order_of_groups_asks =
+    send 0 (codes "x") (codes "x1")
+    ∷ send 0 (codes "w") (codes "w1")
+    ∷ send 0 (codes "w") (codes "w2")
+    ∷ send 0 (codes "y") (codes "y1")
+    ∷ send 0 (codes "x") (codes "x2")
+    ∷ send 0 (codes "z") (codes "z1")
+    ∷ send 0 (codes "w") (codes "w3")
+    ∷ send 0 (codes "x") (codes "x3")
+    ∷ send 0 (codes "z") (codes "z2")
+    ∷ send 0 (codes "w") (codes "w4")
+    ∷ send 0 (codes "x") (codes "x4")
+    ∷ send 0 (codes "z") (codes "z3")
+    ∷ receive 1 10
+    ∷ receive 1 10
+    ∷ []
+
+abbrev order_of_groups_replies : List Reply
+order_of_groups_replies =
+    Created 1
+    ∷ Sent 1
+    ∷ Sent 2
+    ∷ Sent 3
+    ∷ Sent 4
+    ∷ Sent 5
+    ∷ Sent 6
+    ∷ Sent 7
+    ∷ Sent 8
+    ∷ Sent 9
+    ∷ Sent 10
+    ∷ Sent 11
+    ∷ Sent 12
+    ∷ Received (handed (codes "x") (codes "x1") 1 1 ∷ handed (codes "x") (codes "x2") 5 1 ∷ handed (codes "x") (codes "x3") 8 1 ∷ handed (codes "x") (codes "x4") 11 1 ∷ handed (codes "w") (codes "w1") 2 1 ∷ handed (codes "w") (codes "w2") 3 1 ∷ handed (codes "w") (codes "w3") 7 1 ∷ handed (codes "w") (codes "w4") 10 1 ∷ handed (codes "y") (codes "y1") 4 1 ∷ handed (codes "z") (codes "z1") 6 1 ∷ [])
+    ∷ nothing
+    ∷ []
+
+order_of_groups : replies (created order_of_groups_asks) ≡ order_of_groups_replies
+unfolding about on of_client is_fresh is_stale kept_reply live creations removed_lately messages duplicate is_sent hands touches until is_deleted message_of standing in_turn to_hand effect_on effect_off effect_of fresh_fact reply_again fact_of history
 order_of_groups = refl
 
+-- One message in flight closes its group, also where an older one has landed.
+abbrev one_in_flight_asks : List (ℕ × Ask)
+one_in_flight_asks =
+    send 0 (codes "a") (codes "a1")
+    ∷ send 0 (codes "a") (codes "a2")
+    ∷ receive 1 2
+    ∷ change 2 1 1 0
+    ∷ receive 3 10
+    ∷ change 4 2 1 0
+    ∷ receive 5 10
+    ∷ []
+
+abbrev one_in_flight_replies : List Reply
+one_in_flight_replies =
+    Created 1
+    ∷ Sent 1
+    ∷ Sent 2
+    ∷ Received (handed (codes "a") (codes "a1") 1 1 ∷ handed (codes "a") (codes "a2") 2 1 ∷ [])
+    ∷ Changed
+    ∷ nothing
+    ∷ Changed
+    ∷ Received (handed (codes "a") (codes "a1") 1 2 ∷ handed (codes "a") (codes "a2") 2 2 ∷ [])
+    ∷ []
+
+one_in_flight : replies (created one_in_flight_asks) ≡ one_in_flight_replies
+unfolding about on of_client is_fresh is_stale kept_reply live creations removed_lately messages duplicate is_sent hands touches until is_deleted message_of standing in_turn to_hand effect_on effect_off effect_of fresh_fact reply_again fact_of history
+one_in_flight = refl
+
+-- A group whose oldest message is deleted goes by the oldest that is left.
+abbrev order_after_a_delete_asks : List (ℕ × Ask)
+order_after_a_delete_asks =
+    send 0 (codes "a") (codes "a1")
+    ∷ send 0 (codes "b") (codes "b1")
+    ∷ send 0 (codes "a") (codes "a2")
+    ∷ receive_for 1 1 0
+    ∷ delete 1 1 1
+    ∷ receive 1 10
+    ∷ []
+
+abbrev order_after_a_delete_replies : List Reply
+order_after_a_delete_replies =
+    Created 1
+    ∷ Sent 1
+    ∷ Sent 2
+    ∷ Sent 3
+    ∷ Received (handed (codes "a") (codes "a1") 1 1 ∷ [])
+    ∷ Deleted true
+    ∷ Received (handed (codes "b") (codes "b1") 2 1 ∷ handed (codes "a") (codes "a2") 3 1 ∷ [])
+    ∷ []
+
+order_after_a_delete : replies (created order_after_a_delete_asks) ≡ order_after_a_delete_replies
+unfolding about on of_client is_fresh is_stale kept_reply live creations removed_lately messages duplicate is_sent hands touches until is_deleted message_of standing in_turn to_hand effect_on effect_off effect_of fresh_fact reply_again fact_of history
+order_after_a_delete = refl
+
 -- A repeat has the kept reply of its number and hands out nothing; a smaller number is stale.
-repeats : replies (entry 0 1 1 (Create name 30) ∷ entry 0 1 2 (Send name (codes "a") (codes "x") (codes "x")) ∷ entry 10 1 3 (Receive name 1 None) ∷ entry 60000 1 3 (Receive name 1 None) ∷ entry 60000 1 2 (Receive name 1 None) ∷ entry 60000 2 1 (Receive name 1 None) ∷ entry 60000 1 3 (Receive name 1 None) ∷ []) ≡ Created 1 ∷ Sent 1 ∷ Received (handed (codes "a") (codes "x") 1 1 ∷ []) ∷ Received (handed (codes "a") (codes "x") 1 1 ∷ []) ∷ Refused StaleNumber ∷ Received (handed (codes "a") (codes "x") 1 2 ∷ []) ∷ Received (handed (codes "a") (codes "x") 1 1 ∷ []) ∷ []
-unfolding about on of_client is_fresh is_stale kept_reply live creations messages duplicate hands until message_of standing in_turn to_hand effect_on effect_off effect_of fresh_fact reply_again fact_of history
+abbrev repeats_entries : List Entry
+repeats_entries =
+    entry 0 1 1 (Create name 30)
+    ∷ entry 0 1 2 (Send name (codes "a") (codes "x") (codes "x"))
+    ∷ entry 10 1 3 (Receive name 1 None)
+    ∷ entry 60000 1 3 (Receive name 1 None)
+    ∷ entry 60000 1 2 (Receive name 1 None)
+    ∷ entry 60000 2 1 (Receive name 1 None)
+    ∷ entry 60000 2 2 (Delete name (receipt 1 2))
+    ∷ entry 60000 1 3 (Receive name 1 None)
+    ∷ []
+
+abbrev repeats_replies : List Reply
+repeats_replies =
+    Created 1
+    ∷ Sent 1
+    ∷ Received (handed (codes "a") (codes "x") 1 1 ∷ [])
+    ∷ Received (handed (codes "a") (codes "x") 1 1 ∷ [])
+    ∷ Refused StaleNumber
+    ∷ Received (handed (codes "a") (codes "x") 1 2 ∷ [])
+    ∷ Deleted true
+    ∷ Received (handed (codes "a") (codes "x") 1 1 ∷ [])
+    ∷ []
+
+repeats : replies repeats_entries ≡ repeats_replies
+unfolding about on of_client is_fresh is_stale kept_reply live creations removed_lately messages duplicate is_sent hands touches until is_deleted message_of standing in_turn to_hand effect_on effect_off effect_of fresh_fact reply_again fact_of history
 repeats = refl
 
--- A queue lives from its creation on; a second creation has to agree with the first.
-lifetimes : replies (entry 0 1 1 (Receive name 1 None) ∷ entry 1 1 2 (Create name 30) ∷ entry 2 1 3 (Create name 30) ∷ entry 3 1 4 (Create name 31) ∷ entry 4 1 5 (Send (codes "r.fifo") (codes "a") (codes "x") (codes "x")) ∷ []) ≡ Refused QueueDoesNotExist ∷ Created 1 ∷ Created 1 ∷ Refused QueueNameExists ∷ Refused QueueDoesNotExist ∷ []
-unfolding about on of_client is_fresh is_stale kept_reply live creations messages duplicate hands until message_of standing in_turn to_hand effect_on effect_off effect_of fresh_fact reply_again fact_of history
+-- A queue lives from its creation on; a second creation has to agree with the first. The number 0 is fresh
+-- as a client's first, and stale after others.
+abbrev lifetimes_entries : List Entry
+lifetimes_entries =
+    entry 0 1 0 (Receive name 1 None)
+    ∷ entry 1 1 2 (Create name 30)
+    ∷ entry 2 1 3 (Create name 30)
+    ∷ entry 3 1 4 (Create name 31)
+    ∷ entry 4 1 5 (Send (codes "r.fifo") (codes "a") (codes "x") (codes "x"))
+    ∷ entry 4 1 6 (Delete name (receipt 1 1))
+    ∷ entry 4 1 7 (Change name (receipt 1 1) 0)
+    ∷ entry 5 1 0 (Create name 30)
+    ∷ []
+
+abbrev lifetimes_replies : List Reply
+lifetimes_replies =
+    Refused QueueDoesNotExist
+    ∷ Created 1
+    ∷ Created 1
+    ∷ Refused QueueNameExists
+    ∷ Refused QueueDoesNotExist
+    ∷ Refused ReceiptHandleIsInvalid
+    ∷ Refused ReceiptHandleIsInvalid
+    ∷ Refused StaleNumber
+    ∷ []
+
+lifetimes : replies lifetimes_entries ≡ lifetimes_replies
+unfolding about on of_client is_fresh is_stale kept_reply live creations removed_lately messages duplicate is_sent hands touches until is_deleted message_of standing in_turn to_hand effect_on effect_off effect_of fresh_fact reply_again fact_of history
 lifetimes = refl
+
+-- A queue that was never created has no counts, and neither has one that was removed.
+no_counts : counts_after [] name ≡ Refused QueueDoesNotExist
+unfolding about on of_client is_fresh is_stale kept_reply live creations removed_lately messages duplicate is_sent hands touches until is_deleted message_of standing in_turn to_hand effect_on effect_off effect_of fresh_fact reply_again fact_of history last_moment counts_after
+no_counts = refl
+
+counts_after_removal : counts_after (created (send 0 (codes "a") (codes "x") ∷ remove 1 ∷ [])) name ≡ Refused QueueDoesNotExist
+unfolding about on of_client is_fresh is_stale kept_reply live creations removed_lately messages duplicate is_sent hands touches until is_deleted message_of standing in_turn to_hand effect_on effect_off effect_of fresh_fact reply_again fact_of history last_moment counts_after
+counts_after_removal = refl

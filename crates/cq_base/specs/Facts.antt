@@ -15,10 +15,10 @@ pub record Fact : Type 0 where
   pub fresh : Bool
   -- the number of the incarnation by which its queue lived just before it; 0 if by none, or not fresh
   pub incarnation : ℕ
-  -- its creation took effect, or its send was accepted
+  -- its creation, removal, delete or change took effect, or its send was accepted
   pub effective : Bool
-  -- of a creation that took effect, the number of its incarnation; of an accepted send, the sequence
-  -- number of its message; else 0
+  -- of a creation or a removal that took effect, the number of the incarnation; of an accepted send, and
+  -- of a delete or a change that took effect, the sequence number of the message; else 0
   pub count : ℕ
   -- the sequence numbers of the messages that it handed out, in order
   pub handed : List ℕ

@@ -1,76 +1,15 @@
 -- The queue object: what each entry of a list does, and what it is answered with.
-use Rattle.std.specs.Prelude.{ℕ, ◌+◌, ◌==◌, List, [], ◌∷◌, ◌++◌, length, map, Bool, true, false, if◌then◌else◌, Option, None, Some, unwrap_or}
+use Rattle.std.specs.Prelude.{ℕ, List, [], ◌∷◌, ◌++◌, true, false, if◌then◌else◌, unwrap_or}
 use Rattle.std.specs.List.{fold}
-use Rattle.cq_base.specs.declared.ask.Ask.{Ask}
-use Rattle.cq_base.specs.declared.ask.Ask.TheVariants.{Create, Send, Receive}
 use Rattle.cq_base.specs.declared.ask.Entry.{Entry}
-use Rattle.cq_base.specs.declared.reply.Refusal.TheVariants.{QueueDoesNotExist, QueueNameExists, StaleNumber}
+use Rattle.cq_base.specs.declared.reply.Refusal.TheVariants.{StaleNumber}
 use Rattle.cq_base.specs.declared.reply.Reply.{Reply}
-use Rattle.cq_base.specs.declared.reply.Reply.TheVariants.{Created, Sent, Received, Refused}
-use Rattle.cq_base.specs.Asks.{queue_of, visibility_of}
-use Rattle.cq_base.specs.Facts.{Fact, about, on}
+use Rattle.cq_base.specs.declared.reply.Reply.TheVariants.{Refused}
+use Rattle.cq_base.specs.Asks.{queue_of}
 use Rattle.cq_base.specs.Clients.{is_fresh, is_stale, kept_reply}
-use Rattle.cq_base.specs.Lifetimes.{live, creations, incarnation_of}
-use Rattle.cq_base.specs.Messages.{Message, messages, duplicate, standing}
-use Rattle.cq_base.specs.Receiving.{to_hand, delivery_of}
-
--- What an ask does to its queue, and its reply.
-pub record Effect : Type 0 where
-  pub effective : Bool
-  pub count : ℕ
-  pub handed : List ℕ
-  pub reply : Reply
-
--- it changes nothing
-abbrev pub only_replies : Reply → Effect
-only_replies reply = record { effective = false; count = 0; handed = []; reply = reply }
-
--- it takes effect, as the creation of an incarnation or a send of a message with that number
-abbrev pub takes_effect : ℕ → Reply → Effect
-takes_effect count reply = record { effective = true; count = count; handed = []; reply = reply }
-
--- A creation of a queue that lives with the same visibility timeout changes nothing; with another one
--- it is refused (SQS API Reference, "CreateQueue").
-abbrev pub create_again : ℕ → Fact → Effect
-create_again visibility creation = if visibility == visibility_of creation.entry.request.ask then only_replies (Created creation.count) else only_replies (Refused QueueNameExists)
-
--- A send is accepted with that sequence number, unless it repeats an earlier one: then it is answered
--- with that message's number, and nothing is added (SQS API Reference, "SendMessage",
--- `MessageDeduplicationId`).
-abbrev pub send : ℕ → Option Fact → Effect
-send sequence None = takes_effect sequence (Sent sequence)
-send sequence (Some earlier) = only_replies (Sent earlier.count)
-
--- a receive hands out these messages, each under the receipt of its next handing
-abbrev pub hand : ℕ → List Message → Effect
-hand incarnation handed = record {
-  effective = false;
-  count = 0;
-  handed = map (λ x. x.sequence) handed;
-  reply = Received (map (delivery_of incarnation) handed);
-}
-
--- What an ask does to a queue that lives by this creation. The facts are those on its incarnation.
-unfoldable pub effect_on : Fact → ℕ → List Fact → Ask → Effect
-effect_on creation moment facts (Create queue visibility) = create_again visibility creation
-effect_on creation moment facts (Send queue group dedup body) = send (length (messages facts) + 1) (duplicate dedup moment facts)
-effect_on creation moment facts (Receive queue size visibility) = hand creation.count (to_hand size moment (standing (visibility_of creation.entry.request.ask) facts))
-
--- What an ask does to a queue that doesn't live: a creation takes effect, all else is refused. The
--- facts are those about the queue.
-unfoldable pub effect_off : List Fact → Ask → Effect
-effect_off facts (Create queue visibility) = takes_effect (creations facts + 1) (Created (creations facts + 1))
-effect_off facts (Send queue group dedup body) = only_replies (Refused QueueDoesNotExist)
-effect_off facts (Receive queue size visibility) = only_replies (Refused QueueDoesNotExist)
-
--- the same, by the creation by which the queue lives, if any
-abbrev pub effect_by : Option Fact → ℕ → List Fact → Ask → Effect
-effect_by None moment facts ask = effect_off facts ask
-effect_by (Some creation) moment facts ask = effect_on creation moment (on creation.count facts) ask
-
--- What a fresh entry does, by the facts about its queue.
-unfoldable pub effect_of : ℕ → List Fact → Ask → Effect
-effect_of moment facts ask = effect_by (live facts) moment facts ask
+use Rattle.cq_base.specs.Effects.{Effect, effect_of, counts_by}
+use Rattle.cq_base.specs.Facts.{Fact, about}
+use Rattle.cq_base.specs.Lifetimes.{live, incarnation_of}
 
 -- the fact of a fresh entry on that incarnation, with what its ask does
 abbrev pub fact_with : Entry → ℕ → Effect → Fact
@@ -120,3 +59,7 @@ reply_to entries e = (fact_of (history entries) e).reply
 -- the moment of the last entry; 0 before the first
 unfoldable pub last_moment : List Entry → ℕ
 last_moment entries = fold (λ _ e. e.moment) 0 entries
+
+-- The answer to a query of a queue's counts after these entries, at the moment of the last of them.
+unfoldable pub counts_after : List Entry → List ℕ → Reply
+counts_after entries queue = counts_by (live (about queue (history entries))) (last_moment entries) (about queue (history entries))

@@ -3,6 +3,8 @@ pub mod Fault
 pub mod Handle
 pub mod Refusals
 pub mod Texts
+-- words on lists
+pub mod Relations
 -- the queue object
 pub mod Asks
 pub mod Facts
@@ -10,4 +12,6 @@ pub mod Clients
 pub mod Lifetimes
 pub mod Messages
 pub mod Receiving
+pub mod Effects
 pub mod History
+pub mod Incarnations

@@ -1,17 +1,31 @@
 -- When a queue lives. All facts here are those about one queue.
-use Rattle.std.specs.Prelude.{ℕ, ◌&&◌, List, length, Bool, Option, None, Some}
-use Rattle.std.specs.List.{filter, last_or}
-use Rattle.cq_base.specs.Asks.{is_create}
+use Rattle.std.specs.Prelude.{ℕ, ◌+◌, ◌&&◌, ◌||◌, List, length, Bool, nat_lt, if◌then◌else◌, Option, None, Some}
+use Rattle.std.specs.List.{filter, last_or, list_any}
+use Rattle.cq_base.specs.Asks.{is_create, is_remove}
 use Rattle.cq_base.specs.Facts.{Fact}
 
 -- the entry created the queue
 abbrev pub is_creation : Fact → Bool
 is_creation f = f.effective && is_create f.entry.request.ask
 
--- The creation by which a queue lives: the last one that took effect (SQS API Reference,
--- "CreateQueue").
+-- the entry removed the queue
+abbrev pub is_removal : Fact → Bool
+is_removal f = f.effective && is_remove f.entry.request.ask
+
+-- the entry created the queue or removed it
+abbrev pub is_turn : Fact → Bool
+is_turn f = is_creation f || is_removal f
+
+-- what it is, if it is a creation
+abbrev pub if_creation : Option Fact → Option Fact
+if_creation None = None
+if_creation (Some f) = if is_creation f then Some f else None
+
+-- The creation by which a queue lives: the last of its creations and removals that took effect, if that
+-- is a creation (SQS API Reference, "CreateQueue" and "DeleteQueue"; that a removed queue is gone at once
+-- is a choice of this project).
 unfoldable pub live : List Fact → Option Fact
-live facts = last_or None (filter is_creation facts)
+live facts = if_creation (last_or None (filter is_turn facts))
 
 -- how many creations of the queue took effect
 unfoldable pub creations : List Fact → ℕ
@@ -21,3 +35,16 @@ creations facts = length (filter is_creation facts)
 abbrev pub incarnation_of : Option Fact → ℕ
 incarnation_of None = 0
 incarnation_of (Some creation) = creation.count
+
+-- the minute after a removal in which the name can't be used again, in milliseconds
+abbrev pub removal_delay : ℕ
+removal_delay = 60000
+
+-- the entry removed the queue, and at that moment its minute isn't over
+abbrev pub is_recent_removal : ℕ → Fact → Bool
+is_recent_removal moment f = is_removal f && nat_lt moment (f.entry.moment + removal_delay)
+
+-- The queue was removed less than a minute before that moment (SQS API Reference, "DeleteQueue", on a
+-- queue of the same name, and "CreateQueue", `QueueDeletedRecently`).
+unfoldable pub removed_lately : ℕ → List Fact → Bool
+removed_lately moment facts = list_any (is_recent_removal moment) facts

@@ -1,8 +1,8 @@
 -- The messages of one incarnation of a queue. All facts here are those on that incarnation.
-use Rattle.std.specs.Prelude.{ℕ, ◌+◌, ◌*◌, ◌==◌, ◌&&◌, List, length, map, Bool, nat_lt, Option, None, Some}
+use Rattle.std.specs.Prelude.{ℕ, ◌+◌, ◌*◌, ◌==◌, ◌&&◌, ◌||◌, List, length, map, Bool, not, nat_lt, Option, None, Some}
 use Rattle.std.specs.List.{filter, find, list_any, last_or}
 use Rattle.std.specs.Str.{bytes_eq}
-use Rattle.cq_base.specs.Asks.{is_send, dedup_of, group_of, body_of, timeout_of}
+use Rattle.cq_base.specs.Asks.{is_send, is_delete, is_change, dedup_of, group_of, body_of, timeout_of}
 use Rattle.cq_base.specs.Facts.{Fact}
 
 -- the entry is a send that was accepted
@@ -23,9 +23,18 @@ abbrev pub is_duplicated_by : List ℕ → ℕ → Fact → Bool
 is_duplicated_by id moment f = bytes_eq (dedup_of f.entry.request.ask) id && nat_lt moment (f.entry.moment + window)
 
 -- The accepted send of the same deduplication id less than five minutes before, whatever its group and
--- its body (SQS API Reference, "SendMessage", `MessageDeduplicationId`).
+-- its body, and whether or not its message is deleted (SQS API Reference, "SendMessage",
+-- `MessageDeduplicationId`).
 unfoldable pub duplicate : List ℕ → ℕ → List Fact → Option Fact
 duplicate id moment facts = find (is_duplicated_by id moment) (messages facts)
+
+-- the accepted send has that sequence number
+abbrev pub is_numbered : ℕ → Fact → Bool
+is_numbered sequence f = f.count == sequence
+
+-- a message of that sequence number was sent
+unfoldable pub is_sent : ℕ → List Fact → Bool
+is_sent sequence facts = list_any (is_numbered sequence) (messages facts)
 
 -- the entry handed out the message of that sequence number
 abbrev pub hands_it : ℕ → Fact → Bool
@@ -34,6 +43,23 @@ hands_it sequence f = list_any (λ n. n == sequence) f.handed
 -- the entries that handed out the message
 unfoldable pub hands : ℕ → List Fact → List Fact
 hands sequence facts = filter (hands_it sequence) facts
+
+-- the moment of an entry; 0 if there is none
+abbrev pub moment_of : Option Fact → ℕ
+moment_of None = 0
+moment_of (Some f) = f.entry.moment
+
+-- the entry changed the message's timeout
+abbrev pub changes_it : ℕ → Fact → Bool
+changes_it sequence f = f.effective && is_change f.entry.request.ask && f.count == sequence
+
+-- the entry gave the message a timeout
+abbrev pub touches_it : ℕ → Fact → Bool
+touches_it sequence f = hands_it sequence f || changes_it sequence f
+
+-- the entries that gave the message a timeout
+unfoldable pub touches : ℕ → List Fact → List Fact
+touches sequence facts = filter (touches_it sequence) facts
 
 -- the moment at which the timeout that an entry gave a message ends
 abbrev pub end_of : ℕ → Fact → ℕ
@@ -44,11 +70,23 @@ abbrev pub last_end : ℕ → Option Fact → ℕ
 last_end default None = 0
 last_end default (Some f) = end_of default f
 
--- The moment up to which the message stays hidden, by the timeout of its last handing; 0 if it was
--- never handed out. `default` is the queue's visibility timeout in seconds (SQS Developer Guide,
--- "Amazon SQS visibility timeout").
+-- The moment up to which the message stays hidden, by the timeout of its last handing or of the last
+-- change after it; 0 if it was never handed out. `default` is the queue's visibility timeout in seconds
+-- (SQS Developer Guide, "Amazon SQS visibility timeout").
 unfoldable pub until : ℕ → ℕ → List Fact → ℕ
-until default sequence facts = last_end default (last_or None (hands sequence facts))
+until default sequence facts = last_end default (last_or None (touches sequence facts))
+
+-- the entry deleted the message
+abbrev pub deletes_it : ℕ → Fact → Bool
+deletes_it sequence f = f.effective && is_delete f.entry.request.ask && f.count == sequence
+
+-- the message was deleted
+unfoldable pub is_deleted : ℕ → List Fact → Bool
+is_deleted sequence facts = list_any (deletes_it sequence) facts
+
+-- the message of the accepted send wasn't deleted
+abbrev pub is_kept : List Fact → Fact → Bool
+is_kept facts f = not (is_deleted f.count facts)
 
 -- A message as it stands after all these entries.
 pub record Message : Type 0 where
@@ -57,6 +95,8 @@ pub record Message : Type 0 where
   pub body : List ℕ
   -- how many times it was handed out
   pub handings : ℕ
+  -- the moment at which it was last handed out; 0 if it never was
+  pub handed_at : ℕ
   -- the moment up to which it is hidden; 0 if it was never handed out
   pub until : ℕ
 
@@ -67,9 +107,10 @@ message_of default facts f = record {
   group = group_of f.entry.request.ask;
   body = body_of f.entry.request.ask;
   handings = length (hands f.count facts);
+  handed_at = moment_of (last_or None (hands f.count facts));
   until = until default f.count facts;
 }
 
--- the messages as they stand, in order of sending
+-- the messages that weren't deleted, as they stand, in order of sending
 unfoldable pub standing : ℕ → List Fact → List Message
-standing default facts = map (message_of default facts) (messages facts)
+standing default facts = map (message_of default facts) (filter (is_kept facts) (messages facts))

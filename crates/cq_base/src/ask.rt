@@ -3,6 +3,7 @@ ghost use Rattle.cq_base.specs.Asks.{queue_of};
 
 use crate::fault::NoMemory;
 use crate::number::{BatchSize, Moment, Seconds};
+use crate::receipt::Receipt;
 use crate::text::{Body, DedupId, GroupId, QueueName};
 
 /// What a client asks of a queue.
@@ -12,6 +13,10 @@ pub enum Ask {
     Create {
         queue: QueueName,
         visibility: Seconds,
+    },
+    /// Ends the queue and its messages at once (SQS API Reference, "DeleteQueue").
+    Remove {
+        queue: QueueName,
     },
     /// Adds a message to the end of its group (SQS API Reference, "SendMessage").
     Send {
@@ -27,6 +32,18 @@ pub enum Ask {
         size: BatchSize,
         visibility: Option<Seconds>,
     },
+    /// Deletes a message, by the receipt of its last handing (SQS API Reference, "DeleteMessage").
+    Delete {
+        queue: QueueName,
+        receipt: Receipt,
+    },
+    /// Sets a new visibility timeout of a message in flight, from now on (SQS API Reference,
+    /// "ChangeMessageVisibility").
+    Change {
+        queue: QueueName,
+        receipt: Receipt,
+        visibility: Seconds,
+    },
 }
 
 impl Ask {
@@ -36,8 +53,11 @@ impl Ask {
     {
         match self {
             Ask::Create { queue, .. } => queue,
+            Ask::Remove { queue } => queue,
             Ask::Send { queue, .. } => queue,
             Ask::Receive { queue, .. } => queue,
+            Ask::Delete { queue, .. } => queue,
+            Ask::Change { queue, .. } => queue,
         }
     }
 
@@ -49,6 +69,9 @@ impl Ask {
             Ask::Create { queue, visibility } => Ask::Create {
                 queue: queue.try_copy()?,
                 visibility: *visibility,
+            },
+            Ask::Remove { queue } => Ask::Remove {
+                queue: queue.try_copy()?,
             },
             Ask::Send {
                 queue,
@@ -68,6 +91,19 @@ impl Ask {
             } => Ask::Receive {
                 queue: queue.try_copy()?,
                 size: *size,
+                visibility: *visibility,
+            },
+            Ask::Delete { queue, receipt } => Ask::Delete {
+                queue: queue.try_copy()?,
+                receipt: *receipt,
+            },
+            Ask::Change {
+                queue,
+                receipt,
+                visibility,
+            } => Ask::Change {
+                queue: queue.try_copy()?,
+                receipt: *receipt,
                 visibility: *visibility,
             },
         })
@@ -110,6 +146,28 @@ impl Entry {
         Ok(Entry {
             moment: self.moment,
             request: self.request.try_copy()?,
+        })
+    }
+}
+
+/// A question about a queue: how many messages it has. It is no request, and stands in no list. The tag
+/// is the client's own, by which it knows the answer.
+#[derive(Debug, PartialEq, Eq, Drop)]
+pub struct Query {
+    pub client: u32,
+    pub tag: u64,
+    pub queue: QueueName,
+}
+
+impl Query {
+    /// The same query. It shares the name: O(1).
+    pub fn try_copy(&self) -> Result<Query, NoMemory>
+        ensures { IfOk result (λ copy. copy ≡ self.now) }
+    {
+        Ok(Query {
+            client: self.client,
+            tag: self.tag,
+            queue: self.queue.try_copy()?,
         })
     }
 }

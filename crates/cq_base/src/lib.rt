@@ -11,7 +11,7 @@ mod reply;
 mod tests;
 mod text;
 
-pub use ask::{Ask, Entry, Request};
+pub use ask::{Ask, Entry, Query, Request};
 pub use fault::{BaseFault, NoMemory};
 pub use number::{
     BATCH_LIMIT, BatchSize, CHAIN_LIMIT, ChainSize, MOMENT_LIMIT, Moment, SECONDS_LIMIT, Seconds,

@@ -95,6 +95,18 @@ pub enum Refusal {
     /// A queue of this name lives with another visibility timeout (SQS API Reference, "CreateQueue",
     /// `QueueNameExists`).
     QueueNameExists,
+    /// The queue was removed less than 60,000 ms before (SQS API Reference, "CreateQueue",
+    /// `QueueDeletedRecently`).
+    QueueDeletedRecently,
+    /// The receipt handle isn't one of a message of this incarnation, or not of a handing that allows it
+    /// (SQS API Reference, "DeleteMessage" and "ChangeMessageVisibility", `ReceiptHandleIsInvalid`).
+    ReceiptHandleIsInvalid,
+    /// The message isn't in flight, or deleted (SQS API Reference, "ChangeMessageVisibility",
+    /// `MessageNotInflight`).
+    MessageNotInflight,
+    /// The message would be in flight for more than 43,200,000 ms from its last handing on (SQS API
+    /// Reference, "ChangeMessageVisibility"; the name is this project's).
+    VisibilityBeyondLimit,
     /// The client has used a larger number already (a rule of this project).
     StaleNumber,
 }
@@ -107,6 +119,10 @@ impl Refusal {
         match self {
             Refusal::QueueDoesNotExist => 1,
             Refusal::QueueNameExists => 2,
+            Refusal::QueueDeletedRecently => 3,
+            Refusal::ReceiptHandleIsInvalid => 4,
+            Refusal::MessageNotInflight => 5,
+            Refusal::VisibilityBeyondLimit => 6,
             Refusal::StaleNumber => 7,
         }
     }
@@ -118,6 +134,10 @@ impl Refusal {
         match self {
             Refusal::QueueDoesNotExist => "QueueDoesNotExist",
             Refusal::QueueNameExists => "QueueNameExists",
+            Refusal::QueueDeletedRecently => "QueueDeletedRecently",
+            Refusal::ReceiptHandleIsInvalid => "ReceiptHandleIsInvalid",
+            Refusal::MessageNotInflight => "MessageNotInflight",
+            Refusal::VisibilityBeyondLimit => "VisibilityBeyondLimit",
             Refusal::StaleNumber => "StaleNumber",
         }
     }
@@ -129,16 +149,25 @@ impl fmt::Display for Refusal {
     }
 }
 
-/// What a request is answered with.
+/// What a request or a query is answered with.
 #[derive(Debug, Drop)]
 pub enum Reply {
     /// The queue lives; the number of its incarnation.
     Created(u64),
+    /// The queue is gone, and its messages with it.
+    Removed,
     /// The message is in the queue; its sequence number.
     Sent(u64),
     /// The messages handed out, none to ten.
     Received(Deliveries),
-    /// The request was refused.
+    /// Whether this delete took effect: false if the message is deleted already, or was handed out again
+    /// since the handing of the receipt.
+    Deleted(bool),
+    /// The message has its new visibility timeout.
+    Changed,
+    /// How many messages of the queue aren't in flight, and how many are.
+    Counts { visible: u64, in_flight: u64 },
+    /// It was refused.
     Refused(Refusal),
 }
 
@@ -149,8 +178,15 @@ impl Reply {
     {
         Ok(match self {
             Reply::Created(incarnation) => Reply::Created(*incarnation),
+            Reply::Removed => Reply::Removed,
             Reply::Sent(sequence) => Reply::Sent(*sequence),
             Reply::Received(deliveries) => Reply::Received(deliveries.try_copy()?),
+            Reply::Deleted(removed) => Reply::Deleted(*removed),
+            Reply::Changed => Reply::Changed,
+            Reply::Counts { visible, in_flight } => Reply::Counts {
+                visible: *visible,
+                in_flight: *in_flight,
+            },
             Reply::Refused(refusal) => Reply::Refused(*refusal),
         })
     }

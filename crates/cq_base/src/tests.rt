@@ -1,6 +1,6 @@
 use crate::{
     Ask, BaseFault, BatchSize, Body, ChainSize, DedupId, Deliveries, Delivery, Entry, GroupId,
-    Moment, QueueName, Receipt, Refusal, Reply, Request, Seconds,
+    Moment, Query, QueueName, Receipt, Refusal, Reply, Request, Seconds,
 };
 use std::alloc::{AllocError, Global};
 use std::process::Abort;
@@ -175,44 +175,70 @@ fn receipts_are_read(rt: HostRuntime) -> Result<(), Fail> {
     Ok(())
 }
 
-fn entry(alloc: Global, ask: Ask) -> Result<Entry, Fail> {
+fn entry(alloc: Global, kind: u8) -> Result<Entry, Fail> {
     let moment = Moment::new(7).ok_or("no moment")?;
     let request = Request {
         client: 1,
         number: 2,
-        ask,
+        ask: ask(alloc, kind)?,
     };
     Ok(Entry { moment, request })
 }
 
-fn name(alloc: Global) -> Result<QueueName, BaseFault> {
-    QueueName::new(alloc, "q.fifo")
+fn send(alloc: Global, queue: QueueName) -> Result<Ask, Fail> {
+    Ok(Ask::Send {
+        queue,
+        group: GroupId::new(alloc, "a")?,
+        dedup: DedupId::new(alloc, "d")?,
+        body: Body::new(alloc, "hello")?,
+    })
+}
+
+/// An ask of each kind, from 0 to 5.
+fn ask(alloc: Global, kind: u8) -> Result<Ask, Fail> {
+    let queue = QueueName::new(alloc, "q.fifo")?;
+    let visibility = Seconds::new(30).ok_or("no timeout")?;
+    let size = BatchSize::new(3).ok_or("no size")?;
+    let receipt = Receipt::new(1, 2, 3).ok_or("a zero")?;
+    match kind {
+        0 => Ok(Ask::Create { queue, visibility }),
+        1 => Ok(Ask::Remove { queue }),
+        2 => send(alloc, queue),
+        3 => Ok(Ask::Receive {
+            queue,
+            size,
+            visibility: Some(visibility),
+        }),
+        4 => Ok(Ask::Delete { queue, receipt }),
+        _ => Ok(Ask::Change {
+            queue,
+            receipt,
+            visibility,
+        }),
+    }
 }
 
 #[test]
 fn copies_of_asks_are_equal(rt: HostRuntime) -> Result<(), Fail> {
     let alloc = rt.alloc();
-    let visibility = Seconds::new(30);
-    let create = Ask::Create {
-        queue: name(alloc)?,
-        visibility: visibility.ok_or("no timeout")?,
-    };
-    let send = Ask::Send {
-        queue: name(alloc)?,
-        group: GroupId::new(alloc, "a")?,
-        dedup: DedupId::new(alloc, "d")?,
-        body: Body::new(alloc, "hello")?,
-    };
-    let receive = Ask::Receive {
-        queue: name(alloc)?,
-        size: BatchSize::new(3).ok_or("no size")?,
-        visibility,
-    };
-    for ask in Vec::from_array(alloc, [create, send, receive])? {
-        assert_eq!(rt; ask.queue().as_str(), "q.fifo");
-        let original = entry(alloc, ask)?;
+    for kind in 0..6 {
+        let original = entry(alloc, kind)?;
+        assert_eq!(rt; original.request.ask.queue().as_str(), "q.fifo");
         assert_eq!(rt; original.try_copy()?, original);
+        let other = ask(alloc, (kind + 1) % 6)?;
+        assert!(rt; original.request.ask != other);
     }
+    Ok(())
+}
+
+#[test]
+fn a_copy_of_a_query_is_equal(rt: HostRuntime) -> Result<(), Fail> {
+    let query = Query {
+        client: 7,
+        tag: 9,
+        queue: QueueName::new(rt.alloc(), "q.fifo")?,
+    };
+    assert_eq!(rt; query.try_copy()?, query);
     Ok(())
 }
 
@@ -220,26 +246,66 @@ fn shown(alloc: Global, reply: &Reply) -> Result<String, AllocError> {
     format!(in alloc; "{reply:?}")
 }
 
-#[test]
-fn copies_of_replies_are_equal(rt: HostRuntime) -> Result<(), Fail> {
-    let alloc = rt.alloc();
-    let delivery = Delivery {
+fn delivery(alloc: Global) -> Result<Delivery, Fail> {
+    Ok(Delivery {
         receipt: Receipt::new(1, 2, 3).ok_or("a zero")?,
         group: GroupId::new(alloc, "a")?,
         body: Body::new(alloc, "hello")?,
-    };
-    assert_eq!(rt; delivery.try_copy()?, delivery);
-    let handed = Deliveries::from_vec(Vec::from_array(alloc, [delivery])?);
-    assert_eq!(rt; handed.as_slice().len(), 1);
-    let replies = [
-        Reply::Created(1),
-        Reply::Sent(2),
-        Reply::Received(handed),
-        Reply::Refused(Refusal::StaleNumber),
-    ];
-    for reply in Vec::from_array(alloc, replies)? {
-        let copy = reply.try_copy()?;
-        assert_eq!(rt; shown(alloc, &copy)?, shown(alloc, &reply)?);
+    })
+}
+
+/// A reply of each kind, from 0 to 7.
+fn reply(alloc: Global, kind: u8) -> Result<Reply, Fail> {
+    Ok(match kind {
+        0 => Reply::Created(1),
+        1 => Reply::Removed,
+        2 => Reply::Sent(2),
+        3 => Reply::Received(Deliveries::from_vec(Vec::from_array(alloc, [delivery(alloc)?])?)),
+        4 => Reply::Deleted(true),
+        5 => Reply::Changed,
+        6 => Reply::Counts {
+            visible: 1,
+            in_flight: 3,
+        },
+        _ => Reply::Refused(Refusal::StaleNumber),
+    })
+}
+
+#[test]
+fn copies_of_replies_are_equal(rt: HostRuntime) -> Result<(), Fail> {
+    let alloc = rt.alloc();
+    let original = delivery(alloc)?;
+    assert_eq!(rt; original.try_copy()?, original);
+    for kind in 0..8 {
+        let original = reply(alloc, kind)?;
+        let copy = original.try_copy()?;
+        assert_eq!(rt; shown(alloc, &copy)?, shown(alloc, &original)?);
     }
     Ok(())
+}
+
+#[test]
+fn deliveries_are_a_vector(rt: HostRuntime) -> Result<(), Fail> {
+    let alloc = rt.alloc();
+    let handed = Deliveries::from_vec(Vec::from_array(alloc, [delivery(alloc)?])?);
+    assert_eq!(rt; handed.as_slice().len(), 1);
+    assert_eq!(rt; handed.into_vec().len(), 1);
+    Ok(())
+}
+
+#[test]
+fn refusals_are_told_by_number_and_name(rt: HostRuntime) {
+    let told = [
+        (Refusal::QueueDoesNotExist, 1, "QueueDoesNotExist"),
+        (Refusal::QueueNameExists, 2, "QueueNameExists"),
+        (Refusal::QueueDeletedRecently, 3, "QueueDeletedRecently"),
+        (Refusal::ReceiptHandleIsInvalid, 4, "ReceiptHandleIsInvalid"),
+        (Refusal::MessageNotInflight, 5, "MessageNotInflight"),
+        (Refusal::VisibilityBeyondLimit, 6, "VisibilityBeyondLimit"),
+        (Refusal::StaleNumber, 7, "StaleNumber"),
+    ];
+    for (refusal, code, name) in told {
+        assert_eq!(rt; refusal.code(), code);
+        assert_eq!(rt; refusal.name(), name);
+    }
 }

@@ -2,13 +2,15 @@ ghost use Rattle.std.specs.Prelude.{◌≡◌, ◌↔◌, true, false, List, ℕ
 ghost use Rattle.std.specs.Arc.{arc_str_bytes};
 ghost use Rattle.std.specs.List.{list_all};
 ghost use Rattle.std.specs.Str.{bytes_eq};
-ghost use Rattle.std.specs.Cmp.Rules.{comparing};
+ghost use Rattle.std.specs.Hash as fed;
+ghost use Rattle.std.specs.Cmp.Rules.{comparing, hashing};
 ghost use Rattle.std.proofs.Common.{rules};
 ghost use Rattle.cq_base.specs.Texts.{is_within, is_name_byte, is_queue_name, is_id, is_body_character, has_body_characters, has_body_length, is_body};
 
 use crate::fault::{BaseFault, NoMemory};
 use std::alloc::Global;
 use std::fmt;
+use std::hash::{Hash, Hasher};
 use std::marker::Model;
 use std::sync::ArcStr;
 
@@ -129,6 +131,16 @@ impl PartialEq for QueueName {
 
 impl Eq for QueueName {
     ghost laws = { Prim.search (comparing, rules) };
+}
+
+impl Hash for QueueName {
+    ghost hash_input = { λ t. fed.str t };
+
+    ghost respects_eq = { Prim.search (hashing, comparing, rules) };
+
+    fn hash<H: Hasher>(&self, state: &mut H) {
+        self.as_str().hash(state);
+    }
 }
 
 impl fmt::Display for QueueName {

@@ -1,0 +1,148 @@
+-- What an ask does to its queue, and what it is answered with.
+use Rattle.std.specs.Prelude.{ℕ, ◌+◌, ◌*◌, ◌==◌, ◌&&◌, List, [], length, map, Bool, true, false, not, nat_lt, if◌then◌else◌, Option, None, Some}
+use Rattle.std.specs.List.{filter, find}
+use Rattle.cq_base.specs.declared.ask.Ask.{Ask}
+use Rattle.cq_base.specs.declared.ask.Ask.TheVariants.{Create, Remove, Send, Receive, Delete, Change}
+use Rattle.cq_base.specs.declared.reply.Refusal.TheVariants.{QueueDoesNotExist, QueueNameExists, QueueDeletedRecently, ReceiptHandleIsInvalid, MessageNotInflight, VisibilityBeyondLimit}
+use Rattle.cq_base.specs.declared.reply.Reply.{Reply}
+use Rattle.cq_base.specs.declared.reply.Reply.TheVariants.{Created, Removed, Sent, Received, Deleted, Changed, Counts, Refused}
+use Rattle.cq_base.specs.Asks.{visibility_of}
+use Rattle.cq_base.specs.Facts.{Fact, on}
+use Rattle.cq_base.specs.Handle.{Handle}
+use Rattle.cq_base.specs.Lifetimes.{live, creations, removed_lately}
+use Rattle.cq_base.specs.Messages.{Message, messages, duplicate, is_sent, standing}
+use Rattle.cq_base.specs.Receiving.{is_in_flight, to_hand, delivery_of}
+
+-- What an ask does to its queue, and its reply.
+pub record Effect : Type 0 where
+  pub effective : Bool
+  pub count : ℕ
+  pub handed : List ℕ
+  pub reply : Reply
+
+-- it changes nothing
+abbrev pub only_replies : Reply → Effect
+only_replies reply = record { effective = false; count = 0; handed = []; reply = reply }
+
+-- it takes effect, on the incarnation or the message of that number
+abbrev pub takes_effect : ℕ → Reply → Effect
+takes_effect count reply = record { effective = true; count = count; handed = []; reply = reply }
+
+-- A creation of a queue that lives as that incarnation, with `own` for its visibility timeout, changes
+-- nothing; with another timeout it is refused (SQS API Reference, "CreateQueue").
+abbrev pub create_again : ℕ → ℕ → ℕ → Effect
+create_again incarnation own visibility = if visibility == own then only_replies (Created incarnation) else only_replies (Refused QueueNameExists)
+
+-- A send is accepted with that sequence number, unless it repeats an earlier one: then it is answered
+-- with that message's number, and nothing is added (SQS API Reference, "SendMessage",
+-- `MessageDeduplicationId`).
+abbrev pub send : ℕ → Option Fact → Effect
+send sequence None = takes_effect sequence (Sent sequence)
+send sequence (Some earlier) = only_replies (Sent earlier.count)
+
+-- a receive hands out these messages, each under the receipt of its next handing
+abbrev pub hand : ℕ → List Message → Effect
+hand incarnation handed = record {
+  effective = false;
+  count = 0;
+  handed = map (λ x. x.sequence) handed;
+  reply = Received (map (delivery_of incarnation) handed);
+}
+
+-- the message of that sequence number, if it isn't deleted
+abbrev pub message_at : ℕ → List Message → Option Message
+message_at sequence messages = find (λ x. x.sequence == sequence) messages
+
+-- The receipt is one of this incarnation for a message that was sent to it.
+abbrev pub is_own : ℕ → List Fact → Handle → Bool
+is_own incarnation facts receipt = receipt.incarnation == incarnation && is_sent receipt.sequence facts
+
+-- The receipt fits a message: it is that of its last handing. None fits a message that was never handed
+-- out.
+abbrev pub fits : Handle → Message → Bool
+fits receipt x = not (x.handings == 0) && receipt.handing == x.handings
+
+-- A delete with a receipt of this message, which isn't deleted yet. It takes effect with the receipt of
+-- the last handing, in flight or not; with an older one nothing changes (SQS API Reference,
+-- "DeleteMessage").
+abbrev pub delete_standing : Handle → Message → Effect
+delete_standing receipt x = if nat_lt x.handings receipt.handing then only_replies (Refused ReceiptHandleIsInvalid) else if fits receipt x then takes_effect x.sequence (Deleted true) else only_replies (Deleted false)
+
+-- A delete with a receipt of a message that was sent. If it is deleted already, nothing changes, whatever
+-- the ordinal of the receipt.
+abbrev pub delete_sent : Handle → Option Message → Effect
+delete_sent receipt None = only_replies (Deleted false)
+delete_sent receipt (Some x) = delete_standing receipt x
+
+-- a delete with any receipt
+abbrev pub delete : ℕ → List Fact → List Message → Handle → Effect
+delete incarnation facts messages receipt = if is_own incarnation facts receipt then delete_sent receipt (message_at receipt.sequence messages) else only_replies (Refused ReceiptHandleIsInvalid)
+
+-- the twelve hours, from its last handing on, for which a message can be kept in flight, in milliseconds
+abbrev pub flight_limit : ℕ
+flight_limit = 43200000
+
+-- A change of the timeout of a message that isn't deleted, to so many seconds from this moment. It takes
+-- effect only with the receipt of its last handing, while the message is in flight, and not beyond the
+-- limit (SQS API Reference, "ChangeMessageVisibility", `MessageNotInflight`, `ReceiptHandleIsInvalid`;
+-- which refusal answers which case, and the limit's, are choices of this project).
+abbrev pub change_standing : ℕ → ℕ → Handle → Message → Effect
+change_standing moment visibility receipt x = if not (fits receipt x) then only_replies (Refused ReceiptHandleIsInvalid) else if not (is_in_flight moment x) then only_replies (Refused MessageNotInflight) else if nat_lt (x.handed_at + flight_limit) (moment + 1000 * visibility) then only_replies (Refused VisibilityBeyondLimit) else takes_effect x.sequence Changed
+
+-- a change with a receipt of a message that was sent: one that is deleted isn't in flight
+abbrev pub change_sent : ℕ → ℕ → Handle → Option Message → Effect
+change_sent moment visibility receipt None = only_replies (Refused MessageNotInflight)
+change_sent moment visibility receipt (Some x) = change_standing moment visibility receipt x
+
+-- a change with any receipt
+abbrev pub change : ℕ → ℕ → ℕ → List Fact → List Message → Handle → Effect
+change incarnation moment visibility facts messages receipt = if is_own incarnation facts receipt then change_sent moment visibility receipt (message_at receipt.sequence messages) else only_replies (Refused ReceiptHandleIsInvalid)
+
+-- What an ask does to a queue that lives as that incarnation, with `own` for its visibility timeout. The
+-- facts are those on the incarnation. A removal takes effect at once (SQS API Reference, "DeleteQueue").
+unfoldable pub effect_on : ℕ → ℕ → ℕ → List Fact → Ask → Effect
+effect_on incarnation own moment facts (Create queue visibility) = create_again incarnation own visibility
+effect_on incarnation own moment facts (Remove queue) = takes_effect incarnation Removed
+effect_on incarnation own moment facts (Send queue group dedup body) = send (length (messages facts) + 1) (duplicate dedup moment facts)
+effect_on incarnation own moment facts (Receive queue size visibility) = hand incarnation (to_hand size moment (standing own facts))
+effect_on incarnation own moment facts (Delete queue receipt) = delete incarnation facts (standing own facts) receipt
+effect_on incarnation own moment facts (Change queue receipt visibility) = change incarnation moment visibility facts (standing own facts) receipt
+
+-- a creation of a queue that doesn't live, with this number for its incarnation
+abbrev pub create : Bool → ℕ → Effect
+create removed incarnation = if removed then only_replies (Refused QueueDeletedRecently) else takes_effect incarnation (Created incarnation)
+
+-- What an ask does to a queue that doesn't live: a creation takes effect, unless the queue was removed
+-- less than a minute before, and all else is refused. The facts are those about the queue.
+unfoldable pub effect_off : ℕ → List Fact → Ask → Effect
+effect_off moment facts (Create queue visibility) = create (removed_lately moment facts) (creations facts + 1)
+effect_off moment facts (Remove queue) = only_replies (Refused QueueDoesNotExist)
+effect_off moment facts (Send queue group dedup body) = only_replies (Refused QueueDoesNotExist)
+effect_off moment facts (Receive queue size visibility) = only_replies (Refused QueueDoesNotExist)
+effect_off moment facts (Delete queue receipt) = only_replies (Refused QueueDoesNotExist)
+effect_off moment facts (Change queue receipt visibility) = only_replies (Refused QueueDoesNotExist)
+
+-- the visibility timeout of the queue that the creation began
+abbrev pub visibility_by : Fact → ℕ
+visibility_by creation = visibility_of creation.entry.request.ask
+
+-- the same, by the creation by which the queue lives, if any
+abbrev pub effect_by : Option Fact → ℕ → List Fact → Ask → Effect
+effect_by None moment facts ask = effect_off moment facts ask
+effect_by (Some creation) moment facts ask = effect_on creation.count (visibility_by creation) moment (on creation.count facts) ask
+
+-- What a fresh entry does, by the facts about its queue.
+unfoldable pub effect_of : ℕ → List Fact → Ask → Effect
+effect_of moment facts ask = effect_by (live facts) moment facts ask
+
+-- How many of the messages aren't in flight at that moment, whether their group is open or not, and how
+-- many are (SQS API Reference, "GetQueueAttributes", `ApproximateNumberOfMessages` and
+-- `ApproximateNumberOfMessagesNotVisible`; here the numbers are exact).
+abbrev pub counts_of : ℕ → List Message → Reply
+counts_of moment messages = Counts (length (filter (λ x. not (is_in_flight moment x)) messages)) (length (filter (is_in_flight moment) messages))
+
+-- The answer to a query of a queue's counts, by the creation by which the queue lives and the facts about
+-- it.
+abbrev pub counts_by : Option Fact → ℕ → List Fact → Reply
+counts_by None moment facts = Refused QueueDoesNotExist
+counts_by (Some creation) moment facts = counts_of moment (standing (visibility_by creation) (on creation.count facts))

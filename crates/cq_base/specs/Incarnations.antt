@@ -1,0 +1,76 @@
+-- One incarnation of a queue by itself: what happens to it, and what has to be kept of it.
+use Rattle.std.specs.Prelude.{◌≡◌, ℕ, ◌+◌, ◌≤◌, ◌&&◌, ◌||◌, List, [], ◌∷◌, ◌++◌, length, Bool, nat_lt, Option, None, option_map}
+use Rattle.std.specs.List.{filter, find, fold, last_or}
+use Rattle.std.specs.Str.{bytes_eq}
+use Rattle.cq_base.specs.declared.ask.Entry.{Entry}
+use Rattle.cq_base.specs.Asks.{is_send, is_receive, is_change}
+use Rattle.cq_base.specs.Effects.{effect_on}
+use Rattle.cq_base.specs.Facts.{Fact}
+use Rattle.cq_base.specs.History.{fact_with}
+use Rattle.cq_base.specs.Messages.{Message, messages, duplicate, standing, moment_of, window}
+
+-- what an entry does that comes to an incarnation, by what those before it did
+abbrev pub coming : ℕ → ℕ → List Fact → Entry → Fact
+coming incarnation own facts e = fact_with e incarnation (effect_on incarnation own e.moment facts e.request.ask)
+
+-- What happens to the incarnation of that number, with `own` for its visibility timeout: what the entries
+-- do that come to it, in order. It is the part of a history that is on the incarnation, made of the
+-- entries of that part alone.
+unfoldable pub lifetime : ℕ → ℕ → List Entry → List Fact
+lifetime incarnation own entries = fold (λ facts e. facts ++ coming incarnation own facts e ∷ []) [] entries
+
+-- An accepted send, as far as its deduplication id goes.
+pub record Accepted : Type 0 where
+  pub dedup : List ℕ
+  pub moment : ℕ
+  pub sequence : ℕ
+
+-- it has that deduplication id, and at that moment its five minutes aren't over
+abbrev pub counts_for : List ℕ → ℕ → Accepted → Bool
+counts_for id moment a = bytes_eq a.dedup id && nat_lt moment (a.moment + window)
+
+-- the sequence number with which a send of that deduplication id is answered at that moment, if it
+-- repeats one of these
+abbrev pub repeated : List ℕ → ℕ → List Accepted → Option ℕ
+repeated id moment accepted = option_map (λ a. a.sequence) (find (counts_for id moment) accepted)
+
+-- What is kept of an incarnation.
+pub record Incarnation : Type 0 where
+  -- its number
+  pub number : ℕ
+  -- its visibility timeout, in seconds
+  pub visibility : ℕ
+  -- how many sends it has accepted
+  pub sent : ℕ
+  -- the messages that aren't deleted, in order of sending
+  pub messages : List Message
+  -- accepted sends by which repeats are known
+  pub accepted : List Accepted
+  -- the moment of the last send, receive or effective change that came to it; 0 before the first
+  pub last : ℕ
+  -- how many sends and receives came to it
+  pub used : ℕ
+
+-- it is a send or a receive
+abbrev pub is_use : Fact → Bool
+is_use f = is_send f.entry.request.ask || is_receive f.entry.request.ask
+
+-- it is a send, a receive, or a change that took effect
+abbrev pub is_clocked : Fact → Bool
+is_clocked f = is_use f || f.effective && is_change f.entry.request.ask
+
+-- What happened to an incarnation, by what is kept of it and the entries that came to it.
+abbrev pub told_of : Incarnation → List Entry → List Fact
+told_of kept entries = lifetime kept.number kept.visibility entries
+
+-- What is kept stands for the entries that came to the incarnation. Of the accepted sends only those have
+-- to be kept that a later send can repeat: for each deduplication id, and each moment from the last one on,
+-- what is kept finds the message that the definitions find. Of deleted messages nothing has to be kept, and
+-- of the others only how they stand.
+pub record IncarnationStands (kept : Incarnation) (entries : List Entry) : Type 0 where
+  pub sent : kept.sent ≡ length (messages (told_of kept entries))
+  pub messages : kept.messages ≡ standing kept.visibility (told_of kept entries)
+  pub window : (id : List ℕ) (moment : ℕ) → kept.last ≤ moment
+      → repeated id moment kept.accepted ≡ option_map (λ f. f.count) (duplicate id moment (told_of kept entries))
+  pub last : kept.last ≡ moment_of (last_or None (filter is_clocked (told_of kept entries)))
+  pub used : kept.used ≡ length (filter is_use (told_of kept entries))
