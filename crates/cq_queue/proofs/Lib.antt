@@ -1,0 +1,12 @@
+pub mod Changes
+pub mod Creates
+pub mod Deletes
+pub mod Lifetimes
+pub mod Maps
+pub mod Receives
+pub mod Sends
+pub mod Sounds
+pub mod Spoken
+pub mod Standing
+pub mod Stands
+pub mod Told

@@ -1,0 +1,154 @@
+-- A send to an incarnation.
+use Rattle.std.proofs.Common.{◌≡◌, ℕ, ◌+◌, ◌<◌, ◌≤◌, ◌∙◌, ◌&&◌, ap, sym, List, [], ◌∷◌, ◌++◌, length, Option, Some, None, Bool, true, false, cond, arith, subst, refl, length-append}
+use Rattle.std.specs.Prelude.{nat_lt}
+use Rattle.std.specs.List.{filter, find}
+use Rattle.std.specs.Option.{option_map, option_or}
+use Rattle.std.specs.Str.{bytes_eq}
+use Rattle.std.proofs.lemmas.Bool.{and_parts}
+use Rattle.std.proofs.lemmas.Bool.Decides.{nat_tests}
+use Rattle.std.proofs.lemmas.List.Folds.{find-append}
+use Rattle.cq_base.specs.declared.ask.Ask.TheVariants.{Send}
+use Rattle.cq_base.specs.declared.ask.Entry.{Entry}
+use Rattle.cq_base.specs.declared.reply.Reply.TheVariants.{Sent}
+use Rattle.cq_base.specs.Effects.{takes_effect, only_replies, send, effect_on}
+use Rattle.cq_base.specs.Facts.{Fact}
+use Rattle.cq_base.specs.History.{fact_with}
+use Rattle.cq_base.specs.Incarnations.{Accepted, Incarnation, coming, told_of, repeated, counts_for}
+use Rattle.cq_base.specs.Messages.{messages, duplicate, is_duplicated_by, window}
+use Rattle.cq_base.proofs.Numbers.{messages-next}
+use Rattle.cq_queue.specs.Kept.{used_at, is_recent, new_message, with_message}
+use Rattle.cq_queue.specs.Entries.{IsSend, StandsAfter, IsAnswered}
+use Rattle.cq_queue.proofs.Maps.{option_map-or, find-kept}
+use Rattle.cq_queue.proofs.Standing.{standing-quiet, standing-next}
+use Rattle.cq_queue.proofs.Stands.{StandsFor, stands-told, stands-more, asked, entry-asked, clocked-next, used-next, sent-same, window-same}
+use Rattle.cq_queue.proofs.Told.{IsTold, told-lifetime}
+
+-- where the image is nothing, so is what it is of
+image_none : {X Y : Type 0} (f : X → Y) (o : Option X) → option_map f o ≡ None → o ≡ None
+image_none f None h = refl
+image_none f (Some x) h = absurd (none_some (f x) h)
+  where
+    none_some : {Y : Type 0} (y : Y) → Some y ≡ None → ⊥
+    none_some y e = cc
+
+-- the images of two, of which one is chosen
+chosen_image : {X Y Z : Type 0} (f : X → Z) (g : Y → Z) (b : Bool) (x : X) (y : Y) → f x ≡ g y → option_map f (cond b (Some x) None) ≡ option_map g (cond b (Some y) None)
+chosen_image f g true x y h = ap Some h
+chosen_image f g false x y h = refl
+
+-- of the accepted sends, only those of the last five minutes can be found later
+repeated-next : (id : List ℕ) (moment later : ℕ) (accepted : List Accepted) (a : Accepted) → moment ≤ later → repeated id later (filter (is_recent moment) accepted ++ a ∷ []) ≡ option_or (repeated id later accepted) (option_map (λ y. y.sequence) (cond (counts_for id later a) (Some a) None))
+repeated-next id moment later accepted a after =
+    let counts = counts_for id later in
+    ap (option_map (λ y. y.sequence)) (find-append counts (filter (is_recent moment) accepted) (a ∷ []) ∙ ap (λ o. option_or o (cond (counts a) (Some a) None)) (find-kept counts (is_recent moment) accepted (λ y passes. still (bytes_eq y.dedup id) moment later (y.moment + window) after passes)))
+    ∙ option_map-or (λ y. y.sequence) (find counts accepted) (cond (counts a) (Some a) None)
+  where
+    still : (b : Bool) (moment later end : ℕ) → moment ≤ later → (b && nat_lt later end) ≡ true → nat_lt moment end ≡ true
+    still b moment later end after passes = let before = (and_parts b (nat_lt later end) passes).1 in grind (arith, nat_tests)
+
+-- one more accepted send
+duplicate-next : (id : List ℕ) (moment : ℕ) (xs : List Fact) (sends : List Fact) (f : Fact) → messages xs ≡ sends ++ f ∷ [] → duplicate id moment xs ≡ option_or (find (is_duplicated_by id moment) sends) (cond (is_duplicated_by id moment f) (Some f) None)
+unfolding duplicate
+duplicate-next id moment xs sends f h = ap (find (is_duplicated_by id moment)) h ∙ find-append (is_duplicated_by id moment) sends (f ∷ [])
+
+-- the fact of a send that is accepted
+abbrev accepted_fact : Incarnation → ℕ → Entry → List ℕ → List ℕ → List ℕ → List ℕ → Fact
+accepted_fact kept moment e queue group dedup body = fact_with (asked moment e (Send queue group dedup body)) kept.number (takes_effect (kept.sent + 1) (Sent (kept.sent + 1)))
+
+-- the window after an accepted send
+window_next : (kept : Incarnation) (xs : List Fact) (moment : ℕ) (e : Entry) (queue group dedup body : List ℕ) → StandsFor kept xs → kept.last ≤ moment → (id : List ℕ) (later : ℕ) → moment ≤ later
+    → repeated id later (with_message moment group dedup body kept).accepted ≡ option_map (λ f. f.count) (duplicate id later (xs ++ accepted_fact kept moment e queue group dedup body ∷ []))
+unfolding duplicate
+window_next kept xs moment e queue group dedup body stands before id later after =
+    let f = accepted_fact kept moment e queue group dedup body in
+    let from : kept.last ≤ later = omega arith in
+    let a : Accepted = record { dedup = dedup; moment = moment; sequence = kept.sent + 1 } in
+    repeated-next id moment later kept.accepted a after
+    ∙ ap (λ o. option_or o (option_map (λ y. y.sequence) (cond (counts_for id later a) (Some a) None))) (stands.window id later from)
+    ∙ ap (option_or (option_map (λ y. y.count) (duplicate id later xs))) (chosen_image (λ y. y.sequence) (λ y. y.count) (counts_for id later a) a f refl)
+    ∙ sym (option_map-or (λ y. y.count) (duplicate id later xs) (cond (is_duplicated_by id later f) (Some f) None))
+    ∙ ap (option_map (λ y. y.count)) (sym (duplicate-next id later (xs ++ f ∷ []) (messages xs) f (messages-next xs f refl)))
+
+-- what is kept after an accepted send
+stands_accepted : (kept : Incarnation) (xs : List Fact) (moment : ℕ) (e : Entry) (queue group dedup body : List ℕ) → StandsFor kept xs → IsTold xs → kept.last ≤ moment → StandsFor (with_message moment group dedup body kept) (xs ++ accepted_fact kept moment e queue group dedup body ∷ [])
+stands_accepted kept xs moment e queue group dedup body stands told before =
+    let f = accepted_fact kept moment e queue group dedup body in
+    let sent = stands.sent in
+    let above : length (messages xs) < kept.sent + 1 = omega arith in
+    record {
+      sent = ap (λ n. n + 1) stands.sent ∙ sym (ap length (messages-next xs f refl) ∙ length-append (messages xs) (f ∷ []));
+      messages = ap (λ ms. ms ++ new_message (kept.sent + 1) group body ∷ []) stands.messages ∙ sym (standing-next kept.visibility xs f refl refl (λ n. refl) (λ n. refl) (told.new (kept.sent + 1) above));
+      window = window_next kept xs moment e queue group dedup body stands before;
+      last = clocked-next xs f refl;
+      used = ap (λ n. n + 1) stands.used ∙ used-next xs f refl;
+    }
+
+-- the fact of a send that repeats one
+abbrev repeating_fact : Incarnation → ℕ → Entry → List ℕ → List ℕ → List ℕ → List ℕ → ℕ → Fact
+repeating_fact kept moment e queue group dedup body n = fact_with (asked moment e (Send queue group dedup body)) kept.number (only_replies (Sent n))
+
+-- what is kept after a repeated send
+stands_repeated : (kept : Incarnation) (xs : List Fact) (moment : ℕ) (e : Entry) (queue group dedup body : List ℕ) (n : ℕ) → StandsFor kept xs → kept.last ≤ moment → StandsFor (used_at moment kept) (xs ++ repeating_fact kept moment e queue group dedup body n ∷ [])
+stands_repeated kept xs moment e queue group dedup body n stands before =
+    let f = repeating_fact kept moment e queue group dedup body n in
+    record {
+      sent = stands.sent ∙ sent-same xs f refl;
+      messages = stands.messages ∙ sym (standing-quiet kept.visibility xs f (record { rejects = refl; handed = refl; changes = λ k. refl; deletes = λ k. refl }));
+      window = window-same kept xs f moment stands refl before;
+      last = clocked-next xs f refl;
+      used = ap (λ k. k + 1) stands.used ∙ used-next xs f refl;
+    }
+
+-- a send that repeats none is accepted
+coming-accepted : (kept : Incarnation) (xs : List Fact) (moment : ℕ) (e : Entry) (queue group dedup body : List ℕ) → StandsFor kept xs → kept.last ≤ moment → repeated dedup moment kept.accepted ≡ None
+    → coming kept.number kept.visibility xs (asked moment e (Send queue group dedup body)) ≡ accepted_fact kept moment e queue group dedup body
+unfolding effect_on
+coming-accepted kept xs moment e queue group dedup body stands before none =
+    let new : duplicate dedup moment xs ≡ None = image_none (λ f. f.count) (duplicate dedup moment xs) (sym (stands.window dedup moment before) ∙ none) in
+    ap (λ earlier. fact_with (asked moment e (Send queue group dedup body)) kept.number (send (length (messages xs) + 1) earlier)) new
+    ∙ ap (λ n. fact_with (asked moment e (Send queue group dedup body)) kept.number (takes_effect (n + 1) (Sent (n + 1)))) (sym stands.sent)
+
+-- what a send does that repeats one
+found_reply : (n next : ℕ) (o : Option Fact) → option_map (λ f. f.count) o ≡ Some n → send next o ≡ only_replies (Sent n)
+found_reply n next None h = absurd (none_is n h)
+  where
+    none_is : (k : ℕ) → None ≡ Some k → ⊥
+    none_is k e = cc
+found_reply n next (Some f) h = let same : f.count ≡ n = cc in ap (λ k. only_replies (Sent k)) same
+
+-- a send that repeats one is answered with its number
+coming-repeated : (kept : Incarnation) (xs : List Fact) (moment : ℕ) (e : Entry) (queue group dedup body : List ℕ) (n : ℕ) → StandsFor kept xs → kept.last ≤ moment → repeated dedup moment kept.accepted ≡ Some n
+    → coming kept.number kept.visibility xs (asked moment e (Send queue group dedup body)) ≡ repeating_fact kept moment e queue group dedup body n
+unfolding effect_on
+coming-repeated kept xs moment e queue group dedup body n stands before found =
+    ap (fact_with (asked moment e (Send queue group dedup body)) kept.number) (found_reply n (length (messages xs) + 1) (duplicate dedup moment xs) (sym (stands.window dedup moment before) ∙ found))
+
+-- a send that repeats none
+pub stands-accepted : (kept : Incarnation) (moment : ℕ) (group dedup body : List ℕ) → kept.last ≤ moment → repeated dedup moment kept.accepted ≡ None → StandsAfter (IsSend moment group dedup body) kept (with_message moment group dedup body kept)
+stands-accepted kept moment group dedup body before none entries e stands is =
+    let xs = told_of kept entries in
+    let now = with_message moment group dedup body kept in
+    let for = stands-told kept entries stands in
+    stands-more now entries e (subst (λ f. StandsFor now (xs ++ f ∷ [])) (sym (ap (coming kept.number kept.visibility xs) (entry-asked e moment _ is.at_moment is.asks) ∙ coming-accepted kept xs moment e is.queue group dedup body for before none))
+    (stands_accepted kept xs moment e is.queue group dedup body for (told-lifetime kept.number kept.visibility entries) before))
+
+-- its reply
+pub reply-accepted : (kept : Incarnation) (moment : ℕ) (group dedup body : List ℕ) → kept.last ≤ moment → repeated dedup moment kept.accepted ≡ None → IsAnswered (IsSend moment group dedup body) kept (Sent (kept.sent + 1))
+reply-accepted kept moment group dedup body before none entries e stands is =
+    let xs = told_of kept entries in
+    ap (λ f. f.reply) (ap (coming kept.number kept.visibility xs) (entry-asked e moment _ is.at_moment is.asks) ∙ coming-accepted kept xs moment e is.queue group dedup body (stands-told kept entries stands) before none)
+
+-- a send that repeats one
+pub stands-repeated : (kept : Incarnation) (moment : ℕ) (group dedup body : List ℕ) (n : ℕ) → kept.last ≤ moment → repeated dedup moment kept.accepted ≡ Some n → StandsAfter (IsSend moment group dedup body) kept (used_at moment kept)
+stands-repeated kept moment group dedup body n before found entries e stands is =
+    let xs = told_of kept entries in
+    let now = used_at moment kept in
+    let for = stands-told kept entries stands in
+    stands-more now entries e (subst (λ f. StandsFor now (xs ++ f ∷ [])) (sym (ap (coming kept.number kept.visibility xs) (entry-asked e moment _ is.at_moment is.asks) ∙ coming-repeated kept xs moment e is.queue group dedup body n for before found))
+    (stands_repeated kept xs moment e is.queue group dedup body n for before))
+
+-- its reply
+pub reply-repeated : (kept : Incarnation) (moment : ℕ) (group dedup body : List ℕ) (n : ℕ) → kept.last ≤ moment → repeated dedup moment kept.accepted ≡ Some n → IsAnswered (IsSend moment group dedup body) kept (Sent n)
+reply-repeated kept moment group dedup body n before found entries e stands is =
+    let xs = told_of kept entries in
+    ap (λ f. f.reply) (ap (coming kept.number kept.visibility xs) (entry-asked e moment _ is.at_moment is.asks) ∙ coming-repeated kept xs moment e is.queue group dedup body n (stands-told kept entries stands) before found)

@@ -1,0 +1,82 @@
+-- What is kept of an incarnation, against what happened to it.
+use Rattle.std.proofs.Common.{◌≡◌, ℕ, ◌+◌, ◌≤◌, ◌∙◌, ap, sym, List, [], ◌∷◌, ◌++◌, length, None, true, false, arith, subst, refl, length-append}
+use Rattle.std.specs.List.{filter, find, last_or}
+use Rattle.std.specs.Option.{option_map}
+use Rattle.cq_base.specs.declared.ask.Ask.{Ask}
+use Rattle.cq_base.specs.declared.ask.Entry.{Entry}
+use Rattle.cq_base.specs.Facts.{Fact}
+use Rattle.cq_base.specs.Incarnations.{Incarnation, IncarnationStands, coming, told_of, repeated, is_use, is_clocked}
+use Rattle.cq_base.specs.Messages.{messages, is_accepted, duplicate, is_duplicated_by, moment_of, standing}
+use Rattle.cq_base.proofs.Ends.{filter-passes, filter-fails}
+use Rattle.cq_base.proofs.Numbers.{messages-same}
+use Rattle.cq_queue.proofs.Lifetimes.{lifetime-more, lifetime-none}
+use Rattle.cq_queue.proofs.Maps.{last_or-more}
+
+-- What is kept stands for what happened.
+pub record StandsFor (kept : Incarnation) (xs : List Fact) : Type 0 where
+  pub sent : kept.sent ≡ length (messages xs)
+  pub messages : kept.messages ≡ standing kept.visibility xs
+  pub window : (id : List ℕ) (moment : ℕ) → kept.last ≤ moment → repeated id moment kept.accepted ≡ option_map (λ f. f.count) (duplicate id moment xs)
+  pub last : kept.last ≡ moment_of (last_or None (filter is_clocked xs))
+  pub used : kept.used ≡ length (filter is_use xs)
+
+-- what stands for entries stands for what they did
+pub stands-told : (kept : Incarnation) (entries : List Entry) → IncarnationStands kept entries → StandsFor kept (told_of kept entries)
+stands-told kept entries h = record { sent = h.sent; messages = h.messages; window = h.window; last = h.last; used = h.used }
+
+-- and the other way round
+told-stands : (kept : Incarnation) (entries : List Entry) → StandsFor kept (told_of kept entries) → IncarnationStands kept entries
+told-stands kept entries h = record { sent = h.sent; messages = h.messages; window = h.window; last = h.last; used = h.used }
+
+-- the same with one more entry
+pub stands-more : (kept : Incarnation) (entries : List Entry) (e : Entry) → StandsFor kept (told_of kept entries ++ coming kept.number kept.visibility (told_of kept entries) e ∷ []) → IncarnationStands kept (entries ++ e ∷ [])
+stands-more kept entries e h = told-stands kept (entries ++ e ∷ []) (subst (StandsFor kept) (sym (lifetime-more kept.number kept.visibility entries e)) h)
+
+-- the entry of a client's ask at that moment
+abbrev pub asked : ℕ → Entry → Ask → Entry
+asked moment e ask = record { moment = moment; request = record { client = e.request.client; number = e.request.number; ask = ask } }
+
+-- an entry is that of its ask at its moment
+pub entry-asked : (e : Entry) (moment : ℕ) (ask : Ask) → e.moment ≡ moment → e.request.ask ≡ ask → e ≡ asked moment e ask
+entry-asked e moment ask at asks = ap (λ m. asked m e e.request.ask) at ∙ ap (asked moment e) asks
+
+-- a send, a receive or a change that takes effect is the last so far
+pub clocked-next : (xs : List Fact) (f : Fact) → is_clocked f ≡ true → f.entry.moment ≡ moment_of (last_or None (filter is_clocked (xs ++ f ∷ [])))
+clocked-next xs f h = sym (ap (λ ys. moment_of (last_or None ys)) (filter-passes is_clocked xs f h) ∙ ap moment_of (last_or-more None (filter is_clocked xs) f))
+
+-- nothing else is
+pub clocked-same : (xs : List Fact) (f : Fact) → is_clocked f ≡ false → moment_of (last_or None (filter is_clocked xs)) ≡ moment_of (last_or None (filter is_clocked (xs ++ f ∷ [])))
+clocked-same xs f h = sym (ap (λ ys. moment_of (last_or None ys)) (filter-fails is_clocked xs f h))
+
+-- a send or a receive is a use more
+pub used-next : (xs : List Fact) (f : Fact) → is_use f ≡ true → length (filter is_use xs) + 1 ≡ length (filter is_use (xs ++ f ∷ []))
+used-next xs f h = sym (ap length (filter-passes is_use xs f h) ∙ length-append (filter is_use xs) (f ∷ []))
+
+-- nothing else is
+pub used-same : (xs : List Fact) (f : Fact) → is_use f ≡ false → length (filter is_use xs) ≡ length (filter is_use (xs ++ f ∷ []))
+used-same xs f h = sym (ap length (filter-fails is_use xs f h))
+
+-- what is no accepted send leaves the count of those
+pub sent-same : (xs : List Fact) (f : Fact) → is_accepted f ≡ false → length (messages xs) ≡ length (messages (xs ++ f ∷ []))
+sent-same xs f h = sym (ap length (messages-same xs f h))
+
+-- and which of them are found, from any later moment on
+pub window-same : (kept : Incarnation) (xs : List Fact) (f : Fact) (last : ℕ) → StandsFor kept xs → is_accepted f ≡ false → kept.last ≤ last
+    → (id : List ℕ) (moment : ℕ) → last ≤ moment → repeated id moment kept.accepted ≡ option_map (λ y. y.count) (duplicate id moment (xs ++ f ∷ []))
+unfolding duplicate
+window-same kept xs f last stands rejected later id moment from =
+    let from_last : kept.last ≤ moment = omega arith in
+    stands.window id moment from_last ∙ ap (λ ys. option_map (λ y. y.count) (find (is_duplicated_by id moment) ys)) (sym (messages-same xs f rejected))
+
+-- what is kept of an incarnation to which nothing came
+abbrev empty : ℕ → ℕ → Incarnation
+empty number visibility = record { number = number; visibility = visibility; sent = 0; messages = []; accepted = []; last = 0; used = 0 }
+
+-- nothing happened
+nothing_told : (number visibility : ℕ) → StandsFor (empty number visibility) []
+unfolding messages duplicate standing
+nothing_told number visibility = record { sent = refl; messages = refl; window = λ id moment later. refl; last = refl; used = refl }
+
+-- it stands for no entries
+pub stands-none : (number visibility : ℕ) → IncarnationStands (empty number visibility) []
+stands-none number visibility = told-stands (empty number visibility) [] (subst (StandsFor (empty number visibility)) (sym (lifetime-none number visibility)) (nothing_told number visibility))

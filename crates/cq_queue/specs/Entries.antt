@@ -1,0 +1,66 @@
+-- What comes to an incarnation, whatever the client, the number and the name of the queue, and what is said
+-- of one more entry.
+use Rattle.std.specs.Prelude.{◌≡◌, ℕ, List, [], ◌∷◌, ◌++◌, map, Option}
+use Rattle.cq_base.specs.declared.ask.Ask.TheVariants.{Create, Send, Receive, Delete, Change}
+use Rattle.cq_base.specs.declared.ask.Entry.{Entry}
+use Rattle.cq_base.specs.declared.reply.Delivery.{Delivery}
+use Rattle.cq_base.specs.declared.reply.Reply.{Reply}
+use Rattle.cq_base.specs.declared.reply.Reply.TheVariants.{Counts}
+use Rattle.cq_base.specs.Effects.{counts_of}
+use Rattle.cq_base.specs.Handle.{Handle}
+use Rattle.cq_base.specs.Incarnations.{Incarnation, IncarnationStands, coming, told_of}
+use Rattle.cq_base.specs.Messages.{standing}
+use Rattle.cq_base.specs.Receiving.{to_hand, delivery_of}
+
+-- the entry is a creation of the queue, which lives, at any moment
+pub record IsCreate (visibility : ℕ) (e : Entry) : Type 0 where
+  pub queue : List ℕ
+  pub asks : e.request.ask ≡ Create queue visibility
+
+-- the entry is such a send at that moment
+pub record IsSend (moment : ℕ) (group dedup body : List ℕ) (e : Entry) : Type 0 where
+  pub queue : List ℕ
+  pub at_moment : e.moment ≡ moment
+  pub asks : e.request.ask ≡ Send queue group dedup body
+
+-- the entry is such a receive at that moment
+pub record IsReceive (moment size : ℕ) (visibility : Option ℕ) (e : Entry) : Type 0 where
+  pub queue : List ℕ
+  pub at_moment : e.moment ≡ moment
+  pub asks : e.request.ask ≡ Receive queue size visibility
+
+-- the entry is a delete with that receipt, at any moment
+pub record IsDelete (receipt : Handle) (e : Entry) : Type 0 where
+  pub queue : List ℕ
+  pub asks : e.request.ask ≡ Delete queue receipt
+
+-- the entry is such a change of a timeout at that moment
+pub record IsChange (moment : ℕ) (receipt : Handle) (visibility : ℕ) (e : Entry) : Type 0 where
+  pub queue : List ℕ
+  pub at_moment : e.moment ≡ moment
+  pub asks : e.request.ask ≡ Change queue receipt visibility
+
+-- Whatever entries `old` stands for, `new` stands for them and one more, if it is of this kind.
+abbrev pub StandsAfter : (Entry → Type 0) → Incarnation → Incarnation → Type 0
+StandsAfter IsSuch old new = (entries : List Entry) (e : Entry) → IncarnationStands old entries → IsSuch e
+    → IncarnationStands new (entries ++ e ∷ [])
+
+-- Whatever entries `kept` stands for, one more of this kind is answered with that reply.
+abbrev pub IsAnswered : (Entry → Type 0) → Incarnation → Reply → Type 0
+IsAnswered IsSuch kept reply = (entries : List Entry) (e : Entry) → IncarnationStands kept entries → IsSuch e
+    → (coming kept.number kept.visibility (told_of kept entries) e).reply ≡ reply
+
+-- it is the same incarnation, with the same visibility timeout
+pub record IsSameQueue (old new : Incarnation) : Type 0 where
+  pub number : new.number ≡ old.number
+  pub visibility : new.visibility ≡ old.visibility
+
+-- Whatever entries `kept` stands for, these are what a receive of that size hands out after them.
+abbrev pub AreOffered : Incarnation → ℕ → ℕ → List Delivery → Type 0
+AreOffered kept moment size deliveries = (entries : List Entry) → IncarnationStands kept entries
+    → deliveries ≡ map (delivery_of kept.number) (to_hand size moment (standing kept.visibility (told_of kept entries)))
+
+-- Whatever entries `kept` stands for, these are the counts of its messages after them.
+abbrev pub AreCounted : Incarnation → ℕ → ℕ → ℕ → Type 0
+AreCounted kept moment visible in_flight = (entries : List Entry) → IncarnationStands kept entries
+    → counts_of moment (standing kept.visibility (told_of kept entries)) ≡ Counts visible in_flight

@@ -1,0 +1,4 @@
+pub mod Answers
+pub mod Entries
+pub mod Kept
+pub mod Sound

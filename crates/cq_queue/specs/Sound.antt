@@ -1,0 +1,16 @@
+-- What is known of each queue, besides what it stands for.
+use Rattle.std.specs.Prelude.{ℕ, ◌<◌, ◌≤◌, ◌^◌, List}
+use Rattle.std.specs.List.{All}
+use Rattle.cq_base.specs.Messages.{Message}
+
+-- the message wasn't handed out more often than so
+abbrev pub IsHandedUpTo : ℕ → Message → Type 0
+IsHandedUpTo used m = m.handings ≤ used
+
+-- The incarnation has a number, and each accepted send and each handing of a message is a use; of these
+-- there aren't more than 2^62.
+pub record IsSound (number sent used : ℕ) (messages : List Message) : Type 0 where
+  pub positive : 0 < number
+  pub sends : sent ≤ used
+  pub handings : All (IsHandedUpTo used) messages
+  pub uses : used ≤ 2 ^ 62

@@ -1,0 +1,95 @@
+ghost use Rattle.std.specs.Prelude.{◌≡◌, ◌+◌, ◌≤◌, ◌<◌, ◌++◌, [], ◌∷◌, filter, find, option_map, vec_len, vec_capacity, IfOk};
+ghost use Rattle.cq_base.specs.Messages.{window};
+ghost use Rattle.cq_base.specs.Incarnations.{counts_for, repeated};
+ghost use Rattle.cq_queue.specs.Kept.{is_recent};
+
+use cq_base::{DedupId, Moment, NoMemory};
+use std::alloc::Global;
+use std::marker::Model;
+
+/// The five minutes in which a deduplication id counts, in milliseconds (SQS API Reference, "SendMessage",
+/// `MessageDeduplicationId`).
+const WINDOW: u64 = 300_000;
+
+/// An accepted send, as far as its deduplication id goes.
+#[derive(Drop)]
+pub struct Accepted {
+    pub dedup: DedupId,
+    pub moment: Moment,
+    pub sequence: u64,
+}
+
+impl Model for Accepted {
+    ghost use Rattle.cq_base.specs.Incarnations as object;
+
+    ghost Value = { object.Accepted };
+
+    ghost view = { λ a. record { dedup = a.dedup; moment = a.moment; sequence = a.sequence } };
+}
+
+impl Accepted {
+    /// Whether its five minutes aren't over at that moment.
+    fn is_recent(&self, moment: Moment) -> bool
+        ensures { result ≡ is_recent moment self.now }
+    {
+        moment.get() < self.moment.get() + WINDOW
+    }
+
+    /// Whether a send of that deduplication id repeats it at that moment.
+    fn counts_for(&self, dedup: &DedupId, moment: Moment) -> bool
+        ensures { result ≡ counts_for dedup.now moment self.now }
+    {
+        self.dedup == *dedup && self.is_recent(moment)
+    }
+
+    /// The same. It shares the id: O(1).
+    fn try_copy(&self) -> Result<Accepted, NoMemory>
+        ensures { IfOk result (λ copy. copy ≡ self.now) }
+    {
+        Ok(Accepted {
+            dedup: self.dedup.try_copy()?,
+            moment: self.moment,
+            sequence: self.sequence,
+        })
+    }
+}
+
+/// The sequence number with which a send of that deduplication id is answered at that moment, if it
+/// repeats one of these.
+pub fn repeated(accepted: &[Accepted], dedup: &DedupId, moment: Moment) -> Option<u64>
+    ensures { result ≡ repeated dedup.now moment accepted.now }
+{
+    accepted
+        .iter()
+        .find(|a| a.counts_for(dedup, moment))
+        .map(|a| a.sequence)
+}
+
+/// Forgets those whose five minutes are over at that moment. It takes no memory.
+fn forget_old(accepted: &mut Vec<Accepted>, moment: Moment)
+    ensures items { accepted.new.items ≡ filter (is_recent moment) accepted.old.items }
+    ensures fewer { vec_len accepted.new ≤ vec_len accepted.old }
+    ensures room { vec_capacity accepted.new ≡ vec_capacity accepted.old }
+{
+    accepted.retain(|a| a.is_recent(moment));
+}
+
+/// Adds one more, and forgets those whose five minutes are over. It takes no memory.
+pub fn accept(accepted: &mut Vec<Accepted>, one: Accepted)
+    requires { vec_len accepted.old < vec_capacity accepted.old }
+    ensures { accepted.new.items ≡ filter (is_recent one.moment) accepted.old.items ++ one ∷ [] }
+{
+    forget_old(accepted, one.moment);
+    accepted.push_reserved(one);
+}
+
+/// The same accepted sends. It shares the ids: O(accepted sends).
+pub fn copies(alloc: Global, accepted: &[Accepted]) -> Result<Vec<Accepted>, NoMemory>
+    ensures { IfOk result (λ copy. copy.items ≡ accepted.now) }
+{
+    let mut copy = Vec::new(alloc);
+    for one in accepted {
+        copy.push(one.try_copy()?)?;
+    }
+    Ok(copy)
+}

@@ -1,0 +1,76 @@
+ghost use Rattle.std.specs.Prelude.{◌≡◌, ◌+◌, ◌*◌, map, nat_lt};
+ghost use Rattle.cq_base.specs.Effects.{message_at, flight_limit, change_standing, change_sent};
+ghost use Rattle.cq_queue.specs.Answers.{change_reply, is_changing};
+ghost use Rattle.cq_queue.specs.Kept.{hidden_until};
+
+use crate::delete::{fits, message_at};
+use crate::message::Message;
+use cq_base::{Moment, Receipt, Refusal, Seconds};
+
+/// The twelve hours for which a message can be kept in flight, in milliseconds (SQS API Reference,
+/// "ChangeMessageVisibility").
+const FLIGHT_LIMIT: u64 = 43_200_000;
+
+/// The moment in milliseconds so many seconds after this one.
+pub fn end_of(moment: Moment, visibility: Seconds) -> u64
+    ensures { result ≡ moment + 1000 * visibility }
+{
+    moment.get() + 1000 * u64::from(visibility.get())
+}
+
+/// Whether a timeout from this moment on ends later than twelve hours after the last handing.
+fn is_beyond_limit(moment: Moment, visibility: Seconds, message: &Message) -> bool
+    ensures { result ≡ nat_lt (message.now.handed_at + flight_limit) (moment + 1000 * visibility) }
+{
+    message.handed_at.get() + FLIGHT_LIMIT < end_of(moment, visibility)
+}
+
+/// Whether a change of the timeout of a message that isn't deleted, to so many seconds from this moment
+/// on, takes effect, or why not.
+fn change_standing(
+    moment: Moment,
+    visibility: Seconds,
+    receipt: Receipt,
+    message: &Message,
+) -> Result<(), Refusal>
+    ensures reply { change_reply result ≡ (change_standing moment visibility receipt message.now).reply }
+    ensures effective { is_changing result
+        ≡ (change_standing moment visibility receipt message.now).effective }
+{
+    if !fits(receipt, message) {
+        Err(Refusal::ReceiptHandleIsInvalid)
+    } else if !message.is_in_flight(moment) {
+        Err(Refusal::MessageNotInflight)
+    } else if is_beyond_limit(moment, visibility, message) {
+        Err(Refusal::VisibilityBeyondLimit)
+    } else {
+        Ok(())
+    }
+}
+
+/// The same with a receipt of a message that was sent: one that is deleted isn't in flight.
+pub fn change_sent(
+    moment: Moment,
+    visibility: Seconds,
+    receipt: Receipt,
+    messages: &[Message],
+) -> Result<(), Refusal>
+    ensures reply { change_reply result
+        ≡ (change_sent moment visibility receipt (message_at receipt.sequence messages.now)).reply }
+    ensures effective { is_changing result
+        ≡ (change_sent moment visibility receipt (message_at receipt.sequence messages.now)).effective }
+{
+    match message_at(messages, receipt.sequence()) {
+        Some(message) => change_standing(moment, visibility, receipt, message),
+        None => Err(Refusal::MessageNotInflight),
+    }
+}
+
+/// Hides the message of that sequence number up to `end`. It takes no memory.
+pub fn hide(messages: &mut Vec<Message>, sequence: u64, end: u64)
+    ensures { messages.new.items ≡ map (hidden_until sequence end) messages.old.items }
+{
+    for i in 0..messages.len() {
+        messages[i].hide(sequence, end);
+    }
+}

@@ -1,0 +1,55 @@
+ghost use Rattle.std.specs.Prelude.{◌≡◌, filter, option_map};
+ghost use Rattle.cq_base.specs.Effects.{message_at, fits, delete_standing, delete_sent};
+ghost use Rattle.cq_queue.specs.Answers.{delete_reply, is_deleting};
+ghost use Rattle.cq_queue.specs.Kept.{is_other};
+
+use crate::message::Message;
+use cq_base::{Receipt, Refusal};
+
+/// The message of that sequence number, if it isn't deleted.
+pub fn message_at(messages: &[Message], sequence: u64) -> Option<&Message>
+    ensures { option_map (λ x. x.now) result ≡ message_at sequence messages.now }
+{
+    messages.iter().find(|x| x.sequence == sequence)
+}
+
+/// Whether the receipt is that of the message's last handing.
+pub fn fits(receipt: Receipt, message: &Message) -> bool
+    ensures { result ≡ fits receipt message.now }
+{
+    message.handings != 0 && receipt.handing() == message.handings
+}
+
+/// Whether a delete with a receipt of this message, which isn't deleted yet, takes effect. It does with
+/// the receipt of the last handing, in flight or not, and does nothing with an older one (SQS API
+/// Reference, "DeleteMessage").
+fn delete_standing(receipt: Receipt, message: &Message) -> Result<bool, Refusal>
+    ensures reply { delete_reply result ≡ (delete_standing receipt message.now).reply }
+    ensures effective { is_deleting result ≡ (delete_standing receipt message.now).effective }
+{
+    if message.handings < receipt.handing() {
+        Err(Refusal::ReceiptHandleIsInvalid)
+    } else {
+        Ok(fits(receipt, message))
+    }
+}
+
+/// Whether a delete with a receipt of a message that was sent takes effect.
+pub fn delete_sent(receipt: Receipt, messages: &[Message]) -> Result<bool, Refusal>
+    ensures reply { delete_reply result
+        ≡ (delete_sent receipt (message_at receipt.sequence messages.now)).reply }
+    ensures effective { is_deleting result
+        ≡ (delete_sent receipt (message_at receipt.sequence messages.now)).effective }
+{
+    match message_at(messages, receipt.sequence()) {
+        Some(message) => delete_standing(receipt, message),
+        None => Ok(false),
+    }
+}
+
+/// Takes out the message of that sequence number. It takes no memory.
+pub fn take_out(messages: &mut Vec<Message>, sequence: u64)
+    ensures { messages.new.items ≡ filter (is_other sequence) messages.old.items }
+{
+    messages.retain(|x| x.sequence != sequence);
+}

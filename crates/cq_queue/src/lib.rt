@@ -1,0 +1,14 @@
+//! One incarnation of a FIFO queue: what is sent to it, handed out, deleted and changed.
+#![tactic(auto)]
+
+mod accepted;
+mod change;
+mod delete;
+mod hand;
+mod message;
+mod queue;
+mod receive;
+#[cfg(test)]
+mod tests;
+
+pub use queue::Queue;

@@ -1,0 +1,271 @@
+ghost use Rattle.std.specs.Prelude.{◌≡◌, ◌+◌, ◌*◌, ◌^◌, ◌<◌, ◌≤◌, ℕ, [], IfOk, IfErr, OnOk, OnErr, Some};
+ghost use Rattle.cq_base.specs.declared.reply.Reply.TheVariants.{Sent, Deleted, Changed, Refused};
+ghost use Rattle.cq_base.specs.Incarnations.{IncarnationStands, repeated};
+ghost use Rattle.cq_queue.specs.Answers.{delete_reply, is_deleting, change_reply, is_changing};
+ghost use Rattle.cq_queue.specs.Entries.{IsSend, IsReceive, IsDelete, IsChange, StandsAfter, IsAnswered, IsSameQueue};
+ghost use Rattle.cq_queue.specs.Kept.{used_at, with_message, handed_out, is_receipt_of, without_message, deletion, with_timeout, alteration};
+
+mod reads;
+
+use crate::accepted::{self, Accepted};
+use crate::change::{change_sent, end_of, hide};
+use crate::delete::{delete_sent, take_out};
+use crate::hand::{mark, numbers_to_hand};
+use crate::message::Message;
+use cq_base::{BatchSize, Body, DedupId, GroupId, Moment, NoMemory, Receipt, Refusal, Seconds};
+use std::alloc::Global;
+use std::marker::Model;
+
+/// What is kept of one incarnation of a queue. Contracts see it as an `Incarnation`, and say for which
+/// entries it stands. The caller keeps the moments in order and the uses below 2^62.
+#[derive(Drop)]
+pub struct Queue {
+    number: u64,
+    visibility: Seconds,
+    /// How many sends it has accepted.
+    sent: u64,
+    /// The messages that aren't deleted, in order of sending.
+    messages: Vec<Message>,
+    /// The accepted sends of the five minutes up to the last of them.
+    accepted: Vec<Accepted>,
+    last: Moment,
+    used: u64,
+}
+
+impl Model for Queue {
+    ghost use Rattle.cq_base.specs.Incarnations as object;
+
+    ghost Value = { object.Incarnation };
+
+    ghost use Rattle.cq_queue.specs.Sound.{IsSound};
+
+    ghost view = { λ q. record {
+      number = q.number;
+      visibility = q.visibility;
+      sent = q.sent;
+      messages = q.messages.items;
+      accepted = q.accepted.items;
+      last = q.last;
+      used = q.used;
+    } };
+
+    ghost invariant = { λ q. IsSound q.number q.sent q.used q.messages.items };
+}
+
+impl Queue {
+    /// The queue to which nothing came. It takes no memory before the first send. O(1).
+    pub fn new(alloc: Global, incarnation: u64, visibility: Seconds) -> Result<Queue, NoMemory>
+        requires { 0 < incarnation }
+        ensures stands { IfOk result (λ queue. IncarnationStands queue []) }
+        ensures number { IfOk result (λ queue. queue.number ≡ incarnation) }
+        ensures visibility { IfOk result (λ queue. queue.visibility ≡ visibility) }
+        ensures last { IfOk result (λ queue. queue.last ≡ 0) }
+        ensures used { IfOk result (λ queue. queue.used ≡ 0) }
+    {
+        Ok(Queue {
+            number: incarnation,
+            visibility,
+            sent: 0,
+            messages: Vec::new(alloc),
+            accepted: Vec::new(alloc),
+            last: Moment::zero(),
+            used: 0,
+        })
+    }
+
+    /// The sequence number of the message that a send of that deduplication id repeats.
+    fn repeated(&self, dedup: &DedupId, moment: Moment) -> Option<u64>
+        ensures { result ≡ repeated dedup.now moment self.now.accepted }
+    {
+        accepted::repeated(&self.accepted, dedup, moment)
+    }
+
+    /// Counts a send that repeats one.
+    fn count_use(&mut self, moment: Moment)
+        requires { self.old.used < 2 ^ 62 }
+        ensures { self.new ≡ used_at moment self.old }
+    {
+        self.used += 1;
+        // The five minutes of the send that it repeats go on as before.
+        self.last = moment;
+    }
+
+    /// Adds a message, and answers with its sequence number.
+    fn accept(
+        &mut self,
+        moment: Moment,
+        group: &GroupId,
+        dedup: &DedupId,
+        body: &Body,
+    ) -> Result<u64, NoMemory>
+        requires { self.old.used < 2 ^ 62 }
+        ensures sequence { IfOk result (λ n. n ≡ self.old.sent + 1) }
+        ensures ok { OnOk result (self.new ≡ with_message moment group.now dedup.now body.now self.old) }
+        ensures err { OnErr result (self.new ≡ self.old) }
+    {
+        let sequence = self.sent + 1;
+        let message = Message::new(sequence, group, body)?;
+        let dedup = dedup.try_copy()?;
+        let accepted = Accepted {
+            dedup,
+            moment,
+            sequence,
+        };
+        self.messages.reserve(1)?;
+        self.accepted.reserve(1)?;
+        self.messages.push_reserved(message);
+        accepted::accept(&mut self.accepted, accepted);
+        self.sent = sequence;
+        self.last = moment;
+        self.used += 1;
+        Ok(sequence)
+    }
+
+    /// A send that comes at that moment. It is answered with the message's sequence number: a new one, or
+    /// that of the message that it repeats. After `NoMemory` the queue is as before. O(accepted sends that
+    /// are kept), and amortized O(1) for the message.
+    pub fn send(
+        &mut self,
+        moment: Moment,
+        group: &GroupId,
+        dedup: &DedupId,
+        body: &Body,
+    ) -> Result<u64, NoMemory>
+        requires order { self.old.last ≤ moment }
+        requires room { self.old.used < 2 ^ 62 }
+        ensures stands { OnOk result
+            (StandsAfter (IsSend moment group.now dedup.now body.now) self.old self.new) }
+        ensures reply { IfOk result (λ sequence.
+            IsAnswered (IsSend moment group.now dedup.now body.now) self.old (Sent sequence)) }
+        ensures last { OnOk result (self.new.last ≡ moment) }
+        ensures used { OnOk result (self.new.used ≡ self.old.used + 1) }
+        ensures err { OnErr result (self.new ≡ self.old) }
+        ensures same { IsSameQueue self.old self.new }
+    {
+        match self.repeated(dedup, moment) {
+            Some(sequence) => {
+                self.count_use(moment);
+                Ok(sequence)
+            }
+            None => self.accept(moment, group, dedup, body),
+        }
+    }
+
+    /// Hands out up to so many messages, hides each for that timeout, and counts the receive.
+    fn mark(&mut self, moment: Moment, size: BatchSize, timeout: Seconds)
+        requires { self.old.used < 2 ^ 62 }
+        ensures { self.new ≡ handed_out moment size (Some timeout) self.old }
+    {
+        let numbers = numbers_to_hand(moment, size, &self.messages);
+        let end = end_of(moment, timeout);
+        mark(&mut self.messages, moment, end, numbers.as_slice());
+        self.last = moment;
+        self.used += 1;
+    }
+
+    /// A receive that comes at that moment, with that visibility timeout or else the queue's. It hands out
+    /// what `offer` lists. It takes no memory. O(messages^2).
+    pub fn hand(&mut self, moment: Moment, size: BatchSize, visibility: Option<Seconds>)
+        requires order { self.old.last ≤ moment }
+        requires room { self.old.used < 2 ^ 62 }
+        ensures stands { StandsAfter (IsReceive moment size visibility) self.old self.new }
+        ensures last { self.new.last ≡ moment }
+        ensures used { self.new.used ≡ self.old.used + 1 }
+        ensures same { IsSameQueue self.old self.new }
+    {
+        let timeout = visibility.unwrap_or(self.visibility());
+        self.mark(moment, size, timeout);
+    }
+
+    /// Whether the receipt is one of this incarnation, for a message that was sent to it.
+    fn is_receipt_of(&self, receipt: &Receipt) -> bool
+        ensures value { result ≡ is_receipt_of self.now receipt.now }
+        ensures positive { 0 < receipt.now.sequence }
+    {
+        let sequence = receipt.sequence();
+        receipt.incarnation() == self.number && sequence <= self.sent
+    }
+
+    /// Whether a delete with that receipt takes effect.
+    fn deletion(&self, receipt: &Receipt) -> Result<bool, Refusal>
+        ensures reply { delete_reply result ≡ (deletion self.now receipt.now).reply }
+        ensures effective { is_deleting result ≡ (deletion self.now receipt.now).effective }
+        ensures positive { 0 < receipt.now.sequence }
+    {
+        if self.is_receipt_of(receipt) {
+            delete_sent(*receipt, &self.messages)
+        } else {
+            Err(Refusal::ReceiptHandleIsInvalid)
+        }
+    }
+
+    /// Takes out the message of that sequence number.
+    fn take_out(&mut self, sequence: u64)
+        ensures { self.new ≡ without_message sequence self.old }
+    {
+        take_out(&mut self.messages, sequence);
+    }
+
+    /// A delete with that receipt, and whether it takes effect. It takes no memory. O(messages).
+    pub fn delete(&mut self, receipt: &Receipt) -> Result<bool, Refusal>
+        ensures stands { StandsAfter (IsDelete receipt.now) self.old self.new }
+        ensures ok { IfOk result (λ deleted. IsAnswered (IsDelete receipt.now) self.old (Deleted deleted)) }
+        ensures err { IfErr result (λ refusal. IsAnswered (IsDelete receipt.now) self.old (Refused refusal)) }
+        ensures last { self.new.last ≡ self.old.last }
+        ensures used { self.new.used ≡ self.old.used }
+        ensures same { IsSameQueue self.old self.new }
+    {
+        let deleted = self.deletion(receipt)?;
+        if deleted {
+            self.take_out(receipt.sequence());
+        }
+        Ok(deleted)
+    }
+
+    /// Whether a change of a timeout with that receipt takes effect, or why not.
+    fn alteration(
+        &self,
+        moment: Moment,
+        receipt: &Receipt,
+        visibility: Seconds,
+    ) -> Result<(), Refusal>
+        ensures reply { change_reply result ≡ (alteration moment visibility self.now receipt.now).reply }
+        ensures effective { is_changing result ≡ (alteration moment visibility self.now receipt.now).effective }
+        ensures positive { 0 < receipt.now.sequence }
+    {
+        if self.is_receipt_of(receipt) {
+            change_sent(moment, visibility, *receipt, &self.messages)
+        } else {
+            Err(Refusal::ReceiptHandleIsInvalid)
+        }
+    }
+
+    /// Gives the message of that sequence number a timeout of so many seconds from this moment on.
+    fn hide(&mut self, moment: Moment, sequence: u64, visibility: Seconds)
+        ensures { self.new ≡ with_timeout moment sequence visibility self.old }
+    {
+        hide(&mut self.messages, sequence, end_of(moment, visibility));
+        self.last = moment;
+    }
+
+    /// A change of a message's visibility timeout that comes at that moment. It takes no memory. O(messages).
+    pub fn change(
+        &mut self,
+        moment: Moment,
+        receipt: &Receipt,
+        visibility: Seconds,
+    ) -> Result<(), Refusal>
+        requires order { self.old.last ≤ moment }
+        ensures stands { StandsAfter (IsChange moment receipt.now visibility) self.old self.new }
+        ensures ok { OnOk result (IsAnswered (IsChange moment receipt.now visibility) self.old Changed) }
+        ensures err { IfErr result (λ refusal.
+            IsAnswered (IsChange moment receipt.now visibility) self.old (Refused refusal)) }
+        ensures last { self.new.last ≤ moment }
+        ensures used { self.new.used ≡ self.old.used }
+        ensures same { IsSameQueue self.old self.new }
+    {
+        self.alteration(moment, receipt, visibility)?;
+        self.hide(moment, receipt.sequence(), visibility);
+        Ok(())
+    }
+}

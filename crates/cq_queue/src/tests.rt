@@ -1,0 +1,292 @@
+ghost use Rattle.std.specs.Prelude.{◌<◌, ◌≤◌};
+
+use crate::Queue;
+use cq_base::{BatchSize, Body, DedupId, Delivery, GroupId, Moment, Receipt, Refusal, Seconds};
+use std::alloc::Global;
+use std::process::Abort;
+use std::test::Fail;
+
+/// What comes to the incarnation 1. A message's body is its deduplication id, too.
+#[derive(Clone, Copy)]
+enum Row {
+    /// The group and the body.
+    Send(&'static str, &'static str),
+    Receive(u8),
+    /// The size, and the visibility timeout in seconds.
+    ReceiveFor(u8, u32),
+    /// A message, and the handing of the receipt.
+    Delete(u64, u64),
+    /// The same, and the visibility timeout in seconds.
+    Change(u64, u64, u32),
+    /// A query of the counts.
+    Counts,
+}
+
+fn seconds(seconds: u32) -> Result<Seconds, Fail> {
+    Ok(Seconds::new(seconds).ok_or("no timeout")?)
+}
+
+fn receipt(sequence: u64, handing: u64) -> Result<Receipt, Fail> {
+    Ok(Receipt::new(1, sequence, handing).ok_or("no receipt")?)
+}
+
+fn refused(alloc: Global, refusal: Refusal) -> Result<String, Fail> {
+    let code = refusal.code();
+    Ok(format!(in alloc; "refused {code}")?)
+}
+
+fn received(alloc: Global, deliveries: &[Delivery]) -> Result<String, Fail> {
+    let mut text = String::from_str(alloc, "received")?;
+    for delivery in deliveries {
+        let body = delivery.body.as_str();
+        let receipt = delivery.receipt;
+        let one = format!(in alloc; " {body} {receipt}")?;
+        text.push_str(one.as_str())?;
+    }
+    Ok(text)
+}
+
+/// Refuses a moment before the last, and too many uses.
+fn expect_order(rt: &impl Abort, queue: &Queue, moment: Moment)
+    ensures order { queue.now.last ≤ moment }
+    ensures room { queue.now.used < 1000 }
+{
+    assert!(rt; queue.last().get() <= moment.get());
+    assert!(rt; queue.used() < 1000);
+}
+
+fn send(
+    rt: &impl Abort,
+    alloc: Global,
+    queue: &mut Queue,
+    moment: Moment,
+    group: &str,
+    body: &str,
+) -> Result<String, Fail> {
+    let group = GroupId::new(alloc, group)?;
+    let dedup = DedupId::new(alloc, body)?;
+    let body = Body::new(alloc, body)?;
+    expect_order(rt, queue, moment);
+    let sequence = queue.send(moment, &group, &dedup, &body)?;
+    Ok(format!(in alloc; "sent {sequence}")?)
+}
+
+fn receive(
+    rt: &impl Abort,
+    alloc: Global,
+    queue: &mut Queue,
+    moment: Moment,
+    size: u8,
+    visibility: Option<Seconds>,
+) -> Result<String, Fail> {
+    let size = BatchSize::new(size).ok_or("no size")?;
+    expect_order(rt, queue, moment);
+    let deliveries = queue.offer(moment, size)?;
+    queue.hand(moment, size, visibility);
+    received(alloc, deliveries.as_slice())
+}
+
+fn delete(alloc: Global, queue: &mut Queue, receipt: Receipt) -> Result<String, Fail> {
+    match queue.delete(&receipt) {
+        Ok(deleted) => Ok(format!(in alloc; "deleted {deleted}")?),
+        Err(refusal) => refused(alloc, refusal),
+    }
+}
+
+fn change(
+    rt: &impl Abort,
+    alloc: Global,
+    queue: &mut Queue,
+    moment: Moment,
+    receipt: Receipt,
+    visibility: Seconds,
+) -> Result<String, Fail> {
+    expect_order(rt, queue, moment);
+    match queue.change(moment, &receipt, visibility) {
+        Ok(()) => Ok(String::from_str(alloc, "changed")?),
+        Err(refusal) => refused(alloc, refusal),
+    }
+}
+
+fn counts(rt: &impl Abort, alloc: Global, queue: &Queue, moment: Moment) -> Result<String, Fail> {
+    expect_order(rt, queue, moment);
+    let (visible, in_flight) = queue.counts(moment);
+    Ok(format!(in alloc; "counts {visible} {in_flight}")?)
+}
+
+/// `sent 1`, `refused 4` and the like, or the bodies and receipts handed out.
+fn answer(
+    rt: &impl Abort,
+    alloc: Global,
+    queue: &mut Queue,
+    moment: u64,
+    row: Row,
+) -> Result<String, Fail> {
+    let moment = Moment::new(moment).ok_or("no moment")?;
+    match row {
+        Row::Send(group, body) => send(rt, alloc, queue, moment, group, body),
+        Row::Receive(size) => receive(rt, alloc, queue, moment, size, None),
+        Row::ReceiveFor(size, visibility) => {
+            receive(rt, alloc, queue, moment, size, Some(seconds(visibility)?))
+        }
+        Row::Delete(sequence, handing) => delete(alloc, queue, receipt(sequence, handing)?),
+        Row::Change(sequence, handing, visibility) => {
+            let receipt = receipt(sequence, handing)?;
+            change(rt, alloc, queue, moment, receipt, seconds(visibility)?)
+        }
+        Row::Counts => counts(rt, alloc, queue, moment),
+    }
+}
+
+/// What comes to a queue with a visibility timeout of 30 s, each with its moment and answer. A copy of the
+/// queue as it was just before gives the same answer.
+fn check(rt: &impl Abort, alloc: Global, rows: &[(u64, Row, &'static str)]) -> Result<(), Fail> {
+    let mut queue = Queue::new(alloc, 1, seconds(30)?)?;
+    for (moment, row, want) in rows {
+        let mut copy = queue.try_copy()?;
+        let got = answer(rt, alloc, &mut queue, *moment, *row)?;
+        assert_eq!(rt; got.as_str(), *want, "at {moment}");
+        let again = answer(rt, alloc, &mut copy, *moment, *row)?;
+        assert_eq!(rt; again.as_str(), *want, "of the copy, at {moment}");
+    }
+    Ok(())
+}
+
+#[test]
+fn a_new_queue_has_nothing(rt: HostRuntime) -> Result<(), Fail> {
+    let queue = Queue::new(rt.alloc(), 7, seconds(30)?)?;
+    assert_eq!(&rt; queue.incarnation(), 7);
+    assert_eq!(&rt; queue.visibility().get(), 30);
+    assert_eq!(&rt; queue.last().get(), 0);
+    assert_eq!(&rt; queue.used(), 0);
+    Ok(())
+}
+
+/// A deduplication id counts for less than five minutes, and a delete of the message does not end them.
+#[test]
+fn ids_count_for_five_minutes(rt: HostRuntime) -> Result<(), Fail> {
+    let rows = [
+        (0, Row::Send("a", "x"), "sent 1"),
+        (1, Row::Receive(1), "received x 1-1-1"),
+        (2, Row::Delete(1, 1), "deleted true"),
+        (299_999, Row::Send("a", "x"), "sent 1"),
+        (299_999, Row::Receive(1), "received"),
+        (300_000, Row::Send("a", "x"), "sent 2"),
+        (300_000, Row::Send("b", "x"), "sent 2"),
+        (300_000, Row::Receive(10), "received x 1-2-1"),
+    ];
+    check(&rt, rt.alloc(), &rows)
+}
+
+/// A group of which a message is in flight is closed.
+#[test]
+fn a_group_in_flight_is_closed(rt: HostRuntime) -> Result<(), Fail> {
+    let rows = [
+        (0, Row::Send("a", "a1"), "sent 1"),
+        (0, Row::Send("a", "a2"), "sent 2"),
+        (0, Row::Send("a", "a3"), "sent 3"),
+        (0, Row::Send("b", "b1"), "sent 4"),
+        (1, Row::Receive(2), "received a1 1-1-1 a2 1-2-1"),
+        (2, Row::Receive(2), "received b1 1-4-1"),
+        (3, Row::Receive(2), "received"),
+        (3, Row::Counts, "counts 1 3"),
+        (4, Row::Delete(1, 1), "deleted true"),
+        (5, Row::Receive(10), "received"),
+        (6, Row::Delete(2, 1), "deleted true"),
+        (7, Row::Receive(10), "received a3 1-3-1"),
+    ];
+    check(&rt, rt.alloc(), &rows)
+}
+
+/// A group opens again when the timeouts of its messages end.
+#[test]
+fn a_group_opens_when_its_timeouts_end(rt: HostRuntime) -> Result<(), Fail> {
+    let rows = [
+        (0, Row::Send("a", "a1"), "sent 1"),
+        (0, Row::Send("a", "a2"), "sent 2"),
+        (0, Row::Send("a", "a3"), "sent 3"),
+        (1000, Row::Receive(2), "received a1 1-1-1 a2 1-2-1"),
+        (2000, Row::Delete(2, 1), "deleted true"),
+        (30_999, Row::Receive(10), "received"),
+        (31_000, Row::Receive(10), "received a1 1-1-2 a3 1-3-1"),
+    ];
+    check(&rt, rt.alloc(), &rows)
+}
+
+/// A delete takes effect with the receipt of the last handing alone, also after its timeout.
+#[test]
+fn old_receipts_delete_nothing(rt: HostRuntime) -> Result<(), Fail> {
+    let rows = [
+        (0, Row::Send("a", "x"), "sent 1"),
+        (0, Row::ReceiveFor(1, 10), "received x 1-1-1"),
+        (10_000, Row::ReceiveFor(1, 10), "received x 1-1-2"),
+        (10_000, Row::Delete(1, 3), "refused 4"),
+        (10_000, Row::Delete(1, 1), "deleted false"),
+        (20_000, Row::Delete(1, 2), "deleted true"),
+        (20_000, Row::Delete(1, 2), "deleted false"),
+        (20_000, Row::Delete(1, 9), "deleted false"),
+        (20_000, Row::Delete(2, 1), "refused 4"),
+    ];
+    check(&rt, rt.alloc(), &rows)
+}
+
+/// A change ends twelve hours after the last handing at the latest.
+#[test]
+fn a_change_counts_from_its_own_moment(rt: HostRuntime) -> Result<(), Fail> {
+    let rows = [
+        (0, Row::Send("a", "x"), "sent 1"),
+        (0, Row::Send("a", "y"), "sent 2"),
+        (0, Row::Receive(1), "received x 1-1-1"),
+        (5, Row::Change(1, 1, 0), "changed"),
+        (5, Row::ReceiveFor(1, 43_200), "received x 1-1-2"),
+        (5, Row::Change(1, 2, 43_200), "changed"),
+        (6, Row::Change(1, 2, 43_200), "refused 6"),
+        (6, Row::Change(1, 2, 43_199), "changed"),
+        (6, Row::Change(1, 1, 1), "refused 4"),
+        (6, Row::Change(2, 1, 1), "refused 4"),
+        (43_199_006, Row::Change(1, 2, 10), "refused 5"),
+        (43_199_006, Row::Delete(1, 2), "deleted true"),
+        (43_199_006, Row::Change(1, 2, 10), "refused 5"),
+    ];
+    check(&rt, rt.alloc(), &rows)
+}
+
+/// Each group hands out all it has before the next.
+#[test]
+fn groups_go_by_their_oldest_message(rt: HostRuntime) -> Result<(), Fail> {
+    let rows = [
+        (0, Row::Send("x", "x1"), "sent 1"),
+        (0, Row::Send("w", "w1"), "sent 2"),
+        (0, Row::Send("w", "w2"), "sent 3"),
+        (0, Row::Send("y", "y1"), "sent 4"),
+        (0, Row::Send("x", "x2"), "sent 5"),
+        (0, Row::Send("z", "z1"), "sent 6"),
+        (0, Row::Send("w", "w3"), "sent 7"),
+        (0, Row::Send("x", "x3"), "sent 8"),
+        (0, Row::Send("z", "z2"), "sent 9"),
+        (0, Row::Send("w", "w4"), "sent 10"),
+        (0, Row::Send("x", "x4"), "sent 11"),
+        (0, Row::Send("z", "z3"), "sent 12"),
+        (
+            1,
+            Row::Receive(10),
+            "received x1 1-1-1 x2 1-5-1 x3 1-8-1 x4 1-11-1 w1 1-2-1 w2 1-3-1 w3 1-7-1 w4 1-10-1 y1 1-4-1 z1 1-6-1",
+        ),
+        (1, Row::Receive(10), "received"),
+    ];
+    check(&rt, rt.alloc(), &rows)
+}
+
+/// A group whose oldest message is deleted goes by the next.
+#[test]
+fn a_group_goes_by_the_oldest_that_is_left(rt: HostRuntime) -> Result<(), Fail> {
+    let rows = [
+        (0, Row::Send("a", "a1"), "sent 1"),
+        (0, Row::Send("b", "b1"), "sent 2"),
+        (0, Row::Send("a", "a2"), "sent 3"),
+        (1, Row::ReceiveFor(1, 0), "received a1 1-1-1"),
+        (1, Row::Delete(1, 1), "deleted true"),
+        (1, Row::Receive(10), "received b1 1-2-1 a2 1-3-1"),
+    ];
+    check(&rt, rt.alloc(), &rows)
+}
