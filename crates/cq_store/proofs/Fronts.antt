@@ -1,14 +1,14 @@
 -- Fronts of lists, and of what is made from lists.
 use Rattle.std.proofs.Common.{◌≡◌, ℕ, ◌<◌, ◌∙◌, ap, sym, List, [], ◌∷◌, ◌++◌, map, take, drop, Bool, true, false, eqb, append_assoc, append-nil, arith, inl, inr, subst, refl}
 use Rattle.std.specs.List.{filter, flat_map}
-use Rattle.std.proofs.lemmas.Bool.{cases_Bool, or_cases, or_left, or_right, eqb-true, eq-eqb, not_from_true, not_from_false, false_from_ne_true, false≢true}
+use Rattle.std.proofs.lemmas.Bool.{cases_Bool, or_cases, or_left, or_right, eqb-true, eq-eqb, not_from_true, not_from_false, not-true, both_ways, false_from_ne_true, true_from_ne_false, false≢true}
 use Rattle.std.proofs.lemmas.List.{take-append-drop, map-append}
 use Rattle.std.proofs.lemmas.List.Elements.{filter-append}
 use Rattle.cq_store.specs.Laws.{is_in, is_new_to}
-use Rattle.cq_store.specs.Relations.{Among, Pairwise, Front}
-use Rattle.cq_store.proofs.Among.{among-filter, among-kept, among-right}
-use Rattle.cq_store.proofs.Filters.{filter-none, filter-swapped, filter-all}
-use Rattle.cq_store.proofs.Pairs.{pairwise-apart}
+use Rattle.cq_base.specs.Relations.{Among, Pairwise, Front}
+use Rattle.cq_base.proofs.Among.{among-filter, among-kept, among-right}
+use Rattle.cq_base.proofs.Filters.{filter-none, filter-swapped, filter-all}
+use Rattle.cq_base.proofs.Pairs.{pairwise-apart}
 
 -- a front of a list is one of a longer list
 pub front-longer : {X : Type 0} (xs ys zs : List X) → Front xs ys → Front xs (ys ++ zs)
@@ -69,11 +69,18 @@ unseen-rest numbers seen rest rising split =
     ∙ ap (λ ns. ns ++ filter (is_new_to seen) rest) (filter-none (is_new_to seen) (filter (is_in numbers) seen) (λ n m. not_from_true (is_in seen n) (among-in seen n (among-filter (is_in numbers) n seen m).0)))
     ∙ filter-all (is_new_to seen) rest (rest_new numbers seen rest rising split)
 
--- Where those that were seen are a front of a rising list, and those that are handed out are one too, the
--- new ones of these stand at the end of that front.
-pub front-more : (numbers seen handed : List ℕ) → Pairwise (λ a b. a < b) numbers → Front (filter (is_in numbers) seen) numbers → Front (filter (is_in numbers) handed) numbers → Front (filter (is_in numbers) (seen ++ filter (is_new_to seen) handed)) numbers
-front-more numbers seen handed rising old more =
+-- where what fails was seen, those that pass and weren't seen are all that weren't
+unseen-kept : (kept : ℕ → Bool) (numbers seen rest : List ℕ) → Pairwise (λ a b. a < b) numbers → ((n : ℕ) → kept n ≡ false → Among n seen) → numbers ≡ filter (is_in numbers) seen ++ rest → filter (is_new_to seen) (filter kept numbers) ≡ rest
+unseen-kept kept numbers seen rest rising gone split =
+    filter-swapped kept (is_new_to seen) numbers
+    ∙ ap (λ ns. filter kept ns) (unseen-rest numbers seen rest rising split)
+    ∙ filter-all kept rest (λ n at. true_from_ne_false (kept n) (λ fails. both_ways (is_in seen n) (not-true (is_in seen n) (rest_new numbers seen rest rising split n at)) (among-in seen n (gone n fails))))
+
+-- Where those that were seen are a front of a rising list, what fails was seen, and those that are handed out
+-- are a front of those that pass, the new ones of these stand at the end of the first front.
+pub front-more : (kept : ℕ → Bool) (numbers seen handed : List ℕ) → Pairwise (λ a b. a < b) numbers → ((n : ℕ) → kept n ≡ false → Among n seen) → Front (filter (is_in numbers) seen) numbers → Front (filter (is_in numbers) handed) (filter kept numbers) → Front (filter (is_in numbers) (seen ++ filter (is_new_to seen) handed)) numbers
+front-more kept numbers seen handed rising gone old more =
     let new = filter (is_new_to seen) (filter (is_in numbers) handed) in
     let joined : filter (is_in numbers) (seen ++ filter (is_new_to seen) handed) ≡ filter (is_in numbers) seen ++ new = filter-append (is_in numbers) seen (filter (is_new_to seen) handed) ∙ ap (λ ns. filter (is_in numbers) seen ++ ns) (filter-swapped (is_new_to seen) (is_in numbers) handed) in
-    let split : old.0 ≡ new ++ filter (is_new_to seen) more.0 = sym (unseen-rest numbers seen old.0 rising old.1) ∙ ap (λ ns. filter (is_new_to seen) ns) more.1 ∙ filter-append (is_new_to seen) (filter (is_in numbers) handed) more.0 in
+    let split : old.0 ≡ new ++ filter (is_new_to seen) more.0 = sym (unseen-kept kept numbers seen old.0 rising gone old.1) ∙ ap (λ ns. filter (is_new_to seen) ns) more.1 ∙ filter-append (is_new_to seen) (filter (is_in numbers) handed) more.0 in
     (filter (is_new_to seen) more.0, old.1 ∙ ap (λ ns. filter (is_in numbers) seen ++ ns) split ∙ sym (append_assoc (filter (is_in numbers) seen) new (filter (is_new_to seen) more.0)) ∙ ap (λ ns. ns ++ filter (is_new_to seen) more.0) (sym joined))

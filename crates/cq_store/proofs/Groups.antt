@@ -1,29 +1,29 @@
 -- Of each group, a receive hands out a front of its messages.
-use Rattle.std.proofs.Common.{◌≡◌, ℕ, ◌<◌, ◌∙◌, ap, sym, List, [], map, Bool, true, false, inl, inr, subst, refl}
+use Rattle.std.proofs.Common.{◌≡◌, ℕ, ◌<◌, ◌∙◌, ap, sym, List, [], map, Bool, true, false, not, inl, inr, subst, refl}
 use Rattle.std.specs.List.{filter, list_any}
 use Rattle.std.specs.Prelude.{nat_lt}
 use Rattle.std.specs.Str.{bytes_eq}
 use Rattle.std.proofs.lemmas.Bool.{and_parts, and_cases, not-true, both_ways, false_from_ne_true, lt-ltb}
 use Rattle.std.proofs.lemmas.Simd.{map-map}
 use Rattle.cq_base.specs.Facts.{Fact}
-use Rattle.cq_base.specs.Messages.{Message, messages, message_of, standing}
+use Rattle.cq_base.specs.Messages.{Message, messages, is_deleted, is_kept, message_of, standing}
 use Rattle.cq_base.specs.Receiving.{is_same_group, is_preceded_by, is_oldest, is_open, leads, group_with, in_turn, to_hand}
 use Rattle.cq_store.specs.Laws.{is_in, is_of_group, numbers_of}
-use Rattle.cq_store.specs.Relations.{Among, Pairwise, Front}
-use Rattle.cq_store.proofs.Among.{among-filter, among-kept, among-map, among-image, none-any}
-use Rattle.cq_store.proofs.Filters.{filter-none, filter-flat_map, filter-map, filter-agrees, filter-twice}
+use Rattle.cq_base.specs.Relations.{Among, Pairwise, Front}
+use Rattle.cq_base.proofs.Among.{among-filter, among-kept, among-map, among-image, none-any}
+use Rattle.cq_base.proofs.Filters.{filter-none, filter-flat_map, filter-map, filter-agrees, filter-twice, filter-swapped}
 use Rattle.cq_store.proofs.Flights.{same-text, text-same, to_hand-among}
 use Rattle.cq_store.proofs.Fronts.{front-front, front-filter, front-map, front-take, flat-front, in-among, among-in}
-use Rattle.cq_store.proofs.Numbers.{IsNumbered, same_number}
-use Rattle.cq_store.proofs.Pairs.{pairwise-filter, pairwise-follows, pairwise-map}
-use Rattle.cq_store.proofs.Steps.{IsHanding}
+use Rattle.cq_base.proofs.Numbers.{IsNumbered, same_number}
+use Rattle.cq_base.proofs.Pairs.{pairwise-filter, pairwise-follows, pairwise-map}
+use Rattle.cq_base.proofs.Steps.{IsHanding}
 
 -- the message is of the group
 abbrev belongs : List ℕ → Message → Bool
 belongs group m = bytes_eq m.group group
 
 -- the messages rise by their sequence numbers
-abbrev Rising : List Message → Type 0
+abbrev pub Rising : List Message → Type 0
 Rising ms = Pairwise (λ a b. a.sequence < b.sequence) ms
 
 -- equal texts are equal to the same texts
@@ -65,14 +65,22 @@ to_hand-front group size moment ms rising = front-front (filter (belongs group) 
     (front-filter (belongs group) (to_hand size moment ms) (in_turn moment ms) (front-take size (in_turn moment ms))) (turn-front group moment ms rising)
 
 -- the messages of numbered sends rise
-standing-rises : (default : ℕ) (xs : List Fact) → IsNumbered (messages xs) → Rising (standing default xs)
+pub standing-rises : (default : ℕ) (xs : List Fact) → IsNumbered (messages xs) → Rising (standing default xs)
 unfolding standing message_of
-standing-rises default xs numbered = pairwise-map (λ a b. a.sequence < b.sequence) (message_of default xs) (messages xs) numbered.rising
+standing-rises default xs numbered = pairwise-map (λ a b. a.sequence < b.sequence) (message_of default xs) (filter (is_kept xs) (messages xs)) (pairwise-filter (λ a b. a.count < b.count) (is_kept xs) (messages xs) numbered.rising)
 
--- the numbers of the group are those of its messages
-standing-numbers : (group : List ℕ) (default : ℕ) (xs : List Fact) → map (λ m. m.sequence) (filter (belongs group) (standing default xs)) ≡ numbers_of group xs
+-- the message of that number isn't deleted
+abbrev pub is_left : List Fact → ℕ → Bool
+is_left xs n = not (is_deleted n xs)
+
+-- the numbers of the group that are left are those of its messages
+standing-numbers : (group : List ℕ) (default : ℕ) (xs : List Fact) → map (λ m. m.sequence) (filter (belongs group) (standing default xs)) ≡ filter (is_left xs) (numbers_of group xs)
 unfolding standing message_of
-standing-numbers group default xs = ap (λ ms. map (λ m. m.sequence) ms) (filter-map (belongs group) (message_of default xs) (messages xs)) ∙ map-map (λ m. m.sequence) (message_of default xs) (filter (is_of_group group) (messages xs))
+standing-numbers group default xs =
+    ap (λ ms. map (λ m. m.sequence) ms) (filter-map (belongs group) (message_of default xs) (filter (is_kept xs) (messages xs)))
+    ∙ map-map (λ m. m.sequence) (message_of default xs) (filter (is_of_group group) (filter (is_kept xs) (messages xs)))
+    ∙ ap (λ fs. map (λ f. f.count) fs) (filter-swapped (is_kept xs) (is_of_group group) (messages xs))
+    ∙ sym (filter-map (is_left xs) (λ f. f.count) (filter (is_of_group group) (messages xs)))
 
 -- a number is of the group if its send is
 number_in : (group : List ℕ) (xs : List Fact) (x : Fact) → IsNumbered (messages xs) → Among x (messages xs) → (r : Bool) → is_of_group group x ≡ r → is_in (numbers_of group xs) x.count ≡ r
@@ -85,11 +93,12 @@ number_in group xs x numbered at false other = false_from_ne_true (is_in (number
 -- the same for a message as it stands
 standing-in : (group : List ℕ) (default : ℕ) (xs : List Fact) (m : Message) → IsNumbered (messages xs) → Among m (standing default xs) → is_in (numbers_of group xs) m.sequence ≡ belongs group m
 unfolding standing message_of
-standing-in group default xs m numbered at = let made = among-map (message_of default xs) m (messages xs) at in
-    subst (λ y. is_in (numbers_of group xs) y.sequence ≡ belongs group y) (sym made.2) (number_in group xs made.0 numbered made.1 (is_of_group group made.0) refl)
+standing-in group default xs m numbered at = let made = among-map (message_of default xs) m (filter (is_kept xs) (messages xs)) at in
+    let sent = (among-filter (is_kept xs) made.0 (messages xs) made.1).0 in
+    subst (λ y. is_in (numbers_of group xs) y.sequence ≡ belongs group y) (sym made.2) (number_in group xs made.0 numbered sent (is_of_group group made.0) refl)
 
--- what a fact hands out of a group is a front of its accepted sends
-pub handed-front : (group : List ℕ) (default : ℕ) (xs : List Fact) (f : Fact) → IsNumbered (messages xs) → IsHanding default xs f → Front (filter (is_in (numbers_of group xs)) f.handed) (numbers_of group xs)
+-- what a fact hands out of a group is a front of its accepted sends that are left
+pub handed-front : (group : List ℕ) (default : ℕ) (xs : List Fact) (f : Fact) → IsNumbered (messages xs) → IsHanding default xs f → Front (filter (is_in (numbers_of group xs)) f.handed) (filter (is_left xs) (numbers_of group xs))
 handed-front group default xs f numbered hands =
     let ms = standing default xs in
     let handed = to_hand hands.size f.entry.moment ms in

@@ -1,10 +1,11 @@
 -- Inductions over lists of entries, from their first entry to their last.
-use Rattle.std.proofs.Common.{List, [], ◌∷◌, ◌++◌, append-nil, append_assoc}
+use Rattle.std.proofs.Common.{List, [], ◌∷◌, ◌++◌}
 use Rattle.std.specs.List.{fold}
 use Rattle.cq_base.specs.declared.ask.Entry.{Entry}
 use Rattle.cq_base.specs.Facts.{Fact}
 use Rattle.cq_base.specs.History.{history}
 use Rattle.cq_base.proofs.Histories.{told}
+use Rattle.cq_base.proofs.Lists.{by_last}
 
 -- what stays when an entry more is told stays when any number are
 after_more : (P : List Fact → Type 0) → ((facts : List Fact) (e : Entry) → P facts → P (told facts e)) → (facts : List Fact) (entries : List Entry) → P facts → P (fold told facts entries)
@@ -16,11 +17,6 @@ pub by_fact : (P : List Fact → Type 0) → P [] → ((facts : List Fact) (e : 
 unfolding history
 by_fact P none more entries = after_more P more [] entries none
 
--- what stays with an entry more at the end stays with any number
-joined_more : (P : List Entry → Type 0) → ((entries : List Entry) (e : Entry) → P entries → P (entries ++ e ∷ [])) → (before after : List Entry) → P before → P (before ++ after)
-joined_more P more before [] h = rw append-nil h
-joined_more P more before (e ∷ after) h = rw (← append_assoc before (e ∷ []) after) (joined_more P more (before ++ e ∷ []) after (more before e h))
-
 -- what holds of no entries, and stays with an entry more at the end, holds of every list
 pub by_entry : (P : List Entry → Type 0) → P [] → ((entries : List Entry) (e : Entry) → P entries → P (entries ++ e ∷ [])) → (entries : List Entry) → P entries
-by_entry P none more entries = joined_more P more [] entries none
+by_entry P none more entries = by_last P none more entries

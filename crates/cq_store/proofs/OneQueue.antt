@@ -14,8 +14,8 @@ use Rattle.cq_base.specs.Facts.{Fact, is_about, about}
 use Rattle.cq_base.specs.History.{fact_of, history, reply_to}
 use Rattle.cq_base.proofs.Histories.{told, history-more, entry-fact_of}
 use Rattle.cq_store.specs.Laws.{naming, OthersDoNothing, EachQueueAlone, EachReplyAlone}
-use Rattle.cq_store.proofs.Ends.{filter-passes, filter-fails}
-use Rattle.cq_store.proofs.Filters.{filter-twice, filter-swapped}
+use Rattle.cq_base.proofs.Ends.{filter-passes, filter-fails}
+use Rattle.cq_base.proofs.Filters.{filter-twice, filter-swapped}
 use Rattle.cq_store.proofs.Inductions.{by_entry}
 use Rattle.cq_store.proofs.Repeats.{fresh-fact_of}
 

@@ -10,8 +10,8 @@ use Rattle.cq_base.specs.Facts.{Fact, about}
 use Rattle.cq_base.specs.History.{fact_of, fresh_fact, idle_fact, reply_again, history, reply_to}
 use Rattle.cq_base.proofs.Histories.{told, entry-fact_of}
 use Rattle.cq_store.specs.Laws.{fresh_facts, FreshOnce, RepeatsAreAnswered}
-use Rattle.cq_store.proofs.Ends.{filter-passes, filter-fails, all-passes, any-fails, any-passes}
-use Rattle.cq_store.proofs.Finds.{find-one}
+use Rattle.cq_base.proofs.Ends.{filter-passes, filter-fails, all-passes, any-fails, any-passes}
+use Rattle.cq_base.proofs.Finds.{find-one}
 use Rattle.cq_store.proofs.Inductions.{by_fact}
 
 -- Of a client's facts: at most one fresh one has the number, and one has it if it is neither above all of
@@ -25,7 +25,7 @@ differs : (fresh : Bool) (m n : ℕ) → (m ≡ n → ⊥) → (fresh && eqb m n
 differs fresh m n h = and_right fresh (eqb m n) (ne_eqb m n h)
 
 -- no fact has a number that is above all
-none_with : (number : ℕ) (own : List Fact) → list_all (is_numbered_below number) own ≡ true → filter (is_fresh_with number) own ≡ []
+pub none_with : (number : ℕ) (own : List Fact) → list_all (is_numbered_below number) own ≡ true → filter (is_fresh_with number) own ≡ []
 none_with number [] h = refl
 none_with number (f ∷ own) h = let parts = and_parts (is_numbered_below number f) (list_all (is_numbered_below number) own) h in
     let below = ltb-true f.entry.request.number number parts.0 in

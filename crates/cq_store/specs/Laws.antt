@@ -1,17 +1,21 @@
 -- The laws of the queue object: what holds of every list of entries, in the words of the rules rather
 -- than of the definitions.
-use Rattle.std.specs.Prelude.{not, ◌==◌, ◌+◌, ◌<◌, ◌++◌, ◌&&◌, nat_lt, Some, ◌≡◌, ◌≤◌, ℕ, List, [], ◌∷◌, length, map, Bool, true, false}
+use Rattle.std.specs.Prelude.{not, ◌==◌, ◌+◌, ◌<◌, ◌++◌, ◌&&◌, nat_lt, Option, Some, ◌≡◌, ◌≤◌, ℕ, List, [], ◌∷◌, length, map, Bool, true, false}
 use Rattle.std.specs.List.{filter, fold, list_any}
 use Rattle.std.specs.Str.{bytes_eq}
 use Rattle.cq_base.specs.declared.ask.Entry.{Entry}
-use Rattle.cq_base.specs.declared.reply.Reply.TheVariants.{Sent}
+use Rattle.cq_base.specs.declared.reply.Reply.TheVariants.{Sent, Received}
 use Rattle.cq_base.specs.Clients.{of_client, is_fresh, is_stale, is_fresh_with}
-use Rattle.cq_base.specs.Asks.{queue_of, is_send, group_of, dedup_of, visibility_of}
+use Rattle.cq_base.specs.Asks.{queue_of, is_send, group_of, dedup_of}
 use Rattle.cq_base.specs.Facts.{Fact, about, on}
-use Rattle.cq_base.specs.Lifetimes.{live}
-use Rattle.cq_base.specs.Messages.{messages, until}
+use Rattle.cq_base.specs.Lifetimes.{is_creation, is_removal, live}
+use Rattle.cq_base.specs.Incarnations.{lifetime}
+use Rattle.cq_base.specs.declared.ask.Ask.TheVariants.{Receive}
+use Rattle.cq_base.specs.declared.reply.Delivery.{Delivery}
+use Rattle.cq_base.specs.Effects.{visibility_by}
+use Rattle.cq_base.specs.Messages.{messages, hands, is_deleted, until}
 use Rattle.cq_base.specs.History.{fact_of, history, reply_to}
-use Rattle.cq_store.specs.Relations.{Among, Pairwise, Front}
+use Rattle.cq_base.specs.Relations.{Among, Pairwise, Front}
 
 -- what the fresh entries of that client and number did
 abbrev pub fresh_facts : ℕ → ℕ → List Fact → List Fact
@@ -57,6 +61,11 @@ EachReplyAlone = (entries : List Entry) (e : Entry)
     → IsFresh entries e
     → reply_to entries e ≡ reply_to (naming (queue_of e.request.ask) entries) e
 
+-- What entries do on an incarnation follows from these entries alone: it is the lifetime that they make.
+abbrev pub EachIncarnationAlone : Type 0
+EachIncarnationAlone = (entries : List Entry) (queue : List ℕ) (creation : Fact) → Among creation (about queue (history entries)) → is_creation creation ≡ true
+    → on creation.count (about queue (history entries)) ≡ lifetime creation.count (visibility_by creation) (map (λ f. f.entry) (on creation.count (about queue (history entries))))
+
 -- the queue that the entry names lives after these, by that creation
 abbrev pub LivesBy : List Entry → Entry → Fact → Type 0
 LivesBy entries e creation = live (about (queue_of e.request.ask) (history entries)) ≡ Some creation
@@ -69,9 +78,9 @@ so_far entries e creation = on creation.count (about (queue_of e.request.ask) (h
 abbrev pub handed_by : List Entry → Entry → List ℕ
 handed_by entries e = (fact_of (history entries) e).handed
 
--- the message of an accepted send is in flight: the timeout of its last handing lasts
+-- the message of an accepted send is in flight: it isn't deleted, and its timeout lasts
 abbrev pub is_hidden : Fact → List Fact → ℕ → Fact → Bool
-is_hidden creation facts moment y = nat_lt moment (until (visibility_of creation.entry.request.ask) y.count facts)
+is_hidden creation facts moment y = not (is_deleted y.count facts) && nat_lt moment (until (visibility_by creation) y.count facts)
 
 -- An entry that hands out a message is fresh, its queue lives, and the message is one that the queue's
 -- incarnation accepted.
@@ -85,6 +94,31 @@ NoneInFlight = (entries : List Entry) (e : Entry) (creation x y : Fact) → IsFr
     → Among x (messages (so_far entries e creation)) → Among x.count (handed_by entries e)
     → Among y (messages (so_far entries e creation)) → group_of y.entry.request.ask ≡ group_of x.entry.request.ask
     → is_hidden creation (so_far entries e creation) e.moment y ≡ false
+
+-- Where a message was deleted, no entry hands it out.
+abbrev pub NoneDeleted : Type 0
+NoneDeleted = (entries : List Entry) (e : Entry) (creation : Fact) (sequence : ℕ) → IsFresh entries e → LivesBy entries e creation
+    → is_deleted sequence (so_far entries e creation) ≡ true → Among sequence (handed_by entries e) → ⊥
+
+-- After a removal of a queue no fresh entry comes to the incarnation that it ended, and so none hands out a
+-- message of it.
+abbrev pub NoneRemoved : Type 0
+NoneRemoved = (entries : List Entry) (e : Entry) (removal : Fact) → IsFresh entries e
+    → Among removal (about (queue_of e.request.ask) (history entries)) → is_removal removal ≡ true
+    → (fact_of (history entries) e).incarnation ≡ removal.incarnation → ⊥
+
+-- A fresh receive from a queue that lives is answered with the messages that it hands out, in order. The
+-- receipt of each has the number of the incarnation, that of the message, and the count of the handings of
+-- this message so far, this one among them.
+abbrev pub ReceiptsCount : Type 0
+ReceiptsCount = (entries : List Entry) (e : Entry) (creation : Fact) (queue : List ℕ) (size : ℕ) (visibility : Option ℕ) → IsFresh entries e → LivesBy entries e creation
+    → e.request.ask ≡ Receive queue size visibility
+    → (deliveries : List Delivery)
+    × (reply_to entries e ≡ Received deliveries)
+    × (map (λ d. d.receipt.sequence) deliveries ≡ handed_by entries e)
+    × ((d : Delivery) → Among d deliveries
+    → (d.receipt.incarnation ≡ creation.count)
+    × (d.receipt.handing ≡ length (hands d.receipt.sequence (so_far (entries ++ e ∷ []) e creation))))
 
 -- no entry is stamped with an earlier moment than one before it
 abbrev pub Stamped : List Entry → Type 0

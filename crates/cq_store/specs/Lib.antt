@@ -1,4 +1,6 @@
 pub mod Scans
 pub mod Stands
-pub mod Relations
 pub mod Laws
+pub mod Ranks
+pub mod Rooms
+pub mod Answering

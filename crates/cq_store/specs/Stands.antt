@@ -1,23 +1,115 @@
--- What a store stands for.
-use Rattle.std.specs.Prelude.{◌≡◌, ℕ, List, length, Option, None, Some}
-use Rattle.std.specs.List.{last_or}
+-- What has to be kept of a list of entries, so that all that comes after it can be answered.
+use Rattle.std.specs.Prelude.{◌≡◌, ℕ, ◌+◌, ◌≤◌, ◌==◌, List, [], length, map, Bool, false, nat_lt, Option, None, Some, ⊤}
+use Rattle.std.specs.Map.{lookup}
+use Rattle.std.specs.Str.{bytes_eq}
 use Rattle.cq_base.specs.declared.ask.Entry.{Entry}
-use Rattle.cq_base.specs.Facts.{Fact}
-use Rattle.cq_base.specs.History.{history}
+use Rattle.cq_base.specs.declared.reply.Reply.{Reply}
+use Rattle.cq_base.specs.Clients.{of_client, is_fresh, is_stale, kept_reply}
+use Rattle.cq_base.specs.Effects.{visibility_by}
+use Rattle.cq_base.specs.Facts.{Fact, about, on}
+use Rattle.cq_base.specs.History.{history, last_moment}
+use Rattle.cq_base.specs.Incarnations.{Incarnation, IncarnationStands}
+use Rattle.cq_base.specs.Lifetimes.{live, creations, removal_delay, removed_lately}
 
--- The store stands for the list of entries: what it keeps is what each of them did.
-unfoldable pub Stands : List Fact → List Entry → Type 0
-Stands kept entries = kept ≡ history entries
+-- ---- clients
+
+-- What is kept of a client: its largest number, and the reply that it had.
+pub record ClientKept : Type 0 where
+  pub number : ℕ
+  pub reply : Reply
+
+-- What is kept of a client stands for these facts of all entries: it tells of each number whether it is
+-- fresh or stale, and the reply that a repeat gets.
+pub record ClientStands (client : ℕ) (kept : ClientKept) (facts : List Fact) : Type 0 where
+  pub fresh : (number : ℕ) → is_fresh client number facts ≡ nat_lt kept.number number
+  pub stale : (number : ℕ) → is_stale client number facts ≡ nat_lt number kept.number
+  pub reply : kept_reply client kept.number facts ≡ Some kept.reply
+
+-- The same where nothing may be kept: then the client has no entry.
+abbrev pub ClientKnown : ℕ → Option ClientKept → List Fact → Type 0
+ClientKnown client None facts = of_client client facts ≡ []
+ClientKnown client (Some kept) facts = ClientStands client kept facts
+
+-- ---- names
+
+-- What is kept of a name of queues: how many creations took effect, the moment of the last removal that
+-- took effect, and the incarnation as which the queue lives.
+pub record NameKept : Type 0 where
+  pub creations : ℕ
+  pub removed : Option ℕ
+  pub living : Option Incarnation
+
+-- at that moment the minute after the removal isn't over
+abbrev pub is_resting : Option ℕ → ℕ → Bool
+is_resting None moment = false
+is_resting (Some removed) moment = nat_lt moment (removed + removal_delay)
+
+-- the removal came at that moment or before
+abbrev pub IsPast : Option ℕ → ℕ → Type 0
+IsPast None last = ⊤
+IsPast (Some removed) last = removed ≤ last
+
+-- What is kept of the incarnation as which a queue lives stands for the entries that came to it.
+pub record LivesAs (kept : Incarnation) (creation : Fact) (facts : List Fact) : Type 0 where
+  pub number : kept.number ≡ creation.count
+  pub visibility : kept.visibility ≡ visibility_by creation
+  pub stands : IncarnationStands kept (map (λ f. f.entry) (on creation.count facts))
+
+-- the same by what is kept, if the queue lives, and by the creation by which it does
+abbrev pub IsLiving : Option Incarnation → Option Fact → List Fact → Type 0
+IsLiving None None facts = ⊤
+IsLiving None (Some creation) facts = ⊥
+IsLiving (Some kept) None facts = ⊥
+IsLiving (Some kept) (Some creation) facts = LivesAs kept creation facts
+
+-- What is kept of a name stands for the facts about it, at this last moment of all entries. A removal has
+-- to be kept only as long as it hinders a creation: for each moment from the last one on, what is kept
+-- tells whether the name rests.
+pub record NameStands (last : ℕ) (kept : NameKept) (facts : List Fact) : Type 0 where
+  pub creations : kept.creations ≡ creations facts
+  pub past : IsPast kept.removed last
+  pub removed : (moment : ℕ) → last ≤ moment → is_resting kept.removed moment ≡ removed_lately moment facts
+  pub living : IsLiving kept.living (live facts) facts
+
+-- what is kept of a name that no creation took effect for
+abbrev pub unknown : NameKept
+unknown = record { creations = 0; removed = None; living = None }
+
+-- what is kept of a name, or else what there is to say of an unknown one
+abbrev pub or_unknown : Option NameKept → NameKept
+or_unknown None = unknown
+or_unknown (Some kept) = kept
+
+-- ---- the store
+
+-- What a store keeps: how many entries it took, the moment of the last, and what it keeps of clients and of
+-- names.
+pub record StoreKept : Type 0 where
+  pub count : ℕ
+  pub last : ℕ
+  pub clients : List (ℕ × ClientKept)
+  pub names : List (List ℕ × NameKept)
+
+-- what is kept of a client
+abbrev pub client_at : List (ℕ × ClientKept) → ℕ → Option ClientKept
+client_at clients client = lookup (λ c. client == c) clients
+
+-- what is kept of a name
+abbrev pub name_at : List (List ℕ × NameKept) → List ℕ → Option NameKept
+name_at names queue = lookup (λ q. bytes_eq queue q) names
+
+-- The store stands for the list of entries: what it keeps of each client and of each name stands for what
+-- they did.
+pub record Stands (kept : StoreKept) (entries : List Entry) : Type 0 where
+  pub count : kept.count ≡ length entries
+  pub last : kept.last ≡ last_moment entries
+  pub clients : (client : ℕ) → ClientKnown client (client_at kept.clients client) (history entries)
+  pub names : (queue : List ℕ) → NameStands kept.last (or_unknown (name_at kept.names queue)) (about queue (history entries))
 
 -- how many entries the store has taken
-abbrev pub count_of : List Fact → ℕ
-count_of kept = length kept
-
--- the moment of an entry, if there is one; else 0
-abbrev pub moment_of : Option Fact → ℕ
-moment_of None = 0
-moment_of (Some f) = f.entry.moment
+abbrev pub count_of : StoreKept → ℕ
+count_of kept = kept.count
 
 -- the moment of the last entry that the store has taken; 0 before the first
-abbrev pub last_of : List Fact → ℕ
-last_of kept = moment_of (last_or None kept)
+abbrev pub last_of : StoreKept → ℕ
+last_of kept = kept.last

@@ -1,36 +1,131 @@
-ghost use Rattle.std.specs.Prelude.{◌≡◌, option_map};
-ghost use Rattle.cq_base.specs.Clients.{is_fresh, is_stale, kept_reply};
+ghost use Rattle.std.specs.Prelude.{◌≡◌, ◌<◌, ◌==◌, None, Some, ℕ, option_map, cond, IfOk, OnOk, OnErr};
+ghost use Rattle.indexmap.specs.IndexMap.{get};
+ghost use Rattle.cq_store.specs.Rooms.{again_of};
+ghost use Rattle.cq_store.specs.Stands.{client_at};
 
-use crate::kept::Kept;
-use cq_base::Reply;
+use cq_base::{NoMemory, Refusal, Reply};
+use indexmap::IndexMap;
+use std::alloc::Global;
+use std::marker::Model;
 
-/// Whether the number is above all earlier ones of the client.
-#[tactic(auto, unfolding(cq_base::specs::Clients::is_fresh, cq_base::specs::Clients::of_client))]
-pub fn is_fresh(kept: &[Kept], client: u32, number: u64) -> bool
-    ensures { result ≡ is_fresh client number kept.now }
-{
-    kept.iter()
-        .filter(|f| f.is_of_client(client))
-        .all(|f| f.is_numbered_below(number))
+/// What is kept of a client.
+#[derive(Drop)]
+pub struct ClientKept {
+    /// The largest number that it used.
+    pub number: u64,
+    /// The reply that this number had.
+    pub reply: Reply,
 }
 
-/// Whether the number is below an earlier one of the client.
-#[tactic(auto, unfolding(cq_base::specs::Clients::is_stale, cq_base::specs::Clients::of_client))]
-pub fn is_stale(kept: &[Kept], client: u32, number: u64) -> bool
-    ensures { result ≡ is_stale client number kept.now }
-{
-    kept.iter()
-        .filter(|f| f.is_of_client(client))
-        .any(|f| f.is_numbered_above(number))
+impl Model for ClientKept {
+    ghost use Rattle.cq_store.specs.Stands as spec;
+
+    ghost Value = { spec.ClientKept };
+
+    ghost view = { λ c. record { number = c.number; reply = c.reply } };
 }
 
-/// The reply that the client's fresh entry of that number had.
-#[tactic(auto, unfolding(cq_base::specs::Clients::kept_reply, cq_base::specs::Clients::of_client))]
-pub fn kept_reply(kept: &[Kept], client: u32, number: u64) -> Option<&Reply>
-    ensures { option_map (λ reply. reply.now) result ≡ kept_reply client number kept.now }
-{
-    kept.iter()
-        .filter(|f| f.is_of_client(client))
-        .find(|f| f.is_fresh_with(number))
-        .map(|f| &f.reply)
+impl ClientKept {
+    fn again(&self, number: u64) -> Result<Option<Reply>, NoMemory>
+        ensures { IfOk result (λ again. again ≡ again_of (Some self.now) number) }
+    {
+        if self.number < number {
+            return Ok(None);
+        }
+        if number < self.number {
+            return Ok(Some(Reply::Refused(Refusal::StaleNumber)));
+        }
+        Ok(Some(self.reply.try_copy()?))
+    }
+
+    /// The same. It shares the texts.
+    fn try_copy(&self) -> Result<ClientKept, NoMemory>
+        ensures { IfOk result (λ copy. copy ≡ self.now) }
+    {
+        Ok(ClientKept {
+            number: self.number,
+            reply: self.reply.try_copy()?,
+        })
+    }
+}
+
+/// What is kept of all clients, found by a hash of the client.
+#[derive(Drop)]
+pub struct Clients {
+    kept: IndexMap<u32, ClientKept>,
+}
+
+impl Model for Clients {
+    ghost use Rattle.indexmap.specs.IndexMap.{spare};
+    ghost use Rattle.cq_store.specs.Rooms as rooms;
+
+    ghost Value = { rooms.Clients };
+
+    ghost view = { λ c. record { kept = c.kept.entries; room = spare c.kept } };
+}
+
+impl Clients {
+    /// No client is kept yet.
+    pub fn new(alloc: Global) -> Clients
+        ensures { (client : ℕ) → client_at result.kept client ≡ None }
+    {
+        Clients {
+            kept: IndexMap::new(alloc),
+        }
+    }
+
+    /// What is kept of the client: O(1).
+    pub fn get(&self, client: u32) -> Option<&ClientKept>
+        ensures { option_map (λ kept. kept.now) result ≡ client_at self.now.kept client }
+    {
+        self.kept.get(&client)
+    }
+
+    /// Makes room for one more client.
+    pub fn reserve(&mut self) -> Result<(), NoMemory>
+        ensures same { self.new.kept ≡ self.old.kept }
+        ensures room { OnOk result (0 < self.new.room) }
+    {
+        self.kept.reserve(1)?;
+        Ok(())
+    }
+
+    /// Keeps the reply of the client's largest number, in room that was made: O(1).
+    pub fn keep(&mut self, client: u32, number: u64, reply: Reply)
+        requires { 0 < self.old.room }
+        ensures { (other : ℕ) → client_at self.new.kept other
+            ≡ cond (client == other) (Some (record { number = number; reply = reply })) (client_at self.old.kept other) }
+    {
+        match self.kept.insert(client, ClientKept { number, reply }) {
+            Ok(_) => (),
+            Err(_) => unreachable!(),
+        }
+    }
+
+    /// What the client is answered again under that number: the kept reply under the largest number that it
+    /// used, a refusal under a smaller one, nothing under a greater one. It copies the kept reply.
+    pub fn again(&self, client: u32, number: u64) -> Result<Option<Reply>, NoMemory>
+        ensures { IfOk result (λ again. again ≡ again_of (client_at self.now.kept client) number) }
+    {
+        match self.get(client) {
+            Some(kept) => kept.again(number),
+            None => Ok(None),
+        }
+    }
+
+    /// The same of each client. It shares the texts: O(clients and what is kept of each).
+    pub fn try_copy(&self) -> Result<Clients, NoMemory>
+        ensures { IfOk result (λ copy. (client : ℕ) → client_at copy.kept client ≡ client_at self.now.kept client) }
+    {
+        let mut kept = IndexMap::new(*self.kept.allocator());
+        for i in 0..self.kept.len() {
+            match self.kept.get_index(i) {
+                Some((client, reply)) => {
+                    kept.insert(*client, reply.try_copy()?)?;
+                }
+                None => unreachable!(),
+            }
+        }
+        Ok(Clients { kept })
+    }
 }

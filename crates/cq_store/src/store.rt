@@ -1,38 +1,42 @@
-ghost use Rattle.std.specs.Prelude.{◌≡◌, ◌<◌, ◌≤◌, ◌^◌, List, [], ◌∷◌, ◌++◌, length, IfOk, OnErr};
+ghost use Rattle.std.specs.Prelude.{◌≡◌, ◌<◌, ◌≤◌, ◌+◌, ◌^◌, ℕ, List, [], ◌∷◌, ◌++◌, length, true, Some, cond, ◌==◌, IfOk, OnOk, OnErr};
 ghost use Rattle.cq_base.specs.declared.ask.Entry.{Entry};
+ghost use Rattle.cq_base.specs.Clients.{is_fresh};
 ghost use Rattle.cq_base.specs.History as object;
 ghost use Rattle.cq_store.specs.Stands.{Stands, count_of, last_of};
 
-use crate::effects::fact_of;
-use crate::kept::Kept;
-use cq_base::{Entry, Moment, NoMemory, Reply};
+use crate::clients::Clients;
+use crate::names::Names;
+use cq_base::{Entry, Moment, NoMemory, Query, Reply};
 use std::alloc::Global;
 use std::marker::Model;
-
-/// The moment of the last entry, and 0 before the first.
-fn last_moment(kept: &[Kept]) -> Moment
-    ensures { result ≡ last_of kept.now }
-{
-    match kept.last() {
-        Some(f) => f.entry.moment,
-        None => Moment::zero(),
-    }
-}
 
 /// A store of FIFO queues. It stands for the list of the entries that it was given, and answers each as
 /// the queue object does at its place of the list.
 #[derive(Drop)]
 pub struct Store {
-    kept: Vec<Kept>,
+    alloc: Global,
+    count: u64,
+    last: Moment,
+    clients: Clients,
+    names: Names,
 }
 
 impl Model for Store {
-    ghost use Rattle.std.specs.Prelude.{List};
-    ghost use Rattle.cq_base.specs.Facts.{Fact};
+    ghost use Rattle.std.specs.Prelude.{ℕ, List};
+    ghost use Rattle.cq_store.specs.Rooms.{IsWithin};
+    ghost use Rattle.cq_store.specs.Stands as spec;
+    ghost use Rattle.cq_store.specs.Stands.{name_at, or_unknown};
 
-    ghost Value = { List Fact };
+    ghost Value = { spec.StoreKept };
 
-    ghost view = { λ s. s.kept.items };
+    ghost view = { λ s. record {
+      count = s.count;
+      last = s.last;
+      clients = s.clients.kept;
+      names = s.names;
+    } };
+
+    ghost invariant = { λ s. (queue : List ℕ) → IsWithin s.count s.last (or_unknown (name_at s.names queue)) };
 }
 
 impl Store {
@@ -41,7 +45,11 @@ impl Store {
         ensures { IfOk result (λ store. Stands store []) }
     {
         Ok(Store {
-            kept: Vec::new(alloc),
+            alloc,
+            count: 0,
+            last: Moment::zero(),
+            clients: Clients::new(alloc),
+            names: Names::new(alloc),
         })
     }
 
@@ -50,7 +58,7 @@ impl Store {
         ensures value { result ≡ count_of self.now }
         ensures stands { (entries : List Entry) → Stands self.now entries → result ≡ length entries }
     {
-        self.kept.len() as u64
+        self.count
     }
 
     /// The moment of the last entry, and 0 before the first: O(1).
@@ -58,13 +66,47 @@ impl Store {
         ensures value { result ≡ last_of self.now }
         ensures stands { (entries : List Entry) → Stands self.now entries → result ≡ object.last_moment entries }
     {
-        last_moment(self.kept.as_slice())
+        self.last
+    }
+
+    /// One more entry, which isn't fresh.
+    fn pass(&mut self, entry: &Entry)
+        requires room { count_of self.old < 2 ^ 62 }
+        requires stamped { last_of self.old ≤ entry.now.moment }
+        ensures count { self.new.count ≡ self.old.count + 1 }
+        ensures last { self.new.last ≡ entry.now.moment }
+        ensures clients { self.new.clients ≡ self.old.clients }
+        ensures names { self.new.names ≡ self.old.names }
+    {
+        self.count += 1;
+        self.last = entry.moment;
+    }
+
+    /// One more entry, which is fresh.
+    fn apply_fresh(&mut self, entry: &Entry) -> Result<Reply, NoMemory>
+        requires room { count_of self.old < 2 ^ 62 }
+        requires stamped { last_of self.old ≤ entry.now.moment }
+        ensures ok { (entries : List Entry) → Stands self.old entries
+            → is_fresh entry.now.request.client entry.now.request.number (object.history entries) ≡ true
+            → IfOk result (λ reply. (reply ≡ object.reply_to entries entry.now)
+            × Stands self.new (entries ++ entry.now ∷ [])) }
+        ensures err { (entries : List Entry) → Stands self.old entries → OnErr result
+            (Stands self.new entries) }
+    {
+        self.clients.reserve()?;
+        let request = &entry.request;
+        let answered = self.names.apply(self.alloc, entry.moment, &request.ask)?;
+        self.clients
+            .keep(request.client, request.number, answered.kept);
+        self.count += 1;
+        self.last = entry.moment;
+        Ok(answered.reply)
     }
 
     /// Takes the next entry, and answers it. After `NoMemory` nothing has changed.
     ///
-    /// It goes over all entries so far for each message of the queue that it names: a receive from a
-    /// queue of m messages after n entries takes O(m * n + m * m) steps, any other ask O(n).
+    /// The client and the queue are found by their hashes: O(1), and what the ask takes on its queue. A repeat
+    /// copies the kept reply, and a receive makes two copies of its list.
     pub fn apply(&mut self, entry: &Entry) -> Result<Reply, NoMemory>
         requires room { count_of self.old < 2 ^ 62 }
         requires stamped { last_of self.old ≤ entry.now.moment }
@@ -73,10 +115,38 @@ impl Store {
         ensures err { (entries : List Entry) → Stands self.old entries → OnErr result
             (Stands self.new entries) }
     {
-        let alloc = *self.kept.allocator();
-        let kept = fact_of(alloc, self.kept.as_slice(), entry)?;
-        let reply = kept.reply.try_copy()?;
-        self.kept.push(kept)?;
-        Ok(reply)
+        let request = &entry.request;
+        match self.clients.again(request.client, request.number)? {
+            Some(reply) => {
+                self.pass(entry);
+                Ok(reply)
+            }
+            None => self.apply_fresh(entry),
+        }
+    }
+
+    /// How many messages a queue has, at the moment of the last entry. It takes no memory, and O(messages of
+    /// the queue).
+    pub fn query(&self, query: &Query) -> Reply
+        ensures stands { (entries : List Entry) → Stands self.now entries
+            → result ≡ object.counts_after entries query.now.queue }
+    {
+        self.names.counts(self.last, &query.queue)
+    }
+
+    /// A store of its own that stands for the same entries, so that each goes on from here alone. It shares the
+    /// texts: O(clients + names + what is kept of each).
+    pub fn try_copy(&self) -> Result<Store, NoMemory>
+        ensures count { IfOk result (λ copy. count_of copy ≡ count_of self.now) }
+        ensures last { IfOk result (λ copy. last_of copy ≡ last_of self.now) }
+        ensures stands { (entries : List Entry) → Stands self.now entries → IfOk result (λ copy. Stands copy entries) }
+    {
+        Ok(Store {
+            alloc: self.alloc,
+            count: self.count,
+            last: self.last,
+            clients: self.clients.try_copy()?,
+            names: self.names.try_copy()?,
+        })
     }
 }

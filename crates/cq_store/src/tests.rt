@@ -1,22 +1,43 @@
 use crate::Store;
 use cq_base::{
-    Ask, BatchSize, Body, DedupId, Delivery, Entry, GroupId, Moment, QueueName, Reply, Request,
-    Seconds,
+    Ask, BatchSize, Body, DedupId, Delivery, Entry, GroupId, Moment, QueueName, Receipt, Reply,
+    Request, Seconds,
 };
 use std::alloc::Global;
 use std::process::Abort;
 use std::test::Fail;
 
-/// An ask about `q.fifo`. A message's body is its deduplication id, too.
+/// An ask, about `q.fifo` if it names no other queue. A message's body is its deduplication id, too.
 #[derive(Clone, Copy)]
 enum Row {
+    /// With a visibility timeout of 30 s.
     Create,
+    /// With a visibility timeout of so many seconds.
+    CreateWith(u32),
+    Remove,
+    /// The group and the body.
     Send(&'static str, &'static str),
+    /// The queue, the group and the body.
+    SendTo(&'static str, &'static str, &'static str),
     Receive(u8),
+    /// The size, and the visibility timeout in seconds.
+    ReceiveFor(u8, u32),
+    /// A message of the first incarnation, and the handing of the receipt.
+    Delete(u64, u64),
+    /// The same, and the visibility timeout in seconds.
+    Change(u64, u64, u32),
 }
 
-fn create(queue: QueueName) -> Result<Ask, Fail> {
-    let visibility = Seconds::new(30).ok_or("no timeout")?;
+fn seconds(seconds: u32) -> Result<Seconds, Fail> {
+    Ok(Seconds::new(seconds).ok_or("no timeout")?)
+}
+
+fn receipt(sequence: u64, handing: u64) -> Result<Receipt, Fail> {
+    Ok(Receipt::new(1, sequence, handing).ok_or("no receipt")?)
+}
+
+fn create(queue: QueueName, visibility: u32) -> Result<Ask, Fail> {
+    let visibility = seconds(visibility)?;
     Ok(Ask::Create { queue, visibility })
 }
 
@@ -32,21 +53,42 @@ fn send(alloc: Global, queue: QueueName, group: &str, body: &str) -> Result<Ask,
     })
 }
 
-fn receive(queue: QueueName, size: u8) -> Result<Ask, Fail> {
+fn receive(queue: QueueName, size: u8, visibility: Option<Seconds>) -> Result<Ask, Fail> {
     let size = BatchSize::new(size).ok_or("no size")?;
     Ok(Ask::Receive {
         queue,
         size,
-        visibility: None,
+        visibility,
+    })
+}
+
+fn delete(queue: QueueName, sequence: u64, handing: u64) -> Result<Ask, Fail> {
+    let receipt = receipt(sequence, handing)?;
+    Ok(Ask::Delete { queue, receipt })
+}
+
+fn change(queue: QueueName, sequence: u64, handing: u64, visibility: u32) -> Result<Ask, Fail> {
+    let receipt = receipt(sequence, handing)?;
+    let visibility = seconds(visibility)?;
+    Ok(Ask::Change {
+        queue,
+        receipt,
+        visibility,
     })
 }
 
 fn ask_of(alloc: Global, row: Row) -> Result<Ask, Fail> {
     let queue = QueueName::new(alloc, "q.fifo")?;
     match row {
-        Row::Create => create(queue),
+        Row::Create => create(queue, 30),
+        Row::CreateWith(visibility) => create(queue, visibility),
+        Row::Remove => Ok(Ask::Remove { queue }),
         Row::Send(group, body) => send(alloc, queue, group, body),
-        Row::Receive(size) => receive(queue, size),
+        Row::SendTo(name, group, body) => send(alloc, QueueName::new(alloc, name)?, group, body),
+        Row::Receive(size) => receive(queue, size, None),
+        Row::ReceiveFor(size, visibility) => receive(queue, size, Some(seconds(visibility)?)),
+        Row::Delete(sequence, handing) => delete(queue, sequence, handing),
+        Row::Change(sequence, handing, visibility) => change(queue, sequence, handing, visibility),
     }
 }
 
@@ -72,12 +114,18 @@ fn received(alloc: Global, deliveries: &[Delivery]) -> Result<String, Fail> {
     Ok(text)
 }
 
-/// `created 1`, `sent 1`, `refused 1`, or the bodies and receipts handed out.
+/// `created 1`, `sent 1`, `refused 1` and the like, or the bodies and receipts handed out.
 fn shown(alloc: Global, reply: &Reply) -> Result<String, Fail> {
     match reply {
         Reply::Created(incarnation) => Ok(format!(in alloc; "created {incarnation}")?),
+        Reply::Removed => Ok(String::from_str(alloc, "removed")?),
         Reply::Sent(sequence) => Ok(format!(in alloc; "sent {sequence}")?),
         Reply::Received(deliveries) => received(alloc, deliveries.as_slice()),
+        Reply::Deleted(took_effect) => Ok(format!(in alloc; "deleted {took_effect}")?),
+        Reply::Changed => Ok(String::from_str(alloc, "changed")?),
+        Reply::Counts { visible, in_flight } => {
+            Ok(format!(in alloc; "counts {visible} {in_flight}")?)
+        }
         Reply::Refused(refusal) => {
             let code = refusal.code();
             Ok(format!(in alloc; "refused {code}")?)
@@ -118,31 +166,24 @@ fn check(
     Ok(())
 }
 
-#[test]
-fn answers_before_the_creation_and_after(rt: HostRuntime) -> Result<(), Fail> {
-    let rows = [
-        (0, 1, 1, Row::Receive(1), "refused 1"),
-        (0, 1, 2, Row::Send("a", "x"), "refused 1"),
-        (0, 1, 3, Row::Create, "created 1"),
-        (0, 1, 4, Row::Create, "created 1"),
-        (0, 1, 5, Row::Receive(1), "received"),
-    ];
-    check(&rt, rt.alloc(), &rows)
-}
-
+/// A deduplication id counts for less than five minutes, and a delete of the message does not end them.
 #[test]
 fn ids_count_for_five_minutes(rt: HostRuntime) -> Result<(), Fail> {
     let rows = [
         (0, 1, 1, Row::Create, "created 1"),
         (0, 1, 2, Row::Send("a", "x"), "sent 1"),
         (1, 1, 3, Row::Receive(1), "received x 1-1-1"),
-        (299_999, 1, 4, Row::Send("a", "x"), "sent 1"),
-        (300_000, 1, 5, Row::Send("a", "x"), "sent 2"),
-        (300_000, 1, 6, Row::Send("b", "x"), "sent 2"),
+        (2, 1, 4, Row::Delete(1, 1), "deleted true"),
+        (299_999, 1, 5, Row::Send("a", "x"), "sent 1"),
+        (299_999, 1, 6, Row::Receive(1), "received"),
+        (300_000, 1, 7, Row::Send("a", "x"), "sent 2"),
+        (300_000, 1, 8, Row::Send("b", "x"), "sent 2"),
+        (300_000, 1, 9, Row::Receive(10), "received x 1-2-1"),
     ];
     check(&rt, rt.alloc(), &rows)
 }
 
+/// A group of which a message is in flight is closed.
 #[test]
 fn a_group_in_flight_is_closed(rt: HostRuntime) -> Result<(), Fail> {
     let rows = [
@@ -154,18 +195,92 @@ fn a_group_in_flight_is_closed(rt: HostRuntime) -> Result<(), Fail> {
         (1, 1, 6, Row::Receive(2), "received a1 1-1-1 a2 1-2-1"),
         (2, 1, 7, Row::Receive(2), "received b1 1-4-1"),
         (3, 1, 8, Row::Receive(2), "received"),
-        (30_000, 1, 9, Row::Receive(10), "received"),
-        (
-            30_001,
-            1,
-            10,
-            Row::Receive(10),
-            "received a1 1-1-2 a2 1-2-2 a3 1-3-1",
-        ),
+        (4, 1, 9, Row::Delete(1, 1), "deleted true"),
+        (5, 1, 10, Row::Receive(10), "received"),
+        (6, 1, 11, Row::Delete(2, 1), "deleted true"),
+        (7, 1, 12, Row::Receive(10), "received a3 1-3-1"),
     ];
     check(&rt, rt.alloc(), &rows)
 }
 
+/// A group opens again when the timeouts of its messages end.
+#[test]
+fn a_group_opens_when_its_timeouts_end(rt: HostRuntime) -> Result<(), Fail> {
+    let rows = [
+        (0, 1, 1, Row::Create, "created 1"),
+        (0, 1, 2, Row::Send("a", "a1"), "sent 1"),
+        (0, 1, 3, Row::Send("a", "a2"), "sent 2"),
+        (0, 1, 4, Row::Send("a", "a3"), "sent 3"),
+        (1000, 1, 5, Row::Receive(2), "received a1 1-1-1 a2 1-2-1"),
+        (2000, 1, 6, Row::Delete(2, 1), "deleted true"),
+        (30_999, 1, 7, Row::Receive(10), "received"),
+        (31_000, 1, 8, Row::Receive(10), "received a1 1-1-2 a3 1-3-1"),
+    ];
+    check(&rt, rt.alloc(), &rows)
+}
+
+/// A delete takes effect with the receipt of the last handing alone, also after its timeout.
+#[test]
+fn old_receipts_delete_nothing(rt: HostRuntime) -> Result<(), Fail> {
+    let rows = [
+        (0, 1, 1, Row::Create, "created 1"),
+        (0, 1, 2, Row::Send("a", "x"), "sent 1"),
+        (0, 1, 3, Row::ReceiveFor(1, 10), "received x 1-1-1"),
+        (10_000, 1, 4, Row::ReceiveFor(1, 10), "received x 1-1-2"),
+        (10_000, 1, 5, Row::Delete(1, 3), "refused 4"),
+        (10_000, 1, 6, Row::Delete(1, 1), "deleted false"),
+        (20_000, 1, 7, Row::Delete(1, 2), "deleted true"),
+        (20_000, 1, 8, Row::Delete(1, 2), "deleted false"),
+        (20_000, 1, 9, Row::Delete(1, 9), "deleted false"),
+        (20_000, 1, 10, Row::Delete(2, 1), "refused 4"),
+    ];
+    check(&rt, rt.alloc(), &rows)
+}
+
+/// A change ends twelve hours after the last handing at the latest.
+#[test]
+fn a_change_counts_from_its_own_moment(rt: HostRuntime) -> Result<(), Fail> {
+    let rows = [
+        (0, 1, 1, Row::Create, "created 1"),
+        (0, 1, 2, Row::Send("a", "x"), "sent 1"),
+        (0, 1, 3, Row::Send("a", "y"), "sent 2"),
+        (0, 1, 4, Row::Receive(1), "received x 1-1-1"),
+        (5, 1, 5, Row::Change(1, 1, 0), "changed"),
+        (5, 1, 6, Row::ReceiveFor(1, 43_200), "received x 1-1-2"),
+        (5, 1, 7, Row::Change(1, 2, 43_200), "changed"),
+        (6, 1, 8, Row::Change(1, 2, 43_200), "refused 6"),
+        (6, 1, 9, Row::Change(1, 2, 43_199), "changed"),
+        (6, 1, 10, Row::Change(1, 1, 1), "refused 4"),
+        (6, 1, 11, Row::Change(2, 1, 1), "refused 4"),
+        (43_199_006, 1, 12, Row::Change(1, 2, 10), "refused 5"),
+        (43_199_006, 1, 13, Row::Delete(1, 2), "deleted true"),
+        (43_199_006, 1, 14, Row::Change(1, 2, 10), "refused 5"),
+    ];
+    check(&rt, rt.alloc(), &rows)
+}
+
+/// A removal ends the queue and its messages at once.
+#[test]
+fn a_removed_name_is_free_after_a_minute(rt: HostRuntime) -> Result<(), Fail> {
+    let rows = [
+        (0, 1, 1, Row::Create, "created 1"),
+        (0, 1, 2, Row::Send("a", "x"), "sent 1"),
+        (1, 1, 3, Row::Receive(1), "received x 1-1-1"),
+        (1, 1, 4, Row::Create, "created 1"),
+        (1, 1, 5, Row::CreateWith(31), "refused 2"),
+        (100_000, 1, 6, Row::Remove, "removed"),
+        (100_000, 1, 7, Row::Receive(1), "refused 1"),
+        (100_000, 1, 8, Row::Remove, "refused 1"),
+        (159_999, 1, 9, Row::Create, "refused 3"),
+        (160_000, 1, 10, Row::Create, "created 2"),
+        (160_000, 1, 11, Row::Delete(1, 1), "refused 4"),
+        (160_000, 1, 12, Row::Receive(10), "received"),
+        (160_000, 1, 13, Row::Send("a", "x"), "sent 1"),
+    ];
+    check(&rt, rt.alloc(), &rows)
+}
+
+/// Each group hands out all it has before the next.
 #[test]
 fn groups_go_by_their_oldest_message(rt: HostRuntime) -> Result<(), Fail> {
     let rows = [
@@ -194,6 +309,22 @@ fn groups_go_by_their_oldest_message(rt: HostRuntime) -> Result<(), Fail> {
     check(&rt, rt.alloc(), &rows)
 }
 
+/// A group whose oldest message is deleted goes by the next.
+#[test]
+fn a_group_goes_by_the_oldest_that_is_left(rt: HostRuntime) -> Result<(), Fail> {
+    let rows = [
+        (0, 1, 1, Row::Create, "created 1"),
+        (0, 1, 2, Row::Send("a", "a1"), "sent 1"),
+        (0, 1, 3, Row::Send("b", "b1"), "sent 2"),
+        (0, 1, 4, Row::Send("a", "a2"), "sent 3"),
+        (1, 1, 5, Row::ReceiveFor(1, 0), "received a1 1-1-1"),
+        (1, 1, 6, Row::Delete(1, 1), "deleted true"),
+        (1, 1, 7, Row::Receive(10), "received b1 1-2-1 a2 1-3-1"),
+    ];
+    check(&rt, rt.alloc(), &rows)
+}
+
+/// A repeat hands out nothing; a smaller number is stale.
 #[test]
 fn repeats_have_the_kept_reply(rt: HostRuntime) -> Result<(), Fail> {
     let rows = [
@@ -203,7 +334,24 @@ fn repeats_have_the_kept_reply(rt: HostRuntime) -> Result<(), Fail> {
         (60_000, 1, 3, Row::Receive(1), "received x 1-1-1"),
         (60_000, 1, 2, Row::Receive(1), "refused 7"),
         (60_000, 2, 1, Row::Receive(1), "received x 1-1-2"),
+        (60_000, 2, 2, Row::Delete(1, 2), "deleted true"),
         (60_000, 1, 3, Row::Receive(1), "received x 1-1-1"),
+    ];
+    check(&rt, rt.alloc(), &rows)
+}
+
+/// A second creation has to agree with the first.
+#[test]
+fn a_queue_lives_from_its_creation_on(rt: HostRuntime) -> Result<(), Fail> {
+    let rows = [
+        (0, 1, 0, Row::Receive(1), "refused 1"),
+        (1, 1, 2, Row::Create, "created 1"),
+        (2, 1, 3, Row::Create, "created 1"),
+        (3, 1, 4, Row::CreateWith(31), "refused 2"),
+        (4, 1, 5, Row::SendTo("r.fifo", "a", "x"), "refused 1"),
+        (4, 1, 6, Row::Delete(1, 1), "refused 4"),
+        (4, 1, 7, Row::Change(1, 1, 0), "refused 4"),
+        (5, 1, 0, Row::Create, "refused 7"),
     ];
     check(&rt, rt.alloc(), &rows)
 }

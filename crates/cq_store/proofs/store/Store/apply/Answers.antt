@@ -1,11 +1,21 @@
--- What is kept afterwards is what it was, with what the entry does.
-use Rattle.std.proofs.Common.{◌≡◌, ◌∙◌, ap}
-use Rattle.cq_base.specs.History.{fact_of}
-use Rattle.cq_store.proofs.Stood.{stands-more, reply-stands}
+-- A fresh entry acts, and any other is answered again.
+use Rattle.std.proofs.Common.{◌∙◌, sym, subst}
+use Rattle.cq_base.specs.History.{history}
+use Rattle.cq_store.specs.Stands.{StoreKept, Stands, client_at}
+use Rattle.cq_store.proofs.StoreStands.{again-fresh, again-idle, idle-stands, replied}
 use Rattle.cq_store.proofs.store.Store.apply.Goals as goal
 
-pub returns-clause-ok : goal.returns-clause-ok
-returns-clause-ok c = λ entries h.
+pub returns-in-Some-clause-ok : goal.returns-in-Some-clause-ok
+returns-in-Some-clause-ok c = λ entries h.
     let e = c.args.entry.now in
-    let made : c.in_ok-kept.kept ≡ fact_of c.args.self.now e = c.in_ok-kept.ensures ∙ ap (λ fs. fact_of fs e) (c.as_slice.ensures.value ∙ c.self.view_is) in
-    (c.in_ok-reply.ensures ∙ ap (λ k. k.reply) (c.kept.view_is ∙ made) ∙ reply-stands c.args.self.now entries e h, rw (c.in_ok-push.ensures.items, c.self.view_is, made) (stands-more c.args.self.now entries e h))
+    let kept : StoreKept = record { count = c.self.inside.count; last = c.self.inside.last; clients = c.self.inside.clients.kept; names = c.self.inside.names } in
+    let inside : Stands kept entries = subst (λ k. Stands k entries) (sym c.self.view_is) h in
+    let said = again-idle (client_at c.self.inside.clients.kept e.request.client) (history entries) e c.in-Some.reply (inside.clients e.request.client) (sym c.in_ok-reply.ensures ∙ c.in-Some.is) in
+    (replied entries e c.in-Some.reply said.1, idle-stands c.args.self.now c.pass.new.self entries e h c.requires.stamped said.0 c.pass.ensures.count c.pass.ensures.last c.pass.ensures.clients c.pass.ensures.names)
+
+pub returns-in-None-clause-ok : goal.returns-in-None-clause-ok
+returns-in-None-clause-ok c = λ entries h.
+    let e = c.args.entry.now in
+    let kept : StoreKept = record { count = c.self.inside.count; last = c.self.inside.last; clients = c.self.inside.clients.kept; names = c.self.inside.names } in
+    let inside : Stands kept entries = subst (λ k. Stands k entries) (sym c.self.view_is) h in
+    c.apply_fresh.ensures.ok entries h (again-fresh (client_at c.self.inside.clients.kept e.request.client) (history entries) e (inside.clients e.request.client) (sym c.in_ok-reply.ensures ∙ c.in-None.is))

@@ -1,6 +1,8 @@
--- Nothing kept stands for no entries.
-use Rattle.cq_store.proofs.Stood.{stands-none}
+-- Nothing is kept of no entries.
+use Rattle.std.proofs.Common.{refl}
+use Rattle.cq_store.specs.Stands.{StoreKept}
+use Rattle.cq_store.proofs.StoreStands.{none-stands}
 use Rattle.cq_store.proofs.store.Store.new.Goals as goal
 
 pub returns : goal.returns
-returns c = rw c.new.ensures.items stands-none
+returns c = let kept : StoreKept = record { count = 0; last = c.zero.result; clients = c.new.result.kept; names = c.new-2.result } in none-stands kept refl c.zero.ensures c.new.ensures c.new-2.ensures

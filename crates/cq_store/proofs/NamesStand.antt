@@ -1,0 +1,168 @@
+-- What is kept of names still stands after an entry more.
+use Rattle.std.proofs.Common.{◌≡◌, ℕ, ◌+◌, ◌≤◌, ◌∙◌, ◌&&◌, ◌||◌, ap, sym, List, [], ◌∷◌, ◌++◌, map, Option, Some, None, true, false, arith, inl, inr, subst, refl}
+use Rattle.std.specs.Prelude.{nat_lt}
+use Rattle.std.specs.List.{list_any}
+use Rattle.std.proofs.lemmas.Bool.{cases_Bool, eq-eqb, ne_eqb, lt-ltb, ltb-true, false_from_ne_true}
+use Rattle.std.proofs.lemmas.List.{map-append}
+use Rattle.std.proofs.lemmas.List.Folds.{list_any-append}
+use Rattle.cq_base.specs.declared.ask.Entry.{Entry}
+use Rattle.cq_base.specs.Effects.{visibility_by}
+use Rattle.cq_base.specs.Facts.{Fact, on}
+use Rattle.cq_base.specs.History.{fresh_fact}
+use Rattle.cq_base.specs.Incarnations.{Incarnation, IncarnationStands, coming, told_of, lifetime}
+use Rattle.cq_base.specs.Lifetimes.{is_creation, is_removal, is_recent_removal, live, removed_lately, removal_delay, incarnation_of}
+use Rattle.cq_base.proofs.Among.{among-filter}
+use Rattle.cq_base.proofs.Ends.{any-fails}
+use Rattle.cq_store.specs.Stands.{NameKept, NameStands, LivesAs, IsLiving, IsPast, is_resting}
+use Rattle.cq_store.proofs.ClientsStand.{or_alone}
+use Rattle.cq_store.proofs.Incarnations.{on-more, on-same}
+use Rattle.cq_store.proofs.Alone.{IsAlone, live-among, none-before}
+use Rattle.cq_store.proofs.Lives.{turn, live-created, live-removed, live-same, creations-more, creations-same, some_none}
+use Rattle.cq_store.proofs.Scans.{fresh-live}
+
+-- a removal in the past stays so
+past-later : (removed : Option ℕ) (last later : ℕ) → last ≤ later → IsPast removed last → IsPast removed later
+past-later None last later more h = tt
+past-later (Some removed) last later more h = omega (arith, more, h)
+
+-- what is kept of a name stands at each later moment
+pub name-later : (last later : ℕ) (kept : NameKept) (facts : List Fact) → last ≤ later → NameStands last kept facts → NameStands later kept facts
+name-later last later kept facts more h = record {
+  creations = h.creations;
+  past = past-later kept.removed last later more h.past;
+  removed = λ moment after. let before : last ≤ moment = omega (arith, more, after) in h.removed moment before;
+  living = h.living;
+}
+
+-- a fact that is no removal hinders no creation
+lately-same : (moment : ℕ) (xs : List Fact) (f : Fact) → is_removal f ≡ false → removed_lately moment (xs ++ f ∷ []) ≡ removed_lately moment xs
+unfolding removed_lately
+lately-same moment xs f other = any-fails (is_recent_removal moment) xs f (ap (λ b. b && nat_lt moment (f.entry.moment + removal_delay)) other)
+
+-- a removal does for its minute
+lately-more : (moment : ℕ) (xs : List Fact) (f : Fact) → is_removal f ≡ true → removed_lately moment (xs ++ f ∷ []) ≡ (removed_lately moment xs || nat_lt moment (f.entry.moment + removal_delay))
+unfolding removed_lately
+lately-more moment xs f own =
+    list_any-append (is_recent_removal moment) xs (f ∷ [])
+    ∙ ap (λ b. list_any (is_recent_removal moment) xs || ((b && nat_lt moment (f.entry.moment + removal_delay)) || false)) own
+    ∙ ap (λ b. list_any (is_recent_removal moment) xs || b) (or_alone (nat_lt moment (f.entry.moment + removal_delay)))
+
+-- a name rests after its last removal, if it does after one before
+rests-after : (removed : Option ℕ) (last moment : ℕ) → IsPast removed last → (is_resting removed moment || nat_lt moment (last + removal_delay)) ≡ nat_lt moment (last + removal_delay)
+rests-after None last moment h = refl
+rests-after (Some removed) last moment h = elim (cases_Bool (nat_lt moment (removed + removal_delay))) [
+  | inl rests ↦ let less = ltb-true moment (removed + removal_delay) rests in ap (λ b. b || nat_lt moment (last + removal_delay)) rests ∙ sym (lt-ltb moment (last + removal_delay) (omega (arith, less, h)))
+  | inr over ↦ ap (λ b. b || nat_lt moment (last + removal_delay)) over
+]
+
+-- the entry of a fresh entry's fact
+pub entry-fresh : (e : Entry) (own : List Fact) → (fresh_fact e own).entry ≡ e
+unfolding fresh_fact
+entry-fresh e own = refl
+
+-- a queue that doesn't live has nothing living
+not_living : (kept : Option Incarnation) (xs ys : List Fact) → IsLiving kept None xs → IsLiving kept None ys
+not_living None xs ys h = tt
+not_living (Some q) xs ys h = absurd h
+
+-- What a fresh entry does to a name whose queue doesn't live, if it doesn't create it: nothing.
+pub name-dead : (last : ℕ) (kept : NameKept) (own : List Fact) (e : Entry) → last ≤ e.moment → live own ≡ None → is_creation (fresh_fact e own) ≡ false → NameStands last kept own → NameStands e.moment kept (own ++ fresh_fact e own ∷ [])
+name-dead last kept own e more dead other h = let f = fresh_fact e own in
+    let stays : is_removal f ≡ false = false_from_ne_true (is_removal f) (λ removes. (turn own e).removes removes dead) in
+    record {
+      creations = h.creations ∙ sym (creations-same own f other);
+      past = past-later kept.removed last e.moment more h.past;
+      removed = λ moment after. let before : last ≤ moment = omega (arith, more, after) in h.removed moment before ∙ sym (lately-same moment own f stays);
+      living = subst (λ o. IsLiving kept.living o (own ++ f ∷ [])) (sym (live-same own f other stays ∙ dead)) (not_living kept.living own (own ++ f ∷ []) (subst (λ o. IsLiving kept.living o own) dead h.living));
+    }
+
+-- what is kept of a name after a creation
+abbrev pub with_creation : NameKept → Incarnation → NameKept
+with_creation kept q = record { creations = kept.creations + 1; removed = kept.removed; living = Some q }
+
+-- nothing came to an incarnation before its creation, nor does the creation
+none-new : (own : List Fact) (e : Entry) → IsAlone own → is_creation (fresh_fact e own) ≡ true → on (fresh_fact e own).count (own ++ fresh_fact e own ∷ []) ≡ []
+none-new own e alone creates = let f = fresh_fact e own in
+    let turned = (turn own e).creates creates in
+    let number = turned.1 in
+    let before = (turn own e).incarnation ∙ ap incarnation_of turned.0 in
+    on-same f.count own f (ne_eqb f.incarnation f.count (λ same. omega (arith, same, before, number)))
+    ∙ none-before own f.count alone.lived (omega (arith, number))
+
+-- A creation gives the name an incarnation to which nothing has come.
+pub name-created : (last : ℕ) (kept : NameKept) (own : List Fact) (e : Entry) (q : Incarnation) → IsAlone own → last ≤ e.moment → is_creation (fresh_fact e own) ≡ true → is_removal (fresh_fact e own) ≡ false
+    → q.number ≡ (fresh_fact e own).count → q.visibility ≡ visibility_by (fresh_fact e own) → IncarnationStands q []
+    → NameStands last kept own → NameStands e.moment (with_creation kept q) (own ++ fresh_fact e own ∷ [])
+name-created last kept own e q alone more creates stays number visibility stands h = let f = fresh_fact e own in record {
+  creations = ap (λ n. n + 1) h.creations ∙ sym (creations-more own f creates);
+  past = past-later kept.removed last e.moment more h.past;
+  removed = λ moment after. let before : last ≤ moment = omega (arith, more, after) in h.removed moment before ∙ sym (lately-same moment own f stays);
+  living = subst (λ o. IsLiving (Some q) o (own ++ f ∷ [])) (sym (live-created own f creates)) (record {
+    number = number;
+    visibility = visibility;
+    stands = subst (λ fs. IncarnationStands q (map (λ g. g.entry) fs)) (sym (none-new own e alone creates)) stands;
+  });
+}
+
+-- what is kept of a name after a removal
+abbrev pub with_removal : NameKept → ℕ → NameKept
+with_removal kept moment = record { creations = kept.creations; removed = Some moment; living = None }
+
+-- A removal leaves the name at rest.
+pub name-removed : (last : ℕ) (kept : NameKept) (own : List Fact) (e : Entry) → last ≤ e.moment → is_creation (fresh_fact e own) ≡ false → is_removal (fresh_fact e own) ≡ true
+    → NameStands last kept own → NameStands e.moment (with_removal kept e.moment) (own ++ fresh_fact e own ∷ [])
+name-removed last kept own e more other removes h = let f = fresh_fact e own in record {
+  creations = h.creations ∙ sym (creations-same own f other);
+  past = omega arith;
+  removed = λ moment after. let before : last ≤ moment = omega (arith, more, after) in
+      sym (lately-more moment own f removes
+      ∙ ap (λ d. removed_lately moment own || nat_lt moment (d.moment + removal_delay)) (entry-fresh e own)
+      ∙ ap (λ b. b || nat_lt moment (e.moment + removal_delay)) (sym (h.removed moment before))
+      ∙ rests-after kept.removed e.moment moment (past-later kept.removed last e.moment more h.past));
+  living = subst (λ o. IsLiving None o (own ++ f ∷ [])) (sym (live-removed own f other removes)) tt;
+}
+
+-- what is kept of a name after an entry that came to its incarnation
+abbrev pub with_incarnation : NameKept → Incarnation → NameKept
+with_incarnation kept q = record { creations = kept.creations; removed = kept.removed; living = Some q }
+
+-- the facts of an incarnation are those of what is kept of it
+pub told-on : (own : List Fact) (creation : Fact) (q : Incarnation) → IsAlone own → live own ≡ Some creation → LivesAs q creation own → told_of q (map (λ f. f.entry) (on creation.count own)) ≡ on creation.count own
+told-on own creation q alone lives as_it = let at = among-filter is_creation creation own (live-among own creation lives) in
+    ap (λ n. lifetime n q.visibility (map (λ f. f.entry) (on creation.count own))) as_it.number
+    ∙ ap (λ v. lifetime creation.count v (map (λ f. f.entry) (on creation.count own))) as_it.visibility
+    ∙ sym (alone.alone creation at.0 at.1)
+
+-- what a fresh entry does is what comes to the incarnation
+pub comes-to : (own : List Fact) (creation : Fact) (q : Incarnation) (e : Entry) → IsAlone own → live own ≡ Some creation → LivesAs q creation own → fresh_fact e own ≡ coming q.number q.visibility (told_of q (map (λ f. f.entry) (on creation.count own))) e
+comes-to own creation q e alone lives as_it =
+    sym (fresh-live e own creation lives)
+    ∙ ap (λ fs. coming creation.count (visibility_by creation) fs e) (sym (told-on own creation q alone lives as_it))
+    ∙ ap (λ n. coming n (visibility_by creation) (told_of q (map (λ f. f.entry) (on creation.count own))) e) (sym as_it.number)
+    ∙ ap (λ v. coming q.number v (told_of q (map (λ f. f.entry) (on creation.count own))) e) (sym as_it.visibility)
+
+-- the entries that came to an incarnation, with one more
+on-told : (own : List Fact) (creation : Fact) (e : Entry) → live own ≡ Some creation → map (λ f. f.entry) (on creation.count (own ++ fresh_fact e own ∷ [])) ≡ map (λ f. f.entry) (on creation.count own) ++ e ∷ []
+on-told own creation e lives = let f = fresh_fact e own in
+    let here = eq-eqb f.incarnation creation.count ((turn own e).incarnation ∙ ap incarnation_of lives) in
+    ap (λ fs. map (λ g. g.entry) fs) (on-more creation.count own f here)
+    ∙ map-append (λ g. g.entry) (on creation.count own) (f ∷ [])
+    ∙ ap (λ d. map (λ g. g.entry) (on creation.count own) ++ d ∷ []) (entry-fresh e own)
+
+-- An entry that neither creates nor removes comes to the incarnation as which the queue lives.
+pub name-living : (last : ℕ) (kept : NameKept) (own : List Fact) (creation : Fact) (e : Entry) (p q : Incarnation) → last ≤ e.moment → live own ≡ Some creation → kept.living ≡ Some p → is_removal (fresh_fact e own) ≡ false
+    → q.number ≡ p.number → q.visibility ≡ p.visibility → IncarnationStands q (map (λ f. f.entry) (on creation.count own) ++ e ∷ [])
+    → NameStands last kept own → NameStands e.moment (with_incarnation kept q) (own ++ fresh_fact e own ∷ [])
+name-living last kept own creation e p q more lives is_p stays number visibility stands h = let f = fresh_fact e own in
+    let other : is_creation f ≡ false = false_from_ne_true (is_creation f) (λ creates. some_none creation (sym lives ∙ ((turn own e).creates creates).0)) in
+    let as_p : LivesAs p creation own = subst (λ k. IsLiving k (Some creation) own) is_p (subst (λ o. IsLiving kept.living o own) lives h.living) in
+    record {
+      creations = h.creations ∙ sym (creations-same own f other);
+      past = past-later kept.removed last e.moment more h.past;
+      removed = λ moment after. let before : last ≤ moment = omega (arith, more, after) in h.removed moment before ∙ sym (lately-same moment own f stays);
+      living = subst (λ o. IsLiving (Some q) o (own ++ f ∷ [])) (sym (live-same own f other stays ∙ lives)) (record {
+        number = number ∙ as_p.number;
+        visibility = visibility ∙ as_p.visibility;
+        stands = subst (λ es. IncarnationStands q es) (sym (on-told own creation e lives)) stands;
+      });
+    }

@@ -1,0 +1,29 @@
+-- What it means that an ask about a name is answered, by what is kept of the name before it and after it.
+use Rattle.std.specs.Prelude.{◌≡◌, ℕ, ◌≤◌, List, [], ◌∷◌, ◌++◌}
+use Rattle.cq_base.specs.declared.ask.Ask.{Ask}
+use Rattle.cq_base.specs.declared.ask.Entry.{Entry}
+use Rattle.cq_base.specs.declared.reply.Reply.{Reply}
+use Rattle.cq_base.specs.Asks.{queue_of}
+use Rattle.cq_base.specs.Effects.{counts_by}
+use Rattle.cq_base.specs.Facts.{Fact, about}
+use Rattle.cq_base.specs.Lifetimes.{live}
+use Rattle.cq_base.specs.History.{fresh_fact, history}
+use Rattle.cq_store.specs.Stands.{NameKept, NameStands}
+
+-- the facts about the queue that the ask names
+abbrev pub own_facts : List Entry → Ask → List Fact
+own_facts entries ask = about (queue_of ask) (history entries)
+
+-- Whatever entries the old value stands for, a fresh one with this ask at this moment has this reply, and the
+-- new value stands for them and this one.
+abbrev pub IsAnswer : NameKept → NameKept → ℕ → Ask → Reply → Type 0
+IsAnswer old new moment ask reply = (entries : List Entry) (last : ℕ) (e : Entry) → last ≤ moment → e.moment ≡ moment → e.request.ask ≡ ask
+    → NameStands last old (own_facts entries ask)
+    → ((fresh_fact e (own_facts entries ask)).reply ≡ reply)
+    × NameStands moment new (own_facts entries ask ++ fresh_fact e (own_facts entries ask) ∷ [])
+
+-- Whatever entries the value stands for, this is the answer to a query of the counts after them, at that
+-- moment.
+abbrev pub IsCount : NameKept → ℕ → Reply → Type 0
+IsCount kept moment reply = (entries : List Entry) (queue : List ℕ) (last : ℕ) → NameStands last kept (about queue (history entries))
+    → counts_by (live (about queue (history entries))) moment (about queue (history entries)) ≡ reply

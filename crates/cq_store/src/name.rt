@@ -1,0 +1,270 @@
+ghost use Rattle.std.specs.Prelude.{◌≡◌, ◌<◌, ◌≤◌, ◌+◌, ◌-◌, ◌^◌, ℕ, List, None, Some, IfOk, OnErr};
+ghost use Rattle.cq_base.specs.declared.ask.Ask.TheVariants as asks;
+ghost use Rattle.cq_base.specs.Effects.{create_again};
+ghost use Rattle.cq_store.specs.Answering.{IsAnswer, IsCount};
+ghost use Rattle.cq_store.specs.Rooms.{IsWithin, CameBy};
+ghost use Rattle.cq_store.specs.Stands.{is_resting, unknown};
+
+use crate::answered::Answered;
+use cq_base::{
+    Ask, BatchSize, Body, DedupId, Deliveries, GroupId, Moment, NoMemory, Receipt, Refusal, Reply,
+    Seconds,
+};
+use cq_queue::Queue;
+use std::alloc::Global;
+use std::marker::Model;
+
+/// The minute after a removal in which the name can't be used again, in milliseconds.
+const REMOVAL_DELAY: u64 = 60_000;
+
+/// What is kept of a name of queues.
+#[derive(Drop)]
+pub struct NameKept {
+    /// How many creations took effect.
+    creations: u64,
+    /// When the last removal took effect.
+    removed: Option<Moment>,
+    /// The incarnation as which the queue lives.
+    living: Option<Queue>,
+}
+
+impl Model for NameKept {
+    ghost use Rattle.cq_store.specs.Stands as spec;
+
+    ghost Value = { spec.NameKept };
+
+    ghost view = { λ n. record { creations = n.creations; removed = n.removed; living = n.living } };
+}
+
+impl NameKept {
+    /// A name for which no creation took effect.
+    pub fn unknown() -> NameKept
+        ensures { result ≡ unknown }
+    {
+        NameKept {
+            creations: 0,
+            removed: None,
+            living: None,
+        }
+    }
+
+    /// Whether the minute after the last removal isn't over.
+    fn is_resting(&self, moment: Moment) -> bool
+        ensures { result ≡ is_resting self.now.removed moment }
+    {
+        match self.removed {
+            Some(removed) => moment.get() < removed.get() + REMOVAL_DELAY,
+            None => false,
+        }
+    }
+
+    /// A creation of a queue that doesn't live.
+    fn begin(
+        &mut self,
+        alloc: Global,
+        moment: Moment,
+        visibility: Seconds,
+    ) -> Result<Answered, NoMemory>
+        requires dead { self.old.living ≡ None }
+        requires room { IsWithin (2 ^ 62 - 1) moment self.old }
+        ensures ok { IfOk result (λ answered. (queue : List ℕ) →
+            IsAnswer self.old self.new moment (asks.Create queue visibility) answered.reply) }
+        ensures kept { IfOk result (λ answered. answered.kept ≡ answered.reply) }
+        ensures within { (count : ℕ) → IsWithin count moment self.old → IsWithin (count + 1) moment self.new }
+        ensures err { OnErr result (self.new ≡ self.old) }
+    {
+        if self.is_resting(moment) {
+            return Ok(Answered::refused(Refusal::QueueDeletedRecently));
+        }
+        let incarnation = self.creations + 1;
+        self.living = Some(Queue::new(alloc, incarnation, visibility)?);
+        self.creations = incarnation;
+        Ok(Answered::created(incarnation))
+    }
+
+    /// A creation of a queue that lives.
+    fn again(&self, queue: &Queue, visibility: Seconds) -> Answered
+        ensures reply { result.reply ≡ (create_again queue.now.number queue.now.visibility visibility).reply }
+        ensures kept { result.kept ≡ result.reply }
+    {
+        if visibility == queue.visibility() {
+            Answered::created(queue.incarnation())
+        } else {
+            Answered::refused(Refusal::QueueNameExists)
+        }
+    }
+
+    /// A creation. After `NoMemory` nothing has changed.
+    pub fn create(
+        &mut self,
+        alloc: Global,
+        moment: Moment,
+        visibility: Seconds,
+    ) -> Result<Answered, NoMemory>
+        requires room { IsWithin (2 ^ 62 - 1) moment self.old }
+        ensures ok { IfOk result (λ answered. (queue : List ℕ) →
+            IsAnswer self.old self.new moment (asks.Create queue visibility) answered.reply) }
+        ensures kept { IfOk result (λ answered. answered.kept ≡ answered.reply) }
+        ensures within { (count : ℕ) → IsWithin count moment self.old → IsWithin (count + 1) moment self.new }
+        ensures err { OnErr result (self.new ≡ self.old) }
+    {
+        match &self.living {
+            Some(queue) => Ok(self.again(queue, visibility)),
+            None => self.begin(alloc, moment, visibility),
+        }
+    }
+
+    /// A removal.
+    pub fn remove(&mut self, moment: Moment) -> Answered
+        ensures ok { (queue : List ℕ) →
+            IsAnswer self.old self.new moment (asks.Remove queue) result.reply }
+        ensures kept { result.kept ≡ result.reply }
+        ensures within { (count : ℕ) → IsWithin count moment self.old → IsWithin (count + 1) moment self.new }
+    {
+        if self.living.is_none() {
+            return Answered::refused(Refusal::QueueDoesNotExist);
+        }
+        self.living = None;
+        self.removed = Some(moment);
+        Answered::removed()
+    }
+
+    /// A send. After `NoMemory` nothing has changed.
+    pub fn send(
+        &mut self,
+        moment: Moment,
+        group: &GroupId,
+        dedup: &DedupId,
+        body: &Body,
+    ) -> Result<Answered, NoMemory>
+        requires room { IsWithin (2 ^ 62 - 1) moment self.old }
+        ensures ok { IfOk result (λ answered. (queue : List ℕ) →
+            IsAnswer self.old self.new moment (asks.Send queue group.now dedup.now body.now) answered.reply) }
+        ensures kept { IfOk result (λ answered. answered.kept ≡ answered.reply) }
+        ensures within { (count : ℕ) → IsWithin count moment self.old → IsWithin (count + 1) moment self.new }
+        ensures err { OnErr result (self.new ≡ self.old) }
+    {
+        match &mut self.living {
+            Some(queue) => Ok(Answered::sent(queue.send(moment, group, dedup, body)?)),
+            None => Ok(Answered::refused(Refusal::QueueDoesNotExist)),
+        }
+    }
+
+    /// A receive. After `NoMemory` nothing has changed.
+    pub fn receive(
+        &mut self,
+        moment: Moment,
+        size: BatchSize,
+        visibility: Option<Seconds>,
+    ) -> Result<Answered, NoMemory>
+        requires room { IsWithin (2 ^ 62 - 1) moment self.old }
+        ensures ok { IfOk result (λ answered. (queue : List ℕ) →
+            IsAnswer self.old self.new moment (asks.Receive queue size visibility) answered.reply) }
+        ensures kept { IfOk result (λ answered. answered.kept ≡ answered.reply) }
+        ensures within { (count : ℕ) → IsWithin count moment self.old → IsWithin (count + 1) moment self.new }
+        ensures err { OnErr result (self.new ≡ self.old) }
+    {
+        match &mut self.living {
+            Some(queue) => {
+                let offered = queue.offer(moment, size)?;
+                let answered = Answered::received(Deliveries::from_vec(offered))?;
+                queue.hand(moment, size, visibility);
+                Ok(answered)
+            }
+            None => Ok(Answered::refused(Refusal::QueueDoesNotExist)),
+        }
+    }
+
+    /// A delete.
+    pub fn delete(&mut self, moment: Moment, receipt: &Receipt) -> Answered
+        ensures ok { (queue : List ℕ) →
+            IsAnswer self.old self.new moment (asks.Delete queue receipt.now) result.reply }
+        ensures kept { result.kept ≡ result.reply }
+        ensures within { (count : ℕ) → IsWithin count moment self.old → IsWithin (count + 1) moment self.new }
+    {
+        match &mut self.living {
+            Some(queue) => match queue.delete(receipt) {
+                Ok(removed) => Answered::deleted(removed),
+                Err(refusal) => Answered::refused(refusal),
+            },
+            None => Answered::refused(Refusal::QueueDoesNotExist),
+        }
+    }
+
+    /// A change of a message's visibility timeout.
+    pub fn change(&mut self, moment: Moment, receipt: &Receipt, visibility: Seconds) -> Answered
+        requires room { IsWithin (2 ^ 62 - 1) moment self.old }
+        ensures ok { (queue : List ℕ) →
+            IsAnswer self.old self.new moment (asks.Change queue receipt.now visibility) result.reply }
+        ensures kept { result.kept ≡ result.reply }
+        ensures within { (count : ℕ) → IsWithin count moment self.old → IsWithin (count + 1) moment self.new }
+    {
+        match &mut self.living {
+            Some(queue) => match queue.change(moment, receipt, visibility) {
+                Ok(()) => Answered::changed(),
+                Err(refusal) => Answered::refused(refusal),
+            },
+            None => Answered::refused(Refusal::QueueDoesNotExist),
+        }
+    }
+
+    /// What one ask does. After `NoMemory` nothing has changed.
+    pub fn apply(&mut self, alloc: Global, moment: Moment, ask: &Ask) -> Result<Answered, NoMemory>
+        requires room { IsWithin (2 ^ 62 - 1) moment self.old }
+        ensures ok { IfOk result (λ answered. IsAnswer self.old self.new moment ask.now answered.reply) }
+        ensures kept { IfOk result (λ answered. answered.kept ≡ answered.reply) }
+        ensures within { (count : ℕ) → IsWithin count moment self.old → IsWithin (count + 1) moment self.new }
+        ensures err { OnErr result (self.new ≡ self.old) }
+    {
+        match ask {
+            Ask::Create { visibility, .. } => self.create(alloc, moment, *visibility),
+            Ask::Remove { .. } => Ok(self.remove(moment)),
+            Ask::Send {
+                group,
+                dedup,
+                body,
+                ..
+            } => self.send(moment, group, dedup, body),
+            Ask::Receive {
+                size,
+                visibility,
+                ..
+            } => self.receive(moment, *size, *visibility),
+            Ask::Delete { receipt, .. } => Ok(self.delete(moment, receipt)),
+            Ask::Change {
+                receipt,
+                visibility,
+                ..
+            } => Ok(self.change(moment, receipt, *visibility)),
+        }
+    }
+
+    /// How many messages the queue has at that moment. It takes no memory.
+    pub fn counts(&self, moment: Moment) -> Reply
+        requires { CameBy moment self.now.living }
+        ensures { IsCount self.now moment result }
+    {
+        match &self.living {
+            Some(queue) => {
+                let (visible, in_flight) = queue.counts(moment);
+                Reply::Counts { visible, in_flight }
+            }
+            None => Reply::Refused(Refusal::QueueDoesNotExist),
+        }
+    }
+
+    /// The same. It shares the texts.
+    pub fn try_copy(&self) -> Result<NameKept, NoMemory>
+        ensures { IfOk result (λ copy. copy ≡ self.now) }
+    {
+        let living = match &self.living {
+            Some(queue) => Some(queue.try_copy()?),
+            None => None,
+        };
+        Ok(NameKept {
+            creations: self.creations,
+            removed: self.removed,
+            living,
+        })
+    }
+}
