@@ -1,12 +1,15 @@
 -- What the lines of answers are made of has no float, so their text is exact.
 use Rattle.std.proofs.Common.{◌≡◌, ℕ, List, [], ◌∷◌, map, false, refl}
+use Rattle.serde_json.specs.Data.{Data}
 use Rattle.serde_json.specs.View.{items_of}
 use Rattle.serde_json.specs.Written.{has_float, items_have_float}
 use Rattle.cq_base.specs.declared.reply.Delivery.{Delivery}
 use Rattle.cq_base.specs.declared.reply.Reply.{Reply}
-use Rattle.cq_base.specs.declared.reply.Reply.TheVariants.{Created, Sent, Received, Refused}
-use Rattle.cq_main.specs.Answers.{delivery_data, reply_data, answer_data, refused_data}
+use Rattle.cq_base.specs.declared.reply.Reply.TheVariants.{Created, Removed, Sent, Received, Deleted, Changed, Counts, Refused}
+use Rattle.cq_main.specs.Answers.{delivery_data, reply_data, told_data, answer_data, refused_data}
 use Rattle.cq_main.specs.declared.script.answer.Answer.{Answer}
+use Rattle.cq_main.specs.declared.script.answer.Asked.{Asked}
+use Rattle.cq_main.specs.declared.script.answer.Asked.TheVariants.{Request, Query}
 
 items_have_float-deliveries : (ds : List Delivery) → items_have_float (items_of (map delivery_data ds)) ≡ false
 items_have_float-deliveries [] = refl
@@ -14,13 +17,21 @@ items_have_float-deliveries (d ∷ ds) = items_have_float-deliveries ds
 
 has_float-reply_data : (reply : Reply) → has_float (reply_data reply) ≡ false
 has_float-reply_data (Created incarnation) = refl
+has_float-reply_data Removed = refl
 has_float-reply_data (Sent sequence) = refl
 has_float-reply_data (Received deliveries) = rw (items_have_float-deliveries deliveries)
+has_float-reply_data (Deleted removed) = refl
+has_float-reply_data Changed = refl
+has_float-reply_data (Counts visible in_flight) = refl
 has_float-reply_data (Refused refusal) = refl
+
+has_float-told_data : (line : ℕ) (answer : Answer) (asked : Asked) (reply : Data) → has_float reply ≡ false → has_float (told_data line answer asked reply) ≡ false
+has_float-told_data line answer (Request request) reply is = rw is
+has_float-told_data line answer (Query tag) reply is = rw is
 
 pub has_float_answer_data : (line : ℕ) (answer : Answer) → has_float (answer_data line answer) ≡ false
 unfolding answer_data
-has_float_answer_data line answer = rw (has_float-reply_data answer.reply)
+has_float_answer_data line answer = has_float-told_data line answer answer.asked (reply_data answer.reply) (has_float-reply_data answer.reply)
 
 pub has_float_refused_data : (line code : ℕ) (name : List ℕ) → has_float (refused_data line code name) ≡ false
 unfolding refused_data

@@ -1,6 +1,7 @@
 -- lines in
 pub mod JsonText
 pub mod Members
+pub mod Receipts
 pub mod Sizes
 pub mod Cutting
 pub mod ReadSoFar

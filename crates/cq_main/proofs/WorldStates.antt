@@ -1,9 +1,7 @@
 -- What it means that the server stands for a state.
-use Rattle.std.proofs.Common.{◌≡◌, ◌≢◌, ℕ, ◌+◌, ◌^◌, ◌<◌, ◌≤◌, ◌==◌, nat_lt, ap, List, [], ◌∷◌, length, drop, refl, length-drop, Option, Some, None, Bool, true, false, Result, Ok, Err, OnErr, OnOk, arith}
+use Rattle.std.proofs.Common.{◌≡◌, ◌≢◌, ℕ, ◌^◌, ◌<◌, ◌≤◌, ◌==◌, nat_lt, ap, List, [], ◌∷◌, length, drop, refl, length-drop, Some, None, true, false, Result, Ok, Err, OnErr, OnOk, arith}
 use Rattle.std.proofs.lemmas.Bool.Decides.{nat_tests}
-use Rattle.cq_base.specs.declared.ask.Entry.{Entry}
 use Rattle.cq_store.specs.Stands.{Stands}
-use Rattle.cq_main.specs.declared.script.answer.Answer.{Answer}
 use Rattle.cq_main.specs.declared.script.line.Line.{Line}
 use Rattle.cq_main.specs.declared.script.lines.Item.{Item}
 use Rattle.cq_main.specs.declared.script.world.World.{World}

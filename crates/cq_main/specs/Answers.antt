@@ -1,15 +1,17 @@
 -- The lines that answers are told in: JSON with no space, the keys of an object in the order of their
 -- bytes, and a line feed at the end.
-use Rattle.std.specs.Prelude.{ℕ, List, [], ◌∷◌, ◌++◌, codes, map}
-use Rattle.serde_json.specs.Data.{Data, number, unsigned, string, array, object, no_members, member}
+use Rattle.std.specs.Prelude.{ℕ, List, [], ◌∷◌, ◌++◌, Bool, codes, map}
+use Rattle.serde_json.specs.Data.{Data, boolean, number, unsigned, string, array, object, no_members, member}
 use Rattle.serde_json.specs.View.{items_of}
 use Rattle.serde_json.specs.Written.{compact_text}
 use Rattle.cq_base.specs.Handle.{handle_text}
 use Rattle.cq_base.specs.Refusals.{refusal_code, refusal_name}
 use Rattle.cq_base.specs.declared.reply.Delivery.{Delivery}
 use Rattle.cq_base.specs.declared.reply.Reply.{Reply}
-use Rattle.cq_base.specs.declared.reply.Reply.TheVariants.{Created, Sent, Received, Refused}
+use Rattle.cq_base.specs.declared.reply.Reply.TheVariants.{Created, Removed, Sent, Received, Deleted, Changed, Counts, Refused}
 use Rattle.cq_main.specs.declared.script.answer.Answer.{Answer}
+use Rattle.cq_main.specs.declared.script.answer.Asked.{Asked}
+use Rattle.cq_main.specs.declared.script.answer.Asked.TheVariants.{Request, Query}
 
 -- a message as it is handed out
 abbrev pub delivery_data : Delivery → Data
@@ -28,6 +30,10 @@ created_data incarnation = object
     (member (codes "incarnation") (number (unsigned incarnation))
     (member (codes "kind") (string (codes "created")) no_members))
 
+-- a queue is gone
+abbrev pub removed_data : Data
+removed_data = object (member (codes "kind") (string (codes "removed")) no_members)
+
 -- a message is in its queue, under this sequence number
 abbrev pub sent_data : ℕ → Data
 sent_data sequence = object
@@ -40,6 +46,23 @@ received_data messages = object
     (member (codes "kind") (string (codes "received"))
     (member (codes "messages") messages no_members))
 
+-- whether a delete took effect
+abbrev pub deleted_data : Bool → Data
+deleted_data removed = object
+    (member (codes "kind") (string (codes "deleted"))
+    (member (codes "removed") (boolean removed) no_members))
+
+-- a message has its new timeout
+abbrev pub changed_data : Data
+changed_data = object (member (codes "kind") (string (codes "changed")) no_members)
+
+-- so many messages aren't in flight, and so many are
+abbrev pub counts_data : ℕ → ℕ → Data
+counts_data visible in_flight = object
+    (member (codes "in_flight") (number (unsigned in_flight))
+    (member (codes "kind") (string (codes "counts"))
+    (member (codes "visible") (number (unsigned visible)) no_members)))
+
 -- a request was refused, under this code and name
 abbrev pub refusal_data : ℕ → List ℕ → Data
 refusal_data code name = object
@@ -50,22 +73,41 @@ refusal_data code name = object
 -- a reply, by its kind
 abbrev pub reply_data : Reply → Data
 reply_data (Created incarnation) = created_data incarnation
+reply_data Removed = removed_data
 reply_data (Sent sequence) = sent_data sequence
 reply_data (Received deliveries) = received_data (deliveries_data deliveries)
+reply_data (Deleted removed) = deleted_data removed
+reply_data Changed = changed_data
+reply_data (Counts visible in_flight) = counts_data visible in_flight
 reply_data (Refused refusal) = refusal_data (refusal_code refusal) (refusal_name refusal)
 
--- an answer, given at the line with this number, whose reply is told by that data
-abbrev pub told_data : ℕ → Answer → Data → Data
-told_data line answer reply = object
+-- an answer to the client's request of that number, given at the line with this number, whose reply is
+-- told by that data
+abbrev pub request_data : ℕ → Answer → ℕ → Data → Data
+request_data line answer request reply = object
     (member (codes "client") (number (unsigned answer.client))
     (member (codes "length") (number (unsigned answer.length))
     (member (codes "line") (number (unsigned line))
-    (member (codes "number") (number (unsigned answer.number))
+    (member (codes "number") (number (unsigned request))
     (member (codes "reply") reply no_members)))))
+
+-- the same of an answer to the client's query with that tag
+abbrev pub query_data : ℕ → Answer → ℕ → Data → Data
+query_data line answer tag reply = object
+    (member (codes "client") (number (unsigned answer.client))
+    (member (codes "length") (number (unsigned answer.length))
+    (member (codes "line") (number (unsigned line))
+    (member (codes "reply") reply
+    (member (codes "tag") (number (unsigned tag)) no_members)))))
+
+-- the same, by what is answered
+abbrev pub told_data : ℕ → Answer → Asked → Data → Data
+told_data line answer (Request request) reply = request_data line answer request reply
+told_data line answer (Query tag) reply = query_data line answer tag reply
 
 -- an answer, given at the line with this number
 unfoldable pub answer_data : ℕ → Answer → Data
-answer_data line answer = told_data line answer (reply_data answer.reply)
+answer_data line answer = told_data line answer answer.asked (reply_data answer.reply)
 
 -- the line with this number was refused, under this code and name
 unfoldable pub refused_data : ℕ → ℕ → List ℕ → Data

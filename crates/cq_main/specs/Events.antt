@@ -4,10 +4,11 @@ use Rattle.std.specs.Prelude.{◌-◌, ◌^◌, ◌&&◌, ◌==◌, [], ◌∷�
 use Rattle.std.specs.Str.{bytes_eq}
 use Rattle.serde_json.specs.Data.{Data}
 use Rattle.cq_base.specs.declared.ask.Ask.{Ask}
-use Rattle.cq_base.specs.declared.ask.Ask.TheVariants.{Create, Send, Receive}
+use Rattle.cq_base.specs.declared.ask.Ask.TheVariants.{Create, Remove, Send, Receive, Delete, Change}
 use Rattle.cq_main.specs.Fields.{Reason, bad, ◌>>=◌, has_only, member_at, text_at, number_at, number_if_at, queue_name, group_id, dedup_id, message_body}
+use Rattle.cq_main.specs.Receipts.{receipt_handle}
 use Rattle.cq_main.specs.declared.script.event.Event.{Event}
-use Rattle.cq_main.specs.declared.script.event.Event.TheVariants.{Arrive, Put}
+use Rattle.cq_main.specs.declared.script.event.Event.TheVariants as events
 
 -- A queue is made with a visibility timeout of 30 seconds where none is said (SQS API Reference,
 -- "CreateQueue", `VisibilityTimeout`).
@@ -17,6 +18,12 @@ create_in d = if has_only (codes "kind" ∷ codes "queue" ∷ codes "visibility"
   visibility ← number_if_at 0 43200 (codes "visibility") d
   queue ← queue_name name
   Ok (Create queue (unwrap_or visibility 30))) else Err bad
+
+unfoldable pub remove_in : Data → Result Ask Reason
+remove_in d = if has_only (codes "kind" ∷ codes "queue" ∷ []) d then (do
+  name ← text_at (codes "queue") d
+  queue ← queue_name name
+  Ok (Remove queue)) else Err bad
 
 -- A send names its group and its deduplication id itself (SQS API Reference, "SendMessage").
 unfoldable pub send_in : Data → Result Ask Reason
@@ -41,11 +48,34 @@ receive_in d = if has_only (codes "kind" ∷ codes "queue" ∷ codes "size" ∷ 
   queue ← queue_name name
   Ok (Receive queue (unwrap_or size 1) visibility)) else Err bad
 
+unfoldable pub delete_in : Data → Result Ask Reason
+delete_in d = if has_only (codes "kind" ∷ codes "queue" ∷ codes "receipt" ∷ []) d then (do
+  name ← text_at (codes "queue") d
+  receipt_text ← text_at (codes "receipt") d
+  receipt ← receipt_handle receipt_text
+  queue ← queue_name name
+  Ok (Delete queue receipt)) else Err bad
+
+-- A change names its timeout itself (SQS API Reference, "ChangeMessageVisibility", `VisibilityTimeout`).
+unfoldable pub change_in : Data → Result Ask Reason
+change_in d = if has_only (codes "kind" ∷ codes "queue" ∷ codes "receipt" ∷ codes "visibility" ∷ []) d then (do
+  name ← text_at (codes "queue") d
+  receipt_text ← text_at (codes "receipt") d
+  receipt ← receipt_handle receipt_text
+  visibility ← number_at 0 43200 (codes "visibility") d
+  queue ← queue_name name
+  Ok (Change queue receipt visibility)) else Err bad
+
 -- the ask that the object says, by its kind
 unfoldable pub ask_in : Data → Result Ask Reason
 ask_in d = do
   kind ← text_at (codes "kind") d
-  if bytes_eq kind (codes "create") then create_in d else (if bytes_eq kind (codes "send") then send_in d else (if bytes_eq kind (codes "receive") then receive_in d else Err bad))
+  if bytes_eq kind (codes "create") then create_in d
+      else (if bytes_eq kind (codes "remove") then remove_in d
+      else (if bytes_eq kind (codes "send") then send_in d
+      else (if bytes_eq kind (codes "receive") then receive_in d
+      else (if bytes_eq kind (codes "delete") then delete_in d
+      else (if bytes_eq kind (codes "change") then change_in d else Err bad)))))
 
 -- A request of a client reaches a server. Servers count from 1, and moments go up to 2^60 (choices of
 -- this project).
@@ -57,17 +87,29 @@ arrive_in d = if has_only (codes "op" ∷ codes "at" ∷ codes "clock" ∷ codes
   number ← number_at 0 (2 ^ 64 - 1) (codes "number") d
   inner ← member_at (codes "ask") d
   ask ← ask_in inner
-  Ok (Arrive at clock (record { client = client; number = number; ask = ask }))) else Err bad
+  Ok (events.Arrive at clock (record { client = client; number = number; ask = ask }))) else Err bad
+
+-- A query of a client reaches a server.
+unfoldable pub query_in : Data → Result Event Reason
+query_in d = if has_only (codes "op" ∷ codes "at" ∷ codes "client" ∷ codes "tag" ∷ codes "queue" ∷ []) d then (do
+  at ← number_at 1 (2 ^ 32 - 1) (codes "at") d
+  client ← number_at 0 (2 ^ 32 - 1) (codes "client") d
+  tag ← number_at 0 (2 ^ 64 - 1) (codes "tag") d
+  name ← text_at (codes "queue") d
+  queue ← queue_name name
+  Ok (events.Ask at (record { client = client; tag = tag; queue = queue }))) else Err bad
 
 -- The first answer that waits is given. Server 1 alone gives answers, and to the clients alone.
 unfoldable pub put_in : Data → Result Event Reason
 put_in d = if has_only (codes "op" ∷ codes "from" ∷ codes "to" ∷ []) d then (do
   from ← number_at 1 (2 ^ 32 - 1) (codes "from") d
   to ← text_at (codes "to") d
-  if from == 1 && bytes_eq to (codes "clients") then Ok Put else Err bad) else Err bad
+  if from == 1 && bytes_eq to (codes "clients") then Ok events.Put else Err bad) else Err bad
 
 -- the event that the object says, by its operation
 unfoldable pub event_in : Data → Result Event Reason
 event_in d = do
   op ← text_at (codes "op") d
-  if bytes_eq op (codes "arrive") then arrive_in d else (if bytes_eq op (codes "put") then put_in d else Err bad)
+  if bytes_eq op (codes "arrive") then arrive_in d
+      else (if bytes_eq op (codes "ask") then query_in d
+      else (if bytes_eq op (codes "put") then put_in d else Err bad))

@@ -1,5 +1,6 @@
 -- lines in
 pub mod Fields
+pub mod Receipts
 pub mod Events
 pub mod Line
 pub mod Readers

@@ -1,13 +1,15 @@
 -- One server and its clients: what the events of a script do, and what its lines write.
 use Rattle.std.specs.Prelude.{◌≡◌, ℕ, ◌+◌, ◌^◌, ◌==◌, nat_lt, max, if◌then◌else◌, List, [], ◌∷◌, ◌++◌, length, codes, Option, None, Some}
 use Rattle.cq_base.specs.declared.ask.Entry.{Entry}
+use Rattle.cq_base.specs.declared.ask.Query.{Query}
 use Rattle.cq_base.specs.declared.ask.Request.{Request}
 use Rattle.cq_base.specs.Fault.{code_of, name_of}
-use Rattle.cq_base.specs.History.{reply_to, last_moment}
+use Rattle.cq_base.specs.History.{reply_to, last_moment, counts_after}
 use Rattle.cq_store.specs.Stands.{Stands}
 use Rattle.cq_main.specs.declared.script.answer.Answer.{Answer}
+use Rattle.cq_main.specs.declared.script.answer.Asked.TheVariants as asks
 use Rattle.cq_main.specs.declared.script.event.Event.{Event}
-use Rattle.cq_main.specs.declared.script.event.Event.TheVariants.{Arrive, Put}
+use Rattle.cq_main.specs.declared.script.event.Event.TheVariants.{Arrive, Ask, Put}
 use Rattle.cq_main.specs.declared.script.lines.Item.{Item}
 use Rattle.cq_main.specs.declared.script.line.Line.{Line}
 use Rattle.cq_main.specs.declared.script.line.Line.TheVariants as lines
@@ -34,7 +36,7 @@ stamped s clock request = record { moment = max clock (last_moment s.entries); r
 abbrev pub answer_to : State → Entry → Answer
 answer_to s e = record {
   client = e.request.client;
-  number = e.request.number;
+  asked = asks.Request e.request.number;
   length = length s.entries + 1;
   reply = reply_to s.entries e;
 }
@@ -43,10 +45,27 @@ answer_to s e = record {
 abbrev pub taken : State → Entry → State
 taken s e = record { entries = s.entries ++ e ∷ []; outbox = s.outbox ++ answer_to s e ∷ [] }
 
+-- the answer to a query: the counts of its queue after the entries so far, with how many these are
+abbrev pub answer_to_query : State → Query → Answer
+answer_to_query s query = record {
+  client = query.client;
+  asked = asks.Query query.tag;
+  length = length s.entries;
+  reply = counts_after s.entries query.queue;
+}
+
+-- after a query was answered: it is no entry
+abbrev pub queried : State → Query → State
+queried s query = record { entries = s.entries; outbox = s.outbox ++ answer_to_query s query ∷ [] }
+
 -- Why an arrival is refused, if it is: at another server than the one that there is, and after 2^62
 -- entries.
 abbrev pub refusal_at : State → ℕ → Option WorldFault
 refusal_at s at = if at == 1 then (if nat_lt (length s.entries) (2 ^ 62) then None else Some HistoryFull) else Some NoSuchServer
+
+-- why a query is refused, if it is: at another server than the one that there is
+abbrev pub refusal_of_query : ℕ → Option WorldFault
+refusal_of_query at = if at == 1 then None else Some NoSuchServer
 
 -- why a put is refused, if it is: where no answer waits
 abbrev pub refusal_of_put : List Answer → Option WorldFault
@@ -56,6 +75,7 @@ refusal_of_put (answer ∷ answers) = None
 -- why an event is refused, if it is
 abbrev pub refusal_of : State → Event → Option WorldFault
 refusal_of s (Arrive at clock request) = refusal_at s at
+refusal_of s (Ask at query) = refusal_of_query at
 refusal_of s Put = refusal_of_put s.outbox
 
 -- the outbox without its first answer
@@ -71,11 +91,13 @@ first (answer ∷ answers) = Some answer
 -- after an event that isn't refused
 abbrev pub next : State → Event → State
 next s (Arrive at clock request) = taken s (stamped s clock request)
+next s (Ask at query) = queried s query
 next s Put = record { entries = s.entries; outbox = others s.outbox }
 
 -- the answer that an event gives to the clients, if it isn't refused
 abbrev pub given_by : State → Event → Option Answer
 given_by s (Arrive at clock request) = None
+given_by s (Ask at query) = None
 given_by s Put = first s.outbox
 
 -- after an event, where that is its refusal: a refused event changes nothing

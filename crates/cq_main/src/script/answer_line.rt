@@ -1,9 +1,9 @@
 ghost use Rattle.std.specs.Prelude.{◌≡◌, ◌∷◌, ◌++◌, [], false, IfOk};
 ghost use Rattle.serde_json.specs.View.{view};
 ghost use Rattle.serde_json.specs.Written.{compact_text, has_float};
-ghost use Rattle.cq_main.specs.Answers.{delivery_data, deliveries_data, created_data, sent_data, received_data, refusal_data, reply_data, told_data, answer_data, refused_data, answer_text, refused_text};
+ghost use Rattle.cq_main.specs.Answers.{delivery_data, deliveries_data, created_data, removed_data, sent_data, received_data, deleted_data, changed_data, counts_data, refusal_data, reply_data, request_data, query_data, told_data, answer_data, refused_data, answer_text, refused_text};
 
-use crate::script::answer::Answer;
+use crate::script::answer::{Answer, Asked};
 use cq_base::{Delivery, NoMemory, Reply};
 use serde_json::{Value, json};
 use std::alloc::{AllocError, Global};
@@ -36,6 +36,12 @@ fn created_value(alloc: Global, incarnation: u64) -> Result<Value, AllocError>
     json!(in alloc; {"incarnation": incarnation, "kind": "created"})
 }
 
+fn removed_value(alloc: Global) -> Result<Value, AllocError>
+    ensures { IfOk result (λ value. view value ≡ removed_data) }
+{
+    json!(in alloc; {"kind": "removed"})
+}
+
 fn sent_value(alloc: Global, sequence: u64) -> Result<Value, AllocError>
     ensures { IfOk result (λ value. view value ≡ sent_data sequence) }
 {
@@ -46,6 +52,24 @@ fn received_value(alloc: Global, messages: Value) -> Result<Value, AllocError>
     ensures { IfOk result (λ value. view value ≡ received_data (view messages)) }
 {
     json!(in alloc; {"kind": "received", "messages": messages})
+}
+
+fn deleted_value(alloc: Global, removed: bool) -> Result<Value, AllocError>
+    ensures { IfOk result (λ value. view value ≡ deleted_data removed) }
+{
+    json!(in alloc; {"kind": "deleted", "removed": removed})
+}
+
+fn changed_value(alloc: Global) -> Result<Value, AllocError>
+    ensures { IfOk result (λ value. view value ≡ changed_data) }
+{
+    json!(in alloc; {"kind": "changed"})
+}
+
+fn counts_value(alloc: Global, visible: u64, in_flight: u64) -> Result<Value, AllocError>
+    ensures { IfOk result (λ value. view value ≡ counts_data visible in_flight) }
+{
+    json!(in alloc; {"in_flight": in_flight, "kind": "counts", "visible": visible})
 }
 
 fn refusal_value(alloc: Global, code: u16, name: &str) -> Result<Value, AllocError>
@@ -59,25 +83,62 @@ fn reply_value(alloc: Global, reply: &Reply) -> Result<Value, NoMemory>
 {
     match reply {
         Reply::Created(incarnation) => Ok(created_value(alloc, *incarnation)?),
+        Reply::Removed => Ok(removed_value(alloc)?),
         Reply::Sent(sequence) => Ok(sent_value(alloc, *sequence)?),
         Reply::Received(deliveries) => {
             let messages = deliveries_value(alloc, deliveries.as_slice())?;
             Ok(received_value(alloc, messages)?)
         }
+        Reply::Deleted(removed) => Ok(deleted_value(alloc, *removed)?),
+        Reply::Changed => Ok(changed_value(alloc)?),
+        Reply::Counts { visible, in_flight } => Ok(counts_value(alloc, *visible, *in_flight)?),
         Reply::Refused(refusal) => Ok(refusal_value(alloc, refusal.code(), refusal.name())?),
     }
 }
 
-fn told_value(alloc: Global, line: u64, answer: &Answer, reply: Value) -> Result<Value, AllocError>
-    ensures { IfOk result (λ value. view value ≡ told_data line answer.now (view reply)) }
+fn request_value(
+    alloc: Global,
+    line: u64,
+    answer: &Answer,
+    number: u64,
+    reply: Value,
+) -> Result<Value, AllocError>
+    ensures { IfOk result (λ value. view value ≡ request_data line answer.now number (view reply)) }
 {
     json!(in alloc; {
         "client": answer.client,
         "length": answer.length,
         "line": line,
-        "number": answer.number,
+        "number": number,
         "reply": reply
     })
+}
+
+fn query_value(
+    alloc: Global,
+    line: u64,
+    answer: &Answer,
+    tag: u64,
+    reply: Value,
+) -> Result<Value, AllocError>
+    ensures { IfOk result (λ value. view value ≡ query_data line answer.now tag (view reply)) }
+{
+    json!(in alloc; {
+        "client": answer.client,
+        "length": answer.length,
+        "line": line,
+        "reply": reply,
+        "tag": tag
+    })
+}
+
+fn told_value(alloc: Global, line: u64, answer: &Answer, reply: Value) -> Result<Value, AllocError>
+    ensures { IfOk result (λ value. view value ≡ told_data line answer.now answer.now.asked (view reply)) }
+{
+    match answer.asked {
+        Asked::Request(number) => request_value(alloc, line, answer, number, reply),
+        Asked::Query(tag) => query_value(alloc, line, answer, tag, reply),
+    }
 }
 
 #[tactic(auto, unfolding(crate::specs::Answers::answer_data))]

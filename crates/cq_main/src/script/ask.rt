@@ -2,8 +2,8 @@ ghost use Rattle.serde_json.specs.View.{view};
 ghost use Rattle.cq_main.specs.Events as spec;
 ghost use Rattle.cq_main.specs.Readers.{Gives, same};
 
-use crate::script::fields::{Stop, batch_size_if_at, has_only, seconds_if_at, text_at};
-use crate::script::texts::{dedup_id, group_id, message_body, queue_name};
+use crate::script::fields::{Stop, batch_size_if_at, has_only, seconds_at, seconds_if_at, text_at};
+use crate::script::texts::{dedup_id, group_id, message_body, queue_name, receipt};
 use cq_base::{Ask, BatchSize, Seconds};
 use serde_json::Value;
 use std::alloc::Global;
@@ -28,6 +28,19 @@ fn read_create(alloc: Global, value: &Value) -> Result<Ask, Stop>
     Ok(Ask::Create {
         queue: queue_name(alloc, queue)?,
         visibility: visibility.unwrap_or(Seconds::new(DEFAULT_SECONDS).unwrap()),
+    })
+}
+
+#[tactic(auto, unfolding(crate::specs::Events::remove_in))]
+fn read_remove(alloc: Global, value: &Value) -> Result<Ask, Stop>
+    ensures { Gives same result (spec.remove_in (view value.now)) }
+{
+    if !has_only(value, &["kind", "queue"]) {
+        return Err(Stop::Bad);
+    }
+    let queue = text_at(value, "queue")?;
+    Ok(Ask::Remove {
+        queue: queue_name(alloc, queue)?,
     })
 }
 
@@ -67,6 +80,38 @@ fn read_receive(alloc: Global, value: &Value) -> Result<Ask, Stop>
     })
 }
 
+#[tactic(auto, unfolding(crate::specs::Events::delete_in))]
+fn read_delete(alloc: Global, value: &Value) -> Result<Ask, Stop>
+    ensures { Gives same result (spec.delete_in (view value.now)) }
+{
+    if !has_only(value, &["kind", "queue", "receipt"]) {
+        return Err(Stop::Bad);
+    }
+    let queue = text_at(value, "queue")?;
+    let receipt = receipt(text_at(value, "receipt")?)?;
+    Ok(Ask::Delete {
+        queue: queue_name(alloc, queue)?,
+        receipt,
+    })
+}
+
+#[tactic(auto, unfolding(crate::specs::Events::change_in))]
+fn read_change(alloc: Global, value: &Value) -> Result<Ask, Stop>
+    ensures { Gives same result (spec.change_in (view value.now)) }
+{
+    if !has_only(value, &["kind", "queue", "receipt", "visibility"]) {
+        return Err(Stop::Bad);
+    }
+    let queue = text_at(value, "queue")?;
+    let receipt = receipt(text_at(value, "receipt")?)?;
+    let visibility = seconds_at(value, "visibility")?;
+    Ok(Ask::Change {
+        queue: queue_name(alloc, queue)?,
+        receipt,
+        visibility,
+    })
+}
+
 /// The ask that the value says.
 #[tactic(auto, unfolding(crate::specs::Events::ask_in))]
 pub(crate) fn read_ask(alloc: Global, value: &Value) -> Result<Ask, Stop>
@@ -75,10 +120,16 @@ pub(crate) fn read_ask(alloc: Global, value: &Value) -> Result<Ask, Stop>
     let kind = text_at(value, "kind")?;
     if kind == "create" {
         read_create(alloc, value)
+    } else if kind == "remove" {
+        read_remove(alloc, value)
     } else if kind == "send" {
         read_send(alloc, value)
     } else if kind == "receive" {
         read_receive(alloc, value)
+    } else if kind == "delete" {
+        read_delete(alloc, value)
+    } else if kind == "change" {
+        read_change(alloc, value)
     } else {
         Err(Stop::Bad)
     }

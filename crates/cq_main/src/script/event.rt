@@ -4,7 +4,8 @@ ghost use Rattle.cq_main.specs.Readers.{Gives, same};
 
 use crate::script::ask::read_ask;
 use crate::script::fields::{Stop, has_only, member_at, moment_at, text_at, u32_at, u64_at};
-use cq_base::{Moment, Request};
+use crate::script::texts::queue_name;
+use cq_base::{Moment, Query, Request};
 use serde_json::Value;
 use std::alloc::Global;
 
@@ -16,6 +17,11 @@ pub enum Event {
         at: u32,
         clock: Moment,
         request: Request,
+    },
+    /// A client's query reaches the server with this number.
+    Ask {
+        at: u32,
+        query: Query,
     },
     /// The first answer that waits in server 1's outbox to the clients is given.
     Put,
@@ -44,6 +50,27 @@ fn read_arrive(alloc: Global, value: &Value) -> Result<Event, Stop>
     })
 }
 
+#[tactic(auto, unfolding(crate::specs::Events::query_in))]
+fn read_query(alloc: Global, value: &Value) -> Result<Event, Stop>
+    ensures { Gives same result (spec.query_in (view value.now)) }
+{
+    if !has_only(value, &["op", "at", "client", "tag", "queue"]) {
+        return Err(Stop::Bad);
+    }
+    let at = u32_at(value, "at", 1)?;
+    let client = u32_at(value, "client", 0)?;
+    let tag = u64_at(value, "tag")?;
+    let queue = text_at(value, "queue")?;
+    Ok(Event::Ask {
+        at,
+        query: Query {
+            client,
+            tag,
+            queue: queue_name(alloc, queue)?,
+        },
+    })
+}
+
 #[tactic(auto, unfolding(crate::specs::Events::put_in))]
 fn read_put(value: &Value) -> Result<Event, Stop>
     ensures { Gives same result (spec.put_in (view value.now)) }
@@ -68,6 +95,8 @@ pub(crate) fn read_event(alloc: Global, value: &Value) -> Result<Event, Stop>
     let op = text_at(value, "op")?;
     if op == "arrive" {
         read_arrive(alloc, value)
+    } else if op == "ask" {
+        read_query(alloc, value)
     } else if op == "put" {
         read_put(value)
     } else {

@@ -128,6 +128,13 @@ pub(crate) fn moment_at(value: &Value, key: &str) -> Result<Moment, Stop>
     Ok(Moment::new(whole(member_at(value, key)?, 0, MOMENT_LIMIT)?).unwrap())
 }
 
+/// The visibility timeout under the key.
+pub(crate) fn seconds_at(value: &Value, key: &str) -> Result<Seconds, Stop>
+    ensures { Gives same result (spec.number_at 0 43200 key.now (view value.now)) }
+{
+    seconds(member_at(value, key)?)
+}
+
 /// The visibility timeout under the key, which may be missing.
 pub(crate) fn seconds_if_at(value: &Value, key: &str) -> Result<Option<Seconds>, Stop>
     ensures { Gives same result (spec.number_if_at 0 43200 key.now (view value.now)) }

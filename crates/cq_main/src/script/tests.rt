@@ -1,4 +1,4 @@
-//! Scripts that are cut short or too long, and readers and writers that give up.
+//! A tour of the asks, scripts that are cut short or too long, and readers and writers that give up.
 
 use super::checked::Checked;
 use super::fault::ScriptFault;
@@ -174,6 +174,96 @@ fn reads_and_writes_in_parts(rt: HostRuntime) {
             );
         }
     }
+}
+
+/// All six kinds of asks, and queries. It is the file `examples/tour.jsonl`.
+const TOUR: &str =
+    r#"{"op":"arrive","at":1,"clock":1000,"client":1,"number":1,"ask":{"kind":"create","queue":"tour.fifo","visibility":30}}
+{"op":"put","from":1,"to":"clients"}
+
+{"op":"arrive","at":1,"clock":2000,"client":1,"number":2,"ask":{"kind":"send","queue":"tour.fifo","group":"a","dedup":"d1","body":"one"}}
+{"op":"arrive","at":1,"clock":2100,"client":1,"number":3,"ask":{"kind":"send","queue":"tour.fifo","group":"b","dedup":"d2","body":"two"}}
+{"op":"arrive","at":1,"clock":2200,"client":1,"number":4,"ask":{"kind":"send","queue":"tour.fifo","group":"a","dedup":"d1","body":"one again"}}
+{"op":"put","from":1,"to":"clients"}
+{"op":"put","from":1,"to":"clients"}
+{"op":"put","from":1,"to":"clients"}
+
+{"op":"arrive","at":1,"clock":3000,"client":2,"number":1,"ask":{"kind":"receive","queue":"tour.fifo","size":10}}
+{"op":"ask","at":1,"client":7,"tag":9,"queue":"tour.fifo"}
+{"op":"put","from":1,"to":"clients"}
+{"op":"put","from":1,"to":"clients"}
+
+{"op":"arrive","at":1,"clock":4000,"client":2,"number":2,"ask":{"kind":"delete","queue":"tour.fifo","receipt":"1-1-1"}}
+{"op":"arrive","at":1,"clock":5000,"client":2,"number":3,"ask":{"kind":"change","queue":"tour.fifo","receipt":"1-2-1","visibility":10}}
+{"op":"put","from":1,"to":"clients"}
+{"op":"put","from":1,"to":"clients"}
+{"op":"arrive","at":1,"clock":14999,"client":3,"number":1,"ask":{"kind":"receive","queue":"tour.fifo"}}
+{"op":"arrive","at":1,"clock":15000,"client":3,"number":2,"ask":{"kind":"receive","queue":"tour.fifo","visibility":60}}
+{"op":"put","from":1,"to":"clients"}
+{"op":"put","from":1,"to":"clients"}
+
+{"op":"arrive","at":1,"clock":16000,"client":2,"number":4,"ask":{"kind":"delete","queue":"tour.fifo","receipt":"1-2-1"}}
+{"op":"arrive","at":1,"clock":16001,"client":2,"number":4,"ask":{"kind":"remove","queue":"tour.fifo"}}
+{"op":"arrive","at":1,"clock":0,"client":2,"number":1,"ask":{"kind":"receive","queue":"tour.fifo","size":10}}
+{"op":"arrive","at":1,"clock":17000,"client":1,"number":5,"ask":{"kind":"send","queue":"tour.fifo","group":"b","dedup":"d3","body":"three"}}
+{"op":"ask","at":1,"client":7,"tag":10,"queue":"tour.fifo"}
+{"op":"put","from":1,"to":"clients"}
+{"op":"put","from":1,"to":"clients"}
+{"op":"put","from":1,"to":"clients"}
+{"op":"put","from":1,"to":"clients"}
+{"op":"put","from":1,"to":"clients"}
+
+{"op":"put","from":1,"to":"clients"}
+{"op":"arrive","at":2,"clock":18000,"client":1,"number":6,"ask":{"kind":"remove","queue":"tour.fifo"}}
+{"op":"ask","at":2,"client":7,"tag":11,"queue":"tour.fifo"}
+{"op":"arrive","at":1,"clock":19000,"client":1,"number":6,"ask":{"kind":"send","queue":"tour.fifo","group":"a b","dedup":"d4","body":"four"}}
+
+{"op":"arrive","at":1,"clock":20000,"client":1,"number":6,"ask":{"kind":"remove","queue":"tour.fifo"}}
+{"op":"arrive","at":1,"clock":79999,"client":1,"number":7,"ask":{"kind":"create","queue":"tour.fifo","visibility":30}}
+{"op":"ask","at":1,"client":7,"tag":11,"queue":"tour.fifo"}
+{"op":"arrive","at":1,"clock":80000,"client":1,"number":8,"ask":{"kind":"create","queue":"tour.fifo"}}
+{"op":"arrive","at":1,"clock":80001,"client":2,"number":5,"ask":{"kind":"delete","queue":"tour.fifo","receipt":"1-2-2"}}
+{"op":"put","from":1,"to":"clients"}
+{"op":"put","from":1,"to":"clients"}
+{"op":"put","from":1,"to":"clients"}
+{"op":"put","from":1,"to":"clients"}
+{"op":"put","from":1,"to":"clients"}
+"#;
+
+/// What the tour writes, by the rules of the queues. It is the file `examples/tour.out`.
+const TOUR_TEXT: &str =
+    r#"{"client":1,"length":1,"line":2,"number":1,"reply":{"incarnation":1,"kind":"created"}}
+{"client":1,"length":2,"line":7,"number":2,"reply":{"kind":"sent","sequence":1}}
+{"client":1,"length":3,"line":8,"number":3,"reply":{"kind":"sent","sequence":2}}
+{"client":1,"length":4,"line":9,"number":4,"reply":{"kind":"sent","sequence":1}}
+{"client":2,"length":5,"line":13,"number":1,"reply":{"kind":"received","messages":[{"body":"one","group":"a","receipt":"1-1-1"},{"body":"two","group":"b","receipt":"1-2-1"}]}}
+{"client":7,"length":5,"line":14,"reply":{"in_flight":2,"kind":"counts","visible":0},"tag":9}
+{"client":2,"length":6,"line":18,"number":2,"reply":{"kind":"deleted","removed":true}}
+{"client":2,"length":7,"line":19,"number":3,"reply":{"kind":"changed"}}
+{"client":3,"length":8,"line":22,"number":1,"reply":{"kind":"received","messages":[]}}
+{"client":3,"length":9,"line":23,"number":2,"reply":{"kind":"received","messages":[{"body":"two","group":"b","receipt":"1-2-2"}]}}
+{"client":2,"length":10,"line":30,"number":4,"reply":{"kind":"deleted","removed":false}}
+{"client":2,"length":11,"line":31,"number":4,"reply":{"kind":"deleted","removed":false}}
+{"client":2,"length":12,"line":32,"number":1,"reply":{"code":7,"kind":"refused","name":"StaleNumber"}}
+{"client":1,"length":13,"line":33,"number":5,"reply":{"kind":"sent","sequence":3}}
+{"client":7,"length":13,"line":34,"reply":{"in_flight":1,"kind":"counts","visible":1},"tag":10}
+{"line":36,"name":"OutboxEmpty","refused":34}
+{"line":37,"name":"NoSuchServer","refused":31}
+{"line":38,"name":"NoSuchServer","refused":31}
+{"line":39,"name":"BadGroup","refused":12}
+{"client":1,"length":14,"line":46,"number":6,"reply":{"kind":"removed"}}
+{"client":1,"length":15,"line":47,"number":7,"reply":{"code":3,"kind":"refused","name":"QueueDeletedRecently"}}
+{"client":7,"length":15,"line":48,"reply":{"code":1,"kind":"refused","name":"QueueDoesNotExist"},"tag":11}
+{"client":1,"length":16,"line":49,"number":8,"reply":{"incarnation":2,"kind":"created"}}
+{"client":2,"length":17,"line":50,"number":5,"reply":{"code":4,"kind":"refused","name":"ReceiptHandleIsInvalid"}}
+"#;
+
+#[test]
+fn runs_the_tour(rt: HostRuntime) {
+    let reader = Pieces::new(TOUR.as_bytes(), 65536);
+    let (answer, taken) = replayed(rt.alloc(), reader, usize::MAX, false);
+    assert_eq!(rt; answer, Ok(()));
+    assert_eq!(rt; taken.as_slice(), TOUR_TEXT.as_bytes());
 }
 
 /// Three lines of 37 bytes with their line feeds, each refused in 45 bytes.

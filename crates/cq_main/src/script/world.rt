@@ -1,14 +1,14 @@
 ghost use Rattle.std.specs.Prelude.{◌≡◌, ◌<◌, ◌≤◌, ◌^◌, max, None, Some, IfOk, IfErr, IfNone, OnOk, OnErr};
 ghost use Rattle.cq_store.specs.Stands.{count_of, last_of};
-ghost use Rattle.cq_main.specs.Worlds.{State, first_state, stamped, taken, refusal_at, refusal_of_put, refusal_of, others, first, next, given_by, event_text, world_code, world_name, after_event, after, output, StandsFor, IsRefusal};
+ghost use Rattle.cq_main.specs.Worlds.{State, first_state, stamped, taken, queried, refusal_at, refusal_of_query, refusal_of_put, refusal_of, others, first, next, given_by, event_text, world_code, world_name, after_event, after, output, StandsFor, IsRefusal};
 ghost use Rattle.cq_main.specs.declared.script.world.WorldFault.TheVariants as faults;
 
-use crate::script::answer::Answer;
+use crate::script::answer::{Answer, Asked};
 use crate::script::answer_line::{answer_line, refused_line};
 use crate::script::event::Event;
 use crate::script::line::Line;
 use crate::script::lines::Item;
-use cq_base::{Entry, Moment, NoMemory, Request};
+use cq_base::{Entry, Moment, NoMemory, Query, Request};
 use cq_store::Store;
 use std::alloc::{AllocError, Global};
 use std::collections::VecDeque;
@@ -142,7 +142,7 @@ impl World {
         let reply = self.store.apply(entry)?;
         self.outbox.push_back_reserved(Answer {
             client: entry.request.client,
-            number: entry.request.number,
+            asked: Asked::Request(entry.request.number),
             length: self.store.count(),
             reply,
         });
@@ -162,6 +162,38 @@ impl World {
         let entry = self.stamped(clock, request)?;
         self.take(&entry)?;
         Ok(())
+    }
+
+    /// Puts the answer to a query into the outbox.
+    fn answer(&mut self, query: &Query) -> Result<(), NoMemory>
+        ensures ok { (s : State) → StandsFor self.old s → OnOk result
+            (StandsFor self.new (queried s query.now)) }
+        ensures err { (s : State) → StandsFor self.old s → OnErr result (StandsFor self.new s) }
+    {
+        let length = self.store.count();
+        self.outbox.reserve(1)?;
+        self.outbox.push_back_reserved(Answer {
+            client: query.client,
+            asked: Asked::Query(query.tag),
+            length,
+            reply: self.store.query(query),
+        });
+        Ok(())
+    }
+
+    /// A query reaches a server.
+    fn ask(&mut self, at: u32, query: &Query) -> Result<(), WorldFault>
+        ensures ok { (s : State) → StandsFor self.old s → IfOk result (λ _.
+            (refusal_of_query at ≡ None) × StandsFor self.new (queried s query.now)) }
+        ensures err { (s : State) → StandsFor self.old s → IfErr result (λ fault.
+            IsRefusal fault (refusal_of_query at) × StandsFor self.new s) }
+    {
+        if at == 1 {
+            self.answer(query)?;
+            Ok(())
+        } else {
+            Err(WorldFault::NoSuchServer)
+        }
     }
 
     /// The first answer that waits is given.
@@ -189,6 +221,10 @@ impl World {
         match event {
             Event::Arrive { at, clock, request } => {
                 self.arrive(*at, *clock, request)?;
+                Ok(None)
+            }
+            Event::Ask { at, query } => {
+                self.ask(*at, query)?;
                 Ok(None)
             }
             Event::Put => Ok(Some(self.put()?)),

@@ -1,5 +1,5 @@
 use super::{answer_line, refused_line};
-use crate::script::answer::Answer;
+use crate::script::answer::{Answer, Asked};
 use cq_base::{Body, Deliveries, Delivery, GroupId, Receipt, Refusal, Reply};
 use std::alloc::Global;
 use std::test::Fail;
@@ -19,50 +19,66 @@ fn tells_answers(rt: HostRuntime) -> Result<(), Fail> {
     let alloc = rt.alloc();
     let rows = [
         (
-            Answer {
-                client: 1,
-                number: 1,
-                length: 1,
-                reply: Reply::Created(1),
-            },
-            2,
-            r#"{"client":1,"length":1,"line":2,"number":1,"reply":{"incarnation":1,"kind":"created"}}"#,
+            Reply::Created(1),
+            r#"{"client":7,"length":8,"line":9,"number":10,"reply":{"incarnation":1,"kind":"created"}}"#,
         ),
         (
-            Answer {
-                client: 1,
-                number: 2,
-                length: 2,
-                reply: Reply::Sent(1),
-            },
-            4,
-            r#"{"client":1,"length":2,"line":4,"number":2,"reply":{"kind":"sent","sequence":1}}"#,
+            Reply::Removed,
+            r#"{"client":7,"length":8,"line":9,"number":10,"reply":{"kind":"removed"}}"#,
         ),
         (
-            Answer {
-                client: 1,
-                number: 3,
-                length: 3,
-                reply: Reply::Received(deliveries(alloc)?),
-            },
-            6,
-            r#"{"client":1,"length":3,"line":6,"number":3,"reply":{"kind":"received","messages":[{"body":"hello","group":"a","receipt":"1-1-1"}]}}"#,
+            Reply::Sent(1),
+            r#"{"client":7,"length":8,"line":9,"number":10,"reply":{"kind":"sent","sequence":1}}"#,
         ),
         (
-            Answer {
-                client: 1,
-                number: 1,
-                length: 1,
-                reply: Reply::Refused(Refusal::QueueDoesNotExist),
-            },
-            2,
-            r#"{"client":1,"length":1,"line":2,"number":1,"reply":{"code":1,"kind":"refused","name":"QueueDoesNotExist"}}"#,
+            Reply::Received(deliveries(alloc)?),
+            r#"{"client":7,"length":8,"line":9,"number":10,"reply":{"kind":"received","messages":[{"body":"hello","group":"a","receipt":"1-1-1"}]}}"#,
+        ),
+        (
+            Reply::Deleted(true),
+            r#"{"client":7,"length":8,"line":9,"number":10,"reply":{"kind":"deleted","removed":true}}"#,
+        ),
+        (
+            Reply::Deleted(false),
+            r#"{"client":7,"length":8,"line":9,"number":10,"reply":{"kind":"deleted","removed":false}}"#,
+        ),
+        (
+            Reply::Changed,
+            r#"{"client":7,"length":8,"line":9,"number":10,"reply":{"kind":"changed"}}"#,
+        ),
+        (
+            Reply::Refused(Refusal::QueueDoesNotExist),
+            r#"{"client":7,"length":8,"line":9,"number":10,"reply":{"code":1,"kind":"refused","name":"QueueDoesNotExist"}}"#,
         ),
     ];
-    for (answer, line, want) in rows {
-        let text = answer_line(alloc, line, &answer)?;
+    for (reply, want) in rows {
+        let answer = Answer {
+            client: 7,
+            asked: Asked::Request(10),
+            length: 8,
+            reply,
+        };
+        let text = answer_line(alloc, 9, &answer)?;
         assert_eq!(rt; text.strip_suffix(b"\n"), Some(want.as_bytes()));
     }
+    Ok(())
+}
+
+#[test]
+fn tells_counts(rt: HostRuntime) -> Result<(), Fail> {
+    let answer = Answer {
+        client: 7,
+        asked: Asked::Query(10),
+        length: 8,
+        reply: Reply::Counts {
+            visible: 1,
+            in_flight: 3,
+        },
+    };
+    let text = answer_line(rt.alloc(), 9, &answer)?;
+    let want =
+        br#"{"client":7,"length":8,"line":9,"reply":{"in_flight":3,"kind":"counts","visible":1},"tag":10}"#;
+    assert_eq!(rt; text.strip_suffix(b"\n"), Some(want.as_slice()));
     Ok(())
 }
 

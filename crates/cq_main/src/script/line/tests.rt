@@ -1,6 +1,6 @@
 use super::{Line, LineFault, event_of};
 use crate::script::event::Event;
-use cq_base::Ask;
+use cq_base::{Ask, Query};
 use std::alloc::{AllocError, Global};
 use std::test::Fail;
 
@@ -25,7 +25,24 @@ fn ask_text(alloc: Global, ask: &Ask) -> Result<String, AllocError> {
             let seconds = visibility.map(|timeout| timeout.get());
             format!(in alloc; "receive {queue} {messages} {seconds:?}")
         }
+        Ask::Remove { queue } => format!(in alloc; "remove {queue}"),
+        Ask::Delete { queue, receipt } => format!(in alloc; "delete {queue} {receipt}"),
+        Ask::Change {
+            queue,
+            receipt,
+            visibility,
+        } => {
+            let seconds = visibility.get();
+            format!(in alloc; "change {queue} {receipt} {seconds}")
+        }
     }
+}
+
+fn query_text(alloc: Global, at: u32, query: &Query) -> Result<String, AllocError> {
+    let client = query.client;
+    let tag = query.tag;
+    let queue = &query.queue;
+    format!(in alloc; "ask {at} {client} {tag} {queue}")
 }
 
 fn event_text(alloc: Global, event: &Event) -> Result<String, AllocError> {
@@ -37,6 +54,7 @@ fn event_text(alloc: Global, event: &Event) -> Result<String, AllocError> {
             let ask = ask_text(alloc, &request.ask)?;
             format!(in alloc; "arrive {at} {moment} {client} {number} {ask}")
         }
+        Event::Ask { at, query } => query_text(alloc, *at, query),
         Event::Put => format!(in alloc; "put"),
     }
 }
@@ -247,7 +265,7 @@ fn judges_asks(rt: HostRuntime) -> Result<(), Fail> {
         ),
         (r#"{"kind":"create"}"#, "bad"),
         (r#"{"queue":"q.fifo"}"#, "bad"),
-        (r#"{"kind":"delete","queue":"q.fifo"}"#, "bad"),
+        (r#"{"kind":"purge","queue":"q.fifo"}"#, "bad"),
         ("[]", "bad"),
         (
             r#"{"kind":"receive","queue":"q.fifo","size":10,"visibility":0}"#,
@@ -292,6 +310,192 @@ fn judges_asks(rt: HostRuntime) -> Result<(), Fail> {
     for (ask, want) in rows {
         let got = told_ask(rt.alloc(), ask)?;
         assert_eq!(rt; got.as_str(), want, "at {ask}");
+    }
+    Ok(())
+}
+
+#[test]
+fn judges_asks_about_messages(rt: HostRuntime) -> Result<(), Fail> {
+    let rows = [
+        (
+            r#"{"kind":"remove","queue":"q.fifo"}"#,
+            "arrive 1 5 2 3 remove q.fifo",
+        ),
+        (r#"{"kind":"remove"}"#, "bad"),
+        (r#"{"kind":"remove","queue":1}"#, "bad"),
+        (
+            r#"{"kind":"remove","queue":"q.fifo","visibility":30}"#,
+            "bad",
+        ),
+        (r#"{"kind":"remove","queue":"q"}"#, "11 BadQueueName"),
+        (
+            r#"{"receipt":"1-2-3","queue":"q.fifo","kind":"delete"}"#,
+            "arrive 1 5 2 3 delete q.fifo 1-2-3",
+        ),
+        (
+            r#"{"kind":"delete","queue":"q.fifo","receipt":"18446744073709551615-1-18446744073709551615"}"#,
+            "arrive 1 5 2 3 delete q.fifo 18446744073709551615-1-18446744073709551615",
+        ),
+        (
+            r#"{"kind":"delete","queue":"q","receipt":"1-2-3"}"#,
+            "11 BadQueueName",
+        ),
+        (r#"{"kind":"delete","queue":"q","receipt":"1-2"}"#, "bad"),
+        (r#"{"kind":"delete","queue":"q.fifo"}"#, "bad"),
+        (r#"{"kind":"delete","receipt":"1-2-3"}"#, "bad"),
+        (r#"{"kind":"delete","queue":"q.fifo","receipt":123}"#, "bad"),
+        (
+            r#"{"kind":"delete","queue":"q.fifo","receipt":"1-2-3","visibility":0}"#,
+            "bad",
+        ),
+        (
+            r#"{"kind":"change","queue":"q.fifo","receipt":"1-2-3","visibility":0}"#,
+            "arrive 1 5 2 3 change q.fifo 1-2-3 0",
+        ),
+        (
+            r#"{"visibility":43200,"receipt":"4-5-6","queue":"q.fifo","kind":"change"}"#,
+            "arrive 1 5 2 3 change q.fifo 4-5-6 43200",
+        ),
+        (
+            r#"{"kind":"change","queue":"q","receipt":"1-2-3","visibility":0}"#,
+            "11 BadQueueName",
+        ),
+        (
+            r#"{"kind":"change","queue":"q","receipt":"1-2-3","visibility":43201}"#,
+            "bad",
+        ),
+        (
+            r#"{"kind":"change","queue":"q.fifo","receipt":"1-2-3"}"#,
+            "bad",
+        ),
+        (
+            r#"{"kind":"change","queue":"q.fifo","receipt":"1-2-3","visibility":null}"#,
+            "bad",
+        ),
+        (
+            r#"{"kind":"change","queue":"q.fifo","visibility":0}"#,
+            "bad",
+        ),
+        (
+            r#"{"kind":"change","receipt":"1-2-3","visibility":0}"#,
+            "bad",
+        ),
+        (
+            r#"{"kind":"change","queue":"q.fifo","receipt":"0-2-3","visibility":0}"#,
+            "bad",
+        ),
+        (
+            r#"{"kind":"change","queue":"q.fifo","receipt":"1-2-3","visibility":0,"size":1}"#,
+            "bad",
+        ),
+    ];
+    for (ask, want) in rows {
+        let got = told_ask(rt.alloc(), ask)?;
+        assert_eq!(rt; got.as_str(), want, "at {ask}");
+    }
+    Ok(())
+}
+
+/// What is read of a delete with this receipt.
+fn told_receipt(alloc: Global, receipt: &str) -> Result<String, AllocError> {
+    let mut ask = String::from_str(alloc, r#"{"kind":"delete","queue":"q.fifo","receipt":""#)?;
+    ask.push_str(receipt)?;
+    ask.push_str(r#""}"#)?;
+    told_ask(alloc, ask.as_str())
+}
+
+#[test]
+fn judges_receipts(rt: HostRuntime) -> Result<(), Fail> {
+    let good = told_receipt(rt.alloc(), r"1\u002d2-3")?;
+    assert_eq!(rt; good.as_str(), "arrive 1 5 2 3 delete q.fifo 1-2-3");
+    let bad = [
+        "",
+        "-",
+        "--",
+        "1",
+        "1-2",
+        "1-2-",
+        "-2-3",
+        "1--3",
+        "1-2-3-4",
+        "1-2-3 ",
+        " 1-2-3",
+        "1-2-3x",
+        "0-2-3",
+        "1-0-3",
+        "1-2-0",
+        "01-2-3",
+        "1-02-3",
+        "1-2-03",
+        "+1-2-3",
+        "1-2-+3",
+        "1_2_3",
+        "18446744073709551616-1-1",
+        "1-18446744073709551616-1",
+        "1-1-18446744073709551616",
+    ];
+    for receipt in bad {
+        let got = told_receipt(rt.alloc(), receipt)?;
+        assert_eq!(rt; got.as_str(), "bad", "at {receipt}");
+    }
+    Ok(())
+}
+
+#[test]
+fn judges_queries(rt: HostRuntime) -> Result<(), Fail> {
+    let rows = [
+        (
+            r#"{"op":"ask","at":2,"client":7,"tag":9,"queue":"q.fifo"}"#,
+            "ask 2 7 9 q.fifo",
+        ),
+        (
+            r#"{"queue":"q.fifo","tag":18446744073709551615,"client":4294967295,"at":4294967295,"op":"ask"}"#,
+            "ask 4294967295 4294967295 18446744073709551615 q.fifo",
+        ),
+        (
+            r#"{"op":"ask","at":1,"client":0,"tag":0,"queue":"q"}"#,
+            "11 BadQueueName",
+        ),
+        (
+            r#"{"op":"ask","at":0,"client":7,"tag":9,"queue":"q"}"#,
+            "bad",
+        ),
+        (
+            r#"{"op":"ask","at":4294967296,"client":7,"tag":9,"queue":"q.fifo"}"#,
+            "bad",
+        ),
+        (
+            r#"{"op":"ask","at":1,"client":4294967296,"tag":9,"queue":"q.fifo"}"#,
+            "bad",
+        ),
+        (
+            r#"{"op":"ask","at":1,"client":7,"tag":18446744073709551616,"queue":"q.fifo"}"#,
+            "bad",
+        ),
+        (
+            r#"{"op":"ask","at":1,"client":7,"tag":"9","queue":"q.fifo"}"#,
+            "bad",
+        ),
+        (r#"{"op":"ask","at":1,"client":7,"tag":9}"#, "bad"),
+        (r#"{"op":"ask","at":1,"client":7,"queue":"q.fifo"}"#, "bad"),
+        (r#"{"op":"ask","at":1,"tag":9,"queue":"q.fifo"}"#, "bad"),
+        (r#"{"op":"ask","client":7,"tag":9,"queue":"q.fifo"}"#, "bad"),
+        (
+            r#"{"op":"ask","at":1,"client":7,"tag":9,"queue":null}"#,
+            "bad",
+        ),
+        (
+            r#"{"op":"ask","at":1,"client":7,"tag":9,"queue":"q.fifo","clock":5}"#,
+            "bad",
+        ),
+        (
+            r#"{"op":"ask","at":1,"client":7,"number":9,"queue":"q.fifo"}"#,
+            "bad",
+        ),
+    ];
+    for (line, want) in rows {
+        let got = told(rt.alloc(), line.as_bytes())?;
+        assert_eq!(rt; got.as_str(), want, "at {line}");
     }
     Ok(())
 }

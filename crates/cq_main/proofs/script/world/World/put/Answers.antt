@@ -1,5 +1,5 @@
 -- The first answer of the outbox leaves it.
-use Rattle.std.proofs.Common.{◌≡◌, ◌∷◌, [], ◌∙◌, ap, sym}
+use Rattle.std.proofs.Common.{◌≡◌, ◌∷◌, ◌∙◌, ap, sym}
 use Rattle.cq_main.specs.Worlds.{first, others, refusal_of_put}
 use Rattle.cq_main.proofs.WorldStates.{stands_for, store-stands, outbox-stands, none-dropped}
 use Rattle.cq_main.proofs.script.world.World.put.Goals as goal

@@ -1,7 +1,5 @@
 -- By what the line says.
-use Rattle.std.proofs.Common.{◌∙◌, ap}
 use Rattle.std.proofs.lemmas.Result.{IfOk-weaker}
-use Rattle.cq_main.specs.Answers.{refused_text}
 use Rattle.cq_main.proofs.WorldStates.{output-line, after-line}
 use Rattle.cq_main.proofs.script.world.World.run.Goals as goal
 

@@ -1,5 +1,5 @@
 -- The answer that is added is that to the entry, at its place.
-use Rattle.std.proofs.Common.{◌≡◌, ◌∙◌, ◌+◌, ◌++◌, ◌∷◌, [], length, ap, arith, length-append}
+use Rattle.std.proofs.Common.{◌≡◌, ◌∙◌, ◌+◌, ◌++◌, ◌∷◌, [], length, length-append}
 use Rattle.cq_main.proofs.WorldStates.{on_err, stands_for, store-stands, outbox-stands}
 use Rattle.cq_main.proofs.script.world.World.take.Goals as goal
 
