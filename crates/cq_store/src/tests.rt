@@ -1,11 +1,18 @@
 use crate::Store;
 use cq_base::{
-    Ask, BatchSize, Body, DedupId, Delivery, Entry, GroupId, Moment, QueueName, Receipt, Reply,
-    Request, Seconds,
+    Ask, BatchSize, Body, DedupId, Delivery, Entry, GroupId, Moment, NoMemory, Query, QueueName,
+    Receipt, Reply, Request, Seconds,
 };
 use std::alloc::Global;
 use std::process::Abort;
 use std::test::Fail;
+
+// Where the store refuses a call for want of memory, the call is made once more. So under
+// `rt try --test --fail-alloc N`, which refuses the Nth allocation of each test, each test passes, or ends
+// with an error where memory for an entry or a text was refused; no assertion fails.
+
+/// The moment, the client and its number, the ask, and the answer.
+type Line = (u64, u32, u64, Row, &'static str);
 
 /// An ask, about `q.fifo` if it names no other queue. A message's body is its deduplication id, too.
 #[derive(Clone, Copy)]
@@ -14,6 +21,8 @@ enum Row {
     Create,
     /// With a visibility timeout of so many seconds.
     CreateWith(u32),
+    /// Of another queue, with a visibility timeout of 30 s.
+    CreateOther(&'static str),
     Remove,
     /// The group and the body.
     Send(&'static str, &'static str),
@@ -82,6 +91,7 @@ fn ask_of(alloc: Global, row: Row) -> Result<Ask, Fail> {
     match row {
         Row::Create => create(queue, 30),
         Row::CreateWith(visibility) => create(queue, visibility),
+        Row::CreateOther(name) => create(QueueName::new(alloc, name)?, 30),
         Row::Remove => Ok(Ask::Remove { queue }),
         Row::Send(group, body) => send(alloc, queue, group, body),
         Row::SendTo(name, group, body) => send(alloc, QueueName::new(alloc, name)?, group, body),
@@ -133,6 +143,21 @@ fn shown(alloc: Global, reply: &Reply) -> Result<String, Fail> {
     }
 }
 
+/// Applies the entry to a store that stands as said.
+fn apply(
+    rt: &impl Abort,
+    store: &mut Store,
+    entry: &Entry,
+    count: u64,
+    last: Moment,
+) -> Result<Reply, NoMemory> {
+    assert_eq!(rt; store.count(), count);
+    assert!(rt; store.last() == last);
+    assert!(rt; count < 1000);
+    assert!(rt; last <= entry.moment);
+    store.apply(entry)
+}
+
 /// Applies the entry, and says what the store answers.
 fn answer(
     rt: &impl Abort,
@@ -140,29 +165,80 @@ fn answer(
     store: &mut Store,
     entry: &Entry,
 ) -> Result<String, Fail> {
-    let before = store.count();
-    assert!(rt; before < 1000);
-    assert!(rt; store.last() <= entry.moment);
-    let reply = store.apply(entry)?;
-    assert_eq!(rt; store.count(), before + 1);
+    let count = store.count();
+    assert!(rt; count < 1000);
+    let last = store.last();
+    let reply = match apply(rt, store, entry, count, last) {
+        Ok(reply) => reply,
+        Err(_) => apply(rt, store, entry, count, last)?,
+    };
+    assert_eq!(rt; store.count(), count + 1);
     assert!(rt; store.last() == entry.moment);
     shown(alloc, &reply)
 }
 
-/// Asks, each with its moment, client, number and answer.
-fn check(
-    rt: &impl Abort,
-    alloc: Global,
-    rows: &[(u64, u32, u64, Row, &'static str)],
-) -> Result<(), Fail> {
-    let mut store = Store::new(alloc)?;
-    assert_eq!(rt; store.count(), 0);
-    assert_eq!(rt; store.last().get(), 0);
-    for (moment, client, number, row, want) in rows {
+/// Applies the lines to the store, which has to answer as they say.
+fn go_on(rt: &impl Abort, alloc: Global, store: &mut Store, lines: &[Line]) -> Result<(), Fail> {
+    for (moment, client, number, row, want) in lines {
         let entry = entry_of(alloc, *moment, *client, *number, *row)?;
-        let got = answer(rt, alloc, &mut store, &entry)?;
+        let got = answer(rt, alloc, store, &entry)?;
         assert_eq!(rt; got.as_str(), *want, "client {client}, number {number}");
     }
+    Ok(())
+}
+
+/// The store of these lines.
+fn check(rt: &impl Abort, alloc: Global, lines: &[Line]) -> Result<Store, Fail> {
+    let mut store = match Store::new(alloc) {
+        Ok(store) => store,
+        Err(_) => Store::new(alloc)?,
+    };
+    assert_eq!(rt; store.count(), 0);
+    assert_eq!(rt; store.last().get(), 0);
+    go_on(rt, alloc, &mut store, lines)?;
+    Ok(store)
+}
+
+fn copy_of(rt: &impl Abort, store: &Store) -> Result<Store, Fail> {
+    let copy = match store.try_copy() {
+        Ok(copy) => copy,
+        Err(_) => store.try_copy()?,
+    };
+    assert_eq!(rt; copy.count(), store.count());
+    assert!(rt; copy.last() == store.last());
+    Ok(copy)
+}
+
+/// What the store of the first lines and a copy of it answer to the next ones: each the same, as if the
+/// other weren't there.
+fn check_copy(rt: &impl Abort, alloc: Global, lines: &[Line], next: &[Line]) -> Result<(), Fail> {
+    let mut store = check(rt, alloc, lines)?;
+    let mut copy = copy_of(rt, &store)?;
+    go_on(rt, alloc, &mut store, next)?;
+    go_on(rt, alloc, &mut copy, next)
+}
+
+fn query_of(alloc: Global, name: &str) -> Result<Query, Fail> {
+    let queue = QueueName::new(alloc, name)?;
+    Ok(Query {
+        client: 1,
+        tag: 1,
+        queue,
+    })
+}
+
+/// The counts of the queue after these lines.
+fn check_counts(
+    rt: &impl Abort,
+    alloc: Global,
+    lines: &[Line],
+    name: &str,
+    want: &str,
+) -> Result<(), Fail> {
+    let store = check(rt, alloc, lines)?;
+    let query = query_of(alloc, name)?;
+    let got = shown(alloc, &store.query(&query))?;
+    assert_eq!(rt; got.as_str(), want, "of {name}");
     Ok(())
 }
 
@@ -180,7 +256,8 @@ fn ids_count_for_five_minutes(rt: HostRuntime) -> Result<(), Fail> {
         (300_000, 1, 8, Row::Send("b", "x"), "sent 2"),
         (300_000, 1, 9, Row::Receive(10), "received x 1-2-1"),
     ];
-    check(&rt, rt.alloc(), &rows)
+    check(&rt, rt.alloc(), &rows)?;
+    Ok(())
 }
 
 /// A group of which a message is in flight is closed.
@@ -200,7 +277,8 @@ fn a_group_in_flight_is_closed(rt: HostRuntime) -> Result<(), Fail> {
         (6, 1, 11, Row::Delete(2, 1), "deleted true"),
         (7, 1, 12, Row::Receive(10), "received a3 1-3-1"),
     ];
-    check(&rt, rt.alloc(), &rows)
+    check(&rt, rt.alloc(), &rows)?;
+    Ok(())
 }
 
 /// A group opens again when the timeouts of its messages end.
@@ -216,7 +294,8 @@ fn a_group_opens_when_its_timeouts_end(rt: HostRuntime) -> Result<(), Fail> {
         (30_999, 1, 7, Row::Receive(10), "received"),
         (31_000, 1, 8, Row::Receive(10), "received a1 1-1-2 a3 1-3-1"),
     ];
-    check(&rt, rt.alloc(), &rows)
+    check(&rt, rt.alloc(), &rows)?;
+    Ok(())
 }
 
 /// A delete takes effect with the receipt of the last handing alone, also after its timeout.
@@ -234,7 +313,8 @@ fn old_receipts_delete_nothing(rt: HostRuntime) -> Result<(), Fail> {
         (20_000, 1, 9, Row::Delete(1, 9), "deleted false"),
         (20_000, 1, 10, Row::Delete(2, 1), "refused 4"),
     ];
-    check(&rt, rt.alloc(), &rows)
+    check(&rt, rt.alloc(), &rows)?;
+    Ok(())
 }
 
 /// A change ends twelve hours after the last handing at the latest.
@@ -256,7 +336,8 @@ fn a_change_counts_from_its_own_moment(rt: HostRuntime) -> Result<(), Fail> {
         (43_199_006, 1, 13, Row::Delete(1, 2), "deleted true"),
         (43_199_006, 1, 14, Row::Change(1, 2, 10), "refused 5"),
     ];
-    check(&rt, rt.alloc(), &rows)
+    check(&rt, rt.alloc(), &rows)?;
+    Ok(())
 }
 
 /// A removal ends the queue and its messages at once.
@@ -277,36 +358,40 @@ fn a_removed_name_is_free_after_a_minute(rt: HostRuntime) -> Result<(), Fail> {
         (160_000, 1, 12, Row::Receive(10), "received"),
         (160_000, 1, 13, Row::Send("a", "x"), "sent 1"),
     ];
-    check(&rt, rt.alloc(), &rows)
+    check(&rt, rt.alloc(), &rows)?;
+    Ok(())
 }
+
+/// Groups of several messages, of which ten are handed out.
+const GROUPS: [Line; 15] = [
+    (0, 1, 1, Row::Create, "created 1"),
+    (0, 1, 2, Row::Send("x", "x1"), "sent 1"),
+    (0, 1, 3, Row::Send("w", "w1"), "sent 2"),
+    (0, 1, 4, Row::Send("w", "w2"), "sent 3"),
+    (0, 1, 5, Row::Send("y", "y1"), "sent 4"),
+    (0, 1, 6, Row::Send("x", "x2"), "sent 5"),
+    (0, 1, 7, Row::Send("z", "z1"), "sent 6"),
+    (0, 1, 8, Row::Send("w", "w3"), "sent 7"),
+    (0, 1, 9, Row::Send("x", "x3"), "sent 8"),
+    (0, 1, 10, Row::Send("z", "z2"), "sent 9"),
+    (0, 1, 11, Row::Send("w", "w4"), "sent 10"),
+    (0, 1, 12, Row::Send("x", "x4"), "sent 11"),
+    (0, 1, 13, Row::Send("z", "z3"), "sent 12"),
+    (
+        1,
+        1,
+        14,
+        Row::Receive(10),
+        "received x1 1-1-1 x2 1-5-1 x3 1-8-1 x4 1-11-1 w1 1-2-1 w2 1-3-1 w3 1-7-1 w4 1-10-1 y1 1-4-1 z1 1-6-1",
+    ),
+    (1, 1, 15, Row::Receive(10), "received"),
+];
 
 /// Each group hands out all it has before the next.
 #[test]
 fn groups_go_by_their_oldest_message(rt: HostRuntime) -> Result<(), Fail> {
-    let rows = [
-        (0, 1, 1, Row::Create, "created 1"),
-        (0, 1, 2, Row::Send("x", "x1"), "sent 1"),
-        (0, 1, 3, Row::Send("w", "w1"), "sent 2"),
-        (0, 1, 4, Row::Send("w", "w2"), "sent 3"),
-        (0, 1, 5, Row::Send("y", "y1"), "sent 4"),
-        (0, 1, 6, Row::Send("x", "x2"), "sent 5"),
-        (0, 1, 7, Row::Send("z", "z1"), "sent 6"),
-        (0, 1, 8, Row::Send("w", "w3"), "sent 7"),
-        (0, 1, 9, Row::Send("x", "x3"), "sent 8"),
-        (0, 1, 10, Row::Send("z", "z2"), "sent 9"),
-        (0, 1, 11, Row::Send("w", "w4"), "sent 10"),
-        (0, 1, 12, Row::Send("x", "x4"), "sent 11"),
-        (0, 1, 13, Row::Send("z", "z3"), "sent 12"),
-        (
-            1,
-            1,
-            14,
-            Row::Receive(10),
-            "received x1 1-1-1 x2 1-5-1 x3 1-8-1 x4 1-11-1 w1 1-2-1 w2 1-3-1 w3 1-7-1 w4 1-10-1 y1 1-4-1 z1 1-6-1",
-        ),
-        (1, 1, 15, Row::Receive(10), "received"),
-    ];
-    check(&rt, rt.alloc(), &rows)
+    check(&rt, rt.alloc(), &GROUPS)?;
+    Ok(())
 }
 
 /// A group whose oldest message is deleted goes by the next.
@@ -321,23 +406,27 @@ fn a_group_goes_by_the_oldest_that_is_left(rt: HostRuntime) -> Result<(), Fail> 
         (1, 1, 6, Row::Delete(1, 1), "deleted true"),
         (1, 1, 7, Row::Receive(10), "received b1 1-2-1 a2 1-3-1"),
     ];
-    check(&rt, rt.alloc(), &rows)
+    check(&rt, rt.alloc(), &rows)?;
+    Ok(())
 }
+
+/// A receive whose number comes again, and a smaller number.
+const REPEATS: [Line; 8] = [
+    (0, 1, 1, Row::Create, "created 1"),
+    (0, 1, 2, Row::Send("a", "x"), "sent 1"),
+    (10, 1, 3, Row::Receive(1), "received x 1-1-1"),
+    (60_000, 1, 3, Row::Receive(1), "received x 1-1-1"),
+    (60_000, 1, 2, Row::Receive(1), "refused 7"),
+    (60_000, 2, 1, Row::Receive(1), "received x 1-1-2"),
+    (60_000, 2, 2, Row::Delete(1, 2), "deleted true"),
+    (60_000, 1, 3, Row::Receive(1), "received x 1-1-1"),
+];
 
 /// A repeat hands out nothing; a smaller number is stale.
 #[test]
 fn repeats_have_the_kept_reply(rt: HostRuntime) -> Result<(), Fail> {
-    let rows = [
-        (0, 1, 1, Row::Create, "created 1"),
-        (0, 1, 2, Row::Send("a", "x"), "sent 1"),
-        (10, 1, 3, Row::Receive(1), "received x 1-1-1"),
-        (60_000, 1, 3, Row::Receive(1), "received x 1-1-1"),
-        (60_000, 1, 2, Row::Receive(1), "refused 7"),
-        (60_000, 2, 1, Row::Receive(1), "received x 1-1-2"),
-        (60_000, 2, 2, Row::Delete(1, 2), "deleted true"),
-        (60_000, 1, 3, Row::Receive(1), "received x 1-1-1"),
-    ];
-    check(&rt, rt.alloc(), &rows)
+    check(&rt, rt.alloc(), &REPEATS)?;
+    Ok(())
 }
 
 /// A second creation has to agree with the first.
@@ -353,5 +442,59 @@ fn a_queue_lives_from_its_creation_on(rt: HostRuntime) -> Result<(), Fail> {
         (4, 1, 7, Row::Change(1, 1, 0), "refused 4"),
         (5, 1, 0, Row::Create, "refused 7"),
     ];
-    check(&rt, rt.alloc(), &rows)
+    check(&rt, rt.alloc(), &rows)?;
+    Ok(())
+}
+
+/// A copy goes on as the store does, with a receive and its repeat, sends and a creation.
+#[test]
+fn a_copy_answers_as_the_store(rt: HostRuntime) -> Result<(), Fail> {
+    let handed =
+        "received x1 1-1-2 x2 1-5-2 x3 1-8-2 x4 1-11-2 w1 1-2-2 w2 1-3-2 w3 1-7-2 w4 1-10-2 y1 1-4-2 z1 1-6-2";
+    let next = [
+        (30_001, 1, 16, Row::Receive(10), handed),
+        (30_001, 1, 16, Row::Receive(10), handed),
+        (30_002, 1, 17, Row::Send("y", "y2"), "sent 13"),
+        (30_002, 2, 1, Row::CreateOther("r.fifo"), "created 1"),
+        (30_002, 2, 2, Row::SendTo("r.fifo", "a", "x1"), "sent 1"),
+        (30_003, 1, 18, Row::Delete(4, 1), "deleted false"),
+        (30_003, 1, 19, Row::Delete(4, 2), "deleted true"),
+        (30_003, 1, 20, Row::Receive(10), "received y2 1-13-1"),
+    ];
+    check_copy(&rt, rt.alloc(), &GROUPS, &next)
+}
+
+/// A copy has the kept replies.
+#[test]
+fn a_copy_repeats_as_the_store(rt: HostRuntime) -> Result<(), Fail> {
+    let next = [
+        (60_001, 1, 3, Row::Receive(1), "received x 1-1-1"),
+        (60_001, 2, 2, Row::Delete(1, 2), "deleted true"),
+        (60_001, 2, 1, Row::Receive(1), "refused 7"),
+        (60_001, 1, 4, Row::Send("a", "x"), "sent 1"),
+    ];
+    check_copy(&rt, rt.alloc(), &REPEATS, &next)
+}
+
+/// A message is in flight or visible.
+#[test]
+fn a_query_counts_the_messages(rt: HostRuntime) -> Result<(), Fail> {
+    let rows = [
+        (0, 1, 1, Row::Create, "created 1"),
+        (0, 1, 2, Row::Send("a", "a1"), "sent 1"),
+        (0, 1, 3, Row::Send("a", "a2"), "sent 2"),
+        (0, 1, 4, Row::Send("a", "a3"), "sent 3"),
+        (0, 1, 5, Row::Send("b", "b1"), "sent 4"),
+        (1, 1, 6, Row::Receive(2), "received a1 1-1-1 a2 1-2-1"),
+        (2, 1, 7, Row::Receive(2), "received b1 1-4-1"),
+        (3, 1, 8, Row::Receive(2), "received"),
+    ];
+    let removed = [
+        (0, 1, 1, Row::Create, "created 1"),
+        (0, 1, 2, Row::Send("a", "x"), "sent 1"),
+        (0, 1, 3, Row::Remove, "removed"),
+    ];
+    check_counts(&rt, rt.alloc(), &rows, "q.fifo", "counts 1 3")?;
+    check_counts(&rt, rt.alloc(), &rows, "r.fifo", "refused 1")?;
+    check_counts(&rt, rt.alloc(), &removed, "q.fifo", "refused 1")
 }
