@@ -14,49 +14,63 @@ fn deliveries(alloc: Global) -> Result<Deliveries, Fail> {
     Ok(Deliveries::from_vec(items))
 }
 
+/// A reply to a request, one of each kind, from 0 to 7.
+fn reply(alloc: Global, kind: u8) -> Result<Reply, Fail> {
+    Ok(match kind {
+        0 => Reply::Created(1),
+        1 => Reply::Removed,
+        2 => Reply::Sent(1),
+        3 => Reply::Received(deliveries(alloc)?),
+        4 => Reply::Deleted(true),
+        5 => Reply::Deleted(false),
+        6 => Reply::Changed,
+        _ => Reply::Refused(Refusal::QueueDoesNotExist),
+    })
+}
+
 #[test]
 fn tells_answers(rt: HostRuntime) -> Result<(), Fail> {
     let alloc = rt.alloc();
     let rows = [
         (
-            Reply::Created(1),
+            0,
             r#"{"client":7,"length":8,"line":9,"number":10,"reply":{"incarnation":1,"kind":"created"}}"#,
         ),
         (
-            Reply::Removed,
+            1,
             r#"{"client":7,"length":8,"line":9,"number":10,"reply":{"kind":"removed"}}"#,
         ),
         (
-            Reply::Sent(1),
+            2,
             r#"{"client":7,"length":8,"line":9,"number":10,"reply":{"kind":"sent","sequence":1}}"#,
         ),
         (
-            Reply::Received(deliveries(alloc)?),
+            3,
             r#"{"client":7,"length":8,"line":9,"number":10,"reply":{"kind":"received","messages":[{"body":"hello","group":"a","receipt":"1-1-1"}]}}"#,
         ),
         (
-            Reply::Deleted(true),
+            4,
             r#"{"client":7,"length":8,"line":9,"number":10,"reply":{"kind":"deleted","removed":true}}"#,
         ),
         (
-            Reply::Deleted(false),
+            5,
             r#"{"client":7,"length":8,"line":9,"number":10,"reply":{"kind":"deleted","removed":false}}"#,
         ),
         (
-            Reply::Changed,
+            6,
             r#"{"client":7,"length":8,"line":9,"number":10,"reply":{"kind":"changed"}}"#,
         ),
         (
-            Reply::Refused(Refusal::QueueDoesNotExist),
+            7,
             r#"{"client":7,"length":8,"line":9,"number":10,"reply":{"code":1,"kind":"refused","name":"QueueDoesNotExist"}}"#,
         ),
     ];
-    for (reply, want) in rows {
+    for (kind, want) in rows {
         let answer = Answer {
             client: 7,
             asked: Asked::Request(10),
             length: 8,
-            reply,
+            reply: reply(alloc, kind)?,
         };
         let text = answer_line(alloc, 9, &answer)?;
         assert_eq!(rt; text.strip_suffix(b"\n"), Some(want.as_bytes()));
