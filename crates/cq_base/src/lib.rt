@@ -5,6 +5,7 @@
 mod ask;
 mod fault;
 mod number;
+mod party;
 mod receipt;
 mod reply;
 #[cfg(test)]
@@ -15,7 +16,9 @@ pub use ask::{Ask, Entry, Query, Request};
 pub use fault::{BaseFault, NoMemory};
 pub use number::{
     BATCH_LIMIT, BatchSize, CHAIN_LIMIT, ChainSize, MOMENT_LIMIT, Moment, SECONDS_LIMIT, Seconds,
+    ServerId,
 };
+pub use party::Party;
 pub use receipt::Receipt;
 pub use reply::{Deliveries, Delivery, Refusal, Reply};
 pub use text::{Body, DedupId, GroupId, QueueName};

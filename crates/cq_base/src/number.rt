@@ -188,3 +188,40 @@ impl ChainSize {
         self.servers
     }
 }
+
+/// The number of a server, which is never 0. A number is given to one server only, for good.
+#[derive(Clone, Copy, Debug, PartialEq, Eq, PartialOrd, Ord, Hash)]
+pub struct ServerId {
+    number: u32,
+}
+
+impl Model for ServerId {
+    ghost Value = { ℕ };
+
+    ghost view = { λ id. id.number };
+
+    ghost invariant = { λ id. (1 ≤ id.number) × (id.number < 2 ^ 32) };
+
+    ghost inverse = { λ n. record { number = n } };
+}
+
+impl ServerId {
+    /// The server of that number; none for 0.
+    pub fn new(number: u32) -> Option<ServerId>
+        ensures valid { IsSome result ↔ (1 ≤ number) }
+        ensures value { IfSome result (λ id. id ≡ number) }
+    {
+        if 1 <= number {
+            Some(ServerId { number })
+        } else {
+            None
+        }
+    }
+
+    pub fn get(self) -> u32
+        ensures value { result ≡ self }
+        ensures positive { 1 ≤ result }
+    {
+        self.number
+    }
+}

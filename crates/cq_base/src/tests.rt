@@ -1,6 +1,7 @@
 use crate::{
     Ask, BaseFault, BatchSize, Body, ChainSize, DedupId, Deliveries, Delivery, Entry, GroupId,
     Moment, Query, QueueName, Receipt, Refusal, Reply, Request, Seconds,
+    ServerId,
 };
 use std::alloc::{AllocError, Global};
 use std::process::Abort;
@@ -125,6 +126,9 @@ fn numbers_end_where_the_rules_say(rt: HostRuntime) {
     assert_eq!(rt; ChainSize::new(8).map(|size| size.get()), Some(8));
     assert_eq!(rt; ChainSize::new(0), None);
     assert_eq!(rt; ChainSize::new(9), None);
+    assert_eq!(rt; ServerId::new(1).map(|id| id.get()), Some(1));
+    assert_eq!(rt; ServerId::new(u32::MAX).map(|id| id.get()), Some(u32::MAX));
+    assert_eq!(rt; ServerId::new(0), None);
 }
 
 /// The text that the receipt of these numbers writes behind `old`.
