@@ -22,26 +22,36 @@ abbrev pub fresh_facts : ℕ → ℕ → List Fact → List Fact
 fresh_facts client number facts = filter (is_fresh_with number) (of_client client facts)
 
 -- A client's number takes effect at most once: of the entries that have it, at most one is fresh.
+abbrev pub FreshOnceIn : List Entry → Type 0
+FreshOnceIn entries = (client number : ℕ) → length (fresh_facts client number (history entries)) ≤ 1
+
+-- the same, for every list of entries
 abbrev pub FreshOnce : Type 0
-FreshOnce = (entries : List Entry) (client number : ℕ) → length (fresh_facts client number (history entries)) ≤ 1
+FreshOnce = (entries : List Entry) → FreshOnceIn entries
 
 -- An entry whose number is neither fresh nor stale repeats one fresh entry of its client and number, and
 -- no other, and has its reply.
-abbrev pub RepeatsAreAnswered : Type 0
-RepeatsAreAnswered = (entries : List Entry) (e : Entry)
-    → is_fresh e.request.client e.request.number (history entries) ≡ false
+abbrev pub RepeatsAreAnsweredAt : List Entry → Entry → Type 0
+RepeatsAreAnsweredAt entries e = is_fresh e.request.client e.request.number (history entries) ≡ false
     → is_stale e.request.client e.request.number (history entries) ≡ false
     → (f : Fact) × (fresh_facts e.request.client e.request.number (history entries) ≡ f ∷ []) × (reply_to entries e ≡ f.reply)
+
+-- the same, after every list of entries
+abbrev pub RepeatsAreAnswered : Type 0
+RepeatsAreAnswered = (entries : List Entry) (e : Entry) → RepeatsAreAnsweredAt entries e
 
 -- the number of the entry is fresh after these
 abbrev pub IsFresh : List Entry → Entry → Type 0
 IsFresh entries e = is_fresh e.request.client e.request.number (history entries) ≡ true
 
 -- An entry that isn't fresh does nothing to any queue.
-abbrev pub OthersDoNothing : Type 0
-OthersDoNothing = (entries : List Entry) (e : Entry) (queue : List ℕ)
-    → is_fresh e.request.client e.request.number (history entries) ≡ false
+abbrev pub OthersDoNothingAt : List Entry → Entry → Type 0
+OthersDoNothingAt entries e = (queue : List ℕ) → is_fresh e.request.client e.request.number (history entries) ≡ false
     → about queue (history (entries ++ e ∷ [])) ≡ about queue (history entries)
+
+-- the same, after every list of entries
+abbrev pub OthersDoNothing : Type 0
+OthersDoNothing = (entries : List Entry) (e : Entry) → OthersDoNothingAt entries e
 
 -- the fact is of a fresh entry that names the queue
 abbrev pub is_naming : List ℕ → Fact → Bool
@@ -52,19 +62,30 @@ abbrev pub naming : List ℕ → List Entry → List Entry
 naming queue entries = map (λ f. f.entry) (filter (is_naming queue) (history entries))
 
 -- What the fresh entries that name a queue do is what they would do if there were no other entries.
+abbrev pub EachQueueAloneIn : List Entry → Type 0
+EachQueueAloneIn entries = (queue : List ℕ) → about queue (history entries) ≡ history (naming queue entries)
+
+-- the same, for every list of entries
 abbrev pub EachQueueAlone : Type 0
-EachQueueAlone = (entries : List Entry) (queue : List ℕ) → about queue (history entries) ≡ history (naming queue entries)
+EachQueueAlone = (entries : List Entry) → EachQueueAloneIn entries
 
 -- A fresh entry is answered as it would be if there were no entries but those that name its queue.
-abbrev pub EachReplyAlone : Type 0
-EachReplyAlone = (entries : List Entry) (e : Entry)
-    → IsFresh entries e
+abbrev pub EachReplyAloneAt : List Entry → Entry → Type 0
+EachReplyAloneAt entries e = IsFresh entries e
     → reply_to entries e ≡ reply_to (naming (queue_of e.request.ask) entries) e
 
+-- the same, after every list of entries
+abbrev pub EachReplyAlone : Type 0
+EachReplyAlone = (entries : List Entry) (e : Entry) → EachReplyAloneAt entries e
+
 -- What entries do on an incarnation follows from these entries alone: it is the lifetime that they make.
-abbrev pub EachIncarnationAlone : Type 0
-EachIncarnationAlone = (entries : List Entry) (queue : List ℕ) (creation : Fact) → Among creation (about queue (history entries)) → is_creation creation ≡ true
+abbrev pub EachIncarnationAloneIn : List Entry → Type 0
+EachIncarnationAloneIn entries = (queue : List ℕ) (creation : Fact) → Among creation (about queue (history entries)) → is_creation creation ≡ true
     → on creation.count (about queue (history entries)) ≡ lifetime creation.count (visibility_by creation) (map (λ f. f.entry) (on creation.count (about queue (history entries))))
+
+-- the same, for every list of entries
+abbrev pub EachIncarnationAlone : Type 0
+EachIncarnationAlone = (entries : List Entry) → EachIncarnationAloneIn entries
 
 -- the queue that the entry names lives after these, by that creation
 abbrev pub LivesBy : List Entry → Entry → Fact → Type 0
@@ -84,28 +105,44 @@ is_hidden creation facts moment y = not (is_deleted y.count facts) && nat_lt mom
 
 -- An entry that hands out a message is fresh, its queue lives, and the message is one that the queue's
 -- incarnation accepted.
-abbrev pub HandsWhatWasSent : Type 0
-HandsWhatWasSent = (entries : List Entry) (e : Entry) (sequence : ℕ) → Among sequence (handed_by entries e)
+abbrev pub HandsWhatWasSentAt : List Entry → Entry → Type 0
+HandsWhatWasSentAt entries e = (sequence : ℕ) → Among sequence (handed_by entries e)
     → IsFresh entries e × ((creation : Fact) × LivesBy entries e creation × ((x : Fact) × Among x (messages (so_far entries e creation)) × (x.count ≡ sequence)))
 
+-- the same, after every list of entries
+abbrev pub HandsWhatWasSent : Type 0
+HandsWhatWasSent = (entries : List Entry) (e : Entry) → HandsWhatWasSentAt entries e
+
 -- Where a fresh entry hands out a message, no message of its group is in flight just before.
-abbrev pub NoneInFlight : Type 0
-NoneInFlight = (entries : List Entry) (e : Entry) (creation x y : Fact) → IsFresh entries e → LivesBy entries e creation
+abbrev pub NoneInFlightAt : List Entry → Entry → Type 0
+NoneInFlightAt entries e = (creation x y : Fact) → IsFresh entries e → LivesBy entries e creation
     → Among x (messages (so_far entries e creation)) → Among x.count (handed_by entries e)
     → Among y (messages (so_far entries e creation)) → group_of y.entry.request.ask ≡ group_of x.entry.request.ask
     → is_hidden creation (so_far entries e creation) e.moment y ≡ false
 
+-- the same, after every list of entries
+abbrev pub NoneInFlight : Type 0
+NoneInFlight = (entries : List Entry) (e : Entry) → NoneInFlightAt entries e
+
 -- Where a message was deleted, no entry hands it out.
-abbrev pub NoneDeleted : Type 0
-NoneDeleted = (entries : List Entry) (e : Entry) (creation : Fact) (sequence : ℕ) → IsFresh entries e → LivesBy entries e creation
+abbrev pub NoneDeletedAt : List Entry → Entry → Type 0
+NoneDeletedAt entries e = (creation : Fact) (sequence : ℕ) → IsFresh entries e → LivesBy entries e creation
     → is_deleted sequence (so_far entries e creation) ≡ true → Among sequence (handed_by entries e) → ⊥
+
+-- the same, after every list of entries
+abbrev pub NoneDeleted : Type 0
+NoneDeleted = (entries : List Entry) (e : Entry) → NoneDeletedAt entries e
 
 -- After a removal of a queue no fresh entry comes to the incarnation that it ended, and so none hands out a
 -- message of it.
-abbrev pub NoneRemoved : Type 0
-NoneRemoved = (entries : List Entry) (e : Entry) (removal : Fact) → IsFresh entries e
+abbrev pub NoneRemovedAt : List Entry → Entry → Type 0
+NoneRemovedAt entries e = (removal : Fact) → IsFresh entries e
     → Among removal (about (queue_of e.request.ask) (history entries)) → is_removal removal ≡ true
     → (fact_of (history entries) e).incarnation ≡ removal.incarnation → ⊥
+
+-- the same, after every list of entries
+abbrev pub NoneRemoved : Type 0
+NoneRemoved = (entries : List Entry) (e : Entry) → NoneRemovedAt entries e
 
 -- A fresh receive from a queue that lives is answered with the messages that it hands out, in order. The
 -- receipt of each has the number of the incarnation, that of the message, and the count of the handings of
@@ -130,23 +167,31 @@ counts_at id moment y = bytes_eq (dedup_of y.entry.request.ask) id && nat_lt mom
 
 -- A fresh send isn't accepted less than 300,000 ms after an accepted send of its incarnation and its
 -- deduplication id: it is answered with that one's sequence number. There is no other such send.
-abbrev pub OneAcceptancePerWindow : Type 0
-OneAcceptancePerWindow = (entries : List Entry) (e : Entry) (creation earlier : Fact) → Stamped (entries ++ e ∷ []) → IsFresh entries e → LivesBy entries e creation
+abbrev pub OneAcceptancePerWindowAt : List Entry → Entry → Type 0
+OneAcceptancePerWindowAt entries e = (creation earlier : Fact) → Stamped (entries ++ e ∷ []) → IsFresh entries e → LivesBy entries e creation
     → is_send e.request.ask ≡ true
     → Among earlier (messages (so_far entries e creation)) → dedup_of earlier.entry.request.ask ≡ dedup_of e.request.ask → e.moment < earlier.entry.moment + 300000
     → ((fact_of (history entries) e).effective ≡ false)
     × (reply_to entries e ≡ Sent earlier.count)
     × (filter (counts_at (dedup_of e.request.ask) e.moment) (messages (so_far entries e creation)) ≡ earlier ∷ [])
 
+-- the same, after every list of entries
+abbrev pub OneAcceptancePerWindow : Type 0
+OneAcceptancePerWindow = (entries : List Entry) (e : Entry) → OneAcceptancePerWindowAt entries e
+
 -- A fresh send to a queue that lives is accepted, with the next sequence number, if each accepted send of
 -- its incarnation and its deduplication id came 300,000 ms before or earlier.
-abbrev pub OthersAreAccepted : Type 0
-OthersAreAccepted = (entries : List Entry) (e : Entry) (creation : Fact) → IsFresh entries e → LivesBy entries e creation
+abbrev pub OthersAreAcceptedAt : List Entry → Entry → Type 0
+OthersAreAcceptedAt entries e = (creation : Fact) → IsFresh entries e → LivesBy entries e creation
     → is_send e.request.ask ≡ true
     → ((y : Fact) → Among y (messages (so_far entries e creation)) → dedup_of y.entry.request.ask ≡ dedup_of e.request.ask → y.entry.moment + 300000 ≤ e.moment)
     → ((fact_of (history entries) e).effective ≡ true)
     × ((fact_of (history entries) e).count ≡ length (messages (so_far entries e creation)) + 1)
     × (reply_to entries e ≡ Sent (length (messages (so_far entries e creation)) + 1))
+
+-- the same, after every list of entries
+abbrev pub OthersAreAccepted : Type 0
+OthersAreAccepted = (entries : List Entry) (e : Entry) → OthersAreAcceptedAt entries e
 
 -- the number is one of these
 abbrev pub is_in : List ℕ → ℕ → Bool
@@ -179,5 +224,9 @@ IsHandedInOrder group facts = Front (filter (is_in (numbers_of group facts)) (fi
 
 -- On each incarnation of each queue, messages of each group are first handed out in order of sending, and
 -- none is left out.
+abbrev pub FirstHandingsInOrderIn : List Entry → Type 0
+FirstHandingsInOrderIn entries = (queue : List ℕ) (n : ℕ) (group : List ℕ) → IsHandedInOrder group (on n (about queue (history entries)))
+
+-- the same, for every list of entries
 abbrev pub FirstHandingsInOrder : Type 0
-FirstHandingsInOrder = (entries : List Entry) (queue : List ℕ) (n : ℕ) (group : List ℕ) → IsHandedInOrder group (on n (about queue (history entries)))
+FirstHandingsInOrder = (entries : List Entry) → FirstHandingsInOrderIn entries
