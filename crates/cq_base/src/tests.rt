@@ -1,7 +1,6 @@
 use crate::{
     Ask, BaseFault, BatchSize, Body, ChainSize, DedupId, Deliveries, Delivery, Entry, GroupId,
-    Moment, Query, QueueName, Receipt, Refusal, Reply, Request, Seconds,
-    ServerId,
+    Moment, Query, QueueName, Receipt, Refusal, Reply, Request, Seconds, ServerId,
 };
 use std::alloc::{AllocError, Global};
 use std::process::Abort;
