@@ -1,0 +1,4 @@
+pub mod Mailing
+pub mod Rows
+pub mod ServerRefusals
+pub mod ServerStands

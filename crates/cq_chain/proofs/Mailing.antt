@@ -1,0 +1,184 @@
+-- What waits in outboxes after a message is put into one of them, or taken out.
+use Rattle.std.proofs.Common.{◌≡◌, ℕ, ◌+◌, ◌≤◌, ◌∙◌, ap, sym, List, [], ◌∷◌, ◌++◌, length, drop, Option, Some, None, Bool, true, false, cond, eqb, suc, append-nil, append_assoc, arith, inl, inr, subst, refl, if◌then◌else◌}
+use Rattle.std.specs.Prelude.{IfSome, IfNone}
+use Rattle.std.proofs.lemmas.Bool.{cases_Bool, true≢false, eqb-true, eqb-false, eq-eqb, ne_eqb}
+use Rattle.std.specs.Map.{lookup}
+use Rattle.cq_base.specs.contracts.party.PartyPartialEq.TheImpl.{eq-value as derived}
+use Rattle.cq_base.specs.declared.party.Party.{Party}
+use Rattle.cq_base.specs.declared.party.Party.TheVariants.{Master, Clients, Server}
+use Rattle.cq_chain.specs.declared.message.Message as rust
+use Rattle.cq_chain.specs.Boxes.{Row, messages_of, room_of, row_for, messages_for}
+use Rattle.cq_chain.specs.Messages.{Message}
+use Rattle.cq_chain.specs.Parties.{same, addressed}
+use Rattle.cq_chain.specs.Stands.{Means, AllMean, IsFirst, posted, drained}
+use Rattle.cq_chain.specs.Waiting.{Waits, Posts, KeepsAll, TakesOne}
+
+-- messages that stand for messages, one after the other
+pub means-append : (xs ys : List rust.Message) (ms ns : List Message) → AllMean xs ms → AllMean ys ns → AllMean (xs ++ ys) (ms ++ ns)
+means-append [] ys [] ns h k = k
+means-append [] ys (m ∷ ms) ns h k = absurd h
+means-append (x ∷ xs) ys [] ns h k = absurd h
+means-append (x ∷ xs) ys (m ∷ ms) ns h k = (h.0, means-append xs ys ms ns h.1 k)
+
+-- they are as many
+pub means-length : (xs : List rust.Message) (ms : List Message) → AllMean xs ms → length xs ≡ length ms
+means-length [] [] h = refl
+means-length [] (m ∷ ms) h = absurd h
+means-length (x ∷ xs) [] h = absurd h
+means-length (x ∷ xs) (m ∷ ms) h = ap suc (means-length xs ms h.1)
+
+-- no messages stand for none
+pub none-mean : (ms : List Message) → AllMean [] ms → ms ≡ []
+none-mean [] h = refl
+none-mean (m ∷ ms) h = absurd h
+
+-- the first of them
+first-mean : (x : rust.Message) (xs : List rust.Message) (ms : List Message) → AllMean (x ∷ xs) ms → IsFirst (Some x) ms
+first-mean x xs [] h = absurd h
+first-mean x xs (m ∷ ms) h = h.0
+
+-- and the others
+rest-mean : (x : rust.Message) (xs : List rust.Message) (ms : List Message) → AllMean (x ∷ xs) ms → AllMean xs (drop 1 ms)
+rest-mean x xs [] h = absurd h
+rest-mean x xs (m ∷ ms) h = h.1
+
+-- ---- parties
+
+-- parties that are the same are equal
+pub same-equal : (a b : Party) → same a b ≡ true → a ≡ b
+same-equal Master Master h = refl
+same-equal Master Clients h = absurd (true≢false (sym h))
+same-equal Master (Server b) h = absurd (true≢false (sym h))
+same-equal Clients Master h = absurd (true≢false (sym h))
+same-equal Clients Clients h = refl
+same-equal Clients (Server b) h = absurd (true≢false (sym h))
+same-equal (Server a) Master h = absurd (true≢false (sym h))
+same-equal (Server a) Clients h = absurd (true≢false (sym h))
+same-equal (Server a) (Server b) h = ap Server (eqb-true a b h)
+
+eqb-turned : (a b : ℕ) → eqb a b ≡ eqb b a
+eqb-turned a b = elim (cases_Bool (eqb a b)) [
+  | inl e ↦ e ∙ sym (eq-eqb b a (sym (eqb-true a b e)))
+  | inr e ↦ e ∙ sym (ne_eqb b a (λ k. eqb-false a b e (sym k)))
+]
+
+same-turned : (a b : Party) → same a b ≡ same b a
+same-turned Master Master = refl
+same-turned Master Clients = refl
+same-turned Master (Server b) = refl
+same-turned Clients Master = refl
+same-turned Clients Clients = refl
+same-turned Clients (Server b) = refl
+same-turned (Server a) Master = refl
+same-turned (Server a) Clients = refl
+same-turned (Server a) (Server b) = eqb-turned a b
+
+-- the equality that is derived for parties is that one
+party-eq : (a b : Party) → derived.it a b ≡ same a b
+party-eq Master Master = refl
+party-eq Master Clients = refl
+party-eq Master (Server b) = refl
+party-eq Clients Master = refl
+party-eq Clients Clients = refl
+party-eq Clients (Server b) = refl
+party-eq (Server a) Master = refl
+party-eq (Server a) Clients = refl
+party-eq (Server a) (Server b) = refl
+
+lookup-agrees : {K X : Type 0} (f g : K → Bool) → ((k : K) → f k ≡ g k) → (es : List (K × X)) → lookup f es ≡ lookup g es
+lookup-agrees f g h [] = refl
+lookup-agrees f g h (e ∷ es) = ap (λ b. cond b (Some e.1) (lookup f es)) (h e.0) ∙ ap (λ o. cond (g e.0) (Some e.1) o) (lookup-agrees f g h es)
+
+-- ---- rows
+
+-- The row for a party is that one now, and the others stay.
+abbrev pub Rewrites : List (Party × Row) → List (Party × Row) → Party → Option Row → Type 0
+Rewrites old new to row = (p : Party) → row_for new p ≡ cond (same to p) row (row_for old p)
+
+-- what a map finds by the derived equality is the row for the party
+pub found : (inside now : List (Party × Row)) (to : Party) (row : Option Row) → inside ≡ now → row ≡ lookup (derived.it to) inside → row_for now to ≡ row
+found inside now to row view is = ap (λ es. row_for es to) (sym view) ∙ sym (lookup-agrees (derived.it to) (same to) (party-eq to) inside) ∙ sym is
+
+-- and what it writes
+pub written : (inside now new : List (Party × Row)) (to : Party) (row : Option Row) → inside ≡ now → ((p : Party) → lookup (derived.it p) new ≡ cond (derived.it to p) row (lookup (derived.it p) inside)) → Rewrites now new to row
+written inside now new to row view writes p = sym (lookup-agrees (derived.it p) (same p) (party-eq p) new) ∙ writes p
+    ∙ ap (λ b. cond b row (lookup (derived.it p) inside)) (party-eq to p) ∙ ap (λ o. cond (same to p) row o) (lookup-agrees (derived.it p) (same p) (party-eq p) inside ∙ ap (λ es. row_for es p) view)
+
+replaced : (P : Bool → Option Row → Option Row → Type 0) (a b : Bool) (o p n m : Option Row) → a ≡ b → o ≡ p → n ≡ m → P b p m → P a o n
+replaced P a b o p n m e f g h = subst (λ x. P x o n) (sym e) (subst (λ x. P b x n) (sym f) (subst (λ x. P b p x) (sym g) h))
+
+-- what holds of the row that is written, and of each that stays, holds of all
+by_row : (old new : List (Party × Row)) (to : Party) (before after : Option Row) (P : Bool → Option Row → Option Row → Type 0) → row_for old to ≡ before → Rewrites old new to after
+    → P true before after → ((o : Option Row) → P false o o) → (p : Party) → P (same to p) (row_for old p) (row_for new p)
+by_row old new to before after P was writes here there p = elim (cases_Bool (same to p)) [
+  | inl e ↦ replaced P (same to p) true (row_for old p) before (row_for new p) after e (ap (λ q. row_for old q) (sym (same-equal to p e)) ∙ was) (writes p ∙ ap (λ b. cond b after (row_for old p)) e) here
+  | inr e ↦ replaced P (same to p) false (row_for old p) (row_for old p) (row_for new p) (row_for old p) e refl (writes p ∙ ap (λ b. cond b after (row_for old p)) e) (there (row_for old p))
+]
+
+-- nothing is written
+pub unwritten : (old : List (Party × Row)) (to : Party) (before : Option Row) → row_for old to ≡ before → Rewrites old old to before
+unwritten old to before was p = elim (cases_Bool (same to p)) [
+  | inl e ↦ ap (λ q. row_for old q) (sym (same-equal to p e)) ∙ was ∙ sym (ap (λ b. cond b before (row_for old p)) e)
+  | inr e ↦ sym (ap (λ b. cond b before (row_for old p)) e)
+]
+
+-- a row with the same messages and no less room
+pub row-kept : (old new : List (Party × Row)) (to : Party) (before : Option Row) (row : Row) → row_for old to ≡ before → Rewrites old new to (Some row) → row.messages ≡ messages_of before → room_of before ≤ row.room → KeepsAll old new
+row-kept old new to before row was writes messages room = (by_row old new to before (Some row) (λ b o n. messages_of n ≡ messages_of o) was writes messages (λ o. refl), by_row old new to before (Some row) (λ b o n. room_of o ≤ room_of n) was writes room (λ o. omega arith))
+
+-- a row with one more message
+pub row-posts : (old new : List (Party × Row)) (to : Party) (before : Option Row) (row : Row) (message : rust.Message) → row_for old to ≡ before → Rewrites old new to (Some row) → row.messages ≡ messages_of before ++ message ∷ []
+    → (m : Message) → Means message m → Posts old new ((to, m) ∷ [])
+row-posts old new to before row message was writes messages m means outbox h p = subst (λ b. AllMean (messages_for new p) (outbox p ++ (if b then m ∷ [] else []))) (same-turned to p)
+    (by_row old new to before (Some row) (λ b o n. AllMean (messages_of o) (outbox p) → AllMean (messages_of n) (outbox p ++ (if b then m ∷ [] else []))) was writes
+    (λ k. subst (λ xs. AllMean xs (outbox p ++ m ∷ [])) (sym messages) (means-append (messages_of before) (message ∷ []) (outbox p) (m ∷ []) k (means, tt)))
+    (λ o k. subst (λ ms. AllMean (messages_of o) ms) (sym (append-nil (outbox p))) k) p (h p))
+
+pub row-takes_one : (old new : List (Party × Row)) (to : Party) (before : Option Row) (row : Row) → row_for old to ≡ before → Rewrites old new to (Some row) → room_of before ≤ row.room + 1 → TakesOne old new
+row-takes_one old new to before row was writes room = by_row old new to before (Some row) (λ b o n. room_of o ≤ room_of n + 1) was writes room (λ o. omega arith)
+
+-- the message that leaves a row is the first that waits
+pub popped-first : (result : Option rust.Message) (old new : List rust.Message) (ms : List Message) → IfSome result (λ x. old ≡ x ∷ new) → IfNone result (old ≡ []) → AllMean old ms → IsFirst result ms
+popped-first None old new ms some none h = none-mean ms (subst (λ xs. AllMean xs ms) none h)
+popped-first (Some x) old new ms some none h = first-mean x new ms (subst (λ xs. AllMean xs ms) some h)
+
+popped-rest : (result : Option rust.Message) (old new : List rust.Message) (ms : List Message) → IfSome result (λ x. old ≡ x ∷ new) → IfNone result (old ≡ []) → IfNone result (new ≡ []) → AllMean old ms → AllMean new (drop 1 ms)
+popped-rest None old new ms some none empty h = subst (λ xs. AllMean xs (drop 1 ms)) (sym empty) (subst (λ ns. AllMean [] (drop 1 ns)) (sym (none-mean ms (subst (λ xs. AllMean xs ms) none h))) tt)
+popped-rest (Some x) old new ms some none empty h = rest-mean x new ms (subst (λ xs. AllMean xs ms) some h)
+
+-- and the others wait on
+pub row-drained : (old new : List (Party × Row)) (to : Party) (before after : Option Row) (result : Option rust.Message) → row_for old to ≡ before → Rewrites old new to after
+    → IfSome result (λ x. messages_of before ≡ x ∷ messages_of after) → IfNone result (messages_of before ≡ []) → IfNone result (messages_of after ≡ []) → (outbox : Party → List Message) → Waits old outbox → Waits new (drained outbox to)
+row-drained old new to before after result was writes some none empty outbox h p =
+    by_row old new to before after (λ b o n. AllMean (messages_of o) (outbox p) → AllMean (messages_of n) (if b then drop 1 (outbox p) else outbox p)) was writes
+    (λ k. popped-rest result (messages_of before) (messages_of after) (outbox p) some none empty k) (λ o k. k) p (h p)
+
+-- ---- one after the other
+
+chosen-append : (b : Bool) (m : Message) (all front back : List Message) → all ≡ front ++ back → (if b then m ∷ all else all) ≡ (if b then m ∷ front else front) ++ back
+chosen-append true m all front back h = ap (λ ms. m ∷ ms) h
+chosen-append false m all front back h = h
+
+-- what is addressed to a party
+addressed-append : (p : Party) (xs ys : List (Party × Message)) → addressed p (xs ++ ys) ≡ addressed p xs ++ addressed p ys
+addressed-append p [] ys = refl
+addressed-append p (x ∷ xs) ys = chosen-append (same p x.0) x.1 (addressed p (xs ++ ys)) (addressed p xs) (addressed p ys) (addressed-append p xs ys)
+
+-- what is sent after something else
+pub posted-append : (outbox : Party → List Message) (xs ys : List (Party × Message)) (p : Party) → posted (posted outbox xs) ys p ≡ posted outbox (xs ++ ys) p
+posted-append outbox xs ys p = append_assoc (outbox p) (addressed p xs) (addressed p ys) ∙ ap (λ ms. outbox p ++ ms) (sym (addressed-append p xs ys))
+
+-- nothing is sent
+pub posts-none : (boxes : List (Party × Row)) → Posts boxes boxes []
+posts-none boxes outbox h p = subst (λ ms. AllMean (messages_for boxes p) ms) (sym (append-nil (outbox p))) (h p)
+
+-- one after the other
+pub posts-then : (a b c : List (Party × Row)) (xs ys : List (Party × Message)) → Posts a b xs → Posts b c ys → Posts a c (xs ++ ys)
+posts-then a b c xs ys h k outbox waits p = subst (λ ms. AllMean (messages_for c p) ms) (posted-append outbox xs ys p) (k (posted outbox xs) (h outbox waits) p)
+
+-- the same messages wait
+pub waits-kept : (old new : List (Party × Row)) → KeepsAll old new → (outbox : Party → List Message) → Waits old outbox → Waits new outbox
+waits-kept old new keeps outbox h p = subst (λ xs. AllMean xs (outbox p)) (sym (keeps.0 p)) (h p)
+
+pub posts-after : (a b c : List (Party × Row)) (xs : List (Party × Message)) → KeepsAll a b → Posts b c xs → Posts a c xs
+posts-after a b c xs keeps posts outbox h = posts outbox (waits-kept a b keeps outbox h)

@@ -1,0 +1,10 @@
+pub mod Parties
+pub mod Faults
+pub mod Messages
+pub mod Servers
+pub mod Steps
+pub mod Refusals
+pub mod Masters
+pub mod Boxes
+pub mod Stands
+pub mod Waiting

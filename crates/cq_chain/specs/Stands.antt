@@ -1,0 +1,71 @@
+-- What has to be kept of a server's state and its outboxes, and what it means that a call is a step.
+use Rattle.std.specs.Prelude.{◌≡◌, List, [], ◌∷◌, ◌++◌, drop, false, Option, None, Some, Result, Ok, Err, ⊤, if◌then◌else◌}
+use Rattle.cq_base.specs.declared.party.Party.{Party}
+use Rattle.cq_chain.specs.declared.fault.WorldFault.{WorldFault}
+use Rattle.cq_chain.specs.declared.message.Message as rust
+use Rattle.cq_chain.specs.declared.message.Message.TheVariants as kept
+use Rattle.cq_chain.specs.declared.server.Server as rust_server
+use Rattle.cq_chain.specs.Boxes.{messages_for}
+use Rattle.cq_chain.specs.Faults.{IsRefusal}
+use Rattle.cq_chain.specs.Messages.{Message, Fwd, Ack, Ready, Answers}
+use Rattle.cq_chain.specs.Parties.{same, addressed}
+use Rattle.cq_chain.specs.Servers.{Server}
+use Rattle.cq_chain.specs.Steps.{Step}
+
+-- a message as it is kept stands for a message
+abbrev pub Means : rust.Message → Message → Type 0
+Means (kept.Fwd place entry) m = m ≡ Fwd place entry
+Means (kept.Ack place) m = m ≡ Ack place
+Means kept.Ready m = m ≡ Ready
+Means (kept.Answer answer) m = m ≡ Answers answer
+
+-- messages stand for messages, each for the one at its place
+abbrev pub AllMean : List rust.Message → List Message → Type 0
+AllMean [] [] = ⊤
+AllMean [] (m ∷ ms) = ⊥
+AllMean (x ∷ xs) [] = ⊥
+AllMean (x ∷ xs) (m ∷ ms) = Means x m × AllMean xs ms
+
+-- what waits for each party, after these were sent
+abbrev pub posted : (Party → List Message) → List (Party × Message) → Party → List Message
+posted outbox sent to = outbox to ++ addressed to sent
+
+-- what waits for each party, after the first message to one of them was put on its link
+abbrev pub drained : (Party → List Message) → Party → Party → List Message
+drained outbox to p = if same to p then drop 1 (outbox p) else outbox p
+
+-- What is kept of a server stands for a state and for what waits in the outbox to each party.
+pub record Holds (kept : rust_server.Server) (s : Server) (outbox : Party → List Message) : Type 0 where
+  pub entries : kept.history ≡ s.entries
+  pub acked : kept.acked ≡ s.acked
+  pub floor : kept.floor ≡ s.floor
+  pub pred : kept.pred ≡ s.pred
+  pub succ : kept.succ ≡ s.succ
+  pub head : kept.head ≡ s.head
+  pub at_least : kept.at_least ≡ s.at_least
+  pub full : kept.full ≡ s.full
+  pub down : s.down ≡ false
+  pub waiting : (to : Party) → AllMean (messages_for kept.outboxes to) (outbox to)
+
+-- the same, as a word for those who call servers
+unfoldable pub StandsFor : rust_server.Server → Server → (Party → List Message) → Type 0
+StandsFor kept s outbox = Holds kept s outbox
+
+-- Whatever the server stood for, it now stands for that after this step.
+abbrev pub Does : rust_server.Server → rust_server.Server → (Server → Step) → Type 0
+Does old new step = (s : Server) (outbox : Party → List Message) → StandsFor old s outbox → StandsFor new (step s).server (posted outbox (step s).sent)
+
+-- The server stands for all that it stood for.
+abbrev pub Keeps : rust_server.Server → rust_server.Server → Type 0
+Keeps old new = (s : Server) (outbox : Party → List Message) → StandsFor old s outbox → StandsFor new s outbox
+
+-- A call is refused as that says, of whatever the server stood for.
+abbrev pub IsRefusedBy : Option WorldFault → Result (Unit {0}) WorldFault → Type 0
+IsRefusedBy refusal (Ok _) = refusal ≡ None
+IsRefusedBy refusal (Err fault) = IsRefusal fault refusal
+
+-- the first of these messages, if there is one
+abbrev pub IsFirst : Option rust.Message → List Message → Type 0
+IsFirst None ms = ms ≡ []
+IsFirst (Some x) [] = ⊥
+IsFirst (Some x) (m ∷ ms) = Means x m

@@ -1,0 +1,160 @@
+ghost use Rattle.std.specs.Prelude.{◌≡◌, ◌≤◌, ◌+◌, ◌-◌, ◌==◌, ◌^◌, nat_le, ℕ, List, [], length, if◌then◌else◌, None, Some, IfOk};
+ghost use Rattle.cq_base.specs.declared.party.Party as rust_party;
+ghost use Rattle.cq_chain.specs.Messages as sent;
+ghost use Rattle.cq_chain.specs.Servers as states;
+ghost use Rattle.cq_chain.specs.Servers.{first_member, acts};
+ghost use Rattle.cq_chain.specs.Stands.{StandsFor, IsFirst, drained};
+
+mod append;
+mod arrive;
+mod take;
+
+use crate::history::History;
+use crate::message::Message;
+use crate::outboxes::Outboxes;
+use cq_base::{ChainSize, NoMemory, Party, ServerId};
+use std::alloc::Global;
+
+/// The most entries that a server takes.
+const HISTORY_LIMIT: u64 = 4_611_686_018_427_387_904;
+
+/// A server of the chain, with its outboxes (van Renesse and Schneider, "Chain Replication for Supporting High
+/// Throughput and Availability", OSDI 2004, section 3). It keeps its whole history, and a message waits in an
+/// outbox until `put` takes it out.
+///
+/// A call makes all the room that it needs before its first change. So after `NoMemory`, as after each other
+/// fault, the server is as it was.
+#[derive(Drop)]
+pub struct Server {
+    alloc: Global,
+    history: History,
+    acked: u64,
+    floor: u64,
+    pred: Option<ServerId>,
+    succ: Option<ServerId>,
+    head: bool,
+    at_least: Option<u64>,
+    full: bool,
+    outboxes: Outboxes,
+}
+
+/// The server before that one, in a first chain.
+fn before(id: ServerId) -> Option<ServerId>
+    ensures { result ≡ (if id == 1 then None else Some (id - 1)) }
+{
+    ServerId::new(id.get() - 1)
+}
+
+/// The server after that one, in a first chain of so many.
+fn after(id: ServerId, size: ChainSize) -> Option<ServerId>
+    requires { id ≤ size }
+    ensures { result ≡ (if id == size then None else Some (id + 1)) }
+{
+    if id.get() == u32::from(size.get()) {
+        None
+    } else {
+        ServerId::new(id.get() + 1)
+    }
+}
+
+/// The last server of a first chain acts from the start.
+fn first_least(id: ServerId, size: ChainSize) -> Option<u64>
+    ensures { result ≡ (if id == size then Some 0 else None) }
+{
+    if id.get() == u32::from(size.get()) {
+        Some(0)
+    } else {
+        None
+    }
+}
+
+impl Server {
+    /// A member of the first chain, of so many servers: server 1 is its head, the last one its tail, which acts
+    /// at once. It keeps the allocator.
+    pub fn first(alloc: Global, id: ServerId, size: ChainSize) -> Result<Server, NoMemory>
+        requires { id ≤ size }
+        ensures { IfOk result (λ server. StandsFor server (first_member size id) (λ _. [])) }
+    {
+        Ok(Server {
+            alloc,
+            history: History::new(alloc)?,
+            acked: 0,
+            floor: 0,
+            pred: before(id),
+            succ: after(id, size),
+            head: id.get() == 1,
+            at_least: first_least(id, size),
+            full: true,
+            outboxes: Outboxes::new(alloc),
+        })
+    }
+
+    /// The first message that waits for that party leaves its outbox; none where nothing waits. It takes no
+    /// memory: O(1).
+    pub fn put(&mut self, to: Party) -> Option<Message>
+        ensures first { (s : states.Server) (outbox : rust_party.Party → List sent.Message) → StandsFor self.old s outbox
+            → IsFirst result (outbox to) }
+        ensures drained { (s : states.Server) (outbox : rust_party.Party → List sent.Message) → StandsFor self.old s outbox
+            → StandsFor self.new s (drained outbox to) }
+    {
+        self.outboxes.pop(to)
+    }
+
+    /// How many messages wait for that party: O(1).
+    pub fn waiting(&self, to: Party) -> u64
+        ensures { (s : states.Server) (outbox : rust_party.Party → List sent.Message) → StandsFor self.now s outbox
+            → result ≡ length (outbox to) }
+    {
+        self.outboxes.waiting(to) as u64
+    }
+
+    /// How many entries its history has: O(1).
+    pub fn count(&self) -> u64
+        ensures { (s : states.Server) (outbox : rust_party.Party → List sent.Message) → StandsFor self.now s outbox
+            → result ≡ length s.entries }
+    {
+        self.history.count()
+    }
+
+    /// How many of its entries are known to have reached the tail: O(1).
+    pub fn acked(&self) -> u64
+        ensures { (s : states.Server) (outbox : rust_party.Party → List sent.Message) → StandsFor self.now s outbox
+            → result ≡ s.acked }
+    {
+        self.acked
+    }
+
+    /// Whether requests arrive at it: O(1).
+    pub fn is_head(&self) -> bool
+        ensures { (s : states.Server) (outbox : rust_party.Party → List sent.Message) → StandsFor self.now s outbox
+            → result ≡ s.head }
+    {
+        self.head
+    }
+
+    /// Whether it acts as tail, and so answers: O(1).
+    pub fn is_acting(&self) -> bool
+        ensures { (s : states.Server) (outbox : rust_party.Party → List sent.Message) → StandsFor self.now s outbox
+            → result ≡ acts s }
+    {
+        match self.at_least {
+            Some(least) => least <= self.history.count(),
+            None => false,
+        }
+    }
+
+    /// Whether it was a member of the first chain, or has acted as tail: O(1).
+    pub fn is_full(&self) -> bool
+        ensures { (s : states.Server) (outbox : rust_party.Party → List sent.Message) → StandsFor self.now s outbox
+            → result ≡ s.full }
+    {
+        self.full
+    }
+
+    /// It may take no more entry.
+    fn is_at_limit(&self) -> bool
+        ensures { result ≡ nat_le (2 ^ 62) (length self.now.history) }
+    {
+        HISTORY_LIMIT <= self.history.count()
+    }
+}

@@ -1,0 +1,129 @@
+ghost use Rattle.std.specs.Prelude.{◌≡◌, ◌<◌, ◌≤◌, ◌+◌, ◌==◌, ◌&&◌, ◌^◌, nat_le, min, true, List, length, OnOk, OnErr};
+ghost use Rattle.cq_base.specs.declared.party.Party as rust_party;
+ghost use Rattle.cq_base.specs.declared.party.Party.TheVariants as parties;
+ghost use Rattle.cq_base.specs.History.{last_moment};
+ghost use Rattle.cq_chain.specs.Messages as sent;
+ghost use Rattle.cq_chain.specs.Refusals.{refusal_of_taking};
+ghost use Rattle.cq_chain.specs.Servers as states;
+ghost use Rattle.cq_chain.specs.Servers.{is_that};
+ghost use Rattle.cq_chain.specs.Stands.{StandsFor, Does, Keeps, IsRefusedBy, Means};
+ghost use Rattle.cq_chain.specs.Steps.{is_next, forwarded, acknowledged, takes};
+
+use super::Server;
+use crate::fault::WorldFault;
+use crate::message::Message;
+use cq_base::{Entry, NoMemory, Party, ServerId};
+
+fn is_that(server: Option<ServerId>, id: ServerId) -> bool
+    ensures { result ≡ is_that server id }
+{
+    match server {
+        Some(other) => other.get() == id.get(),
+        None => false,
+    }
+}
+
+/// That place comes right after so many.
+fn is_after(place: u64, count: u64) -> bool
+    ensures { result ≡ (place == count + 1) }
+{
+    0 < place && place - 1 == count
+}
+
+impl Server {
+    /// A forwarded entry is the next one of the predecessor.
+    fn is_next(&self, from: ServerId, place: u64, entry: &Entry) -> bool
+        ensures value { result ≡ (is_that self.now.pred from && place == length self.now.history + 1
+            && nat_le (last_moment self.now.history) entry.now.moment) }
+        ensures after_last { result ≡ true → last_moment self.now.history ≤ entry.now.moment }
+    {
+        is_that(self.pred, from)
+            && is_after(place, self.history.count())
+            && self.history.last().get() <= entry.moment.get()
+    }
+
+    /// The next entry of the predecessor is appended.
+    fn take_next(&mut self, entry: &Entry) -> Result<(), NoMemory>
+        requires limit { length self.old.history < 2 ^ 62 }
+        requires stamped { last_moment self.old.history ≤ entry.now.moment }
+        ensures ok { OnOk result (Does self.old self.new (forwarded entry.now)) }
+        ensures err { OnErr result (Keeps self.old self.new) }
+    {
+        let acted = self.is_acting();
+        let entry = entry.try_copy()?;
+        self.reserve()?;
+        self.append(entry)?;
+        self.tell(acted);
+        self.settle();
+        Ok(())
+    }
+
+    /// A forwarded entry.
+    fn take_fwd(&mut self, from: ServerId, place: u64, entry: &Entry) -> Result<(), WorldFault>
+        ensures refused { (s : states.Server) (outbox : rust_party.Party → List sent.Message) → StandsFor self.old s outbox
+            → IsRefusedBy (refusal_of_taking (parties.Server from) (sent.Fwd place entry.now) s) result }
+        ensures ok { OnOk result (Does self.old self.new (takes (parties.Server from) (sent.Fwd place entry.now))) }
+        ensures err { OnErr result (Keeps self.old self.new) }
+    {
+        if !self.is_next(from, place, entry) {
+            return Ok(());
+        }
+        if self.is_at_limit() {
+            return Err(WorldFault::HistoryFull);
+        }
+        self.take_next(entry)?;
+        Ok(())
+    }
+
+    /// An acknowledgement.
+    fn take_ack(&mut self, place: u64) -> Result<(), NoMemory>
+        ensures ok { OnOk result (Does self.old self.new (λ s. acknowledged (min place (length s.entries)) s)) }
+        ensures err { OnErr result (Keeps self.old self.new) }
+    {
+        let place = place.min(self.history.count());
+        if place <= self.acked {
+            return Ok(());
+        }
+        self.outboxes.reserve_server(self.alloc, self.pred)?;
+        self.acked = place;
+        self.floor = self.floor.max(place);
+        self.outboxes.push_server(self.pred, Message::Ack { place });
+        Ok(())
+    }
+
+    /// Takes a message of another server.
+    fn take_from(&mut self, from: ServerId, message: &Message) -> Result<(), WorldFault>
+        ensures refused { (s : states.Server) (outbox : rust_party.Party → List sent.Message) (m : sent.Message) → StandsFor self.old s outbox
+            → Means message.now m → IsRefusedBy (refusal_of_taking (parties.Server from) m s) result }
+        ensures ok { (m : sent.Message) → Means message.now m → OnOk result (Does self.old self.new (takes (parties.Server from) m)) }
+        ensures err { OnErr result (Keeps self.old self.new) }
+    {
+        match message {
+            Message::Fwd { place, entry } => self.take_fwd(from, *place, entry),
+            Message::Ack { place } => Ok(self.take_ack(*place)?),
+            Message::Ready => Ok(()),
+            Message::Answer(_) => Ok(()),
+        }
+    }
+
+    /// Takes a message.
+    ///
+    /// The next entry of the predecessor becomes an entry of the server, which sends it on; where it acts it
+    /// answers the clients and acknowledges to its predecessor. An acknowledgement, of no more entries than
+    /// the server has, is kept and passed on to the predecessor, if it is news. What else comes is ignored
+    /// (a choice of this project). O(1), and what the store takes for an entry.
+    ///
+    /// Faults: `HistoryFull` (41) where the entry would be the one after 2^62, `NoMemory` (20).
+    pub fn take(&mut self, from: Party, message: &Message) -> Result<(), WorldFault>
+        ensures refused { (s : states.Server) (outbox : rust_party.Party → List sent.Message) (m : sent.Message) → StandsFor self.old s outbox
+            → Means message.now m → IsRefusedBy (refusal_of_taking from m s) result }
+        ensures ok { (m : sent.Message) → Means message.now m → OnOk result (Does self.old self.new (takes from m)) }
+        ensures err { OnErr result (Keeps self.old self.new) }
+    {
+        match from {
+            Party::Server(id) => self.take_from(id, message),
+            Party::Master => Ok(()),
+            Party::Clients => Ok(()),
+        }
+    }
+}
