@@ -1,0 +1,6 @@
+-- The committed list grows.
+use Rattle.cq_world.proofs.Headlines.{grows}
+use Rattle.cq_world.proofs.laws.committed_grows.Goals as goal
+
+pub returns : goal.returns
+returns c = grows

@@ -1,0 +1,6 @@
+-- All of it.
+use Rattle.cq_world.proofs.Headlines.{headline_holds}
+use Rattle.cq_world.proofs.laws.headline.Goals as goal
+
+pub returns : goal.returns
+returns c = headline_holds

@@ -1,0 +1,13 @@
+-- A server is known if it is kept.
+use Rattle.std.proofs.Common.{◌∙◌, ap, sym}
+use Rattle.cq_base.specs.declared.party.Party.TheVariants as parties
+use Rattle.cq_world.specs.Events.{knows}
+use Rattle.cq_world.specs.Kept.{server_at}
+use Rattle.cq_world.specs.Worlds.{is_in}
+use Rattle.cq_world.proofs.SimStands.{holds, kept-known}
+use Rattle.cq_world.proofs.sim.Sim.knows.Goals as goal
+
+pub returns-in-Server : goal.returns-in-Server
+returns-in-Server c = λ w h.
+    let id = c.in-Server.id in
+    c.contains_key.ensures ∙ kept-known (server_at c.args.self.now.servers id) (is_in w.master.used id) (w.server id) (w.outbox (parties.Server id)) ((holds c.args.self.now w h).servers id) ∙ ap (λ p. knows w p) (sym c.in-Server.is)

@@ -1,0 +1,19 @@
+-- By the kind of the event.
+use Rattle.cq_world.specs.declared.event.Event.TheVariants.{Arrive, Ask, Take}
+use Rattle.cq_world.proofs.Refused.{given-arrive, given-ask, given-take, silent-same}
+use Rattle.cq_world.proofs.sim.Sim.step.Goals as goal
+
+pub returns-in_ok-arrive-in-Arrive-clause-ok : goal.returns-in_ok-arrive-in-Arrive-clause-ok
+returns-in_ok-arrive-in-Arrive-clause-ok c = λ w h.
+    let done = c.in_ok-arrive-in-Arrive.ensures.ok w h in
+    silent-same c.arrive.new.self w c.args.event.now (Arrive c.in-Arrive.at c.in-Arrive.clock c.in-Arrive.request) c.in-Arrive.is (done.0, given-arrive w c.in-Arrive.at c.in-Arrive.clock c.in-Arrive.request, done.1)
+
+pub returns-in_ok-ask-in-Ask-clause-ok : goal.returns-in_ok-ask-in-Ask-clause-ok
+returns-in_ok-ask-in-Ask-clause-ok c = λ w h.
+    let done = c.in_ok-ask-in-Ask.ensures.ok w h in
+    silent-same c.ask.new.self w c.args.event.now (Ask c.in-Ask.at c.in-Ask.query) c.in-Ask.is (done.0, given-ask w c.in-Ask.at c.in-Ask.query, done.1)
+
+pub returns-in_ok-take-in-Take-clause-ok : goal.returns-in_ok-take-in-Take-clause-ok
+returns-in_ok-take-in-Take-clause-ok c = λ w h.
+    let done = c.in_ok-take-in-Take.ensures.ok w h in
+    silent-same c.take.new.self w c.args.event.now (Take c.in-Take.from c.in-Take.to) c.in-Take.is (done.0, given-take w c.in-Take.from c.in-Take.to, done.1)

@@ -1,0 +1,141 @@
+-- The laws of the chain, for every list of events from the first world of every size.
+use Rattle.std.specs.Prelude.{◌≡◌, ◌≤◌, ℕ, ◌+◌, length, List, [], ◌∷◌, ◌++◌, max, true, Option, None, Some, ◌⊎◌}
+use Rattle.cq_base.specs.declared.ask.Entry.{Entry}
+use Rattle.cq_base.specs.declared.ask.Query.{Query}
+use Rattle.cq_base.specs.declared.ask.Request.{Request}
+use Rattle.cq_base.specs.declared.party.Party.{Party}
+use Rattle.cq_base.specs.declared.party.Party.TheVariants as parties
+use Rattle.cq_base.specs.Relations.{Among, Front}
+use Rattle.cq_chain.specs.declared.fault.WorldFault.{WorldFault}
+use Rattle.cq_chain.specs.declared.message.Answer.{Answer}
+use Rattle.cq_chain.specs.Messages.{Message, Fwd, Snap}
+use Rattle.cq_chain.specs.Steps.{answer_to, answer_to_query}
+use Rattle.cq_store.specs.Laws.{Stamped, FreshOnceIn, RepeatsAreAnsweredAt, OthersDoNothingAt, HandsWhatWasSentAt, NoneInFlightAt, NoneDeletedAt, NoneRemovedAt, OneAcceptancePerWindowAt, FirstHandingsInOrderIn}
+use Rattle.cq_world.specs.Events.{refusal_of, after}
+use Rattle.cq_world.specs.Runs.{world_after, given_from, committed, made}
+use Rattle.cq_world.specs.Worlds.{World, first_world, is_in, channel}
+use Rattle.cq_world.specs.declared.event.Event.{Event}
+use Rattle.cq_world.specs.declared.event.Event.TheVariants.{Arrive, Ask}
+
+-- ---- what is answered
+
+-- the answer to a request is the queue object's, at the place of an entry of the list
+abbrev pub AnswersRequest : List Entry → Answer → Type 0
+AnswersRequest list a = (before rest : List Entry) × (e : Entry) × (list ≡ before ++ (e ∷ rest)) × (a ≡ answer_to before e)
+
+-- the answer to a query of these events is that after so many entries of the list as it says
+abbrev pub AnswersQuery : List Entry → List Event → Answer → Type 0
+AnswersQuery list events a = (before rest : List Entry) × (query : Query) × (at : ℕ) × (list ≡ before ++ rest) × Among (Ask at query) events × (a ≡ answer_to_query before query)
+
+-- The answer is the one that a single queue object gives that takes the entries of the list in order: the reply
+-- to the entry at the place that the answer bears, or the counts after so many entries.
+abbrev pub IsAnswered : List Entry → List Event → Answer → Type 0
+IsAnswered list events a = AnswersRequest list a ⊎ AnswersQuery list events a
+
+-- Every answer that a run makes is the queue object's, over the committed list.
+abbrev pub AnswersAreOfTheObject : Type 0
+AnswersAreOfTheObject = (size : ℕ) (events : List Event) → 1 ≤ size → (a : Answer) → Among a (made size events) → IsAnswered (committed size events) events a
+
+-- Every answer that a run gives to the clients is one that it made.
+abbrev pub GivenWereMade : Type 0
+GivenWereMade = (size : ℕ) (events : List Event) (n : ℕ) (a : Answer) → Among (n, a) (given_from 1 (first_world size) events) → Among a (made size events)
+
+-- ---- the committed list
+
+-- The committed list is a front of the history of the head.
+abbrev pub CommittedIsOfTheHead : Type 0
+CommittedIsOfTheHead = (size : ℕ) (events : List Event) (id : ℕ) → 1 ≤ size
+    → is_in (world_after (first_world size) events).master.used id ≡ true → ((world_after (first_world size) events).server id).head ≡ true
+    → Front (committed size events) ((world_after (first_world size) events).server id).entries
+
+-- The committed list only grows.
+abbrev pub CommittedGrows : Type 0
+CommittedGrows = (size : ℕ) (before more : List Event) → 1 ≤ size → Front (committed size before) (committed size (before ++ more))
+
+-- a request that arrived, with the clock that it met
+pub record Arrival : Type 0 where
+  pub clock : ℕ
+  pub request : Request
+
+-- the arrival that an event is, where that is its refusal
+abbrev pub arrival_if : Event → Option WorldFault → List Arrival
+arrival_if (Arrive at clock request) None = record { clock = clock; request = request } ∷ []
+arrival_if event refusal = []
+
+-- the arrivals of these events that weren't refused
+unfoldable pub arrivals_from : World → List Event → List Arrival
+arrivals_from w [] = []
+arrivals_from w (event ∷ events) = arrival_if event (refusal_of w event) ++ arrivals_from (after w event) events
+
+-- The entries are requests of some of the arrivals, in order, each stamped with the larger of the clock that it
+-- met and the moment of the entry before it, which is that one at first.
+abbrev pub AreArrivals : ℕ → List Entry → List Arrival → Type 0
+AreArrivals last [] arrivals = Unit {0}
+AreArrivals last (e ∷ entries) [] = ⊥
+AreArrivals last (e ∷ entries) (a ∷ arrivals) = ((e.request ≡ a.request) × (e.moment ≡ max a.clock last) × AreArrivals e.moment entries arrivals) ⊎ AreArrivals last (e ∷ entries) arrivals
+
+-- The committed list holds requests that arrived, in order, and no others; its moments never fall.
+abbrev pub CommittedIsOfArrivals : Type 0
+CommittedIsOfArrivals = (size : ℕ) (events : List Event) → 1 ≤ size
+    → AreArrivals 0 (committed size events) (arrivals_from (first_world size) events) × Stamped (committed size events)
+
+-- ---- histories
+
+-- What a message says of its sender's history: a forwarded entry stands at its place there, and a snapshot is a
+-- front of it.
+abbrev pub Speaks : List Entry → Message → Type 0
+Speaks entries (Fwd place e) = (before rest : List Entry) × (entries ≡ before ++ (e ∷ rest)) × (length before + 1 ≡ place)
+Speaks entries (Snap snapshot) = Front snapshot entries
+Speaks entries m = Unit {0}
+
+-- What is on its way from a server is of its history.
+abbrev pub MessagesAreOfTheHistory : Type 0
+MessagesAreOfTheHistory = (size : ℕ) (events : List Event) (id : ℕ) (to : Party) (m : Message)
+    → Among m (channel (world_after (first_world size) events) (parties.Server id) to) → Speaks ((world_after (first_world size) events).server id).entries m
+
+-- The history of a server that has a predecessor is a front of the predecessor's.
+abbrev pub HistoriesAreFronts : Type 0
+HistoriesAreFronts = (size : ℕ) (events : List Event) (id p : ℕ) → ((world_after (first_world size) events).server id).pred ≡ Some p
+    → Front ((world_after (first_world size) events).server id).entries ((world_after (first_world size) events).server p).entries
+
+-- ---- the laws of the queue object, on the committed list
+
+-- it holds of each entry of the list, after those before it
+abbrev pub AtEachPlace : (List Entry → Entry → Type 0) → List Entry → Type 0
+AtEachPlace P list = (before rest : List Entry) (e : Entry) → list ≡ before ++ (e ∷ rest) → P before e
+
+-- it holds of the committed list of every run
+abbrev pub OfCommitted : (List Entry → Type 0) → Type 0
+OfCommitted P = (size : ℕ) (events : List Event) → 1 ≤ size → P (committed size events)
+
+-- ---- the headline
+
+-- For one run: every answer is one queue object's over one growing list of requests; in each group first handings
+-- are a front of the accepted sends, no message is handed while one of its group is in flight, nothing is handed
+-- after its or its queue's deletion, and repeats within five minutes add nothing.
+pub record Headline (size : ℕ) (events : List Event) : Type 0 where
+  -- every answer is one queue object's
+  pub answers : (a : Answer) → Among a (made size events) → IsAnswered (committed size events) events a
+  pub given : (n : ℕ) (a : Answer) → Among (n, a) (given_from 1 (first_world size) events) → IsAnswered (committed size events) events a
+  -- over one growing list
+  pub grows : (before more : List Event) → events ≡ before ++ more → Front (committed size before) (committed size events)
+  pub stamped : Stamped (committed size events)
+  -- of requests
+  pub arrivals : AreArrivals 0 (committed size events) (arrivals_from (first_world size) events)
+  -- in each group first handings are a front of the accepted sends
+  pub in_order : FirstHandingsInOrderIn (committed size events)
+  -- only accepted messages are handed, and none while one of its group is in flight
+  pub sent : AtEachPlace HandsWhatWasSentAt (committed size events)
+  pub landed : AtEachPlace NoneInFlightAt (committed size events)
+  -- nothing is handed after its or its queue's deletion
+  pub deleted : AtEachPlace NoneDeletedAt (committed size events)
+  pub removed : AtEachPlace NoneRemovedAt (committed size events)
+  -- repeats within five minutes add nothing: of a deduplication id, and of a client's number
+  pub windows : AtEachPlace OneAcceptancePerWindowAt (committed size events)
+  pub once : FreshOnceIn (committed size events)
+  pub repeats : AtEachPlace RepeatsAreAnsweredAt (committed size events)
+  pub idle : AtEachPlace OthersDoNothingAt (committed size events)
+
+-- The headline holds of every run.
+abbrev pub HeadlineHolds : Type 0
+HeadlineHolds = (size : ℕ) (events : List Event) → 1 ≤ size → Headline size events

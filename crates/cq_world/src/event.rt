@@ -1,0 +1,27 @@
+use cq_base::{Moment, Party, Query, Request, ServerId};
+
+/// One thing that happens in the world.
+#[derive(Debug, PartialEq, Eq, Drop)]
+pub enum Event {
+    /// A client's request reaches a server, at that server's moment.
+    Arrive {
+        at: ServerId,
+        clock: Moment,
+        request: Request,
+    },
+    /// A client's query reaches a server.
+    Ask {
+        at: ServerId,
+        query: Query,
+    },
+    /// The first message that waits at one party for another is put on its link; to the clients it is given.
+    Put {
+        from: Party,
+        to: Party,
+    },
+    /// The first message of a link is taken by the party at its end.
+    Take {
+        from: Party,
+        to: Party,
+    },
+}

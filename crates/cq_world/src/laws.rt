@@ -1,0 +1,82 @@
+//! Laws of the chain, for every list of events from the first world of every size. A function here does
+//! nothing: its contract is a law, which is proved with it.
+
+ghost use Rattle.std.specs.Prelude.{List};
+ghost use Rattle.cq_base.specs.declared.ask.Entry.{Entry};
+ghost use Rattle.cq_store.specs.Laws.{FreshOnceIn, RepeatsAreAnsweredAt, OthersDoNothingAt, EachQueueAloneIn, EachReplyAloneAt, HandsWhatWasSentAt, NoneInFlightAt, NoneDeletedAt, NoneRemovedAt, OneAcceptancePerWindowAt, FirstHandingsInOrderIn};
+ghost use Rattle.cq_world.specs.Laws.{AtEachPlace, OfCommitted, AnswersAreOfTheObject, GivenWereMade, CommittedIsOfTheHead, CommittedGrows, CommittedIsOfArrivals, MessagesAreOfTheHistory, HistoriesAreFronts, HeadlineHolds};
+
+/// Every answer that a server makes is the one that a single queue object gives which takes the committed list:
+/// to a request at the place that the answer bears, to a query after so many entries. Only answers that were
+/// made are given.
+pub fn answers_are_of_one_object()
+    ensures made { AnswersAreOfTheObject }
+    ensures given { GivenWereMade }
+{}
+
+/// The committed list is a front of the history of the head.
+pub fn committed_is_of_the_head()
+    ensures { CommittedIsOfTheHead }
+{}
+
+/// With more events the committed list only grows.
+pub fn committed_grows()
+    ensures { CommittedGrows }
+{}
+
+/// The committed list holds requests that arrived, in order, each with the larger of the clock that it met and the
+/// moment before it; so its moments never fall.
+pub fn committed_is_of_arrivals()
+    ensures { CommittedIsOfArrivals }
+{}
+
+/// Along the chain each history is a front of the predecessor's, and what is on its way from a server is of its
+/// history: a forwarded entry stands there at the place that it bears, and a snapshot is a front of it.
+pub fn histories_are_fronts()
+    ensures predecessors { HistoriesAreFronts }
+    ensures messages { MessagesAreOfTheHistory }
+{}
+
+/// On the committed list, of the entries of a client under one number at most one is fresh, the others do nothing
+/// to any queue, and a repeat has the reply of the fresh one.
+pub fn one_effect_per_number()
+    ensures once { OfCommitted FreshOnceIn }
+    ensures repeats { OfCommitted (AtEachPlace RepeatsAreAnsweredAt) }
+    ensures idle { OfCommitted (AtEachPlace OthersDoNothingAt) }
+{}
+
+/// On the committed list, what the fresh entries that name a queue do, and what they are answered with, follows from
+/// these alone.
+pub fn other_queues_do_not_matter()
+    ensures facts { OfCommitted EachQueueAloneIn }
+    ensures replies { OfCommitted (AtEachPlace EachReplyAloneAt) }
+{}
+
+/// On the committed list, only accepted messages are handed out, and none while one of its group is in flight.
+pub fn no_handing_while_in_flight()
+    ensures sent { OfCommitted (AtEachPlace HandsWhatWasSentAt) }
+    ensures landed { OfCommitted (AtEachPlace NoneInFlightAt) }
+{}
+
+/// On the committed list, nothing is handed out after its deletion or after that of its queue.
+pub fn no_handing_after_deletion()
+    ensures deleted { OfCommitted (AtEachPlace NoneDeletedAt) }
+    ensures removed { OfCommitted (AtEachPlace NoneRemovedAt) }
+{}
+
+/// On the committed list, of the sends to an incarnation with one deduplication id no two are accepted less than
+/// 300,000 ms apart.
+pub fn one_acceptance_per_window()
+    ensures { OfCommitted (AtEachPlace OneAcceptancePerWindowAt) }
+{}
+
+/// On the committed list, the messages of a group are first handed out in order of sending, and none is left out.
+pub fn first_handings_in_order()
+    ensures { OfCommitted FirstHandingsInOrderIn }
+{}
+
+/// The headline: every answer is one queue object's over one growing list of requests, on which the laws of the
+/// queue object hold.
+pub fn headline()
+    ensures { HeadlineHolds }
+{}

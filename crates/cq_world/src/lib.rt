@@ -1,0 +1,15 @@
+//! The world of a chain: servers, and the links between them, one event at a time. `specs/` holds the rules.
+#![tactic(auto)]
+
+mod event;
+pub mod laws;
+mod links;
+mod ran;
+mod row;
+mod sim;
+#[cfg(test)]
+mod tests;
+
+pub use event::Event;
+pub use ran::Ran;
+pub use sim::Sim;
