@@ -24,3 +24,4 @@ pub mod RunSteps
 pub mod SimStands
 pub mod Steps
 pub mod Taking
+pub mod Ordering
