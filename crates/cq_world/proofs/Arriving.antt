@@ -1,7 +1,7 @@
 -- The history of the head of a chain that never changes holds the requests that arrived.
 use Rattle.std.proofs.Common.{◌≡◌, ℕ, ◌+◌, ◌≤◌, ◌∙◌, ◌&&◌, ap, sym, List, [], ◌∷◌, ◌++◌, Option, Some, None, Bool, true, false, cond, eqb, arith, inl, inr, subst, refl, max, min, nat_lt, length, append_assoc}
 use Rattle.std.specs.List.{fold}
-use Rattle.std.proofs.lemmas.Bool.{eqb-true, eq-eqb, false≢true, and_parts}
+use Rattle.std.proofs.lemmas.Bool.{eqb-true, eq-eqb, and_parts}
 use Rattle.cq_base.specs.declared.ask.Entry.{Entry}
 use Rattle.cq_base.specs.declared.ask.Request.{Request}
 use Rattle.cq_base.specs.declared.party.Party.{Party}
@@ -23,7 +23,7 @@ use Rattle.cq_world.specs.declared.event.Event.TheVariants.{Arrive, Ask, Put, Ta
 use Rattle.cq_world.proofs.Eaches.{cons_nil}
 use Rattle.cq_world.proofs.Fits.{Fits}
 use Rattle.cq_world.proofs.Lines.{IsPlaced, IsLine, FitsFrom, line-first}
-use Rattle.cq_world.proofs.Moves.{is_settled, headless}
+use Rattle.cq_world.proofs.Moves.{is_settled, headless, that_some}
 use Rattle.cq_world.proofs.Passing.{passes, known-parts, at-head}
 
 -- ---- lists of arrivals
@@ -81,10 +81,6 @@ step_same w k step h = go (eqb 1 k) refl where
 -- the first server is the head
 first_heads : (size id : ℕ) (s : Server) → IsPlaced size id s → id ≡ 1 → s.head ≡ true
 first_heads size id s h one = h.head ∙ eq-eqb id 1 one
-
-that_some : (o : Option ℕ) (p : ℕ) → is_that o p ≡ true → o ≡ Some p
-that_some None p h = absurd (false≢true h)
-that_some (Some other) p h = ap (λ n. Some n) (eqb-true other p h)
 
 -- the head takes no entry from another server
 taking_same : (size : ℕ) (w : World) (id p : ℕ) (m : Message) → IsPlaced size id (w.server id) → Fits (w.server p).entries m → id ≡ 1 → (takes (parties.Server p) m (w.server id)).server.entries ≡ (w.server id).entries

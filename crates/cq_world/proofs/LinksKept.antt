@@ -3,9 +3,9 @@ use Rattle.std.proofs.Common.{◌≡◌, ◌<◌, ◌∙◌, ap, sym, refl, subs
 use Rattle.std.proofs.lemmas.Bool.{cases_Bool}
 use Rattle.cq_base.specs.declared.party.Party.{Party}
 use Rattle.cq_chain.specs.declared.message.Message.{Message}
-use Rattle.cq_chain.specs.Boxes.{Row, messages_of}
+use Rattle.cq_chain.specs.Boxes.{Row, messages_of, room_of}
 use Rattle.cq_chain.specs.Parties.{same}
-use Rattle.cq_world.specs.Kept.{row_at, messages_at, room_of, room_at}
+use Rattle.cq_world.specs.Kept.{row_at, messages_at, room_at}
 use Rattle.cq_world.specs.Worlds.{set_pair}
 use Rattle.cq_world.specs.declared.links.Pair.{Pair}
 use Rattle.cq_world.proofs.PairKeys.{IsWritten}

@@ -119,7 +119,7 @@ fits-nothing size w id line known = fits-silent size w id (silent (w.server id))
 -- ---- messages
 
 -- the number that something is
-that_some : (o : Option ℕ) (p : ℕ) → is_that o p ≡ true → o ≡ Some p
+pub that_some : (o : Option ℕ) (p : ℕ) → is_that o p ≡ true → o ≡ Some p
 that_some None p h = absurd (false≢true h)
 that_some (Some other) p h = ap (λ n. Some n) (eqb-true other p h)
 

@@ -1,6 +1,6 @@
 -- Each step of a server that lives is a turn that keeps histories fronts of each other.
 use Rattle.std.proofs.Common.{◌≡◌, ℕ, zero, suc, ◌+◌, ◌≤◌, ◌∙◌, ap, sym, List, [], ◌∷◌, ◌++◌, length, drop, take, ◌&&◌, Option, Some, None, is_none, Bool, true, false, cond, eqb, subst, refl, inl, inr, arith, min, max, nat_le, nat_lt, append_assoc, length-append}
-use Rattle.std.proofs.lemmas.Bool.{eqb-true, eq-eqb, false≢true, both_ways, and_parts, cases_Bool, leb-true, leb-false}
+use Rattle.std.proofs.lemmas.Bool.{eqb-true, eq-eqb, both_ways, and_parts, cases_Bool, leb-true, leb-false}
 use Rattle.std.proofs.lemmas.List.{take-append-drop}
 use Rattle.cq_base.specs.declared.ask.Entry.{Entry}
 use Rattle.cq_base.specs.declared.ask.Query.{Query}
@@ -17,7 +17,7 @@ use Rattle.cq_world.specs.Laws.{Speaks}
 use Rattle.cq_world.specs.Worlds.{set_at}
 use Rattle.cq_world.proofs.Climbing.{reports, one, ups, Climbs, Grows, climbs-own, climbs-same, climbs-next}
 use Rattle.cq_world.proofs.Eaches.{Each, each-append, each-when, each-to_server, front-refl, front-more, front-next, cons_nil}
-use Rattle.cq_world.proofs.Moves.{is_settled}
+use Rattle.cq_world.proofs.Moves.{is_settled, that_some}
 use Rattle.cq_world.proofs.Prefixes.{Prefixes, Turn, Heads, is_first, master_after, ups_after}
 use Rattle.cq_world.proofs.Sights.{Sight}
 
@@ -131,10 +131,6 @@ repair_speaks to have s = go (nat_le s.floor have) where
   go false = (front-refl s.entries, tt)
 
 -- ---- messages of other servers
-
-that_some : (o : Option ℕ) (p : ℕ) → is_that o p ≡ true → o ≡ Some p
-that_some None p h = absurd (false≢true h)
-that_some (Some other) p h = ap (λ n. Some n) (eqb-true other p h)
 
 -- of two fronts of one list the shorter is a front of the longer
 pub shorter-front : (xs ys zs : List Entry) → Front xs zs → Front ys zs → length xs ≤ length ys → Front xs ys

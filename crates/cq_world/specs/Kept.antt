@@ -1,11 +1,11 @@
 -- What is kept of the servers of the world, and of its links.
-use Rattle.std.specs.Prelude.{ℕ, ◌==◌, ◌&&◌, List, [], ◌∷◌, ◌++◌, drop, ⊤, Bool, Option, None, Some}
+use Rattle.std.specs.Prelude.{ℕ, ◌==◌, ◌&&◌, List, [], ◌∷◌, ◌++◌, drop, ⊤, Bool, Option}
 use Rattle.std.specs.Map.{lookup}
 use Rattle.std.specs.HashMap.{HashMap}
 use Rattle.cq_base.specs.declared.party.Party.{Party}
 use Rattle.cq_chain.specs.declared.message.Message.{Message}
 use Rattle.cq_chain.specs.declared.server.Server.{Server}
-use Rattle.cq_chain.specs.Boxes.{Row, messages_of}
+use Rattle.cq_chain.specs.Boxes.{Row, messages_of, room_of}
 use Rattle.cq_chain.specs.Parties.{same}
 use Rattle.cq_chain.specs.Messages as told
 use Rattle.cq_world.specs.Events.{first_of}
@@ -28,12 +28,7 @@ row_at links from to = lookup (is_between from to) links
 abbrev pub messages_at : List (Pair × Row) → Party → Party → List Message
 messages_at links from to = messages_of (row_at links from to)
 
--- how many more messages a row can take without memory, if there is one
-abbrev pub room_of : Option Row → ℕ
-room_of None = 0
-room_of (Some row) = row.room
-
--- the same, of the link from one party to another
+-- how many more messages that link can take without memory
 abbrev pub room_at : List (Pair × Row) → Party → Party → ℕ
 room_at links from to = room_of (row_at links from to)
 
