@@ -11,7 +11,7 @@ use Rattle.cq_chain.specs.Boxes.{Row, messages_of, room_of, row_for, messages_fo
 use Rattle.cq_chain.specs.Messages.{Message}
 use Rattle.cq_chain.specs.Parties.{same, addressed}
 use Rattle.cq_chain.specs.Stands.{Means, AllMean, IsFirst, posted, drained}
-use Rattle.cq_chain.specs.Waiting.{Waits, Posts, KeepsAll, TakesOne}
+use Rattle.cq_chain.specs.Waiting.{Waits, Posts, AllFor, KeepsAll, TakesOne}
 
 -- messages that stand for messages, one after the other
 pub means-append : (xs ys : List rust.Message) (ms ns : List Message) → AllMean xs ms → AllMean ys ns → AllMean (xs ++ ys) (ms ++ ns)
@@ -56,7 +56,7 @@ same-equal (Server a) Master h = absurd (true≢false (sym h))
 same-equal (Server a) Clients h = absurd (true≢false (sym h))
 same-equal (Server a) (Server b) h = ap Server (eqb-true a b h)
 
-eqb-turned : (a b : ℕ) → eqb a b ≡ eqb b a
+pub eqb-turned : (a b : ℕ) → eqb a b ≡ eqb b a
 eqb-turned a b = elim (cases_Bool (eqb a b)) [
   | inl e ↦ e ∙ sym (eq-eqb b a (sym (eqb-true a b e)))
   | inr e ↦ e ∙ sym (ne_eqb b a (λ k. eqb-false a b e (sym k)))
@@ -133,6 +133,40 @@ row-posts old new to before row message was writes messages m means outbox h p =
     (by_row old new to before (Some row) (λ b o n. AllMean (messages_of o) (outbox p) → AllMean (messages_of n) (outbox p ++ (if b then m ∷ [] else []))) was writes
     (λ k. subst (λ xs. AllMean xs (outbox p ++ m ∷ [])) (sym messages) (means-append (messages_of before) (message ∷ []) (outbox p) (m ∷ []) k (means, tt)))
     (λ o k. subst (λ ms. AllMean (messages_of o) ms) (sym (append-nil (outbox p))) k) p (h p))
+
+-- what is sent to one party is addressed to that one
+for-yes : (to p : Party) (ys : List rust.Message) (all : List (Party × Message)) → AllFor to ys all → same p to ≡ true → AllMean ys (addressed p all)
+for-yes to p [] [] h e = tt
+for-yes to p [] (x ∷ xs) h e = absurd h
+for-yes to p (y ∷ ys) [] h e = absurd h
+for-yes to p (y ∷ ys) (x ∷ xs) h e = subst (λ b. AllMean (y ∷ ys) (if b then x.1 ∷ addressed p xs else addressed p xs)) (sym (ap (λ q. same p q) h.0 ∙ e)) (h.1.0, for-yes to p ys xs h.1.1 e)
+
+for-no : (to p : Party) (ys : List rust.Message) (all : List (Party × Message)) → AllFor to ys all → same p to ≡ false → addressed p all ≡ []
+for-no to p [] [] h e = refl
+for-no to p [] (x ∷ xs) h e = absurd h
+for-no to p (y ∷ ys) [] h e = absurd h
+for-no to p (y ∷ ys) (x ∷ xs) h e = ap (λ b. if b then x.1 ∷ addressed p xs else addressed p xs) (ap (λ q. same p q) h.0 ∙ e) ∙ for-no to p ys xs h.1.1 e
+
+-- a row with these messages more
+pub rows-post : (old new : List (Party × Row)) (to : Party) (before : Option Row) (row : Row) (ys : List rust.Message) → row_for old to ≡ before → Rewrites old new to (Some row) → row.messages ≡ messages_of before ++ ys
+    → (all : List (Party × Message)) → AllFor to ys all → Posts old new all
+rows-post old new to before row ys was writes messages all for outbox h p =
+    by_row old new to before (Some row) (λ b o n. b ≡ same to p → AllMean (messages_of o) (outbox p) → AllMean (messages_of n) (outbox p ++ addressed p all)) was writes
+    (λ e k. subst (λ xs. AllMean xs (outbox p ++ addressed p all)) (sym messages) (means-append (messages_of before) ys (outbox p) (addressed p all) k (for-yes to p ys all for (same-turned p to ∙ sym e))))
+    (λ o e k. subst (λ ms. AllMean (messages_of o) (outbox p ++ ms)) (sym (for-no to p ys all for (same-turned p to ∙ sym e))) (subst (λ ms. AllMean (messages_of o) ms) (sym (append-nil (outbox p))) k))
+    p refl (h p)
+
+-- none is sent, where there is no room
+pub none-post : (boxes : List (Party × Row)) (to : Party) (ys : List rust.Message) → row_for boxes to ≡ None → length ys ≤ room_of (row_for boxes to) → (all : List (Party × Message)) → AllFor to ys all → (outbox : Party → List Message) → Waits boxes outbox
+    → Waits boxes (posted outbox all)
+none-post boxes to [] was fits [] for outbox h = λ p. subst (λ ms. AllMean (messages_for boxes p) ms) (sym (append-nil (outbox p))) (h p)
+none-post boxes to [] was fits (x ∷ xs) for outbox h = absurd for
+none-post boxes to (y ∷ ys) was fits all for outbox h = let k : length (y ∷ ys) ≤ 0 = subst (λ o. length (y ∷ ys) ≤ room_of o) was fits in absurd (omega arith)
+
+-- the rows of others have as much room
+pub rows-others : (old new : List (Party × Row)) (to : Party) (before : Option Row) (row : Row) → row_for old to ≡ before → Rewrites old new to (Some row) → (p : Party) → same to p ≡ false → room_of (row_for old p) ≤ room_of (row_for new p)
+rows-others old new to before row was writes p other =
+    by_row old new to before (Some row) (λ b o n. b ≡ false → room_of o ≤ room_of n) was writes (λ e. absurd (true≢false e)) (λ o e. omega arith) p other
 
 pub row-takes_one : (old new : List (Party × Row)) (to : Party) (before : Option Row) (row : Row) → row_for old to ≡ before → Rewrites old new to (Some row) → room_of before ≤ row.room + 1 → TakesOne old new
 row-takes_one old new to before row was writes room = by_row old new to before (Some row) (λ b o n. room_of o ≤ room_of n + 1) was writes room (λ o. omega arith)

@@ -155,6 +155,10 @@ tail_lost : detected 3 of_three ≡ record { master = record of_three { chain = 
 unfolding numbers_from detected
 tail_lost = refl
 
+tail_lost_while_joining : detected 4 (joined 4 of_three).master ≡ record { master = record { chain = 1 ∷ 2 ∷ 3 ∷ []; told = true; ready = false; used = 1 ∷ 2 ∷ 3 ∷ 4 ∷ [] }; said = (parties.Server 3, BeTail 0) ∷ [] }
+unfolding numbers_from detected joined
+tail_lost_while_joining = refl
+
 no_member : refusal_of_detection 4 of_three ≡ Some NoSuchServer
 unfolding numbers_from refusal_of_detection
 no_member = refl

@@ -4,17 +4,16 @@ use Rattle.std.specs.Result.{IsErrAnd}
 use Rattle.std.proofs.lemmas.Bool.{leb-true, leb-false, lt-ltb, le-ltb}
 use Rattle.cq_base.specs.declared.ask.Entry.{Entry}
 use Rattle.cq_base.specs.History.{last_moment}
-use Rattle.cq_chain.specs.declared.message.Answer.{Answer}
 use Rattle.cq_base.specs.declared.party.Party.TheVariants as parties
 use Rattle.cq_chain.specs.declared.fault.WorldFault.{WorldFault}
 use Rattle.cq_chain.specs.declared.fault.WorldFault.TheVariants.{NotHead, HistoryFull, NotTail, NoMemory}
 use Rattle.cq_chain.specs.declared.message.Message as rust
 use Rattle.cq_chain.specs.declared.message.Message.TheVariants as kept
-use Rattle.cq_chain.specs.Messages.{Message, Fwd, Ack, Ready, Answers}
+use Rattle.cq_chain.specs.Messages.{Message, Fwd, Snap, Ack, BeHead, Report, Adopt, BeTail}
 use Rattle.cq_chain.specs.Refusals.{unless_full, refusal_of_arrival, refusal_of_query, refusal_of_taking}
 use Rattle.cq_chain.specs.Servers.{Server, acts, is_that}
 use Rattle.cq_chain.specs.Stands.{Means, IsRefusedBy}
-use Rattle.cq_chain.specs.Steps.{is_next, forwarded, acknowledged, silent, takes}
+use Rattle.cq_chain.specs.Steps.{is_next, forwarded, acknowledged, headed, reported, adopting, tailed, silent, takes}
 
 -- want of memory is told where nothing else refuses
 pub no_memory : (result : Result (Unit {0}) WorldFault) (refusal : Option WorldFault) → IsErrAnd result (λ fault. fault ≡ NoMemory) → refusal ≡ None → IsRefusedBy refusal result
@@ -82,41 +81,88 @@ pub takes-ack : (s : Server) (from n : ℕ) (m : Message) → m ≡ Ack n → ta
 unfolding takes
 takes-ack s from n m is = ap (λ x. takes (parties.Server from) x s) is
 
-pub takes-ready : (s : Server) (from : ℕ) (m : Message) → m ≡ Ready → takes (parties.Server from) m s ≡ silent s
-unfolding takes
-takes-ready s from m is = ap (λ x. takes (parties.Server from) x s) is
-
-pub takes-answer : (s : Server) (from : ℕ) (answer : Answer) (m : Message) → m ≡ Answers answer → takes (parties.Server from) m s ≡ silent s
-unfolding takes
-takes-answer s from answer m is = ap (λ x. takes (parties.Server from) x s) is
-
 pub ack-not-refused : (s : Server) (from n : ℕ) (m : Message) → m ≡ Ack n → refusal_of_taking (parties.Server from) m s ≡ None
 unfolding refusal_of_taking
 ack-not-refused s from n m is = ap (λ x. refusal_of_taking (parties.Server from) x s) is
 
-pub ready-not-refused : (s : Server) (from : ℕ) (m : Message) → m ≡ Ready → refusal_of_taking (parties.Server from) m s ≡ None
+-- what a snapshot stands for
+pub snapshot-seen : (message : rust.Message) (count : ℕ) (state : List Entry) (m : Message) → message ≡ kept.Snap count state → Means message m → m ≡ Snap state
+snapshot-seen message count state m is h = (means-seen message (kept.Snap count state) m is h).0
+
+pub snapshot-not-refused : (s : Server) (from : ℕ) (state : List Entry) (m : Message) → m ≡ Snap state → refusal_of_taking (parties.Server from) m s ≡ None
 unfolding refusal_of_taking
-ready-not-refused s from m is = ap (λ x. refusal_of_taking (parties.Server from) x s) is
+snapshot-not-refused s from state m is = ap (λ x. refusal_of_taking (parties.Server from) x s) is
 
-pub answer-not-refused : (s : Server) (from : ℕ) (answer : Answer) (m : Message) → m ≡ Answers answer → refusal_of_taking (parties.Server from) m s ≡ None
-unfolding refusal_of_taking
-answer-not-refused s from answer m is = ap (λ x. refusal_of_taking (parties.Server from) x s) is
+-- what no server says to a server
 
--- what comes from the master or from clients is ignored, if servers sent it
-
-pub takes-of_master : (s : Server) (message : rust.Message) (m : Message) → Means message m → takes parties.Master m s ≡ silent s
+pub takes-others : (s : Server) (from : ℕ) (message : rust.Message) (m : Message) → ((place : ℕ) (e : Entry) → message ≡ kept.Fwd place e → ⊥) → ((count : ℕ) (state : List Entry) → message ≡ kept.Snap count state → ⊥)
+    → ((place : ℕ) → message ≡ kept.Ack place → ⊥) → Means message m → takes (parties.Server from) m s ≡ silent s
 unfolding takes
-takes-of_master s (kept.Fwd place e) m h = ap (λ x. takes parties.Master x s) h
-takes-of_master s (kept.Ack place) m h = ap (λ x. takes parties.Master x s) h
-takes-of_master s kept.Ready m h = ap (λ x. takes parties.Master x s) h
-takes-of_master s (kept.Answer answer) m h = ap (λ x. takes parties.Master x s) h
+takes-others s from (kept.Fwd place e) m fwd snap ack h = absurd (fwd place e refl)
+takes-others s from (kept.Snap count state) m fwd snap ack h = absurd (snap count state refl)
+takes-others s from (kept.Ack place) m fwd snap ack h = absurd (ack place refl)
+takes-others s from kept.BeHead m fwd snap ack h = ap (λ x. takes (parties.Server from) x s) h
+takes-others s from (kept.Report pred) m fwd snap ack h = ap (λ x. takes (parties.Server from) x s) h
+takes-others s from (kept.Adopt succ have) m fwd snap ack h = ap (λ x. takes (parties.Server from) x s) h
+takes-others s from (kept.BeTail least) m fwd snap ack h = ap (λ x. takes (parties.Server from) x s) h
+takes-others s from (kept.Have pred count) m fwd snap ack h = ap (λ x. takes (parties.Server from) x s) h
+takes-others s from (kept.Adopted succ count) m fwd snap ack h = ap (λ x. takes (parties.Server from) x s) h
+takes-others s from kept.Ready m fwd snap ack h = ap (λ x. takes (parties.Server from) x s) h
+takes-others s from (kept.Answer answer) m fwd snap ack h = ap (λ x. takes (parties.Server from) x s) h
+
+pub others-not-refused : (s : Server) (from : ℕ) (message : rust.Message) (m : Message) → ((place : ℕ) (e : Entry) → message ≡ kept.Fwd place e → ⊥) → Means message m → refusal_of_taking (parties.Server from) m s ≡ None
+unfolding refusal_of_taking
+others-not-refused s from (kept.Fwd place e) m fwd h = absurd (fwd place e refl)
+others-not-refused s from (kept.Snap count state) m fwd h = ap (λ x. refusal_of_taking (parties.Server from) x s) h.0
+others-not-refused s from (kept.Ack place) m fwd h = ap (λ x. refusal_of_taking (parties.Server from) x s) h
+others-not-refused s from kept.BeHead m fwd h = ap (λ x. refusal_of_taking (parties.Server from) x s) h
+others-not-refused s from (kept.Report pred) m fwd h = ap (λ x. refusal_of_taking (parties.Server from) x s) h
+others-not-refused s from (kept.Adopt succ have) m fwd h = ap (λ x. refusal_of_taking (parties.Server from) x s) h
+others-not-refused s from (kept.BeTail least) m fwd h = ap (λ x. refusal_of_taking (parties.Server from) x s) h
+others-not-refused s from (kept.Have pred count) m fwd h = ap (λ x. refusal_of_taking (parties.Server from) x s) h
+others-not-refused s from (kept.Adopted succ count) m fwd h = ap (λ x. refusal_of_taking (parties.Server from) x s) h
+others-not-refused s from kept.Ready m fwd h = ap (λ x. refusal_of_taking (parties.Server from) x s) h
+others-not-refused s from (kept.Answer answer) m fwd h = ap (λ x. refusal_of_taking (parties.Server from) x s) h
+
+-- what comes from clients is ignored
 
 pub takes-of_clients : (s : Server) (message : rust.Message) (m : Message) → Means message m → takes parties.Clients m s ≡ silent s
 unfolding takes
-takes-of_clients s (kept.Fwd place e) m h = ap (λ x. takes parties.Clients x s) h
-takes-of_clients s (kept.Ack place) m h = ap (λ x. takes parties.Clients x s) h
-takes-of_clients s kept.Ready m h = ap (λ x. takes parties.Clients x s) h
-takes-of_clients s (kept.Answer answer) m h = ap (λ x. takes parties.Clients x s) h
+takes-of_clients s message m h = refl
+
+-- what comes from the master
+
+pub takes-be_head : (s : Server) (m : Message) → m ≡ BeHead → takes parties.Master m s ≡ headed s
+unfolding takes
+takes-be_head s m is = ap (λ x. takes parties.Master x s) is
+
+pub takes-report : (s : Server) (pred : ℕ) (m : Message) → m ≡ Report pred → takes parties.Master m s ≡ reported pred s
+unfolding takes
+takes-report s pred m is = ap (λ x. takes parties.Master x s) is
+
+pub takes-adopt : (s : Server) (succ have : ℕ) (m : Message) → m ≡ Adopt succ have → takes parties.Master m s ≡ adopting succ have s
+unfolding takes
+takes-adopt s succ have m is = ap (λ x. takes parties.Master x s) is
+
+pub takes-be_tail : (s : Server) (least : ℕ) (m : Message) → m ≡ BeTail least → takes parties.Master m s ≡ tailed least s
+unfolding takes
+takes-be_tail s least m is = ap (λ x. takes parties.Master x s) is
+
+-- and what the master doesn't say
+pub takes-no_order : (s : Server) (message : rust.Message) (m : Message) → (message ≡ kept.BeHead → ⊥) → ((pred : ℕ) → message ≡ kept.Report pred → ⊥) → ((succ have : ℕ) → message ≡ kept.Adopt succ have → ⊥)
+    → ((least : ℕ) → message ≡ kept.BeTail least → ⊥) → Means message m → takes parties.Master m s ≡ silent s
+unfolding takes
+takes-no_order s (kept.Fwd place e) m head report adopt tail h = ap (λ x. takes parties.Master x s) h
+takes-no_order s (kept.Snap count state) m head report adopt tail h = ap (λ x. takes parties.Master x s) h.0
+takes-no_order s (kept.Ack place) m head report adopt tail h = ap (λ x. takes parties.Master x s) h
+takes-no_order s kept.BeHead m head report adopt tail h = absurd (head refl)
+takes-no_order s (kept.Report pred) m head report adopt tail h = absurd (report pred refl)
+takes-no_order s (kept.Adopt succ have) m head report adopt tail h = absurd (adopt succ have refl)
+takes-no_order s (kept.BeTail least) m head report adopt tail h = absurd (tail least refl)
+takes-no_order s (kept.Have pred count) m head report adopt tail h = ap (λ x. takes parties.Master x s) h
+takes-no_order s (kept.Adopted succ count) m head report adopt tail h = ap (λ x. takes parties.Master x s) h
+takes-no_order s kept.Ready m head report adopt tail h = ap (λ x. takes parties.Master x s) h
+takes-no_order s (kept.Answer answer) m head report adopt tail h = ap (λ x. takes parties.Master x s) h
 
 pub master-not-refused : (s : Server) (m : Message) → refusal_of_taking parties.Master m s ≡ None
 unfolding refusal_of_taking

@@ -119,3 +119,9 @@ hears from (Have p count) m = if stands_before p from m.chain then record { mast
 hears from (Adopted s count) m = if is_last m.chain s && not m.told then record { master = record m { told = true }; said = (parties.Server s, BeTail count) ∷ [] } else no_order m
 hears from Ready m = if is_last m.chain from then record { master = record m { ready = true }; said = [] } else no_order m
 hears from other m = no_order m
+
+-- the same for a message of any party: it hears servers alone
+abbrev pub hears_from : Party → Message → Master → Order
+hears_from (parties.Server from) message m = hears from message m
+hears_from parties.Master message m = no_order m
+hears_from parties.Clients message m = no_order m

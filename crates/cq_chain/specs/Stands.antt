@@ -1,13 +1,16 @@
 -- What has to be kept of a server's state and its outboxes, and what it means that a call is a step.
-use Rattle.std.specs.Prelude.{◌≡◌, List, [], ◌∷◌, ◌++◌, drop, false, Option, None, Some, Result, Ok, Err, ⊤, if◌then◌else◌}
+use Rattle.std.specs.Prelude.{◌≡◌, List, [], ◌∷◌, ◌++◌, length, drop, Option, None, Some, Result, Ok, Err, ⊤, if◌then◌else◌}
 use Rattle.cq_base.specs.declared.party.Party.{Party}
+use Rattle.cq_base.specs.declared.party.Party.TheVariants as parties
 use Rattle.cq_chain.specs.declared.fault.WorldFault.{WorldFault}
 use Rattle.cq_chain.specs.declared.message.Message as rust
 use Rattle.cq_chain.specs.declared.message.Message.TheVariants as kept
+use Rattle.cq_chain.specs.declared.master.Master as rust_master
 use Rattle.cq_chain.specs.declared.server.Server as rust_server
 use Rattle.cq_chain.specs.Boxes.{messages_for}
 use Rattle.cq_chain.specs.Faults.{IsRefusal}
-use Rattle.cq_chain.specs.Messages.{Message, Fwd, Ack, Ready, Answers}
+use Rattle.cq_chain.specs.Masters.{Master, Order}
+use Rattle.cq_chain.specs.Messages.{Message, Fwd, Snap, Ack, BeHead, Report, Adopt, BeTail, Have, Adopted, Ready, Answers}
 use Rattle.cq_chain.specs.Parties.{same, addressed}
 use Rattle.cq_chain.specs.Servers.{Server}
 use Rattle.cq_chain.specs.Steps.{Step}
@@ -15,7 +18,14 @@ use Rattle.cq_chain.specs.Steps.{Step}
 -- a message as it is kept stands for a message
 abbrev pub Means : rust.Message → Message → Type 0
 Means (kept.Fwd place entry) m = m ≡ Fwd place entry
+Means (kept.Snap count state) m = (m ≡ Snap state) × (count ≡ length state)
 Means (kept.Ack place) m = m ≡ Ack place
+Means kept.BeHead m = m ≡ BeHead
+Means (kept.Report pred) m = m ≡ Report pred
+Means (kept.Adopt succ have) m = m ≡ Adopt succ have
+Means (kept.BeTail least) m = m ≡ BeTail least
+Means (kept.Have pred count) m = m ≡ Have pred count
+Means (kept.Adopted succ count) m = m ≡ Adopted succ count
 Means kept.Ready m = m ≡ Ready
 Means (kept.Answer answer) m = m ≡ Answers answer
 
@@ -44,7 +54,7 @@ pub record Holds (kept : rust_server.Server) (s : Server) (outbox : Party → Li
   pub head : kept.head ≡ s.head
   pub at_least : kept.at_least ≡ s.at_least
   pub full : kept.full ≡ s.full
-  pub down : s.down ≡ false
+  pub down : kept.down ≡ s.down
   pub waiting : (to : Party) → AllMean (messages_for kept.outboxes to) (outbox to)
 
 -- the same, as a word for those who call servers
@@ -69,3 +79,28 @@ abbrev pub IsFirst : Option rust.Message → List Message → Type 0
 IsFirst None ms = ms ≡ []
 IsFirst (Some x) [] = ⊥
 IsFirst (Some x) (m ∷ ms) = Means x m
+
+-- ---- the master
+
+-- What is kept of the master stands for what it knows and for what waits in its outbox to each party. It speaks to
+-- servers alone.
+pub record HoldsMaster (kept : rust_master.Master) (m : Master) (outbox : Party → List Message) : Type 0 where
+  pub chain : kept.chain.items ≡ m.chain
+  pub told : kept.told ≡ m.told
+  pub ready : kept.ready ≡ m.ready
+  pub used : kept.used.keys ≡ m.used
+  pub waiting : (to : Party) → AllMean (messages_for kept.outboxes to) (outbox to)
+  pub master : outbox parties.Master ≡ []
+  pub clients : outbox parties.Clients ≡ []
+
+-- the same, as a word for those who call the master
+unfoldable pub IsMaster : rust_master.Master → Master → (Party → List Message) → Type 0
+IsMaster kept m outbox = HoldsMaster kept m outbox
+
+-- Whatever the master stood for, it now stands for that after this order.
+abbrev pub Orders : rust_master.Master → rust_master.Master → (Master → Order) → Type 0
+Orders old new order = (m : Master) (outbox : Party → List Message) → IsMaster old m outbox → IsMaster new (order m).master (posted outbox (order m).said)
+
+-- The master stands for all that it stood for.
+abbrev pub KeepsMaster : rust_master.Master → rust_master.Master → Type 0
+KeepsMaster old new = (m : Master) (outbox : Party → List Message) → IsMaster old m outbox → IsMaster new m outbox

@@ -167,6 +167,12 @@ tailed least s = record {
   sent = when (acts (as_tail least s)) (to_server s.pred (Ack (length s.entries)) ++ (parties.Master, Ready) ∷ []);
 }
 
+-- ---- crashes
+
+-- It crashes: what it has stays as it is, and nothing comes to it any more.
+abbrev pub crashed : Server → Step
+crashed s = silent (record s { down = true })
+
 -- ---- all messages
 
 -- What a server does with a message from that party. It ignores what is none of these.

@@ -1,10 +1,11 @@
 -- What outboxes have while a server puts messages into them.
-use Rattle.std.specs.Prelude.{◌≡◌, ◌≤◌, ◌+◌, ℕ, List, Option, None, Some, ⊤}
+use Rattle.std.specs.Prelude.{◌≡◌, ◌<◌, ◌≤◌, ◌+◌, ℕ, List, [], ◌∷◌, Option, None, Some, ⊤}
 use Rattle.cq_base.specs.declared.party.Party.{Party}
 use Rattle.cq_base.specs.declared.party.Party.TheVariants.{Master, Clients, Server}
+use Rattle.cq_chain.specs.declared.message.Message as rust
 use Rattle.cq_chain.specs.Boxes.{Row, messages_for, room_for}
 use Rattle.cq_chain.specs.Messages.{Message}
-use Rattle.cq_chain.specs.Stands.{AllMean, posted}
+use Rattle.cq_chain.specs.Stands.{Means, AllMean, posted}
 
 -- What is kept of outboxes stands for what waits for each party.
 abbrev pub Waits : List (Party × Row) → (Party → List Message) → Type 0
@@ -33,3 +34,20 @@ pub record HasRoom (boxes : List (Party × Row)) (n : ℕ) (pred succ : Option �
   pub clients : n ≤ room_for boxes Clients
   pub pred_room : HasRoomAt boxes n pred
   pub succ_room : HasRoomAt boxes n succ
+
+-- These messages, all for that party, are what is sent.
+abbrev pub AllFor : Party → List rust.Message → List (Party × Message) → Type 0
+AllFor to [] [] = ⊤
+AllFor to [] (x ∷ xs) = ⊥
+AllFor to (y ∷ ys) [] = ⊥
+AllFor to (y ∷ ys) (x ∷ xs) = (x.0 ≡ to) × (Means y x.1 × AllFor to ys xs)
+
+-- What is said to one server, or nothing, is what is sent.
+abbrev pub IsSaid : Option (ℕ × rust.Message) → List (Party × Message) → Type 0
+IsSaid None sent = sent ≡ []
+IsSaid (Some y) sent = AllFor (Server y.0) (y.1 ∷ []) sent
+
+-- There is room for what is said to one server, if anything is.
+abbrev pub HasRoomToSay : List (Party × Row) → Option (ℕ × rust.Message) → Type 0
+HasRoomToSay boxes None = ⊤
+HasRoomToSay boxes (Some y) = 0 < room_for boxes (Server y.0)

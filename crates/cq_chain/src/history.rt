@@ -4,6 +4,7 @@ ghost use Rattle.cq_base.specs.History.{last_moment, reply_to, counts_after};
 use cq_base::{Entry, Moment, NoMemory, Query, Reply};
 use cq_store::Store;
 use std::alloc::Global;
+use std::fmt;
 use std::marker::Model;
 
 /// A whole list of entries, beside the store that answers for it.
@@ -23,6 +24,25 @@ impl Model for History {
     ghost view = { λ h. h.entries.items };
 
     ghost invariant = { λ h. Stands h.store h.entries.items };
+}
+
+/// It shows its entries.
+impl fmt::Debug for History {
+    fn fmt<W: fmt::Write>(&self, f: &mut fmt::Formatter<W>) -> fmt::Result {
+        let entries = &self.entries;
+        write!(f, "{entries:?}")
+    }
+}
+
+/// The same entries, in a list of their own. It shares the texts: O(entries).
+fn copies(alloc: Global, entries: &[Entry]) -> Result<Vec<Entry>, NoMemory>
+    ensures { IfOk result (λ list. list.items ≡ entries.now) }
+{
+    let mut list = Vec::new(alloc);
+    for entry in entries {
+        list.push(entry.try_copy()?)?;
+    }
+    Ok(list)
 }
 
 impl History {
@@ -70,5 +90,23 @@ impl History {
         ensures { result ≡ counts_after self.now query.now.queue }
     {
         self.store.query(query)
+    }
+
+    /// Its entries, in order: O(1).
+    pub fn entries(&self) -> &[Entry]
+        ensures { result.now ≡ self.now }
+    {
+        &self.entries
+    }
+
+    /// The same history, so that each goes on from here alone. It shares the texts: O(entries), and what a copy
+    /// of the store takes.
+    pub fn try_copy(&self) -> Result<History, NoMemory>
+        ensures { IfOk result (λ copy. copy ≡ self.now) }
+    {
+        Ok(History {
+            entries: copies(*self.entries.allocator(), &self.entries)?,
+            store: self.store.try_copy()?,
+        })
     }
 }

@@ -1,9 +1,11 @@
-//! The servers of a chain, each by itself: what it does when a request, a query or a message comes to it.
+//! The servers of a chain and its master, each by itself: what it does when a request, a query, a message or
+//! the news of a crash comes to it.
 //! `specs/` holds the rules.
 #![tactic(auto)]
 
 mod fault;
 mod history;
+mod master;
 mod message;
 mod outboxes;
 mod row;
@@ -12,5 +14,7 @@ mod server;
 mod tests;
 
 pub use fault::WorldFault;
+pub use history::History;
+pub use master::Master;
 pub use message::{Answer, Message};
 pub use server::Server;

@@ -1,4 +1,5 @@
-use cq_base::{Entry, Reply};
+use crate::history::History;
+use cq_base::{Entry, Reply, ServerId};
 
 /// What a server answers to a client.
 #[derive(Debug, Drop)]
@@ -14,15 +15,29 @@ pub struct Answer {
     pub reply: Reply,
 }
 
-/// What servers and clients tell each other.
+/// What servers, the master and the clients tell each other.
 #[derive(Debug, Drop)]
 pub enum Message {
-    /// To a successor: the entry at that place of the history, from 1.
+    /// To a successor: the entry at that place of the sender's history, from 1.
     Fwd { place: u64, entry: Entry },
+    /// To a successor that joins: the sender's whole history, of so many entries.
+    Snap { count: u64, state: History },
     /// To a predecessor: all entries up to that place have reached the tail.
     Ack { place: u64 },
-    /// To the master: the server acts as tail.
+    /// From the master: the server is the head from now on.
+    BeHead,
+    /// From the master: the server's predecessor is that one from now on, and is to be told.
+    Report { pred: ServerId },
+    /// From the master: the server's successor is that one from now on, which has so many entries.
+    Adopt { succ: ServerId, have: u64 },
+    /// From the master: the server is the tail from now on, and acts once it has so many entries.
+    BeTail { at_least: u64 },
+    /// To the master: the sender has that predecessor, and so many entries.
+    Have { pred: ServerId, count: u64 },
+    /// To the master: the sender has that successor, and has so many entries itself.
+    Adopted { succ: ServerId, count: u64 },
+    /// To the master: the sender acts as tail.
     Ready,
-    /// To the clients.
+    /// To the clients: an answer.
     Answer(Answer),
 }

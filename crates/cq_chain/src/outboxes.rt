@@ -1,10 +1,11 @@
-ghost use Rattle.std.specs.Prelude.{◌≡◌, ◌<◌, ◌≤◌, List, [], ◌∷◌, length, None, OnOk};
+ghost use Rattle.std.specs.Prelude.{◌≡◌, ◌<◌, ◌≤◌, List, [], ◌∷◌, length, false, None, OnOk};
 ghost use Rattle.cq_base.specs.declared.party.Party as rust_party;
 ghost use Rattle.cq_chain.specs.Boxes.{messages_for, room_for, row_for};
 ghost use Rattle.cq_chain.specs.Messages as sent;
+ghost use Rattle.cq_chain.specs.Parties.{same};
 ghost use Rattle.cq_chain.specs.Stands.{Means, IsFirst, drained};
 ghost use Rattle.cq_chain.specs.Steps.{to_server};
-ghost use Rattle.cq_chain.specs.Waiting.{Waits, Posts, KeepsAll, TakesOne, HasRoom, HasRoomAt};
+ghost use Rattle.cq_chain.specs.Waiting.{Waits, Posts, AllFor, KeepsAll, TakesOne, HasRoom, HasRoomAt};
 
 use crate::message::Message;
 use crate::row::Row;
@@ -52,16 +53,27 @@ impl Outboxes {
         }
     }
 
-    /// A row for a party that has none, with room for a step.
-    fn add(&mut self, alloc: Global, to: Party) -> Result<(), NoMemory>
+    /// A row for a party that has none, with room for so many messages.
+    fn add(&mut self, alloc: Global, to: Party, count: usize) -> Result<(), NoMemory>
         requires { row_for self.old to ≡ None }
         ensures keeps { KeepsAll self.old self.new }
-        ensures room { OnOk result (4 ≤ room_for self.new to) }
+        ensures room { OnOk result (count ≤ room_for self.new to) }
     {
         let mut row = Row::new(alloc);
-        row.reserve(STEP_ROOM)?;
+        row.reserve(count)?;
         self.rows.insert(to, row)?;
         Ok(())
+    }
+
+    /// Makes room for so many messages to the party.
+    pub fn reserve_many(&mut self, alloc: Global, to: Party, count: usize) -> Result<(), NoMemory>
+        ensures keeps { KeepsAll self.old self.new }
+        ensures room { OnOk result (count ≤ room_for self.new to) }
+    {
+        match self.rows.get_mut(&to) {
+            Some(row) => row.reserve(count),
+            None => self.add(alloc, to, count),
+        }
     }
 
     /// Makes room for what a step sends to the party.
@@ -69,10 +81,7 @@ impl Outboxes {
         ensures keeps { KeepsAll self.old self.new }
         ensures room { OnOk result (4 ≤ room_for self.new to) }
     {
-        match self.rows.get_mut(&to) {
-            Some(row) => row.reserve(STEP_ROOM),
-            None => self.add(alloc, to),
-        }
+        self.reserve_many(alloc, to, STEP_ROOM)
     }
 
     /// Makes room for what a step sends to that server, if there is one.
@@ -111,6 +120,19 @@ impl Outboxes {
         match self.rows.get_mut(&to) {
             Some(row) => row.push(message),
             None => unreachable!(),
+        }
+    }
+
+    /// These messages wait for the party behind the others, in room that was made: O(messages that come).
+    pub fn push_all(&mut self, to: Party, messages: Row)
+        requires { length messages.messages ≤ room_for self.old to }
+        ensures posts { (all : List (rust_party.Party × sent.Message)) → AllFor to messages.messages all
+            → Posts self.old self.new all }
+        ensures others { (party : rust_party.Party) → same to party ≡ false → room_for self.old party ≤ room_for self.new party }
+    {
+        match self.rows.get_mut(&to) {
+            Some(row) => row.append(messages),
+            None => (),
         }
     }
 

@@ -58,6 +58,19 @@ impl Row {
         self.messages.push_back_reserved(message);
     }
 
+    /// These messages behind the others, in room that was made: O(messages that come).
+    pub fn append(&mut self, other: Row)
+        requires { length other.messages ≤ self.old.room }
+        ensures messages { self.new.messages ≡ self.old.messages ++ other.messages }
+        ensures room { self.old.room ≤ self.new.room + length other.messages }
+    {
+        let mut messages = other.messages;
+        match self.messages.append(&mut messages) {
+            Ok(()) => (),
+            Err(_) => unreachable!(),
+        }
+    }
+
     /// The first message, which leaves the row: O(1).
     pub fn pop(&mut self) -> Option<Message>
         ensures first { IfSome result (λ message. self.old.messages ≡ message ∷ self.new.messages) }

@@ -2,11 +2,15 @@ ghost use Rattle.std.specs.Prelude.{◌≡◌, ◌≤◌, ◌+◌, ◌-◌, ◌=
 ghost use Rattle.cq_base.specs.declared.party.Party as rust_party;
 ghost use Rattle.cq_chain.specs.Messages as sent;
 ghost use Rattle.cq_chain.specs.Servers as states;
-ghost use Rattle.cq_chain.specs.Servers.{first_member, acts};
+ghost use Rattle.cq_chain.specs.Servers.{first_member, joining, acts, is_that};
 ghost use Rattle.cq_chain.specs.Stands.{StandsFor, IsFirst, drained};
 
 mod append;
 mod arrive;
+mod crash;
+mod orders;
+mod repair;
+mod restore;
 mod take;
 
 use crate::history::History;
@@ -35,7 +39,18 @@ pub struct Server {
     head: bool,
     at_least: Option<u64>,
     full: bool,
+    down: bool,
     outboxes: Outboxes,
+}
+
+/// Whether it is that server.
+fn is_that(server: Option<ServerId>, id: ServerId) -> bool
+    ensures { result ≡ is_that server id }
+{
+    match server {
+        Some(other) => other.get() == id.get(),
+        None => false,
+    }
 }
 
 /// The server before that one, in a first chain.
@@ -85,6 +100,27 @@ impl Server {
             head: id.get() == 1,
             at_least: first_least(id, size),
             full: true,
+            down: false,
+            outboxes: Outboxes::new(alloc),
+        })
+    }
+
+    /// A server that joins a chain later (a choice of this project). It has no entry and no neighbour, until the
+    /// master tells it of one. It keeps the allocator.
+    pub fn joining(alloc: Global) -> Result<Server, NoMemory>
+        ensures { IfOk result (λ server. StandsFor server joining (λ _. [])) }
+    {
+        Ok(Server {
+            alloc,
+            history: History::new(alloc)?,
+            acked: 0,
+            floor: 0,
+            pred: None,
+            succ: None,
+            head: false,
+            at_least: None,
+            full: false,
+            down: false,
             outboxes: Outboxes::new(alloc),
         })
     }
@@ -149,6 +185,14 @@ impl Server {
             → result ≡ s.full }
     {
         self.full
+    }
+
+    /// Whether it has crashed: O(1).
+    pub fn is_down(&self) -> bool
+        ensures { (s : states.Server) (outbox : rust_party.Party → List sent.Message) → StandsFor self.now s outbox
+            → result ≡ s.down }
+    {
+        self.down
     }
 
     /// It may take no more entry.

@@ -9,19 +9,10 @@ ghost use Rattle.cq_chain.specs.Servers.{is_that};
 ghost use Rattle.cq_chain.specs.Stands.{StandsFor, Does, Keeps, IsRefusedBy, Means};
 ghost use Rattle.cq_chain.specs.Steps.{is_next, forwarded, acknowledged, takes};
 
-use super::Server;
+use super::{Server, is_that};
 use crate::fault::WorldFault;
 use crate::message::Message;
 use cq_base::{Entry, NoMemory, Party, ServerId};
-
-fn is_that(server: Option<ServerId>, id: ServerId) -> bool
-    ensures { result ≡ is_that server id }
-{
-    match server {
-        Some(other) => other.get() == id.get(),
-        None => false,
-    }
-}
 
 /// That place comes right after so many.
 fn is_after(place: u64, count: u64) -> bool
@@ -100,18 +91,31 @@ impl Server {
     {
         match message {
             Message::Fwd { place, entry } => self.take_fwd(from, *place, entry),
+            Message::Snap { state, .. } => Ok(self.take_snap(from, state)?),
             Message::Ack { place } => Ok(self.take_ack(*place)?),
-            Message::Ready => Ok(()),
-            Message::Answer(_) => Ok(()),
+            _ => Ok(()),
         }
     }
 
-    /// Takes a message.
+    /// Takes a message, and makes all the room that this needs before the first change.
     ///
-    /// The next entry of the predecessor becomes an entry of the server, which sends it on; where it acts it
-    /// answers the clients and acknowledges to its predecessor. An acknowledgement, of no more entries than
-    /// the server has, is kept and passed on to the predecessor, if it is news. What else comes is ignored
-    /// (a choice of this project). O(1), and what the store takes for an entry.
+    /// - `Fwd`: the next entry of the predecessor becomes an entry of the server, which sends it on; where it acts
+    ///   it answers the clients and acknowledges to its predecessor. O(1), and what the store takes for an entry.
+    /// - `Snap` of the predecessor: a server with no successor, which has no more entries, takes the history over
+    ///   and answers none of it. O(entries), and what a copy of the store takes.
+    /// - `Ack`: an acknowledgement, of no more entries than the server has, is kept and passed on to the
+    ///   predecessor, if it is news. O(1).
+    /// - `BeHead` of the master: it is the head. O(1).
+    /// - `Report` of the master: it has that predecessor, tells the master how many entries it has, and the
+    ///   predecessor which are acknowledged. O(1).
+    /// - `Adopt` of the master: it has that successor, acts no more, sends it the entries that it lacks, one by one
+    ///   or as a snapshot, and tells the master how many entries it has. O(entries sent), and for a snapshot
+    ///   O(entries) and what a copy of the store takes.
+    /// - `BeTail` of the master: it is the tail, and acts once it has so many entries. O(1).
+    ///
+    /// A server that begins to act tells the master. What else comes is ignored. A chain is mended as in van Renesse
+    /// and Schneider, section 3; snapshots, and what servers and master tell each other meanwhile, are a choice of
+    /// this project.
     ///
     /// Faults: `HistoryFull` (41) where the entry would be the one after 2^62, `NoMemory` (20).
     pub fn take(&mut self, from: Party, message: &Message) -> Result<(), WorldFault>
@@ -122,7 +126,7 @@ impl Server {
     {
         match from {
             Party::Server(id) => self.take_from(id, message),
-            Party::Master => Ok(()),
+            Party::Master => Ok(self.take_order(message)?),
             Party::Clients => Ok(()),
         }
     }

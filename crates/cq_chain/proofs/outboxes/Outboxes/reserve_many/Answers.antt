@@ -2,7 +2,7 @@
 use Rattle.std.proofs.Common.{ap, sym, Some}
 use Rattle.std.specs.Option.{is_some}
 use Rattle.cq_chain.proofs.Mailing.{found, written, row-kept}
-use Rattle.cq_chain.proofs.outboxes.Outboxes.reserve.Goals as goal
+use Rattle.cq_chain.proofs.outboxes.Outboxes.reserve_many.Goals as goal
 
 pub returns-in-Some-clause-keeps : goal.returns-in-Some-clause-keeps
 returns-in-Some-clause-keeps c =

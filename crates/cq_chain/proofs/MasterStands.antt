@@ -1,0 +1,222 @@
+-- What the master stands for after a part of a call.
+use Rattle.std.proofs.Common.{◌≡◌, ℕ, ◌∙◌, ap, sym, List, [], ◌∷◌, ◌++◌, length, Some, None, true, false, append-nil, subst, refl, not, ◌&&◌, ◌||◌, ◌<◌, ◌≤◌}
+use Rattle.std.proofs.lemmas.Bool.{lt-ltb, le-ltb}
+use Rattle.cq_base.specs.declared.party.Party.{Party}
+use Rattle.cq_base.specs.declared.party.Party.TheVariants as parties
+use Rattle.cq_chain.specs.declared.fault.WorldFault.TheVariants.{NoSuchServer, LastFull, JoinPending, IdUsed, ChainFull}
+use Rattle.cq_chain.specs.declared.master.Master as kept
+use Rattle.cq_chain.specs.declared.message.Message as rust
+use Rattle.cq_chain.specs.declared.message.Message.TheVariants as sent
+use Rattle.cq_chain.specs.Boxes.{Row, messages_for}
+use Rattle.cq_chain.specs.Masters.{Master, Order, no_order, is_in, is_last, stands_before, without, detected, joined, hears, said_of_loss, said_of_join, refusal_of_detection, refusal_of_join}
+use Rattle.cq_chain.specs.Messages.{Message, Have, Adopted, Ready, Adopt, BeTail}
+use Rattle.cq_chain.specs.Parties.{addressed}
+use Rattle.cq_chain.specs.Stands.{Means, AllMean, HoldsMaster, IsMaster, posted}
+use Rattle.cq_chain.specs.Waiting.{Waits, Posts, KeepsAll, AllFor}
+use Rattle.cq_chain.proofs.Mailing.{waits-kept}
+
+pub master-stands : (kept : kept.Master) (m : Master) (outbox : Party → List Message) → HoldsMaster kept m outbox → IsMaster kept m outbox
+unfolding IsMaster
+master-stands kept m outbox h = h
+
+pub master-parts : (kept : kept.Master) (m : Master) (outbox : Party → List Message) → IsMaster kept m outbox → HoldsMaster kept m outbox
+unfolding IsMaster
+master-parts kept m outbox h = h
+
+-- with other outboxes
+pub with_master_boxes : (kept : kept.Master) (m : Master) (outbox next : Party → List Message) (boxes : List (Party × Row)) → IsMaster kept m outbox → Waits boxes next → next parties.Master ≡ [] → next parties.Clients ≡ []
+    → IsMaster (record kept { outboxes = boxes }) m next
+with_master_boxes kept m outbox next boxes h waits master clients = let p = master-parts kept m outbox h in master-stands (record kept { outboxes = boxes }) m next (record {
+  chain = p.chain;
+  told = p.told;
+  ready = p.ready;
+  used = p.used;
+  waiting = waits;
+  master = master;
+  clients = clients;
+})
+
+-- with room
+pub with_master_room : (kept : kept.Master) (m : Master) (outbox : Party → List Message) (boxes : List (Party × Row)) → IsMaster kept m outbox → KeepsAll kept.outboxes boxes → IsMaster (record kept { outboxes = boxes }) m outbox
+with_master_room kept m outbox boxes h keeps = let p = master-parts kept m outbox h in
+    with_master_boxes kept m outbox outbox boxes h (waits-kept kept.outboxes boxes keeps outbox p.waiting) p.master p.clients
+
+-- the same waits
+pub with_master_outbox : (kept : kept.Master) (m : Master) (outbox next : Party → List Message) → IsMaster kept m outbox → ((p : Party) → outbox p ≡ next p) → IsMaster kept m next
+with_master_outbox kept m outbox next h same = let p = master-parts kept m outbox h in
+    with_master_boxes kept m outbox next kept.outboxes h (λ q. subst (λ ms. AllMean (messages_for kept.outboxes q) ms) (same q) (p.waiting q)) (sym (same parties.Master) ∙ p.master) (sym (same parties.Clients) ∙ p.clients)
+
+-- nothing is said
+pub nothing-said : (kept : kept.Master) (m : Master) (outbox : Party → List Message) → IsMaster kept m outbox → IsMaster kept m (posted outbox [])
+nothing-said kept m outbox h = with_master_outbox kept m outbox (posted outbox []) h (λ p. sym (append-nil (outbox p)))
+
+-- what is said to a server is for no other party
+said-to_server : (to : ℕ) (y : rust.Message) (all : List (Party × Message)) → AllFor (parties.Server to) (y ∷ []) all → (addressed parties.Master all ≡ []) × (addressed parties.Clients all ≡ [])
+said-to_server to y [] h = absurd h
+said-to_server to y (x ∷ []) h = rw h.0 (refl, refl)
+said-to_server to y (x ∷ z ∷ zs) h = absurd h.1.1
+
+-- it is said
+pub said-stands : (kept : kept.Master) (m : Master) (outbox : Party → List Message) (boxes : List (Party × Row)) (to : ℕ) (y : rust.Message) (all : List (Party × Message)) → IsMaster kept m outbox → AllFor (parties.Server to) (y ∷ []) all
+    → Posts kept.outboxes boxes all → IsMaster (record kept { outboxes = boxes }) m (posted outbox all)
+said-stands kept m outbox boxes to y all h for posts = let p = master-parts kept m outbox h in let none = said-to_server to y all for in
+    with_master_boxes kept m outbox (posted outbox all) boxes h (posts outbox p.waiting) (rw (p.master, none.0)) (rw (p.clients, none.1))
+
+-- one message is for its party
+pub one-for : (to : Party) (y : rust.Message) (all : List (Party × Message)) (boxes new : List (Party × Row)) → AllFor to (y ∷ []) all → ((m : Message) → Means y m → Posts boxes new ((to, m) ∷ [])) → Posts boxes new all
+one-for to y [] boxes new h posts = absurd h
+one-for to y ((p, m) ∷ []) boxes new h posts = subst (λ q. Posts boxes new ((q, m) ∷ [])) (sym h.0) (posts m h.1.0)
+one-for to y (a ∷ b ∷ rest) boxes new h posts = absurd h.1.1
+
+-- ---- refusals
+
+pub stranger-refused : (id : ℕ) (m : Master) → is_in m.chain id ≡ false → refusal_of_detection id m ≡ Some NoSuchServer
+unfolding refusal_of_detection
+stranger-refused id m h = rw h
+
+pub last-refused : (id : ℕ) (m : Master) → is_in m.chain id ≡ true → length m.chain ≤ 1 → refusal_of_detection id m ≡ Some LastFull
+unfolding refusal_of_detection
+last-refused id m h few = rw (h, le-ltb 1 (length m.chain) few)
+
+pub detection-not-refused : (id : ℕ) (m : Master) → is_in m.chain id ≡ true → 1 < length m.chain → refusal_of_detection id m ≡ None
+unfolding refusal_of_detection
+detection-not-refused id m h more = rw (h, lt-ltb 1 (length m.chain) more)
+
+pub used-refused : (id : ℕ) (m : Master) → is_in m.used id ≡ true → refusal_of_join id m ≡ Some IdUsed
+unfolding refusal_of_join
+used-refused id m h = rw h
+
+pub full-refused : (id : ℕ) (m : Master) → is_in m.used id ≡ false → 8 ≤ length m.chain → refusal_of_join id m ≡ Some ChainFull
+unfolding refusal_of_join
+full-refused id m h many = rw (h, le-ltb (length m.chain) 8 many)
+
+pub pending-refused : (id : ℕ) (m : Master) → is_in m.used id ≡ false → length m.chain < 8 → m.ready ≡ false → refusal_of_join id m ≡ Some JoinPending
+unfolding refusal_of_join
+pending-refused id m h room pending = rw (h, lt-ltb (length m.chain) 8 room, pending)
+
+pub join-not-refused : (id : ℕ) (m : Master) → is_in m.used id ≡ false → length m.chain < 8 → m.ready ≡ true → refusal_of_join id m ≡ None
+unfolding refusal_of_join
+join-not-refused id m h room ready = rw (h, lt-ltb (length m.chain) 8 room, ready)
+
+-- ---- what the master hears
+
+-- an order, by what it is
+pub orders-by : (kept : kept.Master) (outbox : Party → List Message) (order other : Order) → order ≡ other → IsMaster kept other.master (posted outbox other.said) → IsMaster kept order.master (posted outbox order.said)
+orders-by kept outbox order other is h = subst (λ x. IsMaster kept x.master (posted outbox x.said)) (sym is) h
+
+pub hears-ready_of_last : (from : ℕ) (m : Master) → is_last m.chain from ≡ true → hears from Ready m ≡ record { master = record m { ready = true }; said = [] }
+unfolding hears
+hears-ready_of_last from m h = rw h
+
+pub hears-ready_of_other : (from : ℕ) (m : Master) → is_last m.chain from ≡ false → hears from Ready m ≡ no_order m
+unfolding hears
+hears-ready_of_other from m h = rw h
+
+pub hears-have : (from p n : ℕ) (m : Master) → stands_before p from m.chain ≡ true → hears from (Have p n) m ≡ record { master = m; said = (parties.Server p, Adopt from n) ∷ [] }
+unfolding hears
+hears-have from p n m h = rw h
+
+pub hears-stale_have : (from p n : ℕ) (m : Master) → stands_before p from m.chain ≡ false → hears from (Have p n) m ≡ no_order m
+unfolding hears
+hears-stale_have from p n m h = rw h
+
+pub hears-adopted : (from s n : ℕ) (m : Master) → is_last m.chain s ≡ true → m.told ≡ false → hears from (Adopted s n) m ≡ record { master = record m { told = true }; said = (parties.Server s, BeTail n) ∷ [] }
+unfolding hears
+hears-adopted from s n m last told = rw (last, told)
+
+pub hears-adopted_of_other : (from s n : ℕ) (m : Master) → is_last m.chain s ≡ false → hears from (Adopted s n) m ≡ no_order m
+unfolding hears
+hears-adopted_of_other from s n m last = rw last
+
+pub hears-adopted_again : (from s n : ℕ) (m : Master) → is_last m.chain s ≡ true → m.told ≡ true → hears from (Adopted s n) m ≡ no_order m
+unfolding hears
+hears-adopted_again from s n m last told = rw (last, told)
+
+-- ---- what it knows
+
+pub with_ready : (kept : kept.Master) (m : Master) (outbox : Party → List Message) → IsMaster kept m outbox → IsMaster (record kept { ready = true }) (record m { ready = true }) outbox
+with_ready kept m outbox h = let p = master-parts kept m outbox h in master-stands (record kept { ready = true }) (record m { ready = true }) outbox (record {
+  chain = p.chain;
+  told = p.told;
+  ready = refl;
+  used = p.used;
+  waiting = p.waiting;
+  master = p.master;
+  clients = p.clients;
+})
+
+pub with_told : (kept : kept.Master) (m : Master) (outbox : Party → List Message) → IsMaster kept m outbox → IsMaster (record kept { told = true }) (record m { told = true }) outbox
+with_told kept m outbox h = let p = master-parts kept m outbox h in master-stands (record kept { told = true }) (record m { told = true }) outbox (record {
+  chain = p.chain;
+  told = refl;
+  ready = p.ready;
+  used = p.used;
+  waiting = p.waiting;
+  master = p.master;
+  clients = p.clients;
+})
+
+-- without a member
+pub without-stands : (old new : kept.Master) (m : Master) (outbox : Party → List Message) (id : ℕ) → IsMaster old m outbox → new.chain.items ≡ without id old.chain.items → new.told ≡ (is_last old.chain.items id || old.told)
+    → new.ready ≡ (not (is_last old.chain.items id) && old.ready) → new.used ≡ old.used → new.outboxes ≡ old.outboxes → IsMaster new (detected id m).master outbox
+unfolding detected
+without-stands old new m outbox id h chain told ready used boxes = let p = master-parts old m outbox h in master-stands new (detected id m).master outbox (record {
+  chain = chain ∙ ap (λ xs. without id xs) p.chain;
+  told = told ∙ ap (λ xs. is_last xs id || old.told) p.chain ∙ ap (λ t. is_last m.chain id || t) p.told;
+  ready = ready ∙ ap (λ xs. not (is_last xs id) && old.ready) p.chain ∙ ap (λ r. not (is_last m.chain id) && r) p.ready;
+  used = ap (λ u. u.keys) used ∙ p.used;
+  waiting = subst (λ b. (to : Party) → AllMean (messages_for b to) (outbox to)) (sym boxes) p.waiting;
+  master = p.master;
+  clients = p.clients;
+})
+
+pub detected-said : (id : ℕ) (m : Master) → said_of_loss id m.chain ≡ (detected id m).said
+unfolding detected
+detected-said id m = refl
+
+-- with a member more
+pub joined-stands : (old new : kept.Master) (m : Master) (outbox : Party → List Message) (id : ℕ) → IsMaster old m outbox → new.chain.items ≡ old.chain.items ++ id ∷ [] → new.used.keys ≡ old.used.keys ++ id ∷ []
+    → new.told ≡ false → new.ready ≡ false → new.outboxes ≡ old.outboxes → IsMaster new (joined id m).master outbox
+unfolding joined
+joined-stands old new m outbox id h chain used told ready boxes = let p = master-parts old m outbox h in master-stands new (joined id m).master outbox (record {
+  chain = chain ∙ ap (λ xs. xs ++ id ∷ []) p.chain;
+  told = told;
+  ready = ready;
+  used = used ∙ ap (λ xs. xs ++ id ∷ []) p.used;
+  waiting = subst (λ b. (to : Party) → AllMean (messages_for b to) (outbox to)) (sym boxes) p.waiting;
+  master = p.master;
+  clients = p.clients;
+})
+
+pub joined-said : (id : ℕ) (m : Master) → said_of_join id m.chain ≡ (joined id m).said
+unfolding joined
+joined-said id m = refl
+
+-- the same members and numbers
+pub same-stands : (old new : kept.Master) (m : Master) (outbox : Party → List Message) → IsMaster old m outbox → new.chain.items ≡ old.chain.items → new.used.keys ≡ old.used.keys → new.told ≡ old.told → new.ready ≡ old.ready → new.outboxes ≡ old.outboxes
+    → IsMaster new m outbox
+same-stands old new m outbox h chain used told ready boxes = let p = master-parts old m outbox h in master-stands new m outbox (record {
+  chain = chain ∙ p.chain;
+  told = told ∙ p.told;
+  ready = ready ∙ p.ready;
+  used = used ∙ p.used;
+  waiting = subst (λ b. (to : Party) → AllMean (messages_for b to) (outbox to)) (sym boxes) p.waiting;
+  master = p.master;
+  clients = p.clients;
+})
+
+-- what it doesn't hear
+pub hears-others : (from : ℕ) (message : rust.Message) (x : Message) (m : Master) → ((pred count : ℕ) → message ≡ sent.Have pred count → ⊥) → ((succ count : ℕ) → message ≡ sent.Adopted succ count → ⊥) → (message ≡ sent.Ready → ⊥)
+    → Means message x → hears from x m ≡ no_order m
+unfolding hears
+hears-others from (sent.Fwd place e) x m have adopted ready h = ap (λ y. hears from y m) h
+hears-others from (sent.Snap count state) x m have adopted ready h = ap (λ y. hears from y m) h.0
+hears-others from (sent.Ack place) x m have adopted ready h = ap (λ y. hears from y m) h
+hears-others from sent.BeHead x m have adopted ready h = ap (λ y. hears from y m) h
+hears-others from (sent.Report pred) x m have adopted ready h = ap (λ y. hears from y m) h
+hears-others from (sent.Adopt succ n) x m have adopted ready h = ap (λ y. hears from y m) h
+hears-others from (sent.BeTail least) x m have adopted ready h = ap (λ y. hears from y m) h
+hears-others from (sent.Have pred count) x m have adopted ready h = absurd (have pred count refl)
+hears-others from (sent.Adopted succ count) x m have adopted ready h = absurd (adopted succ count refl)
+hears-others from sent.Ready x m have adopted ready h = absurd (ready refl)
+hears-others from (sent.Answer answer) x m have adopted ready h = ap (λ y. hears from y m) h

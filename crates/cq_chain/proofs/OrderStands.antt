@@ -1,0 +1,153 @@
+-- What a server stands for after it took an order of the master, a snapshot, or a crash.
+use Rattle.std.proofs.Common.{◌≡◌, ℕ, ◌∙◌, ap, List, [], ◌∷◌, ◌++◌, length, Some, None, Bool, true, false, not, ◌&&◌, subst, refl, nat_le, arith, is_none, Result, Ok, Err, OnOk}
+use Rattle.cq_base.specs.declared.ask.Entry.{Entry}
+use Rattle.cq_base.specs.declared.party.Party.{Party}
+use Rattle.cq_base.specs.declared.party.Party.TheVariants as parties
+use Rattle.cq_chain.specs.declared.server.Server as kept
+use Rattle.cq_chain.specs.Boxes.{Row}
+use Rattle.cq_chain.specs.Messages.{Message, Snap, Ack, Have, Adopted, Ready}
+use Rattle.cq_chain.specs.Servers.{Server, acts, is_that}
+use Rattle.cq_chain.specs.Stands.{StandsFor, Does, posted}
+use Rattle.cq_chain.specs.Steps.{Step, silent, when, to_server, tail_news, with_history, restored, reported, repair, adopting, as_tail, tailed, is_restoring, takes}
+use Rattle.cq_chain.specs.Waiting.{Posts, KeepsAll, Waits}
+use Rattle.cq_chain.proofs.ServerStands.{stands, stands-by, parts, nothing-sent}
+
+-- room is made twice
+pub keeps-then : (a b c : List (Party × Row)) → KeepsAll a b → KeepsAll b c → KeepsAll a c
+keeps-then a b c h k = ((λ to. k.0 to ∙ h.0 to), (λ to. omega (arith, h.1 to, k.1 to)))
+
+-- a server that is down
+down-stands : (kept : kept.Server) (s : Server) (outbox : Party → List Message) → StandsFor kept s outbox → StandsFor (record kept { down = true }) (record s { down = true }) outbox
+down-stands kept s outbox h = let p = parts kept s outbox h in stands (record kept { down = true }) (record s { down = true }) outbox (record {
+  entries = p.entries;
+  acked = p.acked;
+  floor = p.floor;
+  pred = p.pred;
+  succ = p.succ;
+  head = p.head;
+  at_least = p.at_least;
+  full = p.full;
+  down = refl;
+  waiting = p.waiting;
+})
+
+pub crashed-stands : (kept : kept.Server) (s : Server) (outbox : Party → List Message) → StandsFor kept s outbox → StandsFor (record kept { down = true }) (record s { down = true }) (posted outbox [])
+crashed-stands kept s outbox h = nothing-sent (record kept { down = true }) (record s { down = true }) outbox (down-stands kept s outbox h)
+
+-- the head
+head-stands : (kept : kept.Server) (s : Server) (outbox : Party → List Message) → StandsFor kept s outbox → StandsFor (record kept { head = true; pred = None }) (record s { head = true; pred = None }) outbox
+head-stands kept s outbox h = let p = parts kept s outbox h in stands (record kept { head = true; pred = None }) (record s { head = true; pred = None }) outbox (record {
+  entries = p.entries;
+  acked = p.acked;
+  floor = p.floor;
+  pred = refl;
+  succ = p.succ;
+  head = refl;
+  at_least = p.at_least;
+  full = p.full;
+  down = p.down;
+  waiting = p.waiting;
+})
+
+pub headed-stands : (kept : kept.Server) (s : Server) (outbox : Party → List Message) → StandsFor kept s outbox → StandsFor (record kept { head = true; pred = None }) (record s { head = true; pred = None }) (posted outbox [])
+headed-stands kept s outbox h = nothing-sent (record kept { head = true; pred = None }) (record s { head = true; pred = None }) outbox (head-stands kept s outbox h)
+
+-- a new predecessor
+pub reported-stands : (kept : kept.Server) (s : Server) (outbox : Party → List Message) (boxes : List (Party × Row)) (pred n k : ℕ) → StandsFor kept s outbox
+    → Posts kept.outboxes boxes ((parties.Master, Have pred n) ∷ (parties.Server pred, Ack k) ∷ []) → n ≡ length kept.history → k ≡ kept.acked
+    → StandsFor (record kept { pred = Some pred; outboxes = boxes }) (reported pred s).server (posted outbox (reported pred s).sent)
+reported-stands kept s outbox boxes pred n k h posts is_n is_k = let p = parts kept s outbox h in
+    let sent : (parties.Master, Have pred n) ∷ (parties.Server pred, Ack k) ∷ [] ≡ (reported pred s).sent = rw (is_n, p.entries, is_k, p.acked) in
+    stands (record kept { pred = Some pred; outboxes = boxes }) (reported pred s).server (posted outbox (reported pred s).sent) (record {
+      entries = p.entries;
+      acked = p.acked;
+      floor = p.floor;
+      pred = refl;
+      succ = p.succ;
+      head = p.head;
+      at_least = p.at_least;
+      full = p.full;
+      down = p.down;
+      waiting = subst (λ xs. Waits boxes (posted outbox xs)) sent (posts outbox p.waiting);
+    })
+
+-- a new successor
+pub adopting-stands : (kept : kept.Server) (s : Server) (outbox : Party → List Message) (boxes : List (Party × Row)) (succ have n : ℕ) → StandsFor kept s outbox
+    → Posts kept.outboxes boxes (repair succ have s ++ (parties.Master, Adopted succ n) ∷ []) → n ≡ length kept.history
+    → StandsFor (record kept { at_least = None; succ = Some succ; outboxes = boxes }) (adopting succ have s).server (posted outbox (adopting succ have s).sent)
+adopting-stands kept s outbox boxes succ have n h posts is_n = let p = parts kept s outbox h in
+    let is : n ≡ length s.entries = is_n ∙ ap (λ es. length es) p.entries in
+    stands (record kept { at_least = None; succ = Some succ; outboxes = boxes }) (adopting succ have s).server (posted outbox (adopting succ have s).sent) (record {
+      entries = p.entries;
+      acked = p.acked;
+      floor = p.floor;
+      pred = p.pred;
+      succ = refl;
+      head = p.head;
+      at_least = refl;
+      full = p.full;
+      down = p.down;
+      waiting = subst (λ i. Waits boxes (posted outbox (repair succ have s ++ (parties.Master, Adopted succ i) ∷ []))) is (posts outbox p.waiting);
+    })
+
+-- the tail
+pub tail-stands : (kept : kept.Server) (s : Server) (outbox : Party → List Message) (least : ℕ) → StandsFor kept s outbox → StandsFor (record kept { at_least = Some least; succ = None }) (as_tail least s) outbox
+tail-stands kept s outbox least h = let p = parts kept s outbox h in stands (record kept { at_least = Some least; succ = None }) (as_tail least s) outbox (record {
+  entries = p.entries;
+  acked = p.acked;
+  floor = p.floor;
+  pred = p.pred;
+  succ = refl;
+  head = p.head;
+  at_least = refl;
+  full = p.full;
+  down = p.down;
+  waiting = p.waiting;
+})
+
+both-when : {A : Type 0} (b : Bool) (xs ys : List A) → when b xs ++ when (b && not false) ys ≡ when b (xs ++ ys)
+both-when true xs ys = refl
+both-when false xs ys = refl
+
+-- what a new tail tells: it did not act before
+pub tailed-news : (least : ℕ) (s : Server) → tail_news (record s { at_least = None; succ = None }) (as_tail least s) ≡ (tailed least s).sent
+tailed-news least s = both-when (acts (as_tail least s)) (to_server s.pred (Ack (length s.entries))) ((parties.Master, Ready) ∷ [])
+
+-- the history of a snapshot
+pub history-stands : (kept : kept.Server) (s : Server) (outbox : Party → List Message) (history es : List Entry) (n : ℕ) → StandsFor kept s outbox → history ≡ es → n ≡ length history
+    → StandsFor (record kept { history = history; floor = n }) (with_history s es) outbox
+history-stands kept s outbox history es n h is is_n = let p = parts kept s outbox h in stands (record kept { history = history; floor = n }) (with_history s es) outbox (record {
+  entries = is;
+  acked = p.acked;
+  floor = is_n ∙ ap (λ xs. length xs) is;
+  pred = p.pred;
+  succ = p.succ;
+  head = p.head;
+  at_least = p.at_least;
+  full = p.full;
+  down = p.down;
+  waiting = p.waiting;
+})
+
+-- whether a snapshot is taken, by what the server keeps
+pub restoring-of : (s : Server) (kept : kept.Server) (outbox : Party → List Message) (from : ℕ) (es : List Entry) → StandsFor kept s outbox
+    → (is_that kept.pred from && is_none kept.succ && nat_le (length kept.history) (length es)) ≡ is_restoring s from es
+restoring-of s kept outbox from es h = let p = parts kept s outbox h in rw (p.pred, p.succ, p.entries)
+
+pub takes-restoring : (s : Server) (from : ℕ) (es : List Entry) → is_restoring s from es ≡ true → takes (parties.Server from) (Snap es) s ≡ restored es s
+unfolding takes
+takes-restoring s from es h = rw h
+
+pub takes-no_snapshot : (s : Server) (from : ℕ) (es : List Entry) → is_restoring s from es ≡ false → takes (parties.Server from) (Snap es) s ≡ silent s
+unfolding takes
+takes-no_snapshot s from es h = rw h
+
+-- a step that succeeded, by what it is
+pub does-by : {E : Type 0} (old new : kept.Server) (step other : Server → Step) (r : Result (Unit {0}) E) → ((s : Server) → other s ≡ step s) → OnOk r (Does old new step) → OnOk r (Does old new other)
+does-by old new step other (Ok x) same does = λ s outbox h. stands-by new outbox (other s) (step s) (same s) (does s outbox h)
+does-by old new step other (Err e) same does = tt
+
+-- the same where it is told by what the server stands for
+pub does-as : {E : Type 0} (old new : kept.Server) (step other : Server → Step) (r : Result (Unit {0}) E) → ((s : Server) (outbox : Party → List Message) → StandsFor old s outbox → other s ≡ step s) → OnOk r (Does old new step) → OnOk r (Does old new other)
+does-as old new step other (Ok x) same does = λ s outbox h. stands-by new outbox (other s) (step s) (same s outbox h) (does s outbox h)
+does-as old new step other (Err e) same does = tt

@@ -1,0 +1,104 @@
+ghost use Rattle.std.specs.Prelude.{◌≡◌, ◌||◌, ◌&&◌, not, List, false, Some, OnOk, OnErr};
+ghost use Rattle.cq_base.specs.declared.party.Party as rust_party;
+ghost use Rattle.cq_chain.specs.Masters as masters;
+ghost use Rattle.cq_chain.specs.Masters.{is_in, detected, joined};
+ghost use Rattle.cq_chain.specs.Messages as sent;
+ghost use Rattle.cq_chain.specs.Stands.{IsMaster, Orders, KeepsMaster, posted};
+ghost use Rattle.cq_chain.specs.Waiting.{IsSaid, HasRoomToSay};
+
+use super::Master;
+use super::neighbours::{is_last, said_of_join, said_of_loss};
+use crate::message::Message;
+use cq_base::{NoMemory, Party, ServerId};
+
+/// Whether the last member was told, once a member is gone.
+fn is_told_after(last: bool, told: bool) -> bool
+    ensures { result ≡ (last || told) }
+{
+    last || told
+}
+
+/// Whether the last member is ready, once a member is gone.
+fn is_ready_after(last: bool, ready: bool) -> bool
+    ensures { result ≡ (not last && ready) }
+{
+    !last && ready
+}
+
+impl Master {
+    /// Makes room for what is said to one server, if anything is.
+    pub(super) fn reserve(&mut self, said: &Option<(ServerId, Message)>) -> Result<(), NoMemory>
+        ensures keeps { KeepsMaster self.old self.new }
+        ensures chain { self.new.chain ≡ self.old.chain }
+        ensures used { self.new.used ≡ self.old.used }
+        ensures room { OnOk result (HasRoomToSay self.new.outboxes said.now) }
+    {
+        match said {
+            Some((to, _)) => self.outboxes.reserve(self.alloc, Party::Server(*to)),
+            None => Ok(()),
+        }
+    }
+
+    /// Says it to one server, in room that was made.
+    fn say_one(&mut self, said: (ServerId, Message))
+        requires { HasRoomToSay self.old.outboxes (Some said) }
+        ensures { (m : masters.Master) (outbox : rust_party.Party → List sent.Message) (all : List (rust_party.Party × sent.Message))
+            → IsMaster self.old m outbox → IsSaid (Some said) all → IsMaster self.new m (posted outbox all) }
+    {
+        let (to, message) = said;
+        self.outboxes.push(Party::Server(to), message);
+    }
+
+    /// Says it to one server, if anything is said, in room that was made.
+    pub(super) fn say(&mut self, said: Option<(ServerId, Message)>)
+        requires { HasRoomToSay self.old.outboxes said }
+        ensures { (m : masters.Master) (outbox : rust_party.Party → List sent.Message) (all : List (rust_party.Party × sent.Message))
+            → IsMaster self.old m outbox → IsSaid said all → IsMaster self.new m (posted outbox all) }
+    {
+        match said {
+            Some(one) => self.say_one(one),
+            None => (),
+        }
+    }
+
+    /// Takes a member out of the chain. A new last member isn't ready yet. It takes no memory.
+    fn remove(&mut self, id: ServerId)
+        ensures stands { (m : masters.Master) (outbox : rust_party.Party → List sent.Message) → IsMaster self.old m outbox
+            → IsMaster self.new (detected id m).master outbox }
+        ensures outboxes { self.new.outboxes ≡ self.old.outboxes }
+    {
+        let last = is_last(&self.chain, id);
+        self.told = is_told_after(last, self.told);
+        self.ready = is_ready_after(last, self.ready);
+        self.chain.retain(|other| other.get() != id.get());
+    }
+
+    /// A member is gone.
+    pub(super) fn lose(&mut self, id: ServerId) -> Result<(), NoMemory>
+        ensures ok { OnOk result (Orders self.old self.new (detected id)) }
+        ensures err { OnErr result (KeepsMaster self.old self.new) }
+    {
+        let said = said_of_loss(&self.chain, id);
+        self.reserve(&said)?;
+        self.remove(id);
+        self.say(said);
+        Ok(())
+    }
+
+    /// A server whose number wasn't used comes to the end of the chain.
+    pub(super) fn admit(&mut self, id: ServerId) -> Result<(), NoMemory>
+        requires { is_in self.old.used.keys id ≡ false }
+        ensures ok { OnOk result (Orders self.old self.new (joined id)) }
+        ensures err { OnErr result (KeepsMaster self.old self.new) }
+    {
+        let said = said_of_join(&self.chain, id);
+        self.reserve(&said)?;
+        self.chain.reserve(1)?;
+        self.used.insert(id)?;
+        self.chain.push_reserved(id);
+        self.told = false;
+        self.ready = false;
+        self.say(said);
+        Ok(())
+    }
+}
