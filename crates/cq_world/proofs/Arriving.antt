@@ -1,30 +1,31 @@
--- The history of the head of a chain that never changes holds the requests that arrived.
-use Rattle.std.proofs.Common.{◌≡◌, ℕ, ◌+◌, ◌≤◌, ◌∙◌, ◌&&◌, ap, sym, List, [], ◌∷◌, ◌++◌, Option, Some, None, Bool, true, false, cond, eqb, arith, inl, inr, subst, refl, max, min, nat_lt, length, append_assoc}
+-- Every history holds requests that arrived, in order.
+use Rattle.std.proofs.Common.{◌≡◌, ℕ, ◌+◌, ◌≤◌, ◌&&◌, sym, List, [], ◌∷◌, ◌++◌, Option, Some, None, Bool, true, false, cond, eqb, arith, inl, inr, subst, refl, max, min, nat_lt, nat_le, length, append_assoc}
 use Rattle.std.specs.List.{fold}
-use Rattle.std.proofs.lemmas.Bool.{eqb-true, eq-eqb, and_parts}
+use Rattle.std.proofs.lemmas.Bool.{and_parts}
 use Rattle.cq_base.specs.declared.ask.Entry.{Entry}
+use Rattle.cq_base.specs.declared.ask.Query.{Query}
 use Rattle.cq_base.specs.declared.ask.Request.{Request}
 use Rattle.cq_base.specs.declared.party.Party.{Party}
 use Rattle.cq_base.specs.declared.party.Party.TheVariants as parties
 use Rattle.cq_base.specs.History.{last_moment}
-use Rattle.cq_base.specs.Relations.{Among}
+use Rattle.cq_base.specs.Relations.{Among, Front}
 use Rattle.cq_chain.specs.declared.fault.WorldFault.{WorldFault}
-use Rattle.cq_chain.specs.Messages.{Message, Fwd, Snap, Ack}
-use Rattle.cq_chain.specs.Refusals.{refusal_of_arrival}
+use Rattle.cq_chain.specs.Messages.{Message, Fwd, Snap, Ack, BeHead, Report, Adopt, BeTail}
 use Rattle.cq_chain.specs.Servers.{Server, is_that, first_member, joining}
-use Rattle.cq_chain.specs.Steps.{Step, silent, to_server, stamped, arrived, asked, appended, settled, is_next, forwarded, takes}
+use Rattle.cq_chain.specs.Steps.{Step, silent, to_server, stamped, arrived, asked, appended, is_next, forwarded, is_restoring, with_history, restored, as_tail, takes, crashed}
 use Rattle.cq_store.specs.Laws.{Stamped}
 use Rattle.cq_world.specs.Worlds.{World, is_in, numbers_from, first_world, stepped}
-use Rattle.cq_world.specs.Events.{knows, refusal_of, refusal_of_take, after, next, unless_refused, after_take, without_first}
-use Rattle.cq_world.specs.Laws.{Arrival, arrival_if, arrivals_from, AreArrivals}
-use Rattle.cq_world.specs.Runs.{world_after}
+use Rattle.cq_world.specs.Events.{refusal_of, after, next, unless_refused, after_take, without_first}
+use Rattle.cq_world.specs.Laws.{Arrival, arrival_if, arrivals_from, AreArrivals, Speaks}
+use Rattle.cq_world.specs.Runs.{world_after, longest_at}
 use Rattle.cq_world.specs.declared.event.Event.{Event}
-use Rattle.cq_world.specs.declared.event.Event.TheVariants.{Arrive, Ask, Put, Take}
-use Rattle.cq_world.proofs.Eaches.{cons_nil}
-use Rattle.cq_world.proofs.Fits.{Fits}
-use Rattle.cq_world.proofs.Lines.{IsPlaced, IsLine, FitsFrom, line-first}
-use Rattle.cq_world.proofs.Moves.{is_settled, headless, that_some}
-use Rattle.cq_world.proofs.Passing.{passes, known-parts, at-head}
+use Rattle.cq_world.specs.declared.event.Event.TheVariants.{Arrive, Ask, Put, Take, Crash, Detect, Join}
+use Rattle.cq_world.proofs.Eaches.{Each, by_id}
+use Rattle.cq_world.proofs.Prefixes.{Prefixes}
+use Rattle.cq_world.proofs.Running.{Good, onward}
+use Rattle.cq_world.proofs.Settled.{is_settled, that_some}
+use Rattle.cq_world.proofs.Sights.{sight}
+use Rattle.cq_world.proofs.Stepping.{below-pred, forwarded_front}
 
 -- ---- lists of arrivals
 
@@ -61,105 +62,116 @@ arrivals-stamped last (e ∷ entries) (a ∷ arrivals) (inl (request, moment, re
     ((λ d among. elim among [ inl is ↦ subst (λ x. last ≤ x.moment) (sym is) first | inr there ↦ omega (arith, first, later.0 d there) ]), (later.0, later.1))
 arrivals-stamped last (e ∷ entries) (a ∷ arrivals) (inr rest) = arrivals-stamped last (e ∷ entries) arrivals rest
 
--- ---- the head
+-- the same, of a front
+pub arrivals-below : (last : ℕ) (xs ys : List Entry) (arrivals : List Arrival) → Front xs ys → AreArrivals last ys arrivals → AreArrivals last xs arrivals
+arrivals-below last xs ys arrivals h k = arrivals-front last xs h.0 arrivals (subst (λ us. AreArrivals last us arrivals) h.1 k)
 
--- the history of the first server holds these arrivals
-abbrev pub Heads : List Arrival → World → Type 0
-Heads arrivals w = AreArrivals 0 (w.server 1).entries arrivals
+-- ---- histories
 
--- where none arrives
-heads_same : (arrivals : List Arrival) (w new : World) → (new.server 1).entries ≡ (w.server 1).entries → Heads arrivals w → Heads (arrivals ++ []) new
-heads_same arrivals w new e h = subst (λ us. AreArrivals 0 us (arrivals ++ [])) (sym e) (arrivals-wider 0 (w.server 1).entries arrivals [] h)
+-- each history holds these arrivals
+abbrev pub Arrived : List Arrival → World → Type 0
+Arrived arrivals w = (id : ℕ) → AreArrivals 0 (w.server id).entries arrivals
 
--- a step that leaves the first server's history
-step_same : (w : World) (k : ℕ) (step : Step) → (k ≡ 1 → step.server.entries ≡ (w.server k).entries) → ((stepped w k step).server 1).entries ≡ (w.server 1).entries
-step_same w k step h = go (eqb 1 k) refl where
-  go : (t : Bool) → eqb 1 k ≡ t → (cond t step.server (w.server 1)).entries ≡ (w.server 1).entries
-  go true e = let one = sym (eqb-true 1 k e) in h one ∙ ap (λ j. (w.server j).entries) one
-  go false e = refl
+wider : (arrivals more : List Arrival) (w : World) → Arrived arrivals w → Arrived (arrivals ++ more) w
+wider arrivals more w h id = arrivals-wider 0 (w.server id).entries arrivals more (h id)
 
--- the first server is the head
-first_heads : (size id : ℕ) (s : Server) → IsPlaced size id s → id ≡ 1 → s.head ≡ true
-first_heads size id s h one = h.head ∙ eq-eqb id 1 one
+-- after a step of a server
+stepped_arrived : (arrivals more : List Arrival) (w : World) (k : ℕ) (step : Step) → AreArrivals 0 step.server.entries (arrivals ++ more) → Arrived arrivals w → Arrived (arrivals ++ more) (stepped w k step)
+stepped_arrived arrivals more w k step own h = by_id (λ id s. AreArrivals 0 s.entries (arrivals ++ more)) w.server k step.server own (wider arrivals more w h)
 
--- the head takes no entry from another server
-taking_same : (size : ℕ) (w : World) (id p : ℕ) (m : Message) → IsPlaced size id (w.server id) → Fits (w.server p).entries m → id ≡ 1 → (takes (parties.Server p) m (w.server id)).server.entries ≡ (w.server id).entries
+-- the history of a server that takes a message: as before, or a front of the sender's
+taken_front : (w : World) (p k : ℕ) (m : Message) → Prefixes (sight w) → Speaks (w.server p).entries m → (arrivals : List Arrival) → AreArrivals 0 (w.server k).entries arrivals → AreArrivals 0 (w.server p).entries arrivals → AreArrivals 0 (takes (parties.Server p) m (w.server k)).server.entries arrivals
 unfolding takes
-taking_same size w id p (Fwd place e) placed fit one = go (is_next (w.server id) p place e) refl where
-  go : (t : Bool) → is_next (w.server id) p place e ≡ t → (cond t (forwarded e (w.server id)) (silent (w.server id))).server.entries ≡ (w.server id).entries
-  go true accepts = absurd (headless size id (w.server id) p placed (first_heads size id (w.server id) placed one)
-      (that_some (w.server id).pred p (and_parts (is_that (w.server id).pred p) (eqb place (length (w.server id).entries + 1)) (and_parts (is_that (w.server id).pred p && eqb place (length (w.server id).entries + 1)) _ accepts).0).0))
-  go false ignores = refl
-taking_same size w id p (Snap entries) placed fit one = absurd fit
-taking_same size w id p (Ack n) placed fit one = go (nat_lt (w.server id).acked (min n (length (w.server id).entries))) where
-  go : (t : Bool) → (cond t (record { server = record (w.server id) { acked = min n (length (w.server id).entries); floor = max (w.server id).floor (min n (length (w.server id).entries)) }; sent = to_server (w.server id).pred (Ack (min n (length (w.server id).entries))) }) (silent (w.server id))).server.entries ≡ (w.server id).entries
-  go true = refl
-  go false = refl
-taking_same size w id p m placed fit one = refl
+taken_front w p k (Fwd place e) g says arrivals own theirs = go (is_next (w.server k) p place e) refl where
+  go : (t : Bool) → is_next (w.server k) p place e ≡ t → AreArrivals 0 (cond t (forwarded e (w.server k)) (silent (w.server k))).server.entries arrivals
+  go true accepts =
+      let is_pred = that_some (w.server k).pred p (and_parts (is_that (w.server k).pred p) (eqb place (length (w.server k).entries + 1)) (and_parts (is_that (w.server k).pred p && eqb place (length (w.server k).entries + 1)) (nat_le (last_moment (w.server k).entries) e.moment) accepts).0).0 in
+      subst (λ us. AreArrivals 0 us arrivals) (sym (is_settled (appended (w.server k) e)).entries)
+      (arrivals-below 0 ((w.server k).entries ++ e ∷ []) (w.server p).entries arrivals (forwarded_front (w.server k) (w.server p).entries p place e (below-pred (sight w) k p g is_pred) accepts says) theirs)
+  go false ignores = own
+taken_front w p k (Snap entries) g says arrivals own theirs = go (is_restoring (w.server k) p entries) where
+  go : (t : Bool) → AreArrivals 0 (cond t (restored entries (w.server k)) (silent (w.server k))).server.entries arrivals
+  go true = subst (λ us. AreArrivals 0 us arrivals) (sym (is_settled (with_history (w.server k) entries)).entries) (arrivals-below 0 entries (w.server p).entries arrivals says theirs)
+  go false = own
+taken_front w p k (Ack n) g says arrivals own theirs = go (nat_lt (w.server k).acked (min n (length (w.server k).entries))) where
+  go : (t : Bool) → AreArrivals 0 (cond t (record { server = record (w.server k) { acked = min n (length (w.server k).entries); floor = max (w.server k).floor (min n (length (w.server k).entries)) }; sent = to_server (w.server k).pred (Ack (min n (length (w.server k).entries))) }) (silent (w.server k))).server.entries arrivals
+  go true = own
+  go false = own
+taken_front w p k m g says arrivals own theirs = own
 
-take_same : (size : ℕ) (w : World) (id : ℕ) (from : Party) (m : Message) (ms : List Message) → IsPlaced size id (w.server id) → FitsFrom w.server from (m ∷ ms) → id ≡ 1 → (takes from m (w.server id)).server.entries ≡ (w.server id).entries
+-- one that takes a message of the master keeps its history
+told_same : (s : Server) (m : Message) → (takes parties.Master m s).server.entries ≡ s.entries
 unfolding takes
-take_same size w id parties.Master m ms placed fit one = absurd (cons_nil m ms fit)
-take_same size w id parties.Clients m ms placed fit one = refl
-take_same size w id (parties.Server p) m ms placed fit one = taking_same size w id p m placed fit.0 one
+told_same s BeHead = refl
+told_same s (Report p) = refl
+told_same s (Adopt succ have) = refl
+told_same s (BeTail least) = (is_settled (as_tail least s)).entries
+told_same s m = refl
 
-taken_same : (size : ℕ) (w : World) (from to : Party) (ms : List Message) → IsLine size w → knows w to ≡ true → FitsFrom w.server from ms → ((after_take w from to ms).server 1).entries ≡ (w.server 1).entries
-taken_same size w from to [] line known fit = refl
-taken_same size w from parties.Master (m ∷ ms) line known fit = refl
-taken_same size w from parties.Clients (m ∷ ms) line known fit = refl
-taken_same size w from (parties.Server id) (m ∷ ms) line known fit = step_same (without_first w from (parties.Server id)) id (takes from m (w.server id)) (take_same size w id from m ms (line.placed id known) fit)
+taken_arrived : (w : World) (from to : Party) (ms : List Message) (arrivals : List Arrival) → w.link from to ≡ ms → Prefixes (sight w) → Arrived arrivals w → Arrived (arrivals ++ []) (after_take w from to ms)
+unfolding takes
+taken_arrived w from to [] arrivals at g h = wider arrivals [] w h
+taken_arrived w from parties.Master (m ∷ ms) arrivals at g h = wider arrivals [] w h
+taken_arrived w from parties.Clients (m ∷ ms) arrivals at g h = wider arrivals [] w h
+taken_arrived w parties.Master (parties.Server k) (m ∷ ms) arrivals at g h = stepped_arrived arrivals [] (without_first w parties.Master (parties.Server k)) k (takes parties.Master m (w.server k))
+    (subst (λ us. AreArrivals 0 us (arrivals ++ [])) (sym (told_same (w.server k) m)) (wider arrivals [] w h k)) h
+taken_arrived w parties.Clients (parties.Server k) (m ∷ ms) arrivals at g h = stepped_arrived arrivals [] (without_first w parties.Clients (parties.Server k)) k (takes parties.Clients m (w.server k)) (wider arrivals [] w h k) h
+taken_arrived w (parties.Server p) (parties.Server k) (m ∷ ms) arrivals at g h = stepped_arrived arrivals [] (without_first w (parties.Server p) (parties.Server k)) k (takes (parties.Server p) m (w.server k))
+    (taken_front w p k m g (subst (λ us. Each (Speaks (w.server p).entries) (us ++ w.outbox (parties.Server p) (parties.Server k))) at (g.speaks p (parties.Server k))).0 (arrivals ++ []) (wider arrivals [] w h k) (wider arrivals [] w h p)) h
 
--- an arrival at the head
-arrived_more : (w : World) (id clock : ℕ) (request : Request) (arrivals : List Arrival) → id ≡ 1 → Heads arrivals w → Heads (arrivals ++ record { clock = clock; request = request } ∷ []) (stepped w id (arrived clock request (w.server id)))
+-- an arrival
+arrived_entry : (clock : ℕ) (request : Request) (s : Server) (arrivals : List Arrival) → AreArrivals 0 s.entries arrivals → AreArrivals 0 (arrived clock request s).server.entries (arrivals ++ record { clock = clock; request = request } ∷ [])
 unfolding arrived last_moment
-arrived_more w id clock request arrivals one h =
-    let e : Entry = stamped (w.server id).entries clock request in
-    let own = ap (λ b. (cond b (settled (appended (w.server id) e)) (w.server 1)).entries) (eq-eqb 1 id (sym one)) ∙ (is_settled (appended (w.server id) e)).entries in
-    let a : Arrival = record { clock = clock; request = request } in
-    subst (λ us. AreArrivals 0 us (arrivals ++ a ∷ [])) (sym own)
-    (arrivals-more 0 (w.server id).entries arrivals a e refl refl (subst (λ j. AreArrivals 0 (w.server j).entries arrivals) (sym one) h))
+arrived_entry clock request s arrivals h = subst (λ us. AreArrivals 0 us (arrivals ++ record { clock = clock; request = request } ∷ [])) (sym (is_settled (appended s (stamped s.entries clock request))).entries)
+    (arrivals-more 0 s.entries arrivals (record { clock = clock; request = request }) (stamped s.entries clock request) refl refl h)
 
-heads_next : (size : ℕ) (w : World) (event : Event) (arrivals : List Arrival) → IsLine size w → refusal_of w event ≡ None → Heads arrivals w → Heads (arrivals ++ arrival_if event None) (next w event)
-unfolding refusal_of next asked
-heads_next size w (Arrive at clock request) arrivals line free h =
-    let parts = known-parts (is_in w.master.used at) (refusal_of_arrival (w.server at)) free in
-    let placed = line.placed at parts.0 in
-    arrived_more w at clock request arrivals (eqb-true at 1 (sym placed.head ∙ at-head (w.server at) parts.1)) h
-heads_next size w (Ask at query) arrivals line free h = heads_same arrivals w (stepped w at (asked query (w.server at))) (step_same w at (asked query (w.server at)) (λ one. refl)) h
-heads_next size w (Put from to) arrivals line free h = arrivals-wider 0 (w.server 1).entries arrivals [] h
-heads_next size w (Take from to) arrivals line free h =
-    let parts = known-parts (knows w from && knows w to) (refusal_of_take w from to (w.link from to)) free in
-    heads_same arrivals w (after_take w from to (w.link from to)) (taken_same size w from to (w.link from to) line (and_parts (knows w from) (knows w to) parts.0).1 (line.links from to)) h
+asked_entries : (w : World) (k : ℕ) (query : Query) (arrivals : List Arrival) → Arrived arrivals w → AreArrivals 0 (asked query (w.server k)).server.entries arrivals
+unfolding asked
+asked_entries w k query arrivals h = h k
+
+-- ---- events
+
+next_arrived : (w : World) (event : Event) (arrivals : List Arrival) → Prefixes (sight w) → Arrived arrivals w → Arrived (arrivals ++ arrival_if event None) (next w event)
+unfolding next
+next_arrived w (Arrive at clock request) arrivals g h = stepped_arrived arrivals (record { clock = clock; request = request } ∷ []) w at (arrived clock request (w.server at)) (arrived_entry clock request (w.server at) arrivals (h at)) h
+next_arrived w (Ask at query) arrivals g h = stepped_arrived arrivals [] w at (asked query (w.server at)) (asked_entries w at query (arrivals ++ []) (wider arrivals [] w h)) h
+next_arrived w (Put from to) arrivals g h = wider arrivals [] w h
+next_arrived w (Take from to) arrivals g h = taken_arrived w from to (w.link from to) arrivals refl g h
+next_arrived w (Crash id) arrivals g h = stepped_arrived arrivals [] w id (crashed (w.server id)) (wider arrivals [] w h id) h
+next_arrived w (Detect id) arrivals g h = wider arrivals [] w h
+next_arrived w (Join id) arrivals g h = wider arrivals [] w h
 
 refused_none : (event : Event) (fault : WorldFault) → arrival_if event (Some fault) ≡ []
 refused_none (Arrive at clock request) fault = refl
-refused_none (Ask at query) fault = refl
-refused_none (Put from to) fault = refl
-refused_none (Take from to) fault = refl
+refused_none event fault = none_else event where
+  none_else : (other : Event) → arrival_if other (Some fault) ≡ []
+  none_else (Arrive at clock request) = refl
+  none_else (Ask at query) = refl
+  none_else (Put from to) = refl
+  none_else (Take from to) = refl
+  none_else (Crash id) = refl
+  none_else (Detect id) = refl
+  none_else (Join id) = refl
 
-heads_unless : (size : ℕ) (w : World) (event : Event) (refusal : Option WorldFault) (arrivals : List Arrival) → IsLine size w → refusal_of w event ≡ refusal → Heads arrivals w → Heads (arrivals ++ arrival_if event refusal) (unless_refused w event refusal)
-heads_unless size w event None arrivals line free h = heads_next size w event arrivals line free h
-heads_unless size w event (Some fault) arrivals line refused h = arrivals-wider 0 (w.server 1).entries arrivals (arrival_if event (Some fault)) h
+unless_arrived : (w : World) (event : Event) (refusal : Option WorldFault) (arrivals : List Arrival) → Prefixes (sight w) → Arrived arrivals w → Arrived (arrivals ++ arrival_if event refusal) (unless_refused w event refusal)
+unless_arrived w event None arrivals g h = next_arrived w event arrivals g h
+unless_arrived w event (Some fault) arrivals g h = wider arrivals (arrival_if event (Some fault)) w h
 
-heads_after : (size : ℕ) (w : World) (event : Event) (arrivals : List Arrival) → IsLine size w → Heads arrivals w → Heads (arrivals ++ arrival_if event (refusal_of w event)) (after w event)
+after_arrived : (w : World) (event : Event) (arrivals : List Arrival) → Prefixes (sight w) → Arrived arrivals w → Arrived (arrivals ++ arrival_if event (refusal_of w event)) (after w event)
 unfolding after
-heads_after size w event arrivals line h = heads_unless size w event (refusal_of w event) arrivals line refl h
+after_arrived w event arrivals g h = unless_arrived w event (refusal_of w event) arrivals g h
 
--- after all events the head has only what arrived
-heads_all : (size : ℕ) (events : List Event) (w : World) (arrivals : List Arrival) → IsLine size w → Heads arrivals w → Heads (arrivals ++ arrivals_from w events) (world_after w events)
+-- After all events each history holds only what arrived.
+pub all-arrived : (events : List Event) (w : World) (c : List Entry) (arrivals : List Arrival) → Good w (longest_at w c) → Arrived arrivals w → Arrived (arrivals ++ arrivals_from w events) (world_after w events)
 unfolding arrivals_from world_after
-heads_all size [] w arrivals line h = arrivals-wider 0 (w.server 1).entries arrivals [] h
-heads_all size (event ∷ events) w arrivals line h = subst (λ us. Heads us (world_after (after w event) events)) (append_assoc arrivals (arrival_if event (refusal_of w event)) (arrivals_from (after w event) events))
-    (heads_all size events (after w event) (arrivals ++ arrival_if event (refusal_of w event)) (passes size w event line).line (heads_after size w event arrivals line h))
+all-arrived [] w c arrivals good h = wider arrivals [] w h
+all-arrived (event ∷ events) w c arrivals good h = subst (λ us. Arrived us (world_after (after w event) events)) (append_assoc arrivals (arrival_if event (refusal_of w event)) (arrivals_from (after w event) events))
+    (all-arrived events (after w event) (longest_at w c) (arrivals ++ arrival_if event (refusal_of w event)) (onward w (longest_at w c) event good).good (after_arrived w event arrivals good.prefixes h))
 
--- at first the head has nothing
-first_empty : (size : ℕ) → Heads [] (first_world size)
+-- At first there is nothing in any history.
+pub first-arrived : (size : ℕ) → Arrived [] (first_world size)
 unfolding first_world
-first_empty size = go (is_in (numbers_from 1 size) 1) where
-  go : (t : Bool) → AreArrivals 0 (cond t (first_member size 1) joining).entries []
+first-arrived size id = go (is_in (numbers_from 1 size) id) where
+  go : (t : Bool) → AreArrivals 0 (cond t (first_member size id) joining).entries []
   go true = tt
   go false = tt
-
--- the same, for a run
-pub heads-of-run : (size : ℕ) (events : List Event) → Heads (arrivals_from (first_world size) events) (world_after (first_world size) events)
-heads-of-run size events = heads_all size events (first_world size) [] (line-first size) (first_empty size)

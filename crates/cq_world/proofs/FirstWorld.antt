@@ -3,7 +3,8 @@ use Rattle.std.proofs.Common.{◌≡◌, ℕ, zero, suc, ◌+◌, ◌∙◌, ◌
 use Rattle.std.proofs.lemmas.Bool.{cases_Bool, eqb-true}
 use Rattle.cq_base.specs.declared.party.Party.{Party}
 use Rattle.cq_chain.specs.declared.server.Server as rust_server
-use Rattle.cq_chain.specs.Servers.{Server, first_member, joining}
+use Rattle.cq_chain.specs.Masters.{first_master}
+use Rattle.cq_chain.specs.Servers.{first_member, joining}
 use Rattle.cq_chain.specs.Stands as chain
 use Rattle.cq_world.specs.Kept.{server_at, messages_at}
 use Rattle.cq_world.specs.Stands.{IsKeptAs, StandsFor}
@@ -44,13 +45,17 @@ is_in-more k (suc n) id =
 
 -- ---- servers
 
+-- what is kept of a server's number, where that is whether it is one of the first
+abbrev pub IsPlaced : ℕ → Option rust_server.Server → Bool → ℕ → Type 0
+IsPlaced size o b id = IsKeptAs o b (if b then first_member size id else joining) (λ _. [])
+
 -- so many servers are kept, as they stand at first
 abbrev pub IsLine : ℕ → ℕ → (ℕ → Option rust_server.Server) → Type 0
-IsLine size n f = (id : ℕ) → IsKeptAs (f id) (is_in (numbers_from 1 n) id) (first_member size id) (λ _. [])
+IsLine size n f = (id : ℕ) → IsPlaced size (f id) (is_in (numbers_from 1 n) id) id
 
 -- none
 pub no-line : (size : ℕ) (f : ℕ → Option rust_server.Server) → ((id : ℕ) → f id ≡ None) → IsLine size 0 f
-no-line size f none id = subst (λ o. IsKeptAs o (is_in (numbers_from 1 0) id) (first_member size id) (λ _. [])) (sym (none id)) (ap (λ xs. is_in xs id) (from-none 1), λ to. refl)
+no-line size f none id = subst (λ o. IsPlaced size o (is_in (numbers_from 1 0) id) id) (sym (none id)) (subst (λ b. IsPlaced size None b id) (sym (ap (λ xs. is_in xs id) (from-none 1))) (refl, refl, λ to. refl))
 
 -- one more
 pub more-line : (size n id : ℕ) (f g : ℕ → Option rust_server.Server) (kept : rust_server.Server) → id ≡ n + 1 → IsLine size n f
@@ -59,27 +64,23 @@ more-line size n id f g kept own h is made q =
     let next : n + 1 ≡ suc n = omega arith in
     let now = ap (λ m. is_in (numbers_from 1 m) q) next ∙ is_in-more 1 n q ∙ ap (λ j. is_in (numbers_from 1 n) q || (j == q)) (sym own) in
     elim (cases_Bool (id == q)) [
-      | inl same ↦ subst (λ o. IsKeptAs o (is_in (numbers_from 1 (n + 1)) q) (first_member size q) (λ _. [])) (sym (is q ∙ ap (λ b. cond b (Some kept) (f q)) same))
-          (now ∙ ap (λ b. is_in (numbers_from 1 n) q || b) same ∙ or_true (is_in (numbers_from 1 n) q), subst (λ j. chain.StandsFor kept (first_member size j) (λ _. [])) (eqb-true id q same) made)
-      | inr other ↦ subst (λ o. IsKeptAs o (is_in (numbers_from 1 (n + 1)) q) (first_member size q) (λ _. [])) (sym (is q ∙ ap (λ b. cond b (Some kept) (f q)) other))
-          (subst (λ b. IsKeptAs (f q) b (first_member size q) (λ _. [])) (sym (now ∙ ap (λ b. is_in (numbers_from 1 n) q || b) other ∙ or_false (is_in (numbers_from 1 n) q))) (h q))
+      | inl same ↦ subst (λ o. IsPlaced size o (is_in (numbers_from 1 (n + 1)) q) q) (sym (is q ∙ ap (λ b. cond b (Some kept) (f q)) same))
+          (subst (λ b. IsPlaced size (Some kept) b q) (sym (now ∙ ap (λ b. is_in (numbers_from 1 n) q || b) same ∙ or_true (is_in (numbers_from 1 n) q)))
+          (refl, subst (λ j. chain.StandsFor kept (first_member size j) (λ _. [])) (eqb-true id q same) made))
+      | inr other ↦ subst (λ o. IsPlaced size o (is_in (numbers_from 1 (n + 1)) q) q) (sym (is q ∙ ap (λ b. cond b (Some kept) (f q)) other))
+          (subst (λ b. IsPlaced size (f q) b q) (sym (now ∙ ap (λ b. is_in (numbers_from 1 n) q || b) other ∙ or_false (is_in (numbers_from 1 n) q))) (h q))
     ]
   where
     or_true : (a : Bool) → (a || true) ≡ true
     or_true true = refl
     or_true false = refl
 
--- in a server's place the first world has what it is at first
-placed : (o : Option rust_server.Server) (known : Bool) (s t : Server) → IsKeptAs o known s (λ _. []) → IsKeptAs o known (if known then s else t) (λ _. [])
-placed None known s t h = h
-placed (Some kept) known s t h = (h.0, subst (λ b. chain.StandsFor kept (if b then s else t) (λ _. [])) (sym h.0) h.1)
-
 -- all of them, and no messages
-pub first-stands : (sim : Sim) (size : ℕ) → IsLine size size (λ id. server_at sim.servers id) → ((from to : Party) → messages_at sim.links from to ≡ []) → StandsFor sim (first_world size)
+pub first-stands : (sim : Sim) (size : ℕ) → IsLine size size (λ id. server_at sim.servers id) → ((from to : Party) → messages_at sim.links from to ≡ []) → chain.IsMaster sim.master (first_master size) (λ _. []) → StandsFor sim (first_world size)
 unfolding first_world
-first-stands sim size line none = stands sim (first_world size) (record {
-  servers = λ id. placed (server_at sim.servers id) (is_in (numbers_from 1 size) id) (first_member size id) joining (line id);
+first-stands sim size line none master = stands sim (first_world size) (record {
+  servers = line;
   links = λ from to. subst (λ ms. chain.AllMean ms []) (sym (none from to)) tt;
-  master = λ to. refl;
+  master = master;
   clients = λ to. refl;
 })

@@ -1,21 +1,22 @@
--- Only answers that were made are given, whatever happens.
-use Rattle.std.proofs.Common.{◌≡◌, ℕ, ◌+◌, ap, sym, List, [], ◌∷◌, ◌++◌, drop, Option, Some, None, Bool, true, false, cond, inl, inr, subst, refl, append-nil, append_assoc}
+-- Only answers that were made are given.
+use Rattle.std.proofs.Common.{◌≡◌, ℕ, ◌+◌, ◌∙◌, ap, sym, List, [], ◌∷◌, ◌++◌, drop, Option, Some, None, Bool, true, false, cond, ◌&&◌, not, eqb, inl, inr, subst, refl, append-nil, append_assoc}
 use Rattle.cq_base.specs.declared.party.Party.{Party}
 use Rattle.cq_base.specs.declared.party.Party.TheVariants as parties
 use Rattle.cq_base.specs.Relations.{Among}
 use Rattle.cq_base.proofs.Among.{among-append, among-left, among-right}
 use Rattle.cq_chain.specs.declared.fault.WorldFault.{WorldFault}
 use Rattle.cq_chain.specs.declared.message.Answer.{Answer}
-use Rattle.cq_chain.specs.Messages.{Message, Answers}
+use Rattle.cq_chain.specs.Messages.{Message, BeHead, Report, Adopt, BeTail, Have, Adopted, Ready, Answers}
+use Rattle.cq_chain.specs.Masters.{Master, Order, is_last, stands_before, closing, said_of_loss, said_of_join, no_order, detected, joined, hears, hears_from}
 use Rattle.cq_chain.specs.Parties.{same, addressed}
-use Rattle.cq_chain.specs.Steps.{Step, takes, arrived, asked}
-use Rattle.cq_world.specs.Worlds.{World, first_world, stepped}
+use Rattle.cq_chain.specs.Steps.{Step, takes, arrived, asked, crashed}
+use Rattle.cq_world.specs.Worlds.{World, first_world, stepped, ordered}
 use Rattle.cq_world.specs.Events.{refusal_of, after, next, unless_refused, answers_in, first_of, head_of, given_to, given_by, after_put, after_take, without_first}
 use Rattle.cq_world.specs.Runs.{numbered, given_if, given_from, sent_by_taking, made_if, made_from, made}
 use Rattle.cq_world.specs.declared.event.Event.{Event}
-use Rattle.cq_world.specs.declared.event.Event.TheVariants.{Arrive, Ask, Put, Take}
+use Rattle.cq_world.specs.declared.event.Event.TheVariants.{Arrive, Ask, Put, Take, Crash, Detect, Join}
 use Rattle.cq_world.proofs.Eaches.{Each, each-append, each-follows, each-drop, some_none}
-use Rattle.cq_world.proofs.Lines.{by_pair, same-true}
+use Rattle.cq_world.proofs.Parties.{by_pair, same-true}
 
 -- an answer that waits is one of these
 abbrev pub IsOf : List Answer → Message → Type 0
@@ -69,9 +70,70 @@ waiting_step made w k step h from = sends_keep (same from (parties.Server k)) ma
 waiting_same : (made : List Answer) (w : World) → Waiting made w → Waiting (made ++ []) w
 waiting_same made w h = subst (λ us. Waiting us w) (sym (append-nil made)) h
 
+-- an order of the master that says nothing to the clients
+waiting_ordered : (made : List Answer) (w : World) (order : Order) → addressed parties.Clients order.said ≡ [] → Waiting made w → Waiting (made ++ []) (ordered w order)
+waiting_ordered made w order none h from = subst (λ us. Each (IsOf us) ((ordered w order).outbox from parties.Clients)) (sym (append-nil made)) (go (same from parties.Master)) where
+  go : (t : Bool) → Each (IsOf made) (cond t (w.outbox from parties.Clients ++ addressed parties.Clients order.said) (w.outbox from parties.Clients))
+  go true = subst (λ us. Each (IsOf made) us) (sym (ap (λ us. w.outbox from parties.Clients ++ us) none ∙ append-nil (w.outbox from parties.Clients))) (h from)
+  go false = h from
+
+-- the master says nothing to the clients
+closing_silent : (p id : ℕ) (us : List ℕ) → addressed parties.Clients (closing p id us) ≡ []
+closing_silent p id [] = refl
+closing_silent p id (a ∷ []) = go (eqb a id) where
+  go : (t : Bool) → addressed parties.Clients (cond t ((parties.Server p, BeTail 0) ∷ []) []) ≡ []
+  go true = refl
+  go false = refl
+closing_silent p id (a ∷ b ∷ rest) = go (eqb a id) (closing_silent a id (b ∷ rest)) where
+  go : (t : Bool) → addressed parties.Clients (closing a id (b ∷ rest)) ≡ [] → addressed parties.Clients (cond t ((parties.Server b, Report p) ∷ []) (closing a id (b ∷ rest))) ≡ []
+  go true e = refl
+  go false e = e
+
+loss_silent : (id : ℕ) (chain : List ℕ) → addressed parties.Clients (said_of_loss id chain) ≡ []
+loss_silent id [] = refl
+loss_silent id (a ∷ []) = refl
+loss_silent id (a ∷ b ∷ rest) = go (eqb a id) where
+  go : (t : Bool) → addressed parties.Clients (cond t ((parties.Server b, BeHead) ∷ []) (closing a id (b ∷ rest))) ≡ []
+  go true = refl
+  go false = closing_silent a id (b ∷ rest)
+
+detected_silent : (id : ℕ) (m : Master) → addressed parties.Clients (detected id m).said ≡ []
+unfolding detected
+detected_silent id m = loss_silent id m.chain
+
+join_silent : (id : ℕ) (chain : List ℕ) → addressed parties.Clients (said_of_join id chain) ≡ []
+join_silent id [] = refl
+join_silent id (a ∷ []) = refl
+join_silent id (a ∷ b ∷ rest) = join_silent id (b ∷ rest)
+
+joined_silent : (id : ℕ) (m : Master) → addressed parties.Clients (joined id m).said ≡ []
+unfolding joined
+joined_silent id m = join_silent id m.chain
+
+hears_silent : (from : ℕ) (m : Message) (master : Master) → addressed parties.Clients (hears from m master).said ≡ []
+unfolding hears
+hears_silent from (Have p count) master = go (stands_before p from master.chain) where
+  go : (t : Bool) → addressed parties.Clients (cond t (record { master = master; said = (parties.Server p, Adopt from count) ∷ [] }) (no_order master)).said ≡ []
+  go true = refl
+  go false = refl
+hears_silent from (Adopted s count) master = go (is_last master.chain s && not master.told) where
+  go : (t : Bool) → addressed parties.Clients (cond t (record { master = record master { told = true }; said = (parties.Server s, BeTail count) ∷ [] }) (no_order master)).said ≡ []
+  go true = refl
+  go false = refl
+hears_silent from Ready master = go (is_last master.chain from) where
+  go : (t : Bool) → addressed parties.Clients (cond t (record { master = record master { ready = true }; said = [] }) (no_order master)).said ≡ []
+  go true = refl
+  go false = refl
+hears_silent from m master = refl
+
+heard_silent : (from : Party) (m : Message) (w : World) → addressed parties.Clients (hears_from from m w.master).said ≡ []
+heard_silent parties.Master m w = refl
+heard_silent parties.Clients m w = refl
+heard_silent (parties.Server p) m w = hears_silent p m w.master
+
 waiting_taken : (made : List Answer) (w : World) (from to : Party) (ms : List Message) → Waiting made w → Waiting (made ++ answers_in (addressed parties.Clients (sent_by_taking w from to ms))) (after_take w from to ms)
 waiting_taken made w from to [] h = waiting_same made w h
-waiting_taken made w from parties.Master (m ∷ ms) h = waiting_same made (without_first w from parties.Master) h
+waiting_taken made w from parties.Master (m ∷ ms) h = waiting_ordered made (without_first w from parties.Master) (hears_from from m w.master) (heard_silent from m w) h
 waiting_taken made w from parties.Clients (m ∷ ms) h = waiting_same made (without_first w from parties.Clients) h
 waiting_taken made w from (parties.Server id) (m ∷ ms) h = waiting_step made (without_first w from (parties.Server id)) id (takes from m (w.server id)) h
 
@@ -85,6 +147,9 @@ waiting_next made w (Put from to) h = waiting_same made (after_put w from to)
     (λ is. subst (λ p. Each (IsOf made) (drop 1 (w.outbox from p))) (sym (same-true to parties.Clients is)) (each-drop (IsOf made) (w.outbox from parties.Clients) (h from)))
     (λ a b is. subst (λ p. Each (IsOf made) (w.outbox a p)) (sym (same-true b parties.Clients is)) (h a)) x parties.Clients refl)
 waiting_next made w (Take from to) h = waiting_taken made w from to (w.link from to) h
+waiting_next made w (Crash id) h = waiting_step made w id (crashed (w.server id)) h
+waiting_next made w (Detect id) h = waiting_ordered made w (detected id w.master) (detected_silent id w.master) h
+waiting_next made w (Join id) h = waiting_ordered made w (joined id w.master) (joined_silent id w.master) h
 
 waiting_unless : (made : List Answer) (w : World) (event : Event) (refusal : Option WorldFault) → Waiting made w → Waiting (made ++ made_if w event refusal) (unless_refused w event refusal)
 waiting_unless made w event None h = waiting_next made w event h
@@ -119,6 +184,9 @@ given_event made w (Arrive at clock request) None a h e = absurd (some_none a (s
 given_event made w (Ask at query) None a h e = absurd (some_none a (sym e))
 given_event made w (Put from to) None a h e = given_to_party made w from to a h e
 given_event made w (Take from to) None a h e = absurd (some_none a (sym e))
+given_event made w (Crash id) None a h e = absurd (some_none a (sym e))
+given_event made w (Detect id) None a h e = absurd (some_none a (sym e))
+given_event made w (Join id) None a h e = absurd (some_none a (sym e))
 given_event made w event (Some fault) a h e = absurd (some_none a (sym e))
 
 given_numbered : (made : List Answer) (n k : ℕ) (given : Option Answer) (a : Answer) → ((b : Answer) → given ≡ Some b → Among b made) → Among (k, a) (numbered n given) → Among a made

@@ -109,7 +109,7 @@ without_absent id (x ∷ ids) h = let parts = or_parts (eqb x id) (is_in ids id)
     ap (λ b. cond (not b) (x ∷ without id ids) (without id ids)) parts.0 ∙ ap (λ us. x ∷ us) (without_absent id ids parts.1)
 
 -- who is among the others is among all, and is another one
-in-without : (id : ℕ) (ids : List ℕ) (j : ℕ) → is_in (without id ids) j ≡ true → (is_in ids j ≡ true) × (eqb j id ≡ false)
+pub in-without : (id : ℕ) (ids : List ℕ) (j : ℕ) → is_in (without id ids) j ≡ true → (is_in ids j ≡ true) × (eqb j id ≡ false)
 in-without id [] j h = absurd (false≢true h)
 in-without id (x ∷ ids) j h = go (eqb x id) refl (in-without id ids j) h where
   go : (b : Bool) → eqb x id ≡ b → (is_in (without id ids) j ≡ true → (is_in ids j ≡ true) × (eqb j id ≡ false)) → is_in (cond (not b) (x ∷ without id ids) (without id ids)) j ≡ true → ((eqb x j || is_in ids j) ≡ true) × (eqb j id ≡ false)
@@ -151,11 +151,11 @@ record Closed (v : Sight) (m : Master) (a id : ℕ) (rest : List ℕ) (out : Lis
   silent : (j : ℕ) → eqb a j ≡ false → is_in rest j ≡ false → told_to j out ≡ []
 
 -- numbers that differ differ the other way round
-eqb_turned : (a b : ℕ) → eqb a b ≡ false → eqb b a ≡ false
+pub eqb_turned : (a b : ℕ) → eqb a b ≡ false → eqb b a ≡ false
 eqb_turned a b h = ne_eqb b a (λ e. both_ways (eqb a b) h (eq-eqb a b (sym e)))
 
 -- what one message tells
-one_told : (j to : ℕ) (m : Message) (t : Bool) → eqb j to ≡ t → told_to j ((parties.Server to, m) ∷ []) ≡ cond t (m ∷ []) []
+pub one_told : (j to : ℕ) (m : Message) (t : Bool) → eqb j to ≡ t → told_to j ((parties.Server to, m) ∷ []) ≡ cond t (m ∷ []) []
 one_told j to m t e = ap (λ b. cond b (m ∷ []) []) e
 
 calm_one : (m : Message) (t : Bool) → NoHead (m ∷ []) → NoHead (cond t (m ∷ []) [])
@@ -222,7 +222,7 @@ closed v m id (x ∷ y ∷ rest) a apart l there down climbs = go (eqb x id) ref
   }
 
 -- a member behind the first has predecessors
-linked_some : (v : Sight) (a : ℕ) (rest : List ℕ) (s : ℕ) → Linked v a rest → Among s rest → ups v s ≡ [] → ⊥
+pub linked_some : (v : Sight) (a : ℕ) (rest : List ℕ) (s : ℕ) → Linked v a rest → Among s rest → ups v s ≡ [] → ⊥
 linked_some v a [] s l among none = absurd among
 linked_some v a (x ∷ rest) s l (inl e) none = false≢true (sym (ap (λ us. is_last us a) (ap (λ i. ups v i) (sym e) ∙ none)) ∙ l.0)
 linked_some v a (x ∷ rest) s l (inr among) none = linked_some v x rest s l.1 among none
@@ -353,32 +353,32 @@ in_of (x ∷ ids) s (inl e) = or_left (eqb x s) (is_in ids s) (eq-eqb x s (sym e
 in_of (x ∷ ids) s (inr among) = or_right (eqb x s) (is_in ids s) (in_of ids s among)
 
 -- the last of a list that begins with that one
-abbrev last_of : ℕ → List ℕ → ℕ
+abbrev pub last_of : ℕ → List ℕ → ℕ
 last_of a [] = a
 last_of a (b ∷ rest) = last_of b rest
 
-join_told : (id a : ℕ) (rest : List ℕ) → said_of_join id (a ∷ rest) ≡ (parties.Server id, Report (last_of a rest)) ∷ []
+pub join_told : (id a : ℕ) (rest : List ℕ) → said_of_join id (a ∷ rest) ≡ (parties.Server id, Report (last_of a rest)) ∷ []
 join_told id a [] = refl
 join_told id a (b ∷ rest) = join_told id b rest
 
 -- who is among more is among these, or is the one more
-in_more : (ids : List ℕ) (id j : ℕ) → is_in (ids ++ id ∷ []) j ≡ true → (is_in ids j ≡ true) ⊎ (eqb id j ≡ true)
+pub in_more : (ids : List ℕ) (id j : ℕ) → is_in (ids ++ id ∷ []) j ≡ true → (is_in ids j ≡ true) ⊎ (eqb id j ≡ true)
 in_more [] id j h = elim (or_cases (eqb id j) false h) [ inl e ↦ inr e | inr none ↦ absurd (false≢true none) ]
 in_more (x ∷ ids) id j h = elim (or_cases (eqb x j) (is_in (ids ++ id ∷ []) j) h) [
   | inl e ↦ inl (or_left (eqb x j) (is_in ids j) e)
   | inr r ↦ elim (in_more ids id j r) [ inl k ↦ inl (or_right (eqb x j) (is_in ids j) k) | inr k ↦ inr k ]
 ]
 
-in_left : (ids : List ℕ) (id j : ℕ) → is_in ids j ≡ true → is_in (ids ++ id ∷ []) j ≡ true
+pub in_left : (ids : List ℕ) (id j : ℕ) → is_in ids j ≡ true → is_in (ids ++ id ∷ []) j ≡ true
 in_left [] id j h = absurd (false≢true h)
 in_left (x ∷ ids) id j h = elim (or_cases (eqb x j) (is_in ids j) h) [ inl e ↦ or_left (eqb x j) (is_in (ids ++ id ∷ []) j) e | inr r ↦ or_right (eqb x j) (is_in (ids ++ id ∷ []) j) (in_left ids id j r) ]
 
-in_end : (ids : List ℕ) (id : ℕ) → is_in (ids ++ id ∷ []) id ≡ true
+pub in_end : (ids : List ℕ) (id : ℕ) → is_in (ids ++ id ∷ []) id ≡ true
 in_end [] id = or_left (eqb id id) false (eq-eqb id id refl)
 in_end (x ∷ ids) id = or_right (eqb x id) (is_in (ids ++ id ∷ []) id) (in_end ids id)
 
 -- what isn't among more is neither
-out_more : (ids : List ℕ) (id j : ℕ) → is_in (ids ++ id ∷ []) j ≡ false → (is_in ids j ≡ false) × (eqb id j ≡ false)
+pub out_more : (ids : List ℕ) (id j : ℕ) → is_in (ids ++ id ∷ []) j ≡ false → (is_in ids j ≡ false) × (eqb id j ≡ false)
 out_more [] id j h = (refl, (or_parts (eqb id j) false h).0)
 out_more (x ∷ ids) id j h = let parts = or_parts (eqb x j) (is_in (ids ++ id ∷ []) j) h in let rest = out_more ids id j parts.1 in (ap (λ b. b || is_in ids j) parts.0 ∙ rest.0, rest.1)
 

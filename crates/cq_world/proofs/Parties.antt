@@ -1,9 +1,11 @@
 -- When two parties are the same.
-use Rattle.std.proofs.Common.{◌≡◌, ℕ, ◌∙◌, ap, sym, refl, Bool, true, false, ◌&&◌, ◌==◌, inl, inr}
-use Rattle.std.proofs.lemmas.Bool.{eqb-true, eqb-false, eq-eqb, ne_eqb, cases_Bool}
+use Rattle.std.proofs.Common.{◌≡◌, ℕ, ◌∙◌, ap, sym, refl, subst, cond, List, Bool, true, false, ◌&&◌, ◌==◌, inl, inr}
+use Rattle.std.proofs.lemmas.Bool.{eqb-true, eqb-false, eq-eqb, ne_eqb, cases_Bool, and_parts}
 use Rattle.cq_base.specs.declared.party.Party.{Party}
 use Rattle.cq_base.specs.declared.party.Party.TheVariants.{Master, Clients, Server}
+use Rattle.cq_chain.specs.Messages.{Message}
 use Rattle.cq_chain.specs.Parties.{same}
+use Rattle.cq_world.specs.Worlds.{set_pair}
 
 pub same-true : (a b : Party) → same a b ≡ true → a ≡ b
 same-true Master Master h = refl
@@ -46,3 +48,10 @@ same-turned Clients (Server b) = refl
 same-turned (Server a) Master = refl
 same-turned (Server a) Clients = refl
 same-turned (Server a) (Server b) = eqb-turned a b
+
+-- what is the same but from one party to one other
+pub by_pair : (P : Party → Party → List Message → Type 0) (f : Party → Party → List Message) (from to : Party) (ms : List Message) → P from to ms → ((x y : Party) → P x y (f x y)) → (x y : Party) → P x y (set_pair f from to ms x y)
+by_pair P f from to ms own others x y = go (same x from && same y to) refl where
+  go : (t : Bool) → (same x from && same y to) ≡ t → P x y (cond t ms (f x y))
+  go true e = let both = and_parts (same x from) (same y to) e in subst (λ z. P z y ms) (sym (same-true x from both.0)) (subst (λ z. P from z ms) (sym (same-true y to both.1)) own)
+  go false e = others x y

@@ -13,7 +13,7 @@ use Rattle.cq_chain.specs.Servers.{Server, joining}
 use Rattle.cq_world.specs.Laws.{Speaks}
 use Rattle.cq_world.specs.Worlds.{set_at, set_pair}
 use Rattle.cq_world.proofs.Eaches.{Each, each-append, each-follows, each-addressed, front-trans}
-use Rattle.cq_world.proofs.Lines.{same-true}
+use Rattle.cq_world.proofs.Parties.{same-true}
 use Rattle.cq_world.proofs.Climbing.{reports, one, ups, Climbs, Grows, climbs-other}
 use Rattle.cq_world.proofs.Sights.{Sight, turn}
 
@@ -107,7 +107,7 @@ turn_grows v from k rest s out t = record {
 }
 
 -- what the master has for a server after the turn, if it is that one or another
-row_after : (v : Sight) (from : Party) (k : ℕ) (rest : List Message) (s : Server) (out : List (Party × Message)) (j : ℕ) (b : Bool) → eqb j k ≡ b
+pub row_after : (v : Sight) (from : Party) (k : ℕ) (rest : List Message) (s : Server) (out : List (Party × Message)) (j : ℕ) (b : Bool) → eqb j k ≡ b
     → (turn v from k rest s out).channel parties.Master (parties.Server j) ≡ cond b (master_after v from k rest) (v.channel parties.Master (parties.Server j))
 row_after v from k rest s out j b e = ap (λ c. cond (same parties.Master from && c) rest (v.channel parties.Master (parties.Server j))) e ∙ go b e where
   go : (c : Bool) → eqb j k ≡ c → cond (same parties.Master from && c) rest (v.channel parties.Master (parties.Server j)) ≡ cond c (master_after v from k rest) (v.channel parties.Master (parties.Server j))

@@ -1,8 +1,9 @@
 -- Worked lists of events, each computed by the definitions to what the rules of the chain give. The results were
 -- worked out by hand.
-use Rattle.std.proofs.Common.{◌≡◌, ℕ, List, [], ◌∷◌, ◌++◌, map, false, codes, refl}
+use Rattle.std.proofs.Common.{◌≡◌, ℕ, List, [], ◌∷◌, ◌++◌, map, length, true, false, codes, refl}
 use Rattle.cq_base.specs.declared.ask.Ask.{Ask}
 use Rattle.cq_base.specs.declared.ask.Ask.TheVariants.{Create, Send}
+use Rattle.cq_base.specs.declared.party.Party.{Party}
 use Rattle.cq_base.specs.declared.party.Party.TheVariants.{Master, Clients, Server}
 use Rattle.cq_base.specs.declared.reply.Reply.TheVariants.{Created, Sent, Counts}
 use Rattle.cq_base.specs.Clients.{of_client, is_fresh}
@@ -11,13 +12,15 @@ use Rattle.cq_base.specs.Facts.{about, on}
 use Rattle.cq_base.specs.History.{fresh_fact, fact_of, history, reply_to, last_moment, counts_after}
 use Rattle.cq_base.specs.Lifetimes.{live, creations, removed_lately}
 use Rattle.cq_base.specs.Messages.{messages, duplicate, hands, touches, until, is_deleted, message_of, standing}
-use Rattle.cq_chain.specs.declared.fault.WorldFault.TheVariants.{NoSuchServer, LinkEmpty, OutboxEmpty, NotHead, NotTail}
+use Rattle.cq_chain.specs.declared.fault.WorldFault.TheVariants.{NoSuchServer, ServerDown, LinkEmpty, OutboxEmpty, LastFull, JoinPending, IdUsed, ChainFull, NotDown, NotHead, NotTail}
 use Rattle.cq_chain.specs.declared.message.Answer.{Answer}
+use Rattle.cq_chain.specs.Masters.{detected, joined, hears, refusal_of_detection, refusal_of_join}
 use Rattle.cq_chain.specs.Refusals.{refusal_of_arrival, refusal_of_query, refusal_of_taking}
-use Rattle.cq_chain.specs.Steps.{arrived, asked, takes}
+use Rattle.cq_chain.specs.Servers.{acts}
+use Rattle.cq_chain.specs.Steps.{arrived, asked, takes, forwards}
 use Rattle.cq_world.specs.Events.{refusal_of, next, after, given_by}
 use Rattle.cq_world.specs.Runs.{world_after, given_from, refused_from, made_from, made, longest_at, longest_from, committed}
-use Rattle.cq_world.specs.Worlds.{numbers_from, first_world}
+use Rattle.cq_world.specs.Worlds.{World, numbers_from, first_world}
 use Rattle.cq_world.specs.declared.event.Event.{Event}
 use Rattle.cq_world.specs.declared.event.Event.TheVariants as events
 
@@ -87,3 +90,99 @@ two_made = refl
 two_replies : map (λ a. a.reply) (made 3 two) ≡ Created 1 ∷ Counts 0 0 ∷ Sent 1 ∷ []
 unfolding made made_from after next refusal_of first_world numbers_from refusal_of_arrival refusal_of_query refusal_of_taking arrived asked takes reply_to counts_after history fact_of fresh_fact is_fresh of_client about on live removed_lately creations effect_of effect_on effect_off last_moment messages duplicate standing message_of hands touches until is_deleted
 two_replies = refl
+
+-- ---- changes that are refused
+
+abbrev alone : List Event
+alone = events.Crash 1 ∷ events.Detect 1 ∷ events.Detect 9 ∷ events.Join 1 ∷ events.Join 2 ∷ events.Join 3 ∷ []
+
+alone_refused : refused_from 1 (first_world 1) alone ≡ (1, LastFull) ∷ (2, NotDown) ∷ (3, NoSuchServer) ∷ (4, IdUsed) ∷ (6, JoinPending) ∷ []
+unfolding refused_from after next refusal_of first_world numbers_from joined refusal_of_join
+alone_refused = refl
+
+eight_refused : refused_from 1 (first_world 8) (events.Join 9 ∷ []) ≡ (1, ChainFull) ∷ []
+unfolding refused_from after refusal_of first_world numbers_from refusal_of_join
+eight_refused = refl
+
+abbrev dead : List Event
+dead = arrive 1 0 1 create ∷ events.Put (Server 1) (Server 2) ∷ events.Crash 2 ∷ events.Crash 2 ∷ events.Put (Server 2) (Server 3) ∷ events.Take (Server 1) (Server 2) ∷ events.Detect 3 ∷ events.Detect 2 ∷ events.Detect 2 ∷ []
+
+dead_refused : refused_from 1 (first_world 3) dead ≡ (4, ServerDown) ∷ (5, ServerDown) ∷ (6, ServerDown) ∷ (7, NotDown) ∷ (9, NoSuchServer) ∷ []
+unfolding refused_from after next refusal_of first_world numbers_from refusal_of_arrival arrived last_moment detected refusal_of_detection
+dead_refused = refl
+
+-- ---- the server in the middle is lost
+
+-- the first message from one party to another is put, and taken
+abbrev pass : Party → Party → List Event
+pass from to = events.Put from to ∷ events.Take from to ∷ []
+
+abbrev middle : List Event
+middle = arrive 1 0 1 create ∷ arrive 1 0 2 create ∷ arrive 1 0 3 create ∷ (move 1 2 ++ (move 1 2 ++ (move 1 2 ++ (events.Put (Server 2) (Server 3) ∷ events.Put (Server 2) (Server 3) ∷ events.Crash 2 ∷ events.Detect 2 ∷ events.Put Master (Server 3) ∷ events.Take (Server 2) (Server 3) ∷ events.Take Master (Server 3) ∷ events.Take (Server 2) (Server 3) ∷ (pass (Server 3) Master ++ (pass Master (Server 1) ++ (move 1 3 ++ (move 1 3))))))))
+
+middle_lengths : map (λ a. a.length) (made 3 middle) ≡ 1 ∷ 2 ∷ 3 ∷ []
+unfolding made made_from after next refusal_of first_world numbers_from refusal_of_arrival refusal_of_taking arrived takes forwards detected hears refusal_of_detection reply_to history fact_of fresh_fact is_fresh of_client about live removed_lately creations effect_of effect_off last_moment
+middle_lengths = refl
+
+-- ---- a server joins, is told to act before the snapshot comes, and takes that after its sender was detected
+
+abbrev told_first : List Event
+told_first = arrive 1 0 1 create ∷ arrive 1 0 2 send ∷ (move 1 2 ++ (move 1 2 ++ (move 2 1 ++ (move 2 1 ++ (events.Join 3 ∷ (pass Master (Server 3) ++ (pass (Server 3) Master ++ (pass Master (Server 2) ++ (events.Put (Server 2) (Server 3) ∷ (pass (Server 2) Master ++ (events.Crash 2 ∷ events.Detect 2 ∷ (pass Master (Server 3)))))))))))))
+
+abbrev snapshot_after : List Event
+snapshot_after = events.Take (Server 2) (Server 3) ∷ events.Put (Server 3) Clients ∷ (pass (Server 3) Master ++ (pass Master (Server 3) ++ (pass (Server 3) Master ++ (pass Master (Server 1) ++ (events.Put (Server 1) (Server 3) ∷ arrive 1 0 3 create ∷ (move 1 3))))))
+
+joining_refused : refused_from 1 (first_world 2) (told_first ++ snapshot_after) ≡ (26, OutboxEmpty) ∷ (35, OutboxEmpty) ∷ []
+unfolding refused_from after next refusal_of first_world numbers_from refusal_of_arrival refusal_of_taking arrived takes forwards detected joined hears refusal_of_detection refusal_of_join last_moment
+joining_refused = refl
+
+joining_lengths : map (λ a. a.length) (made 2 (told_first ++ snapshot_after)) ≡ 1 ∷ 2 ∷ 3 ∷ []
+unfolding made made_from after next refusal_of first_world numbers_from refusal_of_arrival refusal_of_taking arrived takes forwards detected joined hears refusal_of_detection refusal_of_join reply_to history fact_of fresh_fact is_fresh of_client about live removed_lately creations effect_of effect_off last_moment
+joining_lengths = refl
+
+-- ---- the middle one of three is lost, with an entry in its outbox and two on the way
+
+abbrev lost : List Event
+lost = arrive 1 0 1 create ∷ arrive 1 0 2 send ∷ arrive 1 0 3 send ∷ (move 1 2 ++ (move 1 2 ++ (move 1 2 ++ (events.Put (Server 2) (Server 3) ∷ events.Put (Server 2) (Server 3) ∷ events.Crash 2 ∷ []))))
+
+abbrev repaired : List Event
+repaired = lost ++ (events.Detect 2 ∷ (events.Put Master (Server 3) ∷ events.Take (Server 2) (Server 3) ∷ events.Take Master (Server 3) ∷ events.Take (Server 2) (Server 3) ∷ (pass (Server 3) Master ++ pass Master (Server 1))))
+
+abbrev found : World → ℕ × ℕ × ℕ × ℕ
+found w = (length (w.outbox (Server 2) (Server 3)), length (w.link (Server 2) (Server 3)), length (w.outbox (Server 1) (Server 3)), length (w.server 3).entries)
+
+lost_waiting : found (world_after (first_world 3) lost) ≡ (1, 2, 0, 0)
+unfolding world_after after next refusal_of first_world numbers_from refusal_of_arrival refusal_of_query refusal_of_taking refusal_of_detection refusal_of_join arrived asked takes forwards detected joined hears reply_to history fact_of fresh_fact is_fresh of_client about on live removed_lately creations effect_of effect_on effect_off last_moment messages duplicate standing message_of hands touches until is_deleted
+lost_waiting = refl
+
+repaired_waiting : found (world_after (first_world 3) repaired) ≡ (1, 0, 2, 1)
+unfolding world_after after next refusal_of first_world numbers_from refusal_of_arrival refusal_of_query refusal_of_taking refusal_of_detection refusal_of_join arrived asked takes forwards detected joined hears reply_to history fact_of fresh_fact is_fresh of_client about on live removed_lately creations effect_of effect_on effect_off last_moment messages duplicate standing message_of hands touches until is_deleted
+repaired_waiting = refl
+
+-- ---- a server joins, and the one that feeds it is lost
+
+abbrev fed : List Event
+fed = arrive 1 0 1 create ∷ (move 1 2 ++ (move 2 1 ++ (events.Join 3 ∷ (pass Master (Server 3) ++ (pass (Server 3) Master ++ pass Master (Server 2))))))
+
+abbrev feeder_lost : List Event
+feeder_lost = fed ++ (events.Put (Server 2) Master ∷ events.Crash 2 ∷ events.Take (Server 2) Master ∷ (pass Master (Server 3) ++ (events.Crash 1 ∷ events.Detect 2 ∷ (pass Master (Server 3) ++ (pass (Server 3) Master ++ pass Master (Server 1))))))
+
+fed_acting : acts ((world_after (first_world 2) fed).server 2) ≡ false
+unfolding world_after after next refusal_of first_world numbers_from refusal_of_arrival refusal_of_query refusal_of_taking refusal_of_detection refusal_of_join arrived asked takes forwards detected joined hears reply_to history fact_of fresh_fact is_fresh of_client about on live removed_lately creations effect_of effect_on effect_off last_moment messages duplicate standing message_of hands touches until is_deleted
+fed_acting = refl
+
+feeder_waiting : acts ((world_after (first_world 2) feeder_lost).server 3) ≡ false
+unfolding world_after after next refusal_of first_world numbers_from refusal_of_arrival refusal_of_query refusal_of_taking refusal_of_detection refusal_of_join arrived asked takes forwards detected joined hears reply_to history fact_of fresh_fact is_fresh of_client about on live removed_lately creations effect_of effect_on effect_off last_moment messages duplicate standing message_of hands touches until is_deleted
+feeder_waiting = refl
+
+joined_acting : acts ((world_after (first_world 2) (feeder_lost ++ move 1 3)).server 3) ≡ true
+unfolding world_after after next refusal_of first_world numbers_from refusal_of_arrival refusal_of_query refusal_of_taking refusal_of_detection refusal_of_join arrived asked takes forwards detected joined hears reply_to history fact_of fresh_fact is_fresh of_client about on live removed_lately creations effect_of effect_on effect_off last_moment messages duplicate standing message_of hands touches until is_deleted
+joined_acting = refl
+
+joined_ready : (world_after (first_world 2) (feeder_lost ++ (move 1 3 ++ (pass (Server 1) Master ++ pass (Server 3) Master)))).master.ready ≡ true
+unfolding world_after after next refusal_of first_world numbers_from refusal_of_arrival refusal_of_query refusal_of_taking refusal_of_detection refusal_of_join arrived asked takes forwards detected joined hears reply_to history fact_of fresh_fact is_fresh of_client about on live removed_lately creations effect_of effect_on effect_off last_moment messages duplicate standing message_of hands touches until is_deleted
+joined_ready = refl
+
+joined_answers : map (λ a. a.length) (made 2 (feeder_lost ++ (move 1 3 ++ (count_at 3 ∷ [])))) ≡ 1 ∷ 1 ∷ []
+unfolding made made_from after next refusal_of first_world numbers_from counts_after refusal_of_arrival refusal_of_query refusal_of_taking refusal_of_detection refusal_of_join arrived asked takes forwards detected joined hears reply_to history fact_of fresh_fact is_fresh of_client about on live removed_lately creations effect_of effect_on effect_off last_moment messages duplicate standing message_of hands touches until is_deleted
+joined_answers = refl

@@ -9,7 +9,7 @@ use Rattle.cq_chain.specs.Parties.{same, addressed}
 use Rattle.cq_chain.specs.Servers.{Server}
 use Rattle.cq_chain.specs.Steps.{Step}
 use Rattle.cq_world.specs.Events.{first_of, put_on, after_put, without_first}
-use Rattle.cq_world.proofs.Lines.{same-true}
+use Rattle.cq_world.proofs.Parties.{same-true}
 use Rattle.cq_world.specs.Worlds.{World, set_at, set_pair, sends, stepped, channel}
 
 -- servers, channels, and what the master knows

@@ -1,22 +1,24 @@
 -- What is kept of a world stands for it, after one of its servers or links changed.
-use Rattle.std.proofs.Common.{◌≡◌, ℕ, ◌∙◌, ap, sym, refl, subst, Bool, true, false, ◌&&◌, ◌==◌, List, [], ◌∷◌, ◌++◌, drop, Option, Some, None, inl, inr, if◌then◌else◌}
+use Rattle.std.proofs.Common.{◌≡◌, ℕ, ◌∙◌, ap, sym, refl, subst, Bool, true, false, not, ◌&&◌, ◌==◌, List, [], ◌∷◌, ◌++◌, drop, append-nil, Option, Some, None, inl, inr, if◌then◌else◌}
 use Rattle.std.specs.Option.{is_some}
 use Rattle.std.proofs.lemmas.Bool.{cases_Bool, eqb-true, eq-eqb}
 use Rattle.cq_base.specs.declared.party.Party.{Party}
 use Rattle.cq_base.specs.declared.party.Party.TheVariants as parties
 use Rattle.cq_chain.specs.declared.message.Message as rust_message
+use Rattle.cq_chain.specs.declared.master.Master as rust_master
 use Rattle.cq_chain.specs.declared.server.Server as rust_server
 use Rattle.cq_chain.specs.Boxes.{Row}
-use Rattle.cq_chain.specs.Messages.{Message}
+use Rattle.cq_chain.specs.Masters.{Master, Order, no_order, detected, hears, stands_before, is_last}
+use Rattle.cq_chain.specs.Messages.{Message, Fwd, Snap, Ack, BeHead, Report, Adopt, BeTail, Have, Adopted, Ready, Answers}
 use Rattle.cq_chain.specs.Parties.{same, addressed}
-use Rattle.cq_chain.specs.Servers.{Server}
+use Rattle.cq_chain.specs.Servers.{Server, joining}
 use Rattle.cq_chain.specs.Stands as chain
 use Rattle.cq_chain.specs.Stands.{AllMean, IsFirst, posted, drained}
 use Rattle.cq_chain.specs.Steps.{Step}
 use Rattle.cq_world.specs.Events.{without_first, first_of}
 use Rattle.cq_world.specs.Kept.{server_at, messages_at, after_drawing, after_posting}
 use Rattle.cq_world.specs.Stands.{IsKeptAs, Holds, StandsFor, IsFound}
-use Rattle.cq_world.specs.Worlds.{World, is_in, set_pair, stepped}
+use Rattle.cq_world.specs.Worlds.{World, is_in, set_pair, stepped, ordered}
 use Rattle.cq_world.specs.declared.links.Pair.{Pair}
 use Rattle.cq_world.specs.declared.sim.Sim.{Sim}
 use Rattle.cq_world.proofs.LinksKept.{set-same}
@@ -38,13 +40,14 @@ pub known : (o : Option rust_server.Server) (kept : rust_server.Server) (is : Bo
 known o kept is s outbox found h = subst (λ p. IsKeptAs p is s outbox) found h
 
 -- and of one that isn't
-pub unknown : (o : Option rust_server.Server) (is : Bool) (s : Server) (outbox : Party → List Message) → o ≡ None → IsKeptAs o is s outbox → (is ≡ false) × ((to : Party) → outbox to ≡ [])
+pub unknown : (o : Option rust_server.Server) (is : Bool) (s : Server) (outbox : Party → List Message) → o ≡ None → IsKeptAs o is s outbox → (is ≡ false) × (s ≡ joining) × ((to : Party) → outbox to ≡ [])
 unknown o is s outbox none h = subst (λ p. IsKeptAs p is s outbox) none h
 
--- One server changed, and no other.
+-- One server changed, and no other, nor the master.
 pub record IsAt (old new : Sim) (at : ℕ) (kept : rust_server.Server) : Type 0 where
   pub here : server_at new.servers at ≡ Some kept
   pub others : (id : ℕ) → (at == id) ≡ false → server_at new.servers id ≡ server_at old.servers id
+  pub master : new.master ≡ old.master
 
 -- The other servers of a world are as they were.
 pub record IsElsewhere (w v : World) (at : ℕ) : Type 0 where
@@ -89,7 +92,7 @@ stepped-stands old new w v at kept step is h there used servers outboxes links n
     subst (λ x. Holds new x) (sym e) (record {
       servers = servers-at old new w (stepped u at step) at kept is (record { master = refl; server = (stepped-elsewhere w at step).server; outbox = (stepped-elsewhere w at step).outbox }) h there (stepped-here w at step kept now);
       links = links;
-      master = h.master;
+      master = subst (λ k. chain.IsMaster k w.master (w.outbox parties.Master)) (sym is.master) h.master;
       clients = h.clients;
     })
   where
@@ -138,7 +141,7 @@ drawn-stands old new w at kept to is links h there now = record {
   servers = servers-at old new w (after_drawing w (parties.Server at) to) at kept is (drawn-elsewhere w at to) h there
       (subst (λ o. chain.StandsFor kept (w.server at) o) (λ i y. sym (drawn-here w at to y) i) now);
   links = λ x y. subst (λ ls. AllMean (messages_at ls x y) (w.link x y)) (sym links) (h.links x y);
-  master = h.master;
+  master = subst (λ k. chain.IsMaster k w.master (w.outbox parties.Master)) (sym is.master) h.master;
   clients = h.clients;
 }
 
@@ -152,15 +155,105 @@ pub restands : (old new : Sim) (w : World) (at : ℕ) (kept : rust_server.Server
 restands old new w at kept is links h there now = record {
   servers = servers-at old new w w at kept is (record { master = refl; server = λ id other. refl; outbox = λ id other. refl }) h there now;
   links = λ x y. subst (λ ls. AllMean (messages_at ls x y) (w.link x y)) (sym links) (h.links x y);
-  master = h.master;
+  master = subst (λ k. chain.IsMaster k w.master (w.outbox parties.Master)) (sym is.master) h.master;
   clients = h.clients;
 }
 
--- nothing waits at others than servers
-pub nothing-waits : (sim : Sim) (w : World) (from to : Party) → Holds sim w → ((id : ℕ) → from ≡ parties.Server id → ⊥) → w.outbox from to ≡ []
-nothing-waits sim w parties.Master to h other = h.master to
-nothing-waits sim w parties.Clients to h other = h.clients to
-nothing-waits sim w (parties.Server id) to h other = absurd (other id refl)
+-- ---- the master
+
+-- it has nothing for itself, nor for the clients
+pub to-itself : (kept : rust_master.Master) (m : Master) (outbox : Party → List Message) → chain.IsMaster kept m outbox → outbox parties.Master ≡ []
+unfolding chain.IsMaster
+to-itself kept m outbox h = h.master
+
+pub to-clients : (kept : rust_master.Master) (m : Master) (outbox : Party → List Message) → chain.IsMaster kept m outbox → outbox parties.Clients ≡ []
+unfolding chain.IsMaster
+to-clients kept m outbox h = h.clients
+
+pub nothing-for : (kept : rust_master.Master) (m : Master) (outbox : Party → List Message) (to : Party) → chain.IsMaster kept m outbox → ((id : ℕ) → to ≡ parties.Server id → ⊥) → outbox to ≡ []
+nothing-for kept m outbox parties.Master h other = to-itself kept m outbox h
+nothing-for kept m outbox parties.Clients h other = to-clients kept m outbox h
+nothing-for kept m outbox (parties.Server id) h other = absurd (other id refl)
+
+-- after an order, while links may change and servers join
+pub ordered-stands : (new : Sim) (v : World) (order : Order) → ((id : ℕ) → IsKeptAs (server_at new.servers id) (is_in order.master.used id) (v.server id) (v.outbox (parties.Server id)))
+    → ((from to : Party) → AllMean (messages_at new.links from to) (v.link from to)) → chain.IsMaster new.master order.master (posted (v.outbox parties.Master) order.said) → ((to : Party) → v.outbox parties.Clients to ≡ []) → Holds new (ordered v order)
+ordered-stands new v order servers links master clients = record {
+  servers = servers;
+  links = links;
+  master = master;
+  clients = clients;
+}
+
+-- no order changes nothing
+pub unordered : (w : World) → ordered w (no_order w.master) ≡ w
+unordered w = λ i. record w { outbox = λ x y. sent-none x y (same x parties.Master) i }
+  where
+    sent-none : (x y : Party) (b : Bool) → (if b then w.outbox x y ++ [] else w.outbox x y) ≡ w.outbox x y
+    sent-none x y true = append-nil (w.outbox x y)
+    sent-none x y false = refl
+
+-- what it says of a loss, and what it hears, uses up no number
+pub detected-used : (id : ℕ) (m : Master) → (detected id m).master.used ≡ m.used
+unfolding detected
+detected-used id m = refl
+
+used-either : (b : Bool) (x y : Order) (used : List ℕ) → x.master.used ≡ used → y.master.used ≡ used → (if b then x else y).master.used ≡ used
+used-either true x y used h k = h
+used-either false x y used h k = k
+
+pub hears-used : (from : ℕ) (message : Message) (m : Master) → (hears from message m).master.used ≡ m.used
+unfolding hears
+hears-used from (Fwd place entry) m = refl
+hears-used from (Snap entries) m = refl
+hears-used from (Ack place) m = refl
+hears-used from BeHead m = refl
+hears-used from (Report pred) m = refl
+hears-used from (Adopt succ have) m = refl
+hears-used from (BeTail least) m = refl
+hears-used from (Have p count) m = used-either (stands_before p from m.chain) _ (no_order m) m.used refl refl
+hears-used from (Adopted s count) m = used-either (is_last m.chain s && not m.told) _ (no_order m) m.used refl refl
+hears-used from Ready m = used-either (is_last m.chain from) _ (no_order m) m.used refl refl
+hears-used from (Answers answer) m = refl
+
+-- after an order that uses up no number, while links may change
+pub ordered-same : (old new : Sim) (w v : World) (order : Order) → new.servers ≡ old.servers → order.master.used ≡ w.master.used → v.server ≡ w.server → v.outbox ≡ w.outbox → Holds old w
+    → ((from to : Party) → AllMean (messages_at new.links from to) (v.link from to)) → chain.IsMaster new.master order.master (posted (w.outbox parties.Master) order.said) → Holds new (ordered v order)
+ordered-same old new w v order servers used states outboxes h links master = ordered-stands new v order
+    (λ id. subst (λ o. IsKeptAs (server_at new.servers id) (is_in order.master.used id) (v.server id) (o (parties.Server id))) (sym outboxes)
+    (subst (λ s. IsKeptAs (server_at new.servers id) (is_in order.master.used id) (s id) (w.outbox (parties.Server id))) (sym states)
+    (subst (λ us. IsKeptAs (server_at new.servers id) (is_in us id) (w.server id) (w.outbox (parties.Server id))) (sym used)
+    (subst (λ ss. IsKeptAs (server_at ss id) (is_in w.master.used id) (w.server id) (w.outbox (parties.Server id))) (sym servers) (h.servers id)))))
+    links (subst (λ o. chain.IsMaster new.master order.master (posted (o parties.Master) order.said)) (sym outboxes) master)
+    (λ to. ap (λ o. o parties.Clients to) outboxes ∙ h.clients to)
+
+-- the master stands for what it did
+pub remains-master : (old new : Sim) (w : World) → new.servers ≡ old.servers → new.links ≡ old.links → Holds old w → chain.IsMaster new.master w.master (w.outbox parties.Master) → Holds new w
+remains-master old new w servers links h now = record {
+  servers = λ id. subst (λ ss. IsKeptAs (server_at ss id) (is_in w.master.used id) (w.server id) (w.outbox (parties.Server id))) (sym servers) (h.servers id);
+  links = λ x y. subst (λ ls. AllMean (messages_at ls x y) (w.link x y)) (sym links) (h.links x y);
+  master = now;
+  clients = h.clients;
+}
+
+-- more room for servers
+pub same-servers : (old new : Sim) (w : World) → ((id : ℕ) → server_at new.servers id ≡ server_at old.servers id) → new.links ≡ old.links → new.master ≡ old.master → Holds old w → Holds new w
+same-servers old new w servers links master h = record {
+  servers = λ id. subst (λ o. IsKeptAs o (is_in w.master.used id) (w.server id) (w.outbox (parties.Server id))) (sym (servers id)) (h.servers id);
+  links = λ x y. subst (λ ls. AllMean (messages_at ls x y) (w.link x y)) (sym links) (h.links x y);
+  master = subst (λ k. chain.IsMaster k w.master (w.outbox parties.Master)) (sym master) h.master;
+  clients = h.clients;
+}
+
+-- its outbox was drained
+pub drawn-master : (old new : Sim) (w : World) (to : Party) → new.servers ≡ old.servers → new.links ≡ old.links → Holds old w
+    → chain.IsMaster new.master w.master (drained (w.outbox parties.Master) to) → Holds new (after_drawing w parties.Master to)
+drawn-master old new w to servers links h now = record {
+  servers = λ id. subst (λ ss. IsKeptAs (server_at ss id) (is_in w.master.used id) (w.server id) (w.outbox (parties.Server id))) (sym servers) (h.servers id);
+  links = λ x y. subst (λ ls. AllMean (messages_at ls x y) (w.link x y)) (sym links) (h.links x y);
+  master = subst (λ o. chain.IsMaster new.master w.master o) (λ i y. sym (drained-here (w.outbox parties.Master) to y) i) now;
+  clients = h.clients;
+}
 
 -- a server is known if it is kept
 pub kept-known : (o : Option rust_server.Server) (is : Bool) (s : Server) (outbox : Party → List Message) → IsKeptAs o is s outbox → is_some o ≡ is
@@ -175,7 +268,7 @@ found w id o (Some kept) same h = subst (λ q. IsFound w id q) (sym same) h
 -- ---- links
 
 -- other rows with the same messages
-pub reserved-stands : (old : Sim) (links : List (Pair × Row)) (w : World) → ((x y : Party) → messages_at links x y ≡ messages_at old.links x y) → Holds old w → Holds (record { alloc = old.alloc; servers = old.servers; links = links }) w
+pub reserved-stands : (old : Sim) (links : List (Pair × Row)) (w : World) → ((x y : Party) → messages_at links x y ≡ messages_at old.links x y) → Holds old w → Holds (record { alloc = old.alloc; servers = old.servers; links = links; master = old.master }) w
 reserved-stands old links w same h = record {
   servers = h.servers;
   links = λ x y. subst (λ ms. AllMean ms (w.link x y)) (sym (same x y)) (h.links x y);
@@ -185,7 +278,7 @@ reserved-stands old links w same h = record {
 
 -- a link without its first message
 pub without-stands : (old : Sim) (links : List (Pair × Row)) (w : World) (from to : Party) → ((x y : Party) → messages_at links x y ≡ set_pair (messages_at old.links) from to (drop 1 (messages_at old.links from to)) x y)
-    → Holds old w → Holds (record { alloc = old.alloc; servers = old.servers; links = links }) (without_first w from to)
+    → Holds old w → Holds (record { alloc = old.alloc; servers = old.servers; links = links; master = old.master }) (without_first w from to)
 without-stands old links w from to popped h = record {
   servers = h.servers;
   links = links-set (messages_at old.links) (messages_at links) w.link from to (drop 1 (messages_at old.links from to)) (drop 1 (w.link from to)) popped
@@ -197,7 +290,7 @@ without-stands old links w from to popped h = record {
 -- a link with what was drawn from an outbox
 pub posted-stands : (drawn : Sim) (links : List (Pair × Row)) (w : World) (from to : Party) (x : rust_message.Message)
     → ((a b : Party) → messages_at links a b ≡ set_pair (messages_at drawn.links) from to (messages_at drawn.links from to ++ x ∷ []) a b) → IsFirst (Some x) (w.outbox from to)
-    → Holds drawn (after_drawing w from to) → Holds (record { alloc = drawn.alloc; servers = drawn.servers; links = links }) (after_posting w from to)
+    → Holds drawn (after_drawing w from to) → Holds (record { alloc = drawn.alloc; servers = drawn.servers; links = links; master = drawn.master }) (after_posting w from to)
 posted-stands drawn links w from to x pushed first h = record {
   servers = h.servers;
   links = links-set (messages_at drawn.links) (messages_at links) w.link from to (messages_at drawn.links from to ++ x ∷ []) (w.link from to ++ first_of (w.outbox from to)) pushed

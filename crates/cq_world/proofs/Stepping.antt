@@ -17,7 +17,7 @@ use Rattle.cq_world.specs.Laws.{Speaks}
 use Rattle.cq_world.specs.Worlds.{set_at}
 use Rattle.cq_world.proofs.Climbing.{reports, one, ups, Climbs, Grows, climbs-own, climbs-same, climbs-next}
 use Rattle.cq_world.proofs.Eaches.{Each, each-append, each-when, each-to_server, front-refl, front-more, front-next, cons_nil}
-use Rattle.cq_world.proofs.Moves.{is_settled, that_some}
+use Rattle.cq_world.proofs.Settled.{is_settled, that_some}
 use Rattle.cq_world.proofs.Prefixes.{Prefixes, Turn, Heads, is_first, master_after, ups_after}
 use Rattle.cq_world.proofs.Sights.{Sight}
 
@@ -143,7 +143,7 @@ shorter-front (x ∷ xs) (y ∷ ys) zs h k le = let same : x ∷ (xs ++ h.0) ≡
       heads_same a b us vs e = cc
 
 -- the history that the predecessor's forwarded entry gives
-forwarded_front : (s : Server) (theirs : List Entry) (p place : ℕ) (e : Entry) → Front s.entries theirs → is_next s p place e ≡ true → Speaks theirs (Fwd place e) → Front (s.entries ++ e ∷ []) theirs
+pub forwarded_front : (s : Server) (theirs : List Entry) (p place : ℕ) (e : Entry) → Front s.entries theirs → is_next s p place e ≡ true → Speaks theirs (Fwd place e) → Front (s.entries ++ e ∷ []) theirs
 forwarded_front s theirs p place e below accepts says =
     let own = and_parts (is_that s.pred p) (eqb place (length s.entries + 1)) (and_parts (is_that s.pred p && eqb place (length s.entries + 1)) (nat_le (last_moment s.entries) e.moment) accepts).0 in
     front-next s.entries theirs says.0 says.1 e below says.2 (omega (arith, says.3, eqb-true place (length s.entries + 1) own.1))

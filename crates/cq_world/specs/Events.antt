@@ -1,16 +1,18 @@
 -- The events of the world: when each is refused, what it does, and what it gives to the clients.
-use Rattle.std.specs.Prelude.{◌&&◌, List, [], ◌∷◌, ◌++◌, drop, Bool, true, false, Option, None, Some}
+use Rattle.std.specs.Prelude.{ℕ, ◌==◌, ◌&&◌, List, [], ◌∷◌, ◌++◌, drop, Bool, true, false, not, if◌then◌else◌, Option, None, Some}
+use Rattle.std.specs.List.{list_any}
 use Rattle.cq_base.specs.declared.party.Party.{Party}
 use Rattle.cq_base.specs.declared.party.Party.TheVariants as parties
 use Rattle.cq_chain.specs.declared.fault.WorldFault.{WorldFault}
-use Rattle.cq_chain.specs.declared.fault.WorldFault.TheVariants.{NoSuchServer, LinkEmpty, OutboxEmpty}
+use Rattle.cq_chain.specs.declared.fault.WorldFault.TheVariants.{NoSuchServer, ServerDown, LinkEmpty, OutboxEmpty, LastFull, NotDown}
 use Rattle.cq_chain.specs.declared.message.Answer.{Answer}
+use Rattle.cq_chain.specs.Masters.{detected, joined, hears_from, refusal_of_detection, refusal_of_join}
 use Rattle.cq_chain.specs.Messages.{Message, Answers}
 use Rattle.cq_chain.specs.Refusals.{refusal_of_arrival, refusal_of_query, refusal_of_taking}
-use Rattle.cq_chain.specs.Steps.{arrived, asked, takes}
-use Rattle.cq_world.specs.Worlds.{World, is_in, set_pair, stepped}
+use Rattle.cq_chain.specs.Steps.{arrived, asked, takes, crashed}
+use Rattle.cq_world.specs.Worlds.{World, is_in, set_pair, stepped, ordered}
 use Rattle.cq_world.specs.declared.event.Event.{Event}
-use Rattle.cq_world.specs.declared.event.Event.TheVariants.{Arrive, Ask, Put, Take}
+use Rattle.cq_world.specs.declared.event.Event.TheVariants.{Arrive, Ask, Put, Take, Crash, Detect, Join}
 
 -- ---- refusals
 
@@ -24,6 +26,21 @@ knows w (parties.Server id) = is_in w.master.used id
 abbrev pub if_known : Bool → Option WorldFault → Option WorldFault
 if_known true refusal = refusal
 if_known false refusal = Some NoSuchServer
+
+-- refused where a server is down, and else as that says
+abbrev pub unless_down : Bool → Option WorldFault → Option WorldFault
+unless_down true refusal = Some ServerDown
+unless_down false refusal = refusal
+
+-- the party is a server that has crashed
+abbrev pub is_down : World → Party → Bool
+is_down w parties.Master = false
+is_down w parties.Clients = false
+is_down w (parties.Server id) = (w.server id).down
+
+-- refused where a server is unknown or down, and else as that says
+abbrev pub if_lives : World → ℕ → Option WorldFault → Option WorldFault
+if_lives w id refusal = if_known (is_in w.master.used id) (unless_down (w.server id).down refusal)
 
 -- refused where nothing waits in an outbox
 abbrev pub refusal_of_put : List Message → Option WorldFault
@@ -41,12 +58,27 @@ abbrev pub refusal_of_take : World → Party → Party → List Message → Opti
 refusal_of_take w from to [] = Some LinkEmpty
 refusal_of_take w from to (m ∷ ms) = refusal_at w from to m
 
+-- another server is full and lives
+abbrev pub another_full : World → ℕ → Bool
+another_full w id = list_any (λ other. not (other == id) && (w.server other).full && not (w.server other).down) w.master.used
+
+-- refused where no other server is full and lives
+abbrev pub refusal_of_crash : World → ℕ → Option WorldFault
+refusal_of_crash w id = if another_full w id then None else Some LastFull
+
+-- refused where the server lives, and else as the master does
+abbrev pub refusal_of_detect : World → ℕ → Option WorldFault
+refusal_of_detect w id = if (w.server id).down then refusal_of_detection id w.master else Some NotDown
+
 -- Why an event is refused, if it is.
 unfoldable pub refusal_of : World → Event → Option WorldFault
-refusal_of w (Arrive at clock request) = if_known (is_in w.master.used at) (refusal_of_arrival (w.server at))
-refusal_of w (Ask at query) = if_known (is_in w.master.used at) (refusal_of_query (w.server at))
-refusal_of w (Put from to) = if_known (knows w from && knows w to) (refusal_of_put (w.outbox from to))
-refusal_of w (Take from to) = if_known (knows w from && knows w to) (refusal_of_take w from to (w.link from to))
+refusal_of w (Arrive at clock request) = if_lives w at (refusal_of_arrival (w.server at))
+refusal_of w (Ask at query) = if_lives w at (refusal_of_query (w.server at))
+refusal_of w (Put from to) = if_known (knows w from && knows w to) (unless_down (is_down w from) (refusal_of_put (w.outbox from to)))
+refusal_of w (Take from to) = if_known (knows w from && knows w to) (unless_down (is_down w to) (refusal_of_take w from to (w.link from to)))
+refusal_of w (Crash id) = if_lives w id (refusal_of_crash w id)
+refusal_of w (Detect id) = if_known (is_in w.master.used id) (refusal_of_detect w id)
+refusal_of w (Join id) = refusal_of_join id w.master
 
 -- ---- what events do
 
@@ -77,7 +109,7 @@ after_put w from to = record w {
 
 -- after a party took a message
 abbrev pub taken_by : World → Party → Party → Message → World
-taken_by w from parties.Master m = w
+taken_by w from parties.Master m = ordered w (hears_from from m w.master)
 taken_by w from parties.Clients m = w
 taken_by w from (parties.Server id) m = stepped w id (takes from m (w.server id))
 
@@ -96,6 +128,9 @@ next w (Arrive at clock request) = stepped w at (arrived clock request (w.server
 next w (Ask at query) = stepped w at (asked query (w.server at))
 next w (Put from to) = after_put w from to
 next w (Take from to) = after_take w from to (w.link from to)
+next w (Crash id) = stepped w id (crashed (w.server id))
+next w (Detect id) = ordered w (detected id w.master)
+next w (Join id) = ordered w (joined id w.master)
 
 -- the same, where that is its refusal: a refused event changes nothing
 abbrev pub unless_refused : World → Event → Option WorldFault → World
@@ -125,3 +160,6 @@ given_by w (Arrive at clock request) = None
 given_by w (Ask at query) = None
 given_by w (Put from to) = given_to to (first_of (w.outbox from to))
 given_by w (Take from to) = None
+given_by w (Crash id) = None
+given_by w (Detect id) = None
+given_by w (Join id) = None

@@ -1,14 +1,15 @@
 -- The laws of the chain, for every list of events from the first world of every size.
-use Rattle.std.specs.Prelude.{◌≡◌, ◌≤◌, ℕ, ◌+◌, length, List, [], ◌∷◌, ◌++◌, max, true, Option, None, Some, ◌⊎◌}
+use Rattle.std.specs.Prelude.{◌≡◌, ◌≤◌, ℕ, ◌+◌, length, List, [], ◌∷◌, ◌++◌, max, true, false, Option, None, Some, ◌⊎◌}
 use Rattle.cq_base.specs.declared.ask.Entry.{Entry}
 use Rattle.cq_base.specs.declared.ask.Query.{Query}
 use Rattle.cq_base.specs.declared.ask.Request.{Request}
 use Rattle.cq_base.specs.declared.party.Party.{Party}
 use Rattle.cq_base.specs.declared.party.Party.TheVariants as parties
-use Rattle.cq_base.specs.Relations.{Among, Front}
+use Rattle.cq_base.specs.Relations.{Among, Front, Pairwise}
 use Rattle.cq_chain.specs.declared.fault.WorldFault.{WorldFault}
 use Rattle.cq_chain.specs.declared.message.Answer.{Answer}
 use Rattle.cq_chain.specs.Messages.{Message, Fwd, Snap}
+use Rattle.cq_chain.specs.Servers.{acts}
 use Rattle.cq_chain.specs.Steps.{answer_to, answer_to_query}
 use Rattle.cq_store.specs.Laws.{Stamped, FreshOnceIn, RepeatsAreAnsweredAt, OthersDoNothingAt, HandsWhatWasSentAt, NoneInFlightAt, NoneDeletedAt, NoneRemovedAt, OneAcceptancePerWindowAt, FirstHandingsInOrderIn}
 use Rattle.cq_world.specs.Events.{refusal_of, after}
@@ -42,11 +43,17 @@ GivenWereMade = (size : ℕ) (events : List Event) (n : ℕ) (a : Answer) → Am
 
 -- ---- the committed list
 
--- The committed list is a front of the history of the head.
+-- The committed list is a front of the history of a head that lives.
 abbrev pub CommittedIsOfTheHead : Type 0
 CommittedIsOfTheHead = (size : ℕ) (events : List Event) (id : ℕ) → 1 ≤ size
     → is_in (world_after (first_world size) events).master.used id ≡ true → ((world_after (first_world size) events).server id).head ≡ true
-    → Front (committed size events) ((world_after (first_world size) events).server id).entries
+    → ((world_after (first_world size) events).server id).down ≡ false → Front (committed size events) ((world_after (first_world size) events).server id).entries
+
+-- It is a front of the history of each full server that lives.
+abbrev pub CommittedIsOfFullServers : Type 0
+CommittedIsOfFullServers = (size : ℕ) (events : List Event) (id : ℕ) → 1 ≤ size
+    → is_in (world_after (first_world size) events).master.used id ≡ true → ((world_after (first_world size) events).server id).full ≡ true
+    → ((world_after (first_world size) events).server id).down ≡ false → Front (committed size events) ((world_after (first_world size) events).server id).entries
 
 -- The committed list only grows.
 abbrev pub CommittedGrows : Type 0
@@ -90,13 +97,43 @@ Speaks entries m = Unit {0}
 
 -- What is on its way from a server is of its history.
 abbrev pub MessagesAreOfTheHistory : Type 0
-MessagesAreOfTheHistory = (size : ℕ) (events : List Event) (id : ℕ) (to : Party) (m : Message)
+MessagesAreOfTheHistory = (size : ℕ) (events : List Event) (id : ℕ) (to : Party) (m : Message) → 1 ≤ size
     → Among m (channel (world_after (first_world size) events) (parties.Server id) to) → Speaks ((world_after (first_world size) events).server id).entries m
 
 -- The history of a server that has a predecessor is a front of the predecessor's.
 abbrev pub HistoriesAreFronts : Type 0
-HistoriesAreFronts = (size : ℕ) (events : List Event) (id p : ℕ) → ((world_after (first_world size) events).server id).pred ≡ Some p
+HistoriesAreFronts = (size : ℕ) (events : List Event) (id p : ℕ) → 1 ≤ size → ((world_after (first_world size) events).server id).pred ≡ Some p
     → Front ((world_after (first_world size) events).server id).entries ((world_after (first_world size) events).server p).entries
+
+-- Along the chain the history of each member is a front of that of each member before it.
+abbrev pub HistoriesFallAlongTheChain : Type 0
+HistoriesFallAlongTheChain = (size : ℕ) (events : List Event) (before between behind : List ℕ) (p s : ℕ) → 1 ≤ size
+    → (world_after (first_world size) events).master.chain ≡ before ++ (p ∷ (between ++ (s ∷ behind)))
+    → Front ((world_after (first_world size) events).server s).entries ((world_after (first_world size) events).server p).entries
+
+-- ---- who acts
+
+-- At most one server that lives acts as tail.
+abbrev pub OneActs : Type 0
+OneActs = (size : ℕ) (events : List Event) (id other : ℕ) → 1 ≤ size
+    → ((world_after (first_world size) events).server id).down ≡ false → acts ((world_after (first_world size) events).server id) ≡ true
+    → ((world_after (first_world size) events).server other).down ≡ false → acts ((world_after (first_world size) events).server other) ≡ true → id ≡ other
+
+-- The lengths of the answers that are made never fall.
+abbrev pub LengthsNeverFall : Type 0
+LengthsNeverFall = (size : ℕ) (events : List Event) → 1 ≤ size → Pairwise (λ a b. a.length ≤ b.length) (made size events)
+
+-- An entry that arrives after an answer was made is appended at a place above the answer's length.
+abbrev pub LaterArrivalsStandAbove : Type 0
+LaterArrivalsStandAbove = (size : ℕ) (before : List Event) (at clock : ℕ) (request : Request) (a : Answer) → 1 ≤ size
+    → Among a (made size before) → refusal_of (world_after (first_world size) before) (Arrive at clock request) ≡ None
+    → a.length ≤ length ((world_after (first_world size) before).server at).entries
+
+-- A query that comes after an answer was made is answered with a length that is at least the answer's.
+abbrev pub LaterQueriesSeeAsMuch : Type 0
+LaterQueriesSeeAsMuch = (size : ℕ) (before : List Event) (at : ℕ) (query : Query) (a : Answer) → 1 ≤ size
+    → Among a (made size before) → refusal_of (world_after (first_world size) before) (Ask at query) ≡ None
+    → a.length ≤ (answer_to_query ((world_after (first_world size) before).server at).entries query).length
 
 -- ---- the laws of the queue object, on the committed list
 

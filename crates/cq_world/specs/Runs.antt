@@ -13,7 +13,7 @@ use Rattle.cq_chain.specs.Steps.{arrived, asked, takes}
 use Rattle.cq_world.specs.Worlds.{World, first_world}
 use Rattle.cq_world.specs.Events.{refusal_of, after, given_by, answers_in}
 use Rattle.cq_world.specs.declared.event.Event.{Event}
-use Rattle.cq_world.specs.declared.event.Event.TheVariants.{Arrive, Ask, Put, Take}
+use Rattle.cq_world.specs.declared.event.Event.TheVariants.{Arrive, Ask, Put, Take, Crash, Detect, Join}
 
 -- The world after these events.
 unfoldable pub world_after : World → List Event → World
@@ -49,12 +49,15 @@ sent_by_taking w from to [] = []
 sent_by_taking w from (parties.Server id) (m ∷ ms) = (takes from m (w.server id)).sent
 sent_by_taking w from to (m ∷ ms) = []
 
--- what an event that isn't refused puts into outboxes
+-- what servers put into their outboxes by an event that isn't refused
 abbrev pub sent_by : World → Event → List (Party × Message)
 sent_by w (Arrive at clock request) = (arrived clock request (w.server at)).sent
 sent_by w (Ask at query) = (asked query (w.server at)).sent
 sent_by w (Put from to) = []
 sent_by w (Take from to) = sent_by_taking w from to (w.link from to)
+sent_by w (Crash id) = []
+sent_by w (Detect id) = []
+sent_by w (Join id) = []
 
 -- the answers that an event makes, where that is its refusal
 abbrev pub made_if : World → Event → Option WorldFault → List Answer

@@ -4,7 +4,7 @@ use Rattle.cq_base.specs.declared.party.Party.{Party}
 use Rattle.cq_base.specs.declared.party.Party.TheVariants as parties
 use Rattle.cq_chain.specs.declared.server.Server as rust_server
 use Rattle.cq_chain.specs.Messages.{Message}
-use Rattle.cq_chain.specs.Servers.{Server}
+use Rattle.cq_chain.specs.Servers.{Server, joining}
 use Rattle.cq_chain.specs.Stands as chain
 use Rattle.cq_chain.specs.Stands.{AllMean}
 use Rattle.cq_world.specs.Kept.{server_at, messages_at}
@@ -12,16 +12,16 @@ use Rattle.cq_world.specs.Worlds.{World, is_in}
 use Rattle.cq_world.specs.declared.sim.Sim.{Sim}
 
 -- What is kept under a number, if the server is known, stands for its state and for what waits in its
--- outboxes. Nothing waits in those of a server that isn't there.
+-- outboxes. A server that isn't there is as one that joins, and nothing waits in its outboxes.
 abbrev pub IsKeptAs : Option rust_server.Server → Bool → Server → (Party → List Message) → Type 0
-IsKeptAs None known s outbox = (known ≡ false) × ((to : Party) → outbox to ≡ [])
+IsKeptAs None known s outbox = (known ≡ false) × (s ≡ joining) × ((to : Party) → outbox to ≡ [])
 IsKeptAs (Some kept) known s outbox = (known ≡ true) × chain.StandsFor kept s outbox
 
--- What is kept of a world stands for it. The master and the clients have nothing in their outboxes.
+-- What is kept of a world stands for it. The clients have nothing in their outboxes.
 pub record Holds (sim : Sim) (w : World) : Type 0 where
   pub servers : (id : ℕ) → IsKeptAs (server_at sim.servers id) (is_in w.master.used id) (w.server id) (w.outbox (parties.Server id))
   pub links : (from to : Party) → AllMean (messages_at sim.links from to) (w.link from to)
-  pub master : (to : Party) → w.outbox parties.Master to ≡ []
+  pub master : chain.IsMaster sim.master w.master (w.outbox parties.Master)
   pub clients : (to : Party) → w.outbox parties.Clients to ≡ []
 
 -- the same, as a word for those who call

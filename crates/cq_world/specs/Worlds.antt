@@ -2,7 +2,7 @@
 use Rattle.std.specs.Prelude.{ℕ, ◌==◌, ◌&&◌, List, [], ◌++◌, if◌then◌else◌}
 use Rattle.cq_base.specs.declared.party.Party.{Party}
 use Rattle.cq_base.specs.declared.party.Party.TheVariants as parties
-use Rattle.cq_chain.specs.Masters.{Master, first_master}
+use Rattle.cq_chain.specs.Masters.{Master, Order, first_master}
 pub use Rattle.cq_chain.specs.Masters.{is_in}
 unfoldable pub use Rattle.cq_chain.specs.Masters.{numbers_from}
 use Rattle.cq_chain.specs.Messages.{Message}
@@ -47,6 +47,13 @@ abbrev pub stepped : World → ℕ → Step → World
 stepped w id step = record w {
   server = set_at w.server id step.server;
   outbox = sends w.outbox (parties.Server id) step.sent;
+}
+
+-- after an order of the master
+abbrev pub ordered : World → Order → World
+ordered w order = record w {
+  outbox = sends w.outbox parties.Master order.said;
+  master = order.master;
 }
 
 -- All that is on its way from one party to another: first what stands in the link, then what waits.

@@ -23,5 +23,16 @@ pub enum Event {
     Take {
         from: Party,
         to: Party,
+    }, /// A server crashes: what it has is lost to the chain, and nothing comes to it any more.
+    Crash {
+        server: ServerId,
+    },
+    /// The master learns that a server has crashed.
+    Detect {
+        server: ServerId,
+    },
+    /// A new server joins the chain, under a number that no server had.
+    Join {
+        server: ServerId,
     },
 }

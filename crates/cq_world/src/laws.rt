@@ -4,7 +4,7 @@
 ghost use Rattle.std.specs.Prelude.{List};
 ghost use Rattle.cq_base.specs.declared.ask.Entry.{Entry};
 ghost use Rattle.cq_store.specs.Laws.{FreshOnceIn, RepeatsAreAnsweredAt, OthersDoNothingAt, EachQueueAloneIn, EachReplyAloneAt, HandsWhatWasSentAt, NoneInFlightAt, NoneDeletedAt, NoneRemovedAt, OneAcceptancePerWindowAt, FirstHandingsInOrderIn};
-ghost use Rattle.cq_world.specs.Laws.{AtEachPlace, OfCommitted, AnswersAreOfTheObject, GivenWereMade, CommittedIsOfTheHead, CommittedGrows, CommittedIsOfArrivals, MessagesAreOfTheHistory, HistoriesAreFronts, HeadlineHolds};
+ghost use Rattle.cq_world.specs.Laws.{AtEachPlace, OfCommitted, AnswersAreOfTheObject, GivenWereMade, CommittedIsOfTheHead, CommittedIsOfFullServers, CommittedGrows, CommittedIsOfArrivals, MessagesAreOfTheHistory, HistoriesAreFronts, HistoriesFallAlongTheChain, OneActs, LengthsNeverFall, LaterArrivalsStandAbove, LaterQueriesSeeAsMuch, HeadlineHolds};
 
 /// Every answer that a server makes is the one that a single queue object gives which takes the committed list:
 /// to a request at the place that the answer bears, to a query after so many entries. Only answers that were
@@ -14,9 +14,11 @@ pub fn answers_are_of_one_object()
     ensures given { GivenWereMade }
 {}
 
-/// The committed list is a front of the history of the head.
-pub fn committed_is_of_the_head()
-    ensures { CommittedIsOfTheHead }
+/// The committed list is a front of the history of each full server that lives, and of a head that lives, which is
+/// full.
+pub fn committed_is_of_full_servers()
+    ensures full { CommittedIsOfFullServers }
+    ensures head { CommittedIsOfTheHead }
 {}
 
 /// With more events the committed list only grows.
@@ -30,11 +32,30 @@ pub fn committed_is_of_arrivals()
     ensures { CommittedIsOfArrivals }
 {}
 
-/// Along the chain each history is a front of the predecessor's, and what is on its way from a server is of its
-/// history: a forwarded entry stands there at the place that it bears, and a snapshot is a front of it.
+/// Along the chain the history of each member is a front of that of each member before it, and the history of a
+/// server that has a predecessor is a front of the predecessor's. What is on its way from a server is of its history: a
+/// forwarded entry stands there at the place that it bears, and a snapshot is a front of it.
 pub fn histories_are_fronts()
+    ensures members { HistoriesFallAlongTheChain }
     ensures predecessors { HistoriesAreFronts }
     ensures messages { MessagesAreOfTheHistory }
+{}
+
+/// At most one server that lives acts as tail.
+pub fn one_server_acts()
+    ensures { OneActs }
+{}
+
+/// The lengths of the answers that are made never fall, in the order in which they are made.
+pub fn lengths_never_fall()
+    ensures { LengthsNeverFall }
+{}
+
+/// What comes later sees what was answered: an entry that arrives after an answer was made is appended at a place above
+/// the answer's length, and a query that comes after it is answered with a length that is at least as much.
+pub fn later_requests_see_what_was_answered()
+    ensures arrivals { LaterArrivalsStandAbove }
+    ensures queries { LaterQueriesSeeAsMuch }
 {}
 
 /// On the committed list, of the entries of a client under one number at most one is fresh, the others do nothing

@@ -1,44 +1,34 @@
-ghost use Rattle.std.specs.Prelude.{◌≡◌, ◌≢◌, ◌&&◌, ◌≤◌, ◌<◌, ◌+◌, ◌^◌, ◌++◌, ℕ, List, [], ◌∷◌, length, take, drop, None, Some, option_map, true, IfOk, IfErr, IfNone, OnOk, OnErr};
-ghost use Rattle.cq_base.specs.declared.party.Party as rust_party;
+ghost use Rattle.std.specs.Prelude.{◌≡◌, ◌&&◌, ◌≤◌, ◌<◌, ◌+◌, ◌^◌, ◌++◌, ℕ, List, true, length, take, option_map, IfOk, IfErr, IfNone, OnOk, OnErr};
 ghost use Rattle.cq_base.specs.declared.party.Party.TheVariants as parties;
 ghost use Rattle.cq_chain.specs.Faults.{IsRefusal};
-ghost use Rattle.cq_chain.specs.Messages as told;
-ghost use Rattle.cq_chain.specs.declared.fault.WorldFault.TheVariants as faults;
-ghost use Rattle.cq_chain.specs.Stands.{IsFirst, Means};
-ghost use Rattle.cq_world.specs.Events.{knows, refusal_of, refusal_of_put, refusal_of_take, next, after, without_first, answers_in, head_of, given_by};
-ghost use Rattle.cq_world.specs.Kept.{IsFilled, after_drawing, after_posting};
+ghost use Rattle.cq_chain.specs.Stands.{IsMaster};
+ghost use Rattle.cq_world.specs.Events.{knows, is_down, refusal_of, next, after, given_by};
 ghost use Rattle.cq_world.specs.Laws.{Headline};
 ghost use Rattle.cq_world.specs.Runs.{world_after, given_from, refused_from, given_if, numbered};
 ghost use Rattle.cq_world.specs.Stands.{StandsFor, IsFound};
-ghost use Rattle.cq_world.specs.Worlds.{World, first_world, is_in, set_pair};
+ghost use Rattle.cq_world.specs.Worlds.{World, first_world};
 ghost use Rattle.cq_world.specs.declared.event.Event.{Event};
-ghost use Rattle.cq_world.specs.declared.event.Event.TheVariants as events;
+
+mod changes;
+mod passing;
+mod requests;
 
 use crate::event::Event;
 use crate::links::{Links, Pair};
 use crate::ran::Ran;
-use cq_base::{ChainSize, Moment, NoMemory, Party, Query, Request, ServerId};
-use cq_chain::{Answer, Message, Server, WorldFault};
+use cq_base::{ChainSize, NoMemory, Party, ServerId};
+use cq_chain::{Answer, Master, Server, WorldFault};
 use indexmap::IndexMap;
 use std::alloc::Global;
 
-/// The answer that a message is, if it is one.
-fn answer_in(message: Message) -> Option<Answer>
-    ensures { (m : told.Message) → Means message m → result ≡ head_of (answers_in (m ∷ [])) }
-{
-    match message {
-        Message::Answer(answer) => Some(answer),
-        _ => None,
-    }
-}
-
-/// The servers of a chain, and the links between all parties. Servers are found by a hash of their numbers, and
-/// links by a hash of their two ends.
+/// The servers of a chain, the links between all parties, and the master. Servers are found by a hash of their
+/// numbers, and links by a hash of their two ends. A server that has crashed stays, as it was.
 #[derive(Drop)]
 pub struct Sim {
     alloc: Global,
     servers: IndexMap<ServerId, Server>,
     links: Links,
+    master: Master,
 }
 
 impl Sim {
@@ -46,6 +36,7 @@ impl Sim {
     pub fn new(alloc: Global, size: ChainSize) -> Result<Sim, NoMemory>
         ensures { IfOk result (λ sim. StandsFor sim (first_world size)) }
     {
+        let master = Master::new(alloc, size)?;
         let mut servers = IndexMap::new(alloc);
         for before in 0..size.get() {
             match ServerId::new(u32::from(before) + 1) {
@@ -59,6 +50,7 @@ impl Sim {
             alloc,
             servers,
             links: Links::new(alloc),
+            master,
         })
     }
 
@@ -67,6 +59,13 @@ impl Sim {
         ensures { (w : World) → StandsFor self.now w → IsFound w id (option_map (λ s. s.now) result) }
     {
         self.servers.get(&id)
+    }
+
+    /// The master: O(1).
+    pub fn master(&self) -> &Master
+        ensures { (w : World) → StandsFor self.now w → IsMaster result.now w.master (w.outbox parties.Master) }
+    {
+        &self.master
     }
 
     /// How many messages from one party wait for the other, and how many stand in the link between them: O(1).
@@ -78,16 +77,34 @@ impl Sim {
         (self.outbox_count(&pair), self.links.waiting(&pair))
     }
 
+    /// How many messages of a server wait for the party.
+    fn server_count(&self, at: ServerId, to: Party) -> u64
+        ensures { (w : World) → StandsFor self.now w → result ≡ length (w.outbox (parties.Server at) to) }
+    {
+        match self.servers.get(&at) {
+            Some(server) => server.waiting(to),
+            None => 0,
+        }
+    }
+
+    /// How many messages of the master wait for the party.
+    fn master_count(&self, to: Party) -> u64
+        ensures { (w : World) → StandsFor self.now w → result ≡ length (w.outbox parties.Master to) }
+    {
+        match to {
+            Party::Server(id) => self.master.waiting(id),
+            _ => 0,
+        }
+    }
+
     /// How many messages from one party wait for the other.
     fn outbox_count(&self, pair: &Pair) -> u64
         ensures { (w : World) → StandsFor self.now w → result ≡ length (w.outbox pair.now.from pair.now.to) }
     {
         match pair.from {
-            Party::Server(at) => match self.servers.get(&at) {
-                Some(server) => server.waiting(pair.to),
-                None => 0,
-            },
-            _ => 0,
+            Party::Server(at) => self.server_count(at, pair.to),
+            Party::Master => self.master_count(pair.to),
+            Party::Clients => 0,
         }
     }
 
@@ -109,161 +126,24 @@ impl Sim {
         self.knows(&pair.from) && self.knows(&pair.to)
     }
 
-    /// A request arrives at a server.
-    fn arrive(&mut self, at: ServerId, clock: Moment, request: &Request) -> Result<(), WorldFault>
-        ensures ok { (w : World) → StandsFor self.old w → OnOk result ((refusal_of w (events.Arrive at clock request.now) ≡ None)
-            × StandsFor self.new (next w (events.Arrive at clock request.now))) }
-        ensures err { (w : World) → StandsFor self.old w → IfErr result (λ fault.
-            IsRefusal fault (refusal_of w (events.Arrive at clock request.now)) × StandsFor self.new w) }
+    /// The party is a server that has crashed.
+    fn is_down(&self, party: &Party) -> bool
+        ensures { (w : World) → StandsFor self.now w → knows w party.now ≡ true → result ≡ is_down w party.now }
     {
-        match self.servers.get_mut(&at) {
-            Some(server) => server.arrive(request, clock),
-            None => Err(WorldFault::NoSuchServer),
-        }
-    }
-
-    /// A query comes to a server.
-    fn ask(&mut self, at: ServerId, query: &Query) -> Result<(), WorldFault>
-        ensures ok { (w : World) → StandsFor self.old w → OnOk result ((refusal_of w (events.Ask at query.now) ≡ None)
-            × StandsFor self.new (next w (events.Ask at query.now))) }
-        ensures err { (w : World) → StandsFor self.old w → IfErr result (λ fault.
-            IsRefusal fault (refusal_of w (events.Ask at query.now)) × StandsFor self.new w) }
-    {
-        match self.servers.get_mut(&at) {
-            Some(server) => server.ask(query),
-            None => Err(WorldFault::NoSuchServer),
-        }
-    }
-
-    /// The first message that waits at one party for another leaves its outbox.
-    fn draw(&mut self, pair: &Pair) -> Option<Message>
-        ensures first { (w : World) → StandsFor self.old w → IsFirst result (w.outbox pair.now.from pair.now.to) }
-        ensures drawn { (w : World) → StandsFor self.old w → StandsFor self.new (after_drawing w pair.now.from pair.now.to) }
-        ensures links { self.new.links ≡ self.old.links }
-    {
-        match pair.from {
-            Party::Server(id) => match self.servers.get_mut(&id) {
-                Some(server) => server.put(pair.to),
-                None => None,
+        match party {
+            Party::Server(id) => match self.servers.get(id) {
+                Some(server) => server.is_down(),
+                None => false,
             },
-            _ => None,
-        }
-    }
-
-    /// The first message that waits for the clients is given to them.
-    fn give(&mut self, pair: &Pair) -> Result<Option<Answer>, WorldFault>
-        requires { pair.now.to ≡ parties.Clients }
-        ensures ok { (w : World) → StandsFor self.old w → IfOk result (λ given.
-            (refusal_of_put (w.outbox pair.now.from pair.now.to) ≡ None)
-            × (given ≡ given_by w (events.Put pair.now.from pair.now.to))
-            × StandsFor self.new (next w (events.Put pair.now.from pair.now.to))) }
-        ensures err { (w : World) → StandsFor self.old w → IfErr result (λ fault.
-            IsRefusal fault (refusal_of_put (w.outbox pair.now.from pair.now.to)) × StandsFor self.new w) }
-    {
-        match self.draw(pair) {
-            Some(message) => Ok(answer_in(message)),
-            None => Err(WorldFault::OutboxEmpty),
-        }
-    }
-
-    /// The first message that waits is put on its link. Its room is made before it leaves the outbox.
-    fn post(&mut self, pair: &Pair) -> Result<Option<Answer>, WorldFault>
-        requires { pair.now.to ≢ parties.Clients }
-        ensures ok { (w : World) → StandsFor self.old w → IfOk result (λ given.
-            (refusal_of_put (w.outbox pair.now.from pair.now.to) ≡ None)
-            × (given ≡ given_by w (events.Put pair.now.from pair.now.to))
-            × StandsFor self.new (next w (events.Put pair.now.from pair.now.to))) }
-        ensures err { (w : World) → StandsFor self.old w → IfErr result (λ fault.
-            IsRefusal fault (refusal_of_put (w.outbox pair.now.from pair.now.to)) × StandsFor self.new w) }
-    {
-        if self.outbox_count(pair) == 0 {
-            return Err(WorldFault::OutboxEmpty);
-        }
-        self.links.reserve(pair)?;
-        match self.draw(pair) {
-            Some(message) => {
-                self.links.push(pair, message);
-                Ok(None)
-            }
-            None => Err(WorldFault::OutboxEmpty),
-        }
-    }
-
-    /// What waits is put on its link, or given.
-    fn put(&mut self, pair: &Pair) -> Result<Option<Answer>, WorldFault>
-        ensures ok { (w : World) → StandsFor self.old w → IfOk result (λ given.
-            (refusal_of w (events.Put pair.now.from pair.now.to) ≡ None)
-            × (given ≡ given_by w (events.Put pair.now.from pair.now.to))
-            × StandsFor self.new (next w (events.Put pair.now.from pair.now.to))) }
-        ensures err { (w : World) → StandsFor self.old w → IfErr result (λ fault.
-            IsRefusal fault (refusal_of w (events.Put pair.now.from pair.now.to)) × StandsFor self.new w) }
-    {
-        if !self.knows_both(pair) {
-            return Err(WorldFault::NoSuchServer);
-        }
-        match pair.to {
-            Party::Clients => self.give(pair),
-            _ => self.post(pair),
-        }
-    }
-
-    /// A server takes the first message of a link. The message leaves the link only if the server takes it.
-    fn take_at(&mut self, pair: &Pair, id: ServerId) -> Result<(), WorldFault>
-        requires { pair.now.to ≡ parties.Server id }
-        ensures ok { (w : World) → StandsFor self.old w → OnOk result
-            ((refusal_of_take w pair.now.from pair.now.to (w.link pair.now.from pair.now.to) ≡ None)
-            × StandsFor self.new (next w (events.Take pair.now.from pair.now.to))) }
-        ensures err { (w : World) → StandsFor self.old w → is_in w.master.used id ≡ true → IfErr result (λ fault.
-            IsRefusal fault (refusal_of_take w pair.now.from pair.now.to (w.link pair.now.from pair.now.to))
-            × StandsFor self.new w) }
-    {
-        match self.links.first(pair) {
-            Some(message) => match self.servers.get_mut(&id) {
-                Some(server) => {
-                    server.take(pair.from, message)?;
-                    self.links.pop(pair);
-                    Ok(())
-                }
-                None => Err(WorldFault::NoSuchServer),
-            },
-            None => Err(WorldFault::LinkEmpty),
-        }
-    }
-
-    /// The first message of a link leaves it.
-    fn drop_first(&mut self, pair: &Pair) -> Result<(), WorldFault>
-        ensures ok { (w : World) → StandsFor self.old w → OnOk result
-            (IsFilled (w.link pair.now.from pair.now.to) × StandsFor self.new (without_first w pair.now.from pair.now.to)) }
-        ensures err { (w : World) → StandsFor self.old w → IfErr result (λ fault.
-            (fault ≡ faults.LinkEmpty) × (w.link pair.now.from pair.now.to ≡ []) × StandsFor self.new w) }
-    {
-        if self.links.waiting(pair) == 0 {
-            return Err(WorldFault::LinkEmpty);
-        }
-        self.links.pop(pair);
-        Ok(())
-    }
-
-    /// The first message of a link is taken. The master and the clients do nothing with it.
-    fn take(&mut self, pair: &Pair) -> Result<(), WorldFault>
-        ensures ok { (w : World) → StandsFor self.old w → OnOk result
-            ((refusal_of w (events.Take pair.now.from pair.now.to) ≡ None)
-            × StandsFor self.new (next w (events.Take pair.now.from pair.now.to))) }
-        ensures err { (w : World) → StandsFor self.old w → IfErr result (λ fault.
-            IsRefusal fault (refusal_of w (events.Take pair.now.from pair.now.to)) × StandsFor self.new w) }
-    {
-        if !self.knows_both(pair) {
-            return Err(WorldFault::NoSuchServer);
-        }
-        match pair.to {
-            Party::Server(id) => self.take_at(pair, id),
-            _ => self.drop_first(pair),
+            _ => false,
         }
     }
 
     /// One event, and the answer that it gives to the clients. A refused event changes nothing, and the refusal is
-    /// the first that there is: NoSuchServer (31), LinkEmpty (33), OutboxEmpty (34), NotHead (40), HistoryFull (41) or
-    /// NotTail (42), and NoMemory (20) only where nothing else refuses. O(1), and what the server takes for it.
+    /// the first that there is: NoSuchServer (31), ServerDown (32), LinkEmpty (33), OutboxEmpty (34), LastFull (35),
+    /// JoinPending (36), IdUsed (37), ChainFull (38), NotDown (39), NotHead (40), HistoryFull (41) or NotTail (42), and
+    /// NoMemory (20) only where nothing else refuses. O(1), and what the server or the master takes for it; a crash
+    /// takes O(servers).
     pub fn step(&mut self, event: &Event) -> Result<Option<Answer>, WorldFault>
         ensures ok { (w : World) → StandsFor self.old w → IfOk result (λ given. (refusal_of w event.now ≡ None)
             × (given ≡ given_by w event.now) × StandsFor self.new (next w event.now)) }
@@ -288,6 +168,18 @@ impl Sim {
                     from: *from,
                     to: *to,
                 })?;
+                Ok(None)
+            }
+            Event::Crash { server } => {
+                self.crash(*server)?;
+                Ok(None)
+            }
+            Event::Detect { server } => {
+                self.detect(*server)?;
+                Ok(None)
+            }
+            Event::Join { server } => {
+                self.join(*server)?;
                 Ok(None)
             }
         }

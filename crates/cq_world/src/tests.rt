@@ -1,13 +1,25 @@
 use crate::{Event, Ran, Sim};
-use cq_base::{Ask, ChainSize, Moment, Party, Query, QueueName, Reply, Request, Seconds, ServerId};
+use cq_base::{
+    Ask, BatchSize, Body, ChainSize, DedupId, Delivery, GroupId, Moment, Party, Query, QueueName,
+    Reply, Request, Seconds, ServerId,
+};
 use cq_chain::{Answer, WorldFault};
 use std::alloc::Global;
 use std::process::Abort;
 use std::test::Fail;
 
+mod changes;
+mod clocks;
+mod joins;
+mod losses;
+mod passing;
+
 // Where the world refuses an event for want of memory, the event is tried once more, and a run goes on from there. So under
 // `rt try --test --fail-alloc N`, which refuses the Nth allocation of each test, each test passes, or ends
 // with an error where memory for an event or a text was refused; no assertion fails.
+//
+// Each test makes its world, and leaves the rest to a function that borrows it: a `?` while a world is at hand
+// costs the check much.
 
 /// A party of the rows below.
 #[derive(Clone, Copy)]
@@ -17,15 +29,31 @@ enum Who {
     Server(u32),
 }
 
-/// An event. Requests are the client's creations of `q.fifo`, with a visibility timeout of 30 s, at moment 0.
+/// What client 1 asks of `q.fifo`.
+#[derive(Clone, Copy)]
+enum What {
+    /// With a visibility timeout of 30 s.
+    Create,
+    /// The message x of group a, under the deduplication id x.
+    Send,
+    /// At most one message.
+    Receive,
+}
+
+/// An event.
 #[derive(Clone, Copy)]
 enum Row {
-    /// The server, the client, and the number of its request.
+    /// A creation at moment 0: the server, the client, and the number of its request.
     Arrive(u32, u32, u64),
+    /// The server, its clock, the number of client 1's request, and what it asks.
+    At(u32, u64, u64, What),
     /// The server.
     Ask(u32),
     Put(Who, Who),
     Take(Who, Who),
+    Crash(u32),
+    Detect(u32),
+    Join(u32),
 }
 
 /// An event, and the number of the fault for which it is refused, or 0.
@@ -43,25 +71,59 @@ fn party(who: Who) -> Result<Party, Fail> {
     }
 }
 
-fn request(alloc: Global, client: u32, number: u64) -> Result<Request, Fail> {
+fn ask_of(alloc: Global, what: What) -> Result<Ask, Fail> {
     let queue = QueueName::new(alloc, "q.fifo")?;
-    let visibility = Seconds::new(30).ok_or("no timeout")?;
-    let ask = Ask::Create { queue, visibility };
-    Ok(Request {
+    match what {
+        What::Create => {
+            let visibility = Seconds::new(30).ok_or("no timeout")?;
+            Ok(Ask::Create { queue, visibility })
+        }
+        What::Send => {
+            let group = GroupId::new(alloc, "a")?;
+            let dedup = DedupId::new(alloc, "x")?;
+            let body = Body::new(alloc, "x")?;
+            Ok(Ask::Send {
+                queue,
+                group,
+                dedup,
+                body,
+            })
+        }
+        What::Receive => {
+            let size = BatchSize::new(1).ok_or("no size")?;
+            let visibility = None;
+            Ok(Ask::Receive {
+                queue,
+                size,
+                visibility,
+            })
+        }
+    }
+}
+
+fn arrival(
+    alloc: Global,
+    at: u32,
+    clock: u64,
+    client: u32,
+    number: u64,
+    what: What,
+) -> Result<Event, Fail> {
+    let at = server(at)?;
+    let clock = Moment::new(clock).ok_or("no moment")?;
+    let ask = ask_of(alloc, what)?;
+    let request = Request {
         client,
         number,
         ask,
-    })
+    };
+    Ok(Event::Arrive { at, clock, request })
 }
 
 fn event_of(alloc: Global, row: Row) -> Result<Event, Fail> {
     match row {
-        Row::Arrive(at, client, number) => {
-            let at = server(at)?;
-            let clock = Moment::zero();
-            let request = request(alloc, client, number)?;
-            Ok(Event::Arrive { at, clock, request })
-        }
+        Row::Arrive(at, client, number) => arrival(alloc, at, 0, client, number, What::Create),
+        Row::At(at, clock, number, what) => arrival(alloc, at, clock, 1, number, what),
         Row::Ask(at) => {
             let at = server(at)?;
             let queue = QueueName::new(alloc, "q.fifo")?;
@@ -76,6 +138,18 @@ fn event_of(alloc: Global, row: Row) -> Result<Event, Fail> {
         Row::Take(from, to) => {
             let (from, to) = (party(from)?, party(to)?);
             Ok(Event::Take { from, to })
+        }
+        Row::Crash(number) => {
+            let server = server(number)?;
+            Ok(Event::Crash { server })
+        }
+        Row::Detect(number) => {
+            let server = server(number)?;
+            Ok(Event::Detect { server })
+        }
+        Row::Join(number) => {
+            let server = server(number)?;
+            Ok(Event::Join { server })
         }
     }
 }
@@ -107,6 +181,15 @@ fn go_on(rt: &impl Abort, alloc: Global, sim: &mut Sim, lines: &[Line]) -> Resul
             Err(fault) => fault.code(),
         };
         assert_eq!(rt; got, *want);
+    }
+    Ok(())
+}
+
+/// Messages that are put on their links and taken, one after the other.
+fn pass(rt: &impl Abort, alloc: Global, sim: &mut Sim, moves: &[(Who, Who)]) -> Result<(), Fail> {
+    for (from, to) in moves {
+        let lines = [(Row::Put(*from, *to), 0), (Row::Take(*from, *to), 0)];
+        go_on(rt, alloc, sim, &lines)?;
     }
     Ok(())
 }
@@ -156,6 +239,42 @@ fn check_server(
     Ok(())
 }
 
+/// The first answer that is put to the clients is that of a creation.
+fn check_given(
+    rt: &impl Abort,
+    alloc: Global,
+    sim: &mut Sim,
+    from: u32,
+    number: u64,
+    length: u64,
+) -> Result<(), Fail> {
+    let answer = given(alloc, sim, from)?;
+    check_created(rt, &answer, number, length);
+    Ok(())
+}
+
+/// Whether a server acts, and whether it is full.
+fn check_tail(
+    rt: &impl Abort,
+    sim: &Sim,
+    number: u32,
+    acting: bool,
+    full: bool,
+) -> Result<(), Fail> {
+    let server = sim.server(server(number)?).ok_or("no such server")?;
+    assert_eq!(rt; server.is_acting(), acting);
+    assert_eq!(rt; server.is_full(), full);
+    Ok(())
+}
+
+fn check_head(rt: &impl Abort, sim: &Sim, number: u32) -> Result<(), Fail> {
+    let server = sim.server(server(number)?).ok_or("no such server")?;
+    assert!(rt; server.is_head());
+    Ok(())
+}
+
+const MASTER: Who = Who::Master;
+
 const ONE: Who = Who::Server(1);
 
 const TWO: Who = Who::Server(2);
@@ -163,134 +282,3 @@ const TWO: Who = Who::Server(2);
 const THREE: Who = Who::Server(3);
 
 const SEVEN: Who = Who::Server(7);
-
-/// Events at the wrong places are refused, each for its own reason.
-#[test]
-fn wrong_places(rt: HostRuntime) -> Result<(), Fail> {
-    let lines = [
-        (Row::Arrive(2, 1, 1), 40),
-        (Row::Ask(1), 42),
-        (Row::Take(ONE, TWO), 33),
-        (Row::Put(ONE, TWO), 34),
-        (Row::Take(TWO, Who::Clients), 33),
-        (Row::Put(Who::Master, TWO), 34),
-        (Row::Arrive(7, 1, 1), 31),
-        (Row::Ask(7), 31),
-        (Row::Put(SEVEN, ONE), 31),
-        (Row::Put(ONE, SEVEN), 31),
-        (Row::Take(SEVEN, ONE), 31),
-        (Row::Take(ONE, SEVEN), 31),
-    ];
-    let mut sim = sim_of(rt.alloc(), 2)?;
-    go_on(&rt, rt.alloc(), &mut sim, &lines)?;
-    let found = sim.server(server(7)?).is_some();
-    assert!(rt; !found);
-    check_server(&rt, &sim, 1, 0, 0)
-}
-
-/// A request goes down the chain, and its acknowledgement up.
-#[test]
-fn one_request(rt: HostRuntime) -> Result<(), Fail> {
-    let mut sim = sim_of(rt.alloc(), 2)?;
-    let down = [
-        (Row::Arrive(1, 1, 1), 0),
-        (Row::Put(ONE, Who::Clients), 34),
-        (Row::Put(ONE, TWO), 0),
-        (Row::Take(ONE, TWO), 0),
-    ];
-    go_on(&rt, rt.alloc(), &mut sim, &down)?;
-    check_waiting(&rt, &sim, TWO, ONE, 1, 0)?;
-    let answer = given(rt.alloc(), &mut sim, 2)?;
-    check_created(&rt, &answer, 1, 1);
-    check_waiting(&rt, &sim, TWO, Who::Clients, 0, 0)?;
-    let put = [(Row::Put(TWO, ONE), 0)];
-    go_on(&rt, rt.alloc(), &mut sim, &put)?;
-    check_waiting(&rt, &sim, TWO, ONE, 0, 1)?;
-    let take = [(Row::Take(TWO, ONE), 0)];
-    go_on(&rt, rt.alloc(), &mut sim, &take)?;
-    check_waiting(&rt, &sim, TWO, ONE, 0, 0)?;
-    check_server(&rt, &sim, 1, 1, 1)?;
-    check_server(&rt, &sim, 2, 1, 1)
-}
-
-fn check_ran(rt: &impl Abort, ran: &Ran) -> Result<(), Fail> {
-    assert_eq!(rt; ran.done, 7);
-    assert!(rt; ran.stop.is_none());
-    assert_eq!(rt; ran.given.len(), 1);
-    assert_eq!(rt; ran.refused.len(), 1);
-    let (number, answer) = ran.given.first().ok_or("nothing given")?;
-    assert_eq!(rt; *number, 5);
-    check_created(rt, answer, 1, 1);
-    let (number, fault) = ran.refused.first().ok_or("nothing refused")?;
-    assert_eq!(rt; *number, 2);
-    assert_eq!(rt; fault.code(), 34);
-    Ok(())
-}
-
-/// What a run of all events comes to. Where it stops for want of memory it goes on from there, and the numbers of the
-/// rest are raised by those that were done.
-fn run_all(sim: &mut Sim, events: &[Event]) -> Result<Ran, Fail> {
-    let mut ran = sim.run(events);
-    if ran.stop.is_none() {
-        return Ok(ran);
-    }
-    let done = ran.done;
-    let rest = sim.run(&events[done as usize..]);
-    for (number, answer) in rest.given {
-        ran.given.push((number.saturating_add(done), answer))?;
-    }
-    for (number, fault) in rest.refused {
-        ran.refused.push((number.saturating_add(done), fault))?;
-    }
-    ran.done = done.saturating_add(rest.done);
-    ran.stop = rest.stop;
-    Ok(ran)
-}
-
-/// A run gives the same, and goes on after a refused event.
-#[test]
-fn a_run(rt: HostRuntime) -> Result<(), Fail> {
-    let rows = [
-        Row::Arrive(1, 1, 1),
-        Row::Put(ONE, Who::Clients),
-        Row::Put(ONE, TWO),
-        Row::Take(ONE, TWO),
-        Row::Put(TWO, Who::Clients),
-        Row::Put(TWO, ONE),
-        Row::Take(TWO, ONE),
-    ];
-    let mut events = Vec::new(rt.alloc());
-    for row in &rows {
-        events.push(event_of(rt.alloc(), *row)?)?;
-    }
-    let mut sim = sim_of(rt.alloc(), 2)?;
-    let ran = run_all(&mut sim, events.as_slice())?;
-    check_ran(&rt, &ran)?;
-    check_server(&rt, &sim, 1, 1, 1)
-}
-
-/// The server in the middle forwards, and all have the same.
-#[test]
-fn three_servers(rt: HostRuntime) -> Result<(), Fail> {
-    let mut sim = sim_of(rt.alloc(), 3)?;
-    let lines = [
-        (Row::Arrive(1, 1, 1), 0),
-        (Row::Arrive(1, 1, 2), 0),
-        (Row::Put(ONE, TWO), 0),
-        (Row::Put(ONE, TWO), 0),
-        (Row::Take(ONE, TWO), 0),
-        (Row::Take(ONE, TWO), 0),
-        (Row::Put(TWO, THREE), 0),
-        (Row::Put(TWO, THREE), 0),
-        (Row::Take(TWO, THREE), 0),
-        (Row::Take(TWO, THREE), 0),
-    ];
-    go_on(&rt, rt.alloc(), &mut sim, &lines)?;
-    let first = given(rt.alloc(), &mut sim, 3)?;
-    check_created(&rt, &first, 1, 1);
-    let second = given(rt.alloc(), &mut sim, 3)?;
-    check_created(&rt, &second, 2, 2);
-    check_server(&rt, &sim, 1, 2, 0)?;
-    check_server(&rt, &sim, 2, 2, 0)?;
-    check_server(&rt, &sim, 3, 2, 2)
-}

@@ -1,47 +1,62 @@
 -- The server steps, or refuses.
 use Rattle.std.proofs.Common.{◌∙◌, ap, sym, refl, subst}
 use Rattle.std.specs.Option.{is_some}
+use Rattle.cq_base.specs.declared.party.Party.TheVariants as parties
 use Rattle.cq_chain.specs.Refusals.{refusal_of_arrival}
 use Rattle.cq_chain.specs.Steps.{arrived}
 use Rattle.cq_world.specs.Kept.{server_at}
 use Rattle.cq_world.specs.Stands.{StandsFor}
 use Rattle.cq_world.specs.Worlds.{stepped, is_in}
 use Rattle.cq_world.specs.declared.sim.Sim.{Sim}
-use Rattle.cq_base.specs.declared.party.Party.TheVariants as parties
-use Rattle.cq_world.proofs.Refused.{arrive-known, arrive-unknown, next-arrive}
+use Rattle.cq_world.proofs.Refused.{at-living, at-dead, at-none, refused-arrive, next-arrive}
 use Rattle.cq_world.proofs.SimStands.{IsAt, holds, stands, known, unknown, stepped-stands, restands}
 use Rattle.cq_world.proofs.Steps.{ok-step, err-step}
 use Rattle.cq_world.proofs.sim.Sim.arrive.Goals as goal
 
-pub returns-in-Some-clause-ok : goal.returns-in-Some-clause-ok
-returns-in-Some-clause-ok c = λ w h.
+pub returns-then-is_down-clause-err : goal.returns-then-is_down-clause-err
+returns-then-is_down-clause-err c = λ w h.
     let old = c.args.self.now in
-    let u = (c.get_mut.follows.holds c.arrive.new.self).3 (sym (ap is_some c.in-Some.ensures.value)) in
-    let new : Sim = record { alloc = old.alloc; servers = c.get_mut.follows.lender c.arrive.new.self; links = old.links } in
+    let u = (c.get_mut.follows.holds c.in-Some.server.now).3 (sym (ap is_some c.in-Some.ensures.value)) in
+    let new : Sim = record { alloc = old.alloc; servers = c.get_mut.follows.lender c.in-Some.server.now; links = old.links; master = old.master } in
     let all = holds old w h in
     let own = known (server_at old.servers c.args.at) c.in-Some.server.now (is_in w.master.used c.args.at) (w.server c.args.at) (w.outbox (parties.Server c.args.at)) (sym c.in-Some.ensures.value) (all.servers c.args.at) in
-    let changed : IsAt old new c.args.at c.arrive.new.self = record { here = u.1; others = u.2 } in
+    let changed : IsAt old new c.args.at c.in-Some.server.now = record { here = u.1; others = u.2; master = refl } in
+    let down = sym (c.is_down.ensures (w.server c.args.at) (w.outbox (parties.Server c.args.at)) own.1) ∙ c.if-is_down.true in
+    (refused-arrive w c.args.at c.args.clock c.args.request.now ∙ at-dead w c.args.at (refusal_of_arrival (w.server c.args.at)) own.0 down, stands new w (restands old new w c.args.at c.in-Some.server.now changed refl all own.0 own.1))
+
+pub returns-else-is_down-clause-ok : goal.returns-else-is_down-clause-ok
+returns-else-is_down-clause-ok c = λ w h.
+    let old = c.args.self.now in
+    let u = (c.get_mut.follows.holds c.arrive.new.self).3 (sym (ap is_some c.in-Some.ensures.value)) in
+    let new : Sim = record { alloc = old.alloc; servers = c.get_mut.follows.lender c.arrive.new.self; links = old.links; master = old.master } in
+    let all = holds old w h in
+    let own = known (server_at old.servers c.args.at) c.in-Some.server.now (is_in w.master.used c.args.at) (w.server c.args.at) (w.outbox (parties.Server c.args.at)) (sym c.in-Some.ensures.value) (all.servers c.args.at) in
+    let changed : IsAt old new c.args.at c.arrive.new.self = record { here = u.1; others = u.2; master = refl } in
+    let lives = sym (c.is_down.ensures (w.server c.args.at) (w.outbox (parties.Server c.args.at)) own.1) ∙ c.if-is_down.false in
     ok-step (refusal_of_arrival (w.server c.args.at)) c.arrive.result (c.arrive.ensures.refused (w.server c.args.at) (w.outbox (parties.Server c.args.at)) own.1)
-    (λ none. arrive-known w c.args.at c.args.clock c.args.request.now own.0 ∙ none)
+    (λ none. refused-arrive w c.args.at c.args.clock c.args.request.now ∙ at-living w c.args.at (refusal_of_arrival (w.server c.args.at)) own.0 lives ∙ none)
     (λ does. subst (λ v. StandsFor new v) (sym (next-arrive w c.args.at c.args.clock c.args.request.now)) (stands new (stepped w c.args.at (arrived c.args.clock c.args.request.now (w.server c.args.at)))
     (stepped-stands old new w w c.args.at c.arrive.new.self (arrived c.args.clock c.args.request.now (w.server c.args.at)) changed all own.0 refl refl refl all.links (does (w.server c.args.at) (w.outbox (parties.Server c.args.at)) own.1))))
     c.arrive.ensures.ok
 
-pub returns-in-Some-clause-err : goal.returns-in-Some-clause-err
-returns-in-Some-clause-err c = λ w h.
+pub returns-else-is_down-clause-err : goal.returns-else-is_down-clause-err
+returns-else-is_down-clause-err c = λ w h.
     let old = c.args.self.now in
     let u = (c.get_mut.follows.holds c.arrive.new.self).3 (sym (ap is_some c.in-Some.ensures.value)) in
-    let new : Sim = record { alloc = old.alloc; servers = c.get_mut.follows.lender c.arrive.new.self; links = old.links } in
+    let new : Sim = record { alloc = old.alloc; servers = c.get_mut.follows.lender c.arrive.new.self; links = old.links; master = old.master } in
     let all = holds old w h in
     let own = known (server_at old.servers c.args.at) c.in-Some.server.now (is_in w.master.used c.args.at) (w.server c.args.at) (w.outbox (parties.Server c.args.at)) (sym c.in-Some.ensures.value) (all.servers c.args.at) in
-    let changed : IsAt old new c.args.at c.arrive.new.self = record { here = u.1; others = u.2 } in
+    let changed : IsAt old new c.args.at c.arrive.new.self = record { here = u.1; others = u.2; master = refl } in
+    let lives = sym (c.is_down.ensures (w.server c.args.at) (w.outbox (parties.Server c.args.at)) own.1) ∙ c.if-is_down.false in
     err-step (refusal_of_arrival (w.server c.args.at)) _ c.arrive.result (c.arrive.ensures.refused (w.server c.args.at) (w.outbox (parties.Server c.args.at)) own.1)
-    (arrive-known w c.args.at c.args.clock c.args.request.now own.0)
+    (refused-arrive w c.args.at c.args.clock c.args.request.now ∙ at-living w c.args.at (refusal_of_arrival (w.server c.args.at)) own.0 lives)
     (λ keeps. stands new w (restands old new w c.args.at c.arrive.new.self changed refl all own.0 (keeps (w.server c.args.at) (w.outbox (parties.Server c.args.at)) own.1)))
     c.arrive.ensures.err
 
 pub returns-in-None-clause-err : goal.returns-in-None-clause-err
 returns-in-None-clause-err c = λ w h.
     let old = c.args.self.now in
-    let none = unknown (server_at old.servers c.args.at) (is_in w.master.used c.args.at) (w.server c.args.at) (w.outbox (parties.Server c.args.at)) (sym c.in-None.ensures.value) ((holds old w h).servers c.args.at) in
-    (arrive-unknown w c.args.at c.args.clock c.args.request.now none.0, subst (λ s. StandsFor (record { alloc = old.alloc; servers = s; links = old.links }) w) (sym c.get_mut.follows.holds-at-none) h)
+    let none = unknown (server_at old.servers c.args.at) (is_in w.master.used c.args.at) (w.server c.args.at) (w.outbox (parties.Server c.args.at)) (sym c.in-None.ensures.value) ((holds old w h).servers c.args.at) in (
+      refused-arrive w c.args.at c.args.clock c.args.request.now ∙ at-none w c.args.at (refusal_of_arrival (w.server c.args.at)) none.0,
+      subst (λ s. StandsFor (record { alloc = old.alloc; servers = s; links = old.links; master = old.master }) w) (sym c.get_mut.follows.holds-at-none) h,
+    )

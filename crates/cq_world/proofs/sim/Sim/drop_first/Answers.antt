@@ -19,6 +19,6 @@ returns-clause-ok c = λ w h.
     let from = c.args.pair.now.from in
     let to = c.args.pair.now.to in
     let old = c.args.self.now in
-    let new : Sim = record { alloc = old.alloc; servers = old.servers; links = c.pop.new.self } in
+    let new : Sim = record { alloc = old.alloc; servers = old.servers; links = c.pop.new.self; master = old.master } in
     let same = c.waiting.ensures ∙ all-length (messages_at old.links from to) (w.link from to) ((holds old w h).links from to) in
     (filled-of (w.link from to) (λ none. c.if-waiting-eq0.false (same ∙ none)), stands new (without_first w from to) (without-stands old c.pop.new.self w from to c.pop.ensures (holds old w h)))

@@ -22,6 +22,6 @@ loop-before-preserved c = more-line c.args.size c.loop-before.before c.in-Some.i
 
 pub returns : goal.returns
 returns c =
-    let sim : Sim = record { alloc = c.args.alloc; servers = c.loop-before.servers; links = c.new-2.result } in
+    let sim : Sim = record { alloc = c.args.alloc; servers = c.loop-before.servers; links = c.new-2.result; master = c.in_ok-master.master } in
     let all : c.loop-before.before ≡ c.args.size = omega (arith, c.loop-before-test.false, c.loop-before.auto.before-end, c.get-before-end.ensures.value) in
-    first-stands sim c.args.size (subst (λ n. IsLine c.args.size n (λ id. server_at c.loop-before.servers id)) all c.loop-before.invariant) c.new-2.ensures
+    first-stands sim c.args.size (subst (λ n. IsLine c.args.size n (λ id. server_at c.loop-before.servers id)) all c.loop-before.invariant) c.new-2.ensures c.in_ok-master.ensures

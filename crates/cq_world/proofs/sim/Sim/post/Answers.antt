@@ -15,7 +15,7 @@ returns-in_err-reserve-clause-err c = λ w h.
     let from = c.args.pair.now.from in
     let to = c.args.pair.now.to in
     let old = c.args.self.now in
-    let made : Sim = record { alloc = old.alloc; servers = old.servers; links = c.reserve.new.self } in
+    let made : Sim = record { alloc = old.alloc; servers = old.servers; links = c.reserve.new.self; master = old.master } in
     err-none (refusal_of_put (w.outbox from to)) c.from_residual.result c.from_residual.ensures.1 (put-filled (w.outbox from to) (λ none. c.if-outbox_count-eq0.false (c.outbox_count.ensures w h ∙ none)))
     (stands made w (reserved-stands old c.reserve.new.self w c.in_err-reserve.ensures.messages (holds old w h)))
 
@@ -24,9 +24,9 @@ returns-in-Some-clause-ok c = λ w h.
     let from = c.args.pair.now.from in
     let to = c.args.pair.now.to in
     let old = c.args.self.now in
-    let made : Sim = record { alloc = old.alloc; servers = old.servers; links = c.reserve.new.self } in
+    let made : Sim = record { alloc = old.alloc; servers = old.servers; links = c.reserve.new.self; master = old.master } in
     let drawn = c.draw.new.self in
-    let new : Sim = record { alloc = drawn.alloc; servers = drawn.servers; links = c.push.new.self } in
+    let new : Sim = record { alloc = drawn.alloc; servers = drawn.servers; links = c.push.new.self; master = drawn.master } in
     let h2 = stands made w (reserved-stands old c.reserve.new.self w c.in_ok-reserve.ensures.messages (holds old w h)) in
     let first = c.in-Some.ensures.first w h2 in
     let gone = holds drawn (after_drawing w from to) (c.in-Some.ensures.drawn w h2) in (
@@ -41,6 +41,6 @@ returns-in-None-clause-err c = λ w h.
     let from = c.args.pair.now.from in
     let to = c.args.pair.now.to in
     let old = c.args.self.now in
-    let made : Sim = record { alloc = old.alloc; servers = old.servers; links = c.reserve.new.self } in
+    let made : Sim = record { alloc = old.alloc; servers = old.servers; links = c.reserve.new.self; master = old.master } in
     let h2 = stands made w (reserved-stands old c.reserve.new.self w c.in_ok-reserve.ensures.messages (holds old w h)) in
     absurd (c.if-outbox_count-eq0.false (c.outbox_count.ensures w h ∙ ap (λ ms. length ms) (c.in-None.ensures.first w h2)))

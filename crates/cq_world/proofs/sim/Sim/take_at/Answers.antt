@@ -24,10 +24,10 @@ returns-in_err-take-in-Some-get_mut-clause-err c = λ w h there.
     let id = c.args.id in
     let old = c.args.self.now in
     let u = (c.get_mut.follows.holds c.take.new.self).3 (sym (ap is_some c.in-Some-get_mut.ensures.value)) in
-    let new : Sim = record { alloc = old.alloc; servers = c.get_mut.follows.lender c.take.new.self; links = old.links } in
+    let new : Sim = record { alloc = old.alloc; servers = c.get_mut.follows.lender c.take.new.self; links = old.links; master = old.master } in
     let all = holds old w h in
     let own = known (server_at old.servers id) c.in-Some-get_mut.server.now (is_in w.master.used id) (w.server id) (w.outbox (parties.Server id)) (sym c.in-Some-get_mut.ensures.value) (all.servers id) in
-    let changed : IsAt old new id c.take.new.self = record { here = u.1; others = u.2 } in
+    let changed : IsAt old new id c.take.new.self = record { here = u.1; others = u.2; master = refl } in
     let first = first-mean c.in-Some.message.now (messages_at old.links from to) (w.link from to) (all.links from to) (sym c.in-Some.ensures) in
     let took : Took old new w from to id c.in-Some.message.now c.in-Some-get_mut.server.now c.take.new.self = record { ends = c.requires; changed = changed; holds = all; there = own.0; stood = own.1; first = first } in
     err-same (refusal_of_take w from to (w.link from to)) c.in_err-take-in-Some-get_mut.field-0.0 c.from_residual.result c.from_residual.ensures.1
@@ -41,10 +41,10 @@ returns-in_ok-take-in-Some-get_mut-clause-ok c = λ w h.
     let id = c.args.id in
     let old = c.args.self.now in
     let u = (c.get_mut.follows.holds c.take.new.self).3 (sym (ap is_some c.in-Some-get_mut.ensures.value)) in
-    let new : Sim = record { alloc = old.alloc; servers = c.get_mut.follows.lender c.take.new.self; links = c.pop.new.self } in
+    let new : Sim = record { alloc = old.alloc; servers = c.get_mut.follows.lender c.take.new.self; links = c.pop.new.self; master = old.master } in
     let all = holds old w h in
     let own = known (server_at old.servers id) c.in-Some-get_mut.server.now (is_in w.master.used id) (w.server id) (w.outbox (parties.Server id)) (sym c.in-Some-get_mut.ensures.value) (all.servers id) in
-    let changed : IsAt old new id c.take.new.self = record { here = u.1; others = u.2 } in
+    let changed : IsAt old new id c.take.new.self = record { here = u.1; others = u.2; master = refl } in
     let first = first-mean c.in-Some.message.now (messages_at old.links from to) (w.link from to) (all.links from to) (sym c.in-Some.ensures) in
     let took : Took old new w from to id c.in-Some.message.now c.in-Some-get_mut.server.now c.take.new.self = record { ends = c.requires; changed = changed; holds = all; there = own.0; stood = own.1; first = first } in
     let done = took-stands old new w from to id c.in-Some.message.now c.in-Some-get_mut.server.now c.take.new.self took c.in_ok-take-in-Some-get_mut.ensures.refused c.in_ok-take-in-Some-get_mut.ensures.ok c.pop.ensures in

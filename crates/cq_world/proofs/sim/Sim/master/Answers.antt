@@ -1,0 +1,6 @@
+-- It is what is kept of the master.
+use Rattle.cq_world.proofs.SimStands.{holds}
+use Rattle.cq_world.proofs.sim.Sim.master.Goals as goal
+
+pub returns : goal.returns
+returns c = λ w h. (holds c.args.self.now w h).master

@@ -1,0 +1,127 @@
+ghost use Rattle.std.specs.Prelude.{◌≡◌, ◌&&◌, ◌<◌, [], not, None, IfOk, IfErr, OnOk, OnErr};
+ghost use Rattle.indexmap.specs.IndexMap.{spare};
+ghost use Rattle.cq_chain.specs.Faults.{IsRefusal};
+ghost use Rattle.cq_chain.specs.Masters.{refusal_of_join};
+ghost use Rattle.cq_chain.specs.Servers.{joining};
+ghost use Rattle.cq_chain.specs.Stands as chain;
+ghost use Rattle.cq_chain.specs.Stands.{IsRefusedBy};
+ghost use Rattle.cq_world.specs.Events.{refusal_of, another_full, next};
+ghost use Rattle.cq_world.specs.Stands.{StandsFor};
+ghost use Rattle.cq_world.specs.Worlds.{World, is_in};
+ghost use Rattle.cq_world.specs.declared.event.Event.TheVariants as events;
+
+use super::Sim;
+use cq_base::{NoMemory, ServerId};
+use cq_chain::{Server, WorldFault};
+
+/// The most members of a chain.
+const MOST_MEMBERS: usize = 8;
+
+impl Sim {
+    /// The server is there, is full, and lives: O(1).
+    fn serves(&self, id: &ServerId) -> bool
+        ensures { (w : World) → StandsFor self.now w
+            → result ≡ (is_in w.master.used id.now && (w.server id.now).full && not (w.server id.now).down) }
+    {
+        match self.servers.get(id) {
+            Some(server) => server.is_full() && !server.is_down(),
+            None => false,
+        }
+    }
+
+    /// Another server than that one is full and lives: O(servers).
+    fn has_another_full(&self, id: ServerId) -> bool
+        ensures { (w : World) → StandsFor self.now w → result ≡ another_full w id }
+    {
+        for other in self.servers.keys().as_slice() {
+            if *other != id && self.serves(other) {
+                return true;
+            }
+        }
+        false
+    }
+
+    /// A server crashes, unless it is the last one that is full and lives (a choice of this project). It takes no
+    /// memory: O(servers).
+    pub(super) fn crash(&mut self, id: ServerId) -> Result<(), WorldFault>
+        ensures ok { (w : World) → StandsFor self.old w → OnOk result ((refusal_of w (events.Crash id) ≡ None)
+            × StandsFor self.new (next w (events.Crash id))) }
+        ensures err { (w : World) → StandsFor self.old w → IfErr result (λ fault.
+            IsRefusal fault (refusal_of w (events.Crash id)) × StandsFor self.new w) }
+    {
+        let is_last = !self.has_another_full(id);
+        match self.servers.get_mut(&id) {
+            Some(server) => {
+                if server.is_down() {
+                    return Err(WorldFault::ServerDown);
+                }
+                if is_last {
+                    return Err(WorldFault::LastFull);
+                }
+                server.crash();
+                Ok(())
+            }
+            None => Err(WorldFault::NoSuchServer),
+        }
+    }
+
+    /// The master learns that a server has crashed.
+    pub(super) fn detect(&mut self, id: ServerId) -> Result<(), WorldFault>
+        ensures ok { (w : World) → StandsFor self.old w → OnOk result ((refusal_of w (events.Detect id) ≡ None)
+            × StandsFor self.new (next w (events.Detect id))) }
+        ensures err { (w : World) → StandsFor self.old w → IfErr result (λ fault.
+            IsRefusal fault (refusal_of w (events.Detect id)) × StandsFor self.new w) }
+    {
+        match self.servers.get(&id) {
+            Some(server) => {
+                if !server.is_down() {
+                    return Err(WorldFault::NotDown);
+                }
+                self.master.detect(id)
+            }
+            None => Err(WorldFault::NoSuchServer),
+        }
+    }
+
+    /// Why a join is refused, if it is: O(1).
+    fn check_join(&self, id: ServerId) -> Result<(), WorldFault>
+        ensures { (w : World) → StandsFor self.now w → IsRefusedBy (refusal_of_join id w.master) result }
+    {
+        if self.servers.contains_key(&id) {
+            return Err(WorldFault::IdUsed);
+        }
+        if MOST_MEMBERS <= self.master.chain().len() {
+            return Err(WorldFault::ChainFull);
+        }
+        if !self.master.is_ready() {
+            return Err(WorldFault::JoinPending);
+        }
+        Ok(())
+    }
+
+    /// A server that joins, with room for it in the map.
+    fn make_joining(&mut self) -> Result<Server, NoMemory>
+        ensures same { (w : World) → StandsFor self.old w → StandsFor self.new w }
+        ensures server { IfOk result (λ server. chain.StandsFor server joining (λ _. [])) }
+        ensures room { OnOk result (0 < spare self.new.servers) }
+    {
+        self.servers.reserve(1)?;
+        Server::joining(self.alloc)
+    }
+
+    /// A new server joins. It and its place are made before the master learns of it.
+    pub(super) fn join(&mut self, id: ServerId) -> Result<(), WorldFault>
+        ensures ok { (w : World) → StandsFor self.old w → OnOk result ((refusal_of w (events.Join id) ≡ None)
+            × StandsFor self.new (next w (events.Join id))) }
+        ensures err { (w : World) → StandsFor self.old w → IfErr result (λ fault.
+            IsRefusal fault (refusal_of w (events.Join id)) × StandsFor self.new w) }
+    {
+        self.check_join(id)?;
+        let server = self.make_joining()?;
+        self.master.join(id)?;
+        match self.servers.insert(id, server) {
+            Ok(_) => Ok(()),
+            Err(_) => unreachable!(),
+        }
+    }
+}

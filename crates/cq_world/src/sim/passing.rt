@@ -1,0 +1,220 @@
+ghost use Rattle.std.specs.Prelude.{◌≡◌, ◌≢◌, [], ◌∷◌, None, true, IfOk, IfErr, OnOk};
+ghost use Rattle.cq_base.specs.declared.party.Party.TheVariants as parties;
+ghost use Rattle.cq_chain.specs.Faults.{IsRefusal};
+ghost use Rattle.cq_chain.specs.Messages as told;
+ghost use Rattle.cq_chain.specs.declared.fault.WorldFault.TheVariants as faults;
+ghost use Rattle.cq_chain.specs.Stands.{IsFirst, Means};
+ghost use Rattle.cq_world.specs.Events.{refusal_of, refusal_of_put, refusal_of_take, next, without_first, answers_in, head_of, given_by};
+ghost use Rattle.cq_world.specs.Kept.{IsFilled, after_drawing};
+ghost use Rattle.cq_world.specs.Stands.{StandsFor};
+ghost use Rattle.cq_world.specs.Worlds.{World, is_in};
+ghost use Rattle.cq_world.specs.declared.event.Event.TheVariants as events;
+
+use super::Sim;
+use crate::links::Pair;
+use cq_base::{Party, ServerId};
+use cq_chain::{Answer, Message, WorldFault};
+
+/// The answer that a message is, if it is one.
+fn answer_in(message: Message) -> Option<Answer>
+    ensures { (m : told.Message) → Means message m → result ≡ head_of (answers_in (m ∷ [])) }
+{
+    match message {
+        Message::Answer(answer) => Some(answer),
+        _ => None,
+    }
+}
+
+impl Sim {
+    /// The first message that waits at a server for a party leaves its outbox.
+    fn draw_at(&mut self, id: ServerId, to: Party) -> Option<Message>
+        ensures first { (w : World) → StandsFor self.old w → IsFirst result (w.outbox (parties.Server id) to) }
+        ensures drawn { (w : World) → StandsFor self.old w → StandsFor self.new (after_drawing w (parties.Server id) to) }
+        ensures links { self.new.links ≡ self.old.links }
+    {
+        match self.servers.get_mut(&id) {
+            Some(server) => server.put(to),
+            None => None,
+        }
+    }
+
+    /// The first message that waits at the master for a party leaves its outbox.
+    fn draw_of_master(&mut self, to: Party) -> Option<Message>
+        ensures first { (w : World) → StandsFor self.old w → IsFirst result (w.outbox parties.Master to) }
+        ensures drawn { (w : World) → StandsFor self.old w → StandsFor self.new (after_drawing w parties.Master to) }
+        ensures links { self.new.links ≡ self.old.links }
+    {
+        match to {
+            Party::Server(id) => self.master.put(id),
+            _ => None,
+        }
+    }
+
+    /// The first message that waits at one party for another leaves its outbox.
+    fn draw(&mut self, pair: &Pair) -> Option<Message>
+        ensures first { (w : World) → StandsFor self.old w → IsFirst result (w.outbox pair.now.from pair.now.to) }
+        ensures drawn { (w : World) → StandsFor self.old w → StandsFor self.new (after_drawing w pair.now.from pair.now.to) }
+        ensures links { self.new.links ≡ self.old.links }
+    {
+        match pair.from {
+            Party::Server(id) => self.draw_at(id, pair.to),
+            Party::Master => self.draw_of_master(pair.to),
+            Party::Clients => None,
+        }
+    }
+
+    /// The first message that waits for the clients is given to them.
+    fn give(&mut self, pair: &Pair) -> Result<Option<Answer>, WorldFault>
+        requires { pair.now.to ≡ parties.Clients }
+        ensures ok { (w : World) → StandsFor self.old w → IfOk result (λ given.
+            (refusal_of_put (w.outbox pair.now.from pair.now.to) ≡ None)
+            × (given ≡ given_by w (events.Put pair.now.from pair.now.to))
+            × StandsFor self.new (next w (events.Put pair.now.from pair.now.to))) }
+        ensures err { (w : World) → StandsFor self.old w → IfErr result (λ fault.
+            IsRefusal fault (refusal_of_put (w.outbox pair.now.from pair.now.to)) × StandsFor self.new w) }
+    {
+        match self.draw(pair) {
+            Some(message) => Ok(answer_in(message)),
+            None => Err(WorldFault::OutboxEmpty),
+        }
+    }
+
+    /// The first message that waits is put on its link. Its room is made before it leaves the outbox.
+    fn post(&mut self, pair: &Pair) -> Result<Option<Answer>, WorldFault>
+        requires { pair.now.to ≢ parties.Clients }
+        ensures ok { (w : World) → StandsFor self.old w → IfOk result (λ given.
+            (refusal_of_put (w.outbox pair.now.from pair.now.to) ≡ None)
+            × (given ≡ given_by w (events.Put pair.now.from pair.now.to))
+            × StandsFor self.new (next w (events.Put pair.now.from pair.now.to))) }
+        ensures err { (w : World) → StandsFor self.old w → IfErr result (λ fault.
+            IsRefusal fault (refusal_of_put (w.outbox pair.now.from pair.now.to)) × StandsFor self.new w) }
+    {
+        if self.outbox_count(pair) == 0 {
+            return Err(WorldFault::OutboxEmpty);
+        }
+        self.links.reserve(pair)?;
+        match self.draw(pair) {
+            Some(message) => {
+                self.links.push(pair, message);
+                Ok(None)
+            }
+            None => Err(WorldFault::OutboxEmpty),
+        }
+    }
+
+    /// What waits is put on its link, or given.
+    pub(super) fn put(&mut self, pair: &Pair) -> Result<Option<Answer>, WorldFault>
+        ensures ok { (w : World) → StandsFor self.old w → IfOk result (λ given.
+            (refusal_of w (events.Put pair.now.from pair.now.to) ≡ None)
+            × (given ≡ given_by w (events.Put pair.now.from pair.now.to))
+            × StandsFor self.new (next w (events.Put pair.now.from pair.now.to))) }
+        ensures err { (w : World) → StandsFor self.old w → IfErr result (λ fault.
+            IsRefusal fault (refusal_of w (events.Put pair.now.from pair.now.to)) × StandsFor self.new w) }
+    {
+        if !self.knows_both(pair) {
+            return Err(WorldFault::NoSuchServer);
+        }
+        if self.is_down(&pair.from) {
+            return Err(WorldFault::ServerDown);
+        }
+        match pair.to {
+            Party::Clients => self.give(pair),
+            _ => self.post(pair),
+        }
+    }
+
+    /// A server takes the first message of a link. The message leaves the link only if the server takes it.
+    fn take_at(&mut self, pair: &Pair, id: ServerId) -> Result<(), WorldFault>
+        requires { pair.now.to ≡ parties.Server id }
+        ensures ok { (w : World) → StandsFor self.old w → OnOk result
+            ((refusal_of_take w pair.now.from pair.now.to (w.link pair.now.from pair.now.to) ≡ None)
+            × StandsFor self.new (next w (events.Take pair.now.from pair.now.to))) }
+        ensures err { (w : World) → StandsFor self.old w → is_in w.master.used id ≡ true → IfErr result (λ fault.
+            IsRefusal fault (refusal_of_take w pair.now.from pair.now.to (w.link pair.now.from pair.now.to))
+            × StandsFor self.new w) }
+    {
+        match self.links.first(pair) {
+            Some(message) => match self.servers.get_mut(&id) {
+                Some(server) => {
+                    server.take(pair.from, message)?;
+                    self.links.pop(pair);
+                    Ok(())
+                }
+                None => Err(WorldFault::NoSuchServer),
+            },
+            None => Err(WorldFault::LinkEmpty),
+        }
+    }
+
+    /// The master hears the first message of a link from a server. The message leaves the link only if it does.
+    fn hear(&mut self, pair: &Pair, id: ServerId) -> Result<(), WorldFault>
+        requires from { pair.now.from ≡ parties.Server id }
+        requires to { pair.now.to ≡ parties.Master }
+        ensures ok { (w : World) → StandsFor self.old w → OnOk result
+            ((refusal_of_take w pair.now.from pair.now.to (w.link pair.now.from pair.now.to) ≡ None)
+            × StandsFor self.new (next w (events.Take pair.now.from pair.now.to))) }
+        ensures err { (w : World) → StandsFor self.old w → IfErr result (λ fault.
+            IsRefusal fault (refusal_of_take w pair.now.from pair.now.to (w.link pair.now.from pair.now.to))
+            × StandsFor self.new w) }
+    {
+        match self.links.first(pair) {
+            Some(message) => {
+                self.master.take(id, message)?;
+                self.links.pop(pair);
+                Ok(())
+            }
+            None => Err(WorldFault::LinkEmpty),
+        }
+    }
+
+    /// The first message of a link leaves it.
+    fn drop_first(&mut self, pair: &Pair) -> Result<(), WorldFault>
+        ensures ok { (w : World) → StandsFor self.old w → OnOk result
+            (IsFilled (w.link pair.now.from pair.now.to) × StandsFor self.new (without_first w pair.now.from pair.now.to)) }
+        ensures err { (w : World) → StandsFor self.old w → IfErr result (λ fault.
+            (fault ≡ faults.LinkEmpty) × (w.link pair.now.from pair.now.to ≡ []) × StandsFor self.new w) }
+    {
+        if self.links.waiting(pair) == 0 {
+            return Err(WorldFault::LinkEmpty);
+        }
+        self.links.pop(pair);
+        Ok(())
+    }
+
+    /// The master takes the first message of a link. It hears servers alone.
+    fn take_by_master(&mut self, pair: &Pair) -> Result<(), WorldFault>
+        requires { pair.now.to ≡ parties.Master }
+        ensures ok { (w : World) → StandsFor self.old w → OnOk result
+            ((refusal_of_take w pair.now.from pair.now.to (w.link pair.now.from pair.now.to) ≡ None)
+            × StandsFor self.new (next w (events.Take pair.now.from pair.now.to))) }
+        ensures err { (w : World) → StandsFor self.old w → IfErr result (λ fault.
+            IsRefusal fault (refusal_of_take w pair.now.from pair.now.to (w.link pair.now.from pair.now.to))
+            × StandsFor self.new w) }
+    {
+        match pair.from {
+            Party::Server(id) => self.hear(pair, id),
+            _ => self.drop_first(pair),
+        }
+    }
+
+    /// The first message of a link is taken. The clients do nothing with it.
+    pub(super) fn take(&mut self, pair: &Pair) -> Result<(), WorldFault>
+        ensures ok { (w : World) → StandsFor self.old w → OnOk result
+            ((refusal_of w (events.Take pair.now.from pair.now.to) ≡ None)
+            × StandsFor self.new (next w (events.Take pair.now.from pair.now.to))) }
+        ensures err { (w : World) → StandsFor self.old w → IfErr result (λ fault.
+            IsRefusal fault (refusal_of w (events.Take pair.now.from pair.now.to)) × StandsFor self.new w) }
+    {
+        if !self.knows_both(pair) {
+            return Err(WorldFault::NoSuchServer);
+        }
+        if self.is_down(&pair.to) {
+            return Err(WorldFault::ServerDown);
+        }
+        match pair.to {
+            Party::Server(id) => self.take_at(pair, id),
+            Party::Master => self.take_by_master(pair),
+            Party::Clients => self.drop_first(pair),
+        }
+    }
+}
