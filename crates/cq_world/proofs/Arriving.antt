@@ -157,16 +157,16 @@ unless_arrived : (w : World) (event : Event) (refusal : Option WorldFault) (arri
 unless_arrived w event None arrivals g h = next_arrived w event arrivals g h
 unless_arrived w event (Some fault) arrivals g h = wider arrivals (arrival_if event (Some fault)) w h
 
-after_arrived : (w : World) (event : Event) (arrivals : List Arrival) → Prefixes (sight w) → Arrived arrivals w → Arrived (arrivals ++ arrival_if event (refusal_of w event)) (after w event)
+pub after-arrived : (w : World) (event : Event) (arrivals : List Arrival) → Prefixes (sight w) → Arrived arrivals w → Arrived (arrivals ++ arrival_if event (refusal_of w event)) (after w event)
 unfolding after
-after_arrived w event arrivals g h = unless_arrived w event (refusal_of w event) arrivals g h
+after-arrived w event arrivals g h = unless_arrived w event (refusal_of w event) arrivals g h
 
 -- After all events each history holds only what arrived.
 pub all-arrived : (events : List Event) (w : World) (c : List Entry) (arrivals : List Arrival) → Good w (longest_at w c) → Arrived arrivals w → Arrived (arrivals ++ arrivals_from w events) (world_after w events)
 unfolding arrivals_from world_after
 all-arrived [] w c arrivals good h = wider arrivals [] w h
 all-arrived (event ∷ events) w c arrivals good h = subst (λ us. Arrived us (world_after (after w event) events)) (append_assoc arrivals (arrival_if event (refusal_of w event)) (arrivals_from (after w event) events))
-    (all-arrived events (after w event) (longest_at w c) (arrivals ++ arrival_if event (refusal_of w event)) (onward w (longest_at w c) event good).good (after_arrived w event arrivals good.prefixes h))
+    (all-arrived events (after w event) (longest_at w c) (arrivals ++ arrival_if event (refusal_of w event)) (onward w (longest_at w c) event good).good (after-arrived w event arrivals good.prefixes h))
 
 -- At first there is nothing in any history.
 pub first-arrived : (size : ℕ) → Arrived [] (first_world size)

@@ -59,7 +59,7 @@ closing_last p id (a ∷ b ∷ rest) apart h =
       ap (λ t. cond t ((parties.Server b, Report p) ∷ []) (closing a id (b ∷ rest))) (apart_other a (b ∷ rest) id apart.1.0 there) ∙ later.3,
     )
 
-loss_neutral : (id : ℕ) (chain : List ℕ) (j : ℕ) → is_last chain id ≡ false → Each Neutral (told_to j (said_of_loss id chain))
+pub loss_neutral : (id : ℕ) (chain : List ℕ) (j : ℕ) → is_last chain id ≡ false → Each Neutral (told_to j (said_of_loss id chain))
 loss_neutral id [] j h = tt
 loss_neutral id (a ∷ []) j h = tt
 loss_neutral id (a ∷ b ∷ rest) j h = go (eqb a id) where
@@ -67,7 +67,7 @@ loss_neutral id (a ∷ b ∷ rest) j h = go (eqb a id) where
   go true = neutral_one BeHead (eqb j b) tt
   go false = closing_neutral a id (b ∷ rest) j h
 
-loss_last : (id : ℕ) (chain : List ℕ) → Apart chain → is_last chain id ≡ true → (length chain ≡ 1 → ⊥) → (q : ℕ) × (stands_before q id chain ≡ true) × (is_last (without id chain) q ≡ true) × (said_of_loss id chain ≡ (parties.Server q, BeTail 0) ∷ [])
+pub loss_last : (id : ℕ) (chain : List ℕ) → Apart chain → is_last chain id ≡ true → (length chain ≡ 1 → ⊥) → (q : ℕ) × (stands_before q id chain ≡ true) × (is_last (without id chain) q ≡ true) × (said_of_loss id chain ≡ (parties.Server q, BeTail 0) ∷ [])
 loss_last id [] apart h more = absurd (false≢true h)
 loss_last id (a ∷ []) apart h more = absurd (more refl)
 loss_last id (a ∷ b ∷ rest) apart h more = let told = closing_last a id (b ∷ rest) apart h in

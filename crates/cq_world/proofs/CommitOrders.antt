@@ -77,7 +77,7 @@ said_nothing v m = ap (λ c. record { server = v.server; channel = c; master = m
   go x y false = refl
 
 -- what is left of what a server told the master
-left_row : (v : Sight) (from : ℕ) (rest : List Message) (j : ℕ) → (drained v (parties.Server from) parties.Master rest).channel (parties.Server j) parties.Master ≡ cond (eqb j from) rest (v.channel (parties.Server j) parties.Master)
+pub left_row : (v : Sight) (from : ℕ) (rest : List Message) (j : ℕ) → (drained v (parties.Server from) parties.Master rest).channel (parties.Server j) parties.Master ≡ cond (eqb j from) rest (v.channel (parties.Server j) parties.Master)
 left_row v from rest j = go (eqb j from) where
   go : (t : Bool) → cond (t && true) rest (v.channel (parties.Server j) parties.Master) ≡ cond t rest (v.channel (parties.Server j) parties.Master)
   go true = refl

@@ -60,7 +60,7 @@ unfolding forwards
 forwards_news to place [] = refl
 forwards_news to place (e ∷ es) = forwards_news to (place + 1) es
 
-repair_news : (to have : ℕ) (s : Server) → addressed parties.Master (repair to have s) ≡ []
+pub repair_news : (to have : ℕ) (s : Server) → addressed parties.Master (repair to have s) ≡ []
 repair_news to have s = go (nat_le s.floor have) where
   go : (t : Bool) → addressed parties.Master (cond t (forwards to (have + 1) (drop have s.entries)) ((parties.Server to, Snap s.entries) ∷ [])) ≡ []
   go true = forwards_news to (have + 1) (drop have s.entries)

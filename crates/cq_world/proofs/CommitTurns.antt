@@ -14,6 +14,7 @@ use Rattle.cq_world.specs.Worlds.{set_at}
 use Rattle.cq_world.proofs.Chains.{Before, last-one, last-some, before-either, before-not-last, before-only, chain-order}
 use Rattle.cq_world.proofs.Commits.{Commits, tails, readies, Names, Pairs, Retires, HandsOver, Enough, Zero, bit, waits, busy, Free, acts-least, acts-none, some-least, longer-front, longer-still, longer-length}
 use Rattle.cq_world.proofs.Eaches.{Each, each-append, each-follows, some_none, front-refl, front-trans}
+use Rattle.cq_world.proofs.Ordering.{eqb_turned}
 use Rattle.cq_world.proofs.Prefixes.{Prefixes, Turn, turn-keeps, master_after, row_after, each-end}
 use Rattle.cq_world.proofs.Sights.{Sight, turn}
 use Rattle.cq_world.proofs.Stepping.{lives-member, shorter-front}
@@ -47,7 +48,7 @@ if_false true a d e = absurd (false≢true (sym e))
 if_false false a d e = refl
 
 -- what the server has for the master after its turn, and what others have
-report_row : (v : Sight) (from : Party) (k : ℕ) (rest : List Message) (s : Server) (out : List (Party × Message)) (j : ℕ)
+pub report_row : (v : Sight) (from : Party) (k : ℕ) (rest : List Message) (s : Server) (out : List (Party × Message)) (j : ℕ)
     → (turn v from k rest s out).channel (parties.Server j) parties.Master ≡ cond (eqb j k) (v.channel (parties.Server j) parties.Master ++ addressed parties.Master out) (v.channel (parties.Server j) parties.Master)
 report_row v from k rest s out j = ap (λ ms. cond (eqb j k) (ms ++ addressed parties.Master out) ms) (if_false (same (parties.Server j) from && false) rest (v.channel (parties.Server j) parties.Master) (and_none (same (parties.Server j) from))) where
   and_none : (b : Bool) → (b && false) ≡ false
@@ -79,7 +80,7 @@ retires-end (m ∷ xs) ys h = retires-end xs ys (skip m (xs ++ ys) h) where
   skip n us g = g
 
 -- what is left for the server is the end of what was there
-rest_of : (v : Sight) (from : Party) (k : ℕ) (front rest : List Message) → v.channel from (parties.Server k) ≡ front ++ rest → (us : List Message) × (v.channel parties.Master (parties.Server k) ≡ us ++ master_after v from k rest)
+pub rest_of : (v : Sight) (from : Party) (k : ℕ) (front rest : List Message) → v.channel from (parties.Server k) ≡ front ++ rest → (us : List Message) × (v.channel parties.Master (parties.Server k) ≡ us ++ master_after v from k rest)
 rest_of v parties.Master k front rest taken = (front, taken)
 rest_of v parties.Clients k front rest taken = ([], refl)
 rest_of v (parties.Server p) k front rest taken = ([], refl)
@@ -116,7 +117,7 @@ by_server v k s P own others j = go (eqb j k) refl where
   go false e = others j e
 
 -- a property of a server and of what the master has for it
-by_told : (v : Sight) (from : Party) (k : ℕ) (rest : List Message) (s : Server) (out : List (Party × Message)) (P : ℕ → Server → List Message → Type 0) → P k s (master_after v from k rest)
+pub by_told : (v : Sight) (from : Party) (k : ℕ) (rest : List Message) (s : Server) (out : List (Party × Message)) (P : ℕ → Server → List Message → Type 0) → P k s (master_after v from k rest)
     → ((j : ℕ) → eqb j k ≡ false → P j (v.server j) (v.channel parties.Master (parties.Server j))) → (j : ℕ) → P j (set_at v.server k s j) ((turn v from k rest s out).channel parties.Master (parties.Server j))
 by_told v from k rest s out P own others j = go (eqb j k) refl where
   go : (t : Bool) → eqb j k ≡ t → P j (cond t s (v.server j)) ((turn v from k rest s out).channel parties.Master (parties.Server j))
@@ -124,7 +125,7 @@ by_told v from k rest s out P own others j = go (eqb j k) refl where
   go false e = subst (λ ms. P j (v.server j) ms) (sym (row_after v from k rest s out j false e)) (others j e)
 
 -- a property of what a server has for the master
-by_report : (v : Sight) (from : Party) (k : ℕ) (rest : List Message) (s : Server) (out : List (Party × Message)) (P : ℕ → List Message → Type 0) → ((j : ℕ) → P j (v.channel (parties.Server j) parties.Master))
+pub by_report : (v : Sight) (from : Party) (k : ℕ) (rest : List Message) (s : Server) (out : List (Party × Message)) (P : ℕ → List Message → Type 0) → ((j : ℕ) → P j (v.channel (parties.Server j) parties.Master))
     → (P k (v.channel (parties.Server k) parties.Master) → P k (v.channel (parties.Server k) parties.Master ++ addressed parties.Master out)) → (j : ℕ) → P j ((turn v from k rest s out).channel (parties.Server j) parties.Master)
 by_report v from k rest s out P all more j = subst (λ ms. P j ms) (sym (report_row v from k rest s out j)) (go (eqb j k) refl) where
   go : (t : Bool) → eqb j k ≡ t → P j (cond t (v.channel (parties.Server j) parties.Master ++ addressed parties.Master out) (v.channel (parties.Server j) parties.Master))
@@ -153,6 +154,10 @@ stage_one v c k h member = subst (λ n. n ≤ 1) (sym (h.stages k member)) (go (
   go true = omega arith
   go false = omega arith
 
+-- the number that it needs, where it acts
+pub reached_so : (s : Server) (n : ℕ) → s.at_least ≡ Some n → acts s ≡ true → n ≤ length s.entries
+reached_so s n is so = leb-true n (length s.entries) (sym (ap (λ o. reaches (length s.entries) o) is) ∙ so)
+
 -- it has all that is committed when it begins to act
 begins_with_all : (v : Sight) (c : List Entry) (from : Party) (k : ℕ) (rest : List Message) (s : Server) (out : List (Party × Message)) → Turning v c from k rest s out → (v.server k).full ≡ false → acts s ≡ true → Front c s.entries
 begins_with_all v c from k rest s out t young does =
@@ -166,18 +171,9 @@ begins_with_all v c from k rest s out t young does =
     ] in
     let order = chain-order (turn v from k rest s out) q.0 k (turn-keeps v from k rest s out t.prefixes t.moves) before in
     let own = subst (λ x. Front x.entries (set_at v.server k s q.0).entries) (if_true (eqb k k) s (v.server k) (eq-eqb k k refl)) order in
-    let theirs = subst (λ x. Front s.entries x.entries) (if_false (eqb q.0 k) s (v.server q.0) (turned k q.0 other)) own in
+    let theirs = subst (λ x. Front s.entries x.entries) (if_false (eqb q.0 k) s (v.server q.0) (eqb_turned k q.0 other)) own in
     let least = some-least s.at_least (acts-least s does) in
-    shorter-front c s.entries (v.server q.0).entries (t.commits.old q.0 q_member q.2) theirs (omega (arith, t.acts_so.young_least least.0 young least.1, reached_least s least.0 least.1 does)) where
-      turned : (a b : ℕ) → eqb a b ≡ false → eqb b a ≡ false
-      turned a b others = elim (cases_Bool (eqb b a)) [ inl e ↦ absurd (both_ways (eqb a b) others (eq-eqb a b (sym (eqb-true b a e)))) | inr is ↦ is ]
-
-      reached_least : (x : Server) (n : ℕ) → x.at_least ≡ Some n → acts x ≡ true → n ≤ length x.entries
-      reached_least x n is so = leb-true n (length x.entries) (sym (ap (λ o. reaches (length x.entries) o) is) ∙ so)
-
--- the number that it needs, where it acts
-pub reached_so : (s : Server) (n : ℕ) → s.at_least ≡ Some n → acts s ≡ true → n ≤ length s.entries
-reached_so s n is so = leb-true n (length s.entries) (sym (ap (λ o. reaches (length s.entries) o) is) ∙ so)
+    shorter-front c s.entries (v.server q.0).entries (t.commits.old q.0 q_member q.2) theirs (omega (arith, t.acts_so.young_least least.0 young least.1, reached_so s least.0 least.1 does))
 
 -- all that was committed is in its history, if it is full
 own_front : (v : Sight) (c : List Entry) (from : Party) (k : ℕ) (rest : List Message) (s : Server) (out : List (Party × Message)) → Turning v c from k rest s out → s.full ≡ true → Front c s.entries

@@ -26,23 +26,23 @@ in-numbers (suc n) k id low high = elim (cases_Bool (eqb k id)) [
   above there = omega (arith, low, λ (same : k ≡ id). both_ways (eqb k id) there (eq-eqb k id same))
 
 -- numbers from one on are above it
-above_first : (n k : ℕ) (b : ℕ) → Among b (numbers_from k n) → k ≤ b
+pub above_first : (n k : ℕ) (b : ℕ) → Among b (numbers_from k n) → k ≤ b
 unfolding numbers_from
 above_first zero k b none = absurd none
 above_first (suc n) k b (inl e) = omega (arith, e)
 above_first (suc n) k b (inr h) = omega (arith, above_first n (k + 1) b h)
 
 -- and all different
-numbers_apart : (n k : ℕ) → Pairwise (λ a b. eqb a b ≡ false) (numbers_from k n)
+pub numbers_apart : (n k : ℕ) → Pairwise (λ a b. eqb a b ≡ false) (numbers_from k n)
 unfolding numbers_from
 numbers_apart zero k = tt
 numbers_apart (suc n) k = ((λ b h. let over = above_first n (k + 1) b h in ne_eqb k b (λ e. omega (arith, over, e))), numbers_apart n (k + 1))
 
 -- the state of a server of the first world
-abbrev at_first : Bool → ℕ → ℕ → Server
+abbrev pub at_first : Bool → ℕ → ℕ → Server
 at_first t size id = if t then first_member size id else joining
 
-first_entries : (t : Bool) (size id : ℕ) → (at_first t size id).entries ≡ []
+pub first_entries : (t : Bool) (size id : ℕ) → (at_first t size id).entries ≡ []
 first_entries true size id = refl
 first_entries false size id = refl
 
@@ -99,7 +99,7 @@ unfolding numbers_from
 last_number zero k = eq-eqb k (k + 0) (omega arith)
 last_number (suc n) k = subst (λ i. is_last (numbers_from (k + 1) (suc n)) i ≡ true) (omega arith) (last_number n (k + 1))
 
-last_size : (size : ℕ) → 1 ≤ size → is_last (numbers_from 1 size) size ≡ true
+pub last_size : (size : ℕ) → 1 ≤ size → is_last (numbers_from 1 size) size ≡ true
 last_size zero some = absurd (omega (arith, some))
 last_size (suc n) some = subst (λ i. is_last (numbers_from 1 (suc n)) i ≡ true) (omega arith) (last_number n 1)
 
@@ -107,7 +107,7 @@ last_size (suc n) some = subst (λ i. is_last (numbers_from 1 (suc n)) i ≡ tru
 abbrev least_by : Bool → Option ℕ
 least_by t = cond t (Some 0) None
 
-at_first_full : (t : Bool) (size id : ℕ) → t ≡ true → (at_first t size id).full ≡ true
+pub at_first_full : (t : Bool) (size id : ℕ) → t ≡ true → (at_first t size id).full ≡ true
 at_first_full true size id e = refl
 at_first_full false size id e = absurd (false≢true e)
 

@@ -38,7 +38,7 @@ use Rattle.cq_world.proofs.Unrefused.{known-parts, lives-parts, server-parts, at
 -- ---- channels that end neither at a server nor begin at the master
 
 -- a channel that doesn't end at a server goes on with what is of the same history
-drained_keeps : (v : Sight) (from to : Party) (rest : List Message) → ((s : ℕ) → same (parties.Server s) to ≡ false) → ((id : ℕ) → same (parties.Server id) from ≡ true → Each (Speaks (v.server id).entries) rest) → Prefixes v → Prefixes (drained v from to rest)
+pub drained_keeps : (v : Sight) (from to : Party) (rest : List Message) → ((s : ℕ) → same (parties.Server s) to ≡ false) → ((id : ℕ) → same (parties.Server id) from ≡ true → Each (Speaks (v.server id).entries) rest) → Prefixes v → Prefixes (drained v from to rest)
 drained_keeps v from to rest no_server says h = record {
   apart = h.apart;
   members = h.members;
@@ -111,7 +111,7 @@ pub record Onward (w : World) (c : List Entry) (new : World) : Type 0 where
   pub grows : Front c (longest_at new c)
 
 -- where no server has changed
-stays_good : (w new : World) (c : List Entry) → new.server ≡ w.server → Commits (sight w) c → Prefixes (sight new) → Commits (sight new) c → Onward w c new
+pub stays_good : (w new : World) (c : List Entry) → new.server ≡ w.server → Commits (sight w) c → Prefixes (sight new) → Commits (sight new) c → Onward w c new
 stays_good w new c servers old prefixes commits = let same_list = longest-same new (sight w) c servers old in record {
   good = record { prefixes = prefixes; commits = subst (λ us. Commits (sight new) us) (sym same_list) commits };
   grows = subst (λ us. Front c us) (sym same_list) (front-refl c);
@@ -140,7 +140,7 @@ each_parts P [] ys h = (tt, h)
 each_parts P (x ∷ xs) ys h = let rest = each_parts P xs ys h.1 in ((h.0, rest.0), rest.1)
 
 -- what is given leaves the rest
-given_speaks : (w : World) (from : Party) (id : ℕ) → same (parties.Server id) from ≡ true → Prefixes (sight w) → Each (Speaks (w.server id).entries) (w.link from parties.Clients ++ drop 1 (w.outbox from parties.Clients))
+pub given_speaks : (w : World) (from : Party) (id : ℕ) → same (parties.Server id) from ≡ true → Prefixes (sight w) → Each (Speaks (w.server id).entries) (w.link from parties.Clients ++ drop 1 (w.outbox from parties.Clients))
 given_speaks w from id is h =
     let own = subst (λ p. Each (Speaks (w.server id).entries) (channel w p parties.Clients)) (same-true (parties.Server id) from is) (h.speaks id parties.Clients) in
     let parts = each_parts (Speaks (w.server id).entries) (w.link from parties.Clients) (w.outbox from parties.Clients) own in
@@ -162,22 +162,22 @@ put_good w c from (parties.Server id) good = stays_good w (after_put w from (par
 -- ---- orders of the master
 
 -- an order, as it is seen
-sight_ordered : (w : World) (order : Order) → sight (ordered w order) ≡ said (sight w) order.master order.said
+pub sight_ordered : (w : World) (order : Order) → sight (ordered w order) ≡ said (sight w) order.master order.said
 sight_ordered w order = ap (λ c. record { server = w.server; channel = c; master = order.master }) (same_channels _ _ (λ x y. go x y (same x parties.Master))) where
   go : (x y : Party) (t : Bool) → w.link x y ++ cond t (w.outbox x y ++ addressed y order.said) (w.outbox x y) ≡ cond t ((w.link x y ++ w.outbox x y) ++ addressed y order.said) (w.link x y ++ w.outbox x y)
   go x y true = sym (append_assoc (w.link x y) (w.outbox x y) (addressed y order.said))
   go x y false = refl
 
 -- what is of a sender's history in a link and in an outbox, without the first message
-link_speaks : (w : World) (id : ℕ) (to : Party) (m : Message) (ms : List Message) → w.link (parties.Server id) to ≡ m ∷ ms → Prefixes (sight w) → Each (Speaks (w.server id).entries) (ms ++ w.outbox (parties.Server id) to)
+pub link_speaks : (w : World) (id : ℕ) (to : Party) (m : Message) (ms : List Message) → w.link (parties.Server id) to ≡ m ∷ ms → Prefixes (sight w) → Each (Speaks (w.server id).entries) (ms ++ w.outbox (parties.Server id) to)
 link_speaks w id to m ms at h = (subst (λ us. Each (Speaks (w.server id).entries) (us ++ w.outbox (parties.Server id) to)) at (h.speaks id to)).1
 
 -- the same, of any sender
-first_speaks : (w : World) (from to : Party) (m : Message) (ms : List Message) → w.link from to ≡ m ∷ ms → Prefixes (sight w) → (id : ℕ) → same (parties.Server id) from ≡ true → Each (Speaks (w.server id).entries) (ms ++ w.outbox from to)
+pub first_speaks : (w : World) (from to : Party) (m : Message) (ms : List Message) → w.link from to ≡ m ∷ ms → Prefixes (sight w) → (id : ℕ) → same (parties.Server id) from ≡ true → Each (Speaks (w.server id).entries) (ms ++ w.outbox from to)
 first_speaks w from to m ms at h id is = subst (λ p. Each (Speaks (w.server id).entries) (ms ++ w.outbox p to)) (same-true (parties.Server id) from is) (link_speaks w id to m ms (ap (λ p. w.link p to) (same-true (parties.Server id) from is) ∙ at) h)
 
 -- a message that is lost at the clients, or comes to the master from another one than a server
-lost_good : (w : World) (c : List Entry) (from to : Party) (m : Message) (ms : List Message) → ((s : ℕ) → same (parties.Server s) to ≡ false) → ((s : ℕ) → (same (parties.Server s) from && same parties.Master to) ≡ false) → w.link from to ≡ m ∷ ms → Good w c
+pub lost_good : (w : World) (c : List Entry) (from to : Party) (m : Message) (ms : List Message) → ((s : ℕ) → same (parties.Server s) to ≡ false) → ((s : ℕ) → (same (parties.Server s) from && same parties.Master to) ≡ false) → w.link from to ≡ m ∷ ms → Good w c
     → Prefixes (sight (without_first w from to)) × Commits (sight (without_first w from to)) c
 lost_good w c from to m ms no_server no_report at good = (
   subst Prefixes (sym (sight-without w from to m ms at)) (drained_keeps (sight w) from to (ms ++ w.outbox from to) no_server (first_speaks w from to m ms at good.prefixes) good.prefixes),
@@ -225,7 +225,7 @@ taken_good w c from (parties.Server k) (m ∷ ms) at known lives good =
 -- ---- changes
 
 -- another server that is full and lives
-find_full : (w : World) (id : ℕ) (ids : List ℕ) → list_any (λ other. not (eqb other id) && (w.server other).full && not (w.server other).down) ids ≡ true
+pub find_full : (w : World) (id : ℕ) (ids : List ℕ) → list_any (λ other. not (eqb other id) && (w.server other).full && not (w.server other).down) ids ≡ true
     → (other : ℕ) × (is_in ids other ≡ true) × (eqb other id ≡ false) × ((w.server other).full ≡ true) × ((w.server other).down ≡ false)
 find_full w id [] h = absurd (false≢true h)
 find_full w id (x ∷ ids) h = elim (or_cases (not (eqb x id) && (w.server x).full && not (w.server x).down) (list_any (λ other. not (eqb other id) && (w.server other).full && not (w.server other).down) ids) h) [
@@ -238,7 +238,7 @@ find_full w id (x ∷ ids) h = elim (or_cases (not (eqb x id) && (w.server x).fu
   negated true e = absurd (false≢true e)
   negated false e = refl
 
-some_refused : (b : Bool) (fault : WorldFault) → cond b None (Some fault) ≡ None → b ≡ true
+pub some_refused : (b : Bool) (fault : WorldFault) → cond b None (Some fault) ≡ None → b ≡ true
 some_refused true fault h = refl
 some_refused false fault h = absurd (some_none fault h)
 
@@ -250,7 +250,7 @@ crash_good w c id known lives free good =
     (crash-acting (sight w) c id good.prefixes good.commits (lives-member (sight w) id good.prefixes known lives) other.0 other.2 other.1 other.3 other.4)
 
 -- what a detection that isn't refused tells
-detect_parts : (b d : Bool) (n : ℕ) → cond d (cond (not b) (Some NoSuchServer) (cond (nat_lt 1 n) None (Some LastFull))) (Some NotDown) ≡ None → (d ≡ true) × (b ≡ true) × (nat_lt 1 n ≡ true)
+pub detect_parts : (b d : Bool) (n : ℕ) → cond d (cond (not b) (Some NoSuchServer) (cond (nat_lt 1 n) None (Some LastFull))) (Some NotDown) ≡ None → (d ≡ true) × (b ≡ true) × (nat_lt 1 n ≡ true)
 detect_parts b false n h = absurd (some_none NotDown h)
 detect_parts false true n h = absurd (some_none NoSuchServer h)
 detect_parts true true n h = (refl, refl, some_refused (nat_lt 1 n) LastFull h)
@@ -265,7 +265,7 @@ detect_good w c id free good =
     (subst Prefixes (sym is) (said-keeps (sight w) (detected id w.master).master (detected id w.master).said good.prefixes (detected-said (sight w) id good.prefixes parts.1 parts.0 more)))
     (subst (λ v. Commits v c) (sym is) (detected-commits (sight w) c id good.prefixes good.commits more))
 
-join_parts : (u r : Bool) (n : ℕ) → cond u (Some IdUsed) (cond (not (nat_lt n most_members)) (Some ChainFull) (cond r None (Some JoinPending))) ≡ None → (u ≡ false) × (r ≡ true)
+pub join_parts : (u r : Bool) (n : ℕ) → cond u (Some IdUsed) (cond (not (nat_lt n most_members)) (Some ChainFull) (cond r None (Some JoinPending))) ≡ None → (u ≡ false) × (r ≡ true)
 join_parts true r n h = absurd (some_none IdUsed h)
 join_parts false r n h = go (nat_lt n most_members) h where
   go : (b : Bool) → cond (not b) (Some ChainFull) (cond r None (Some JoinPending)) ≡ None → (false ≡ false) × (r ≡ true)
@@ -273,7 +273,7 @@ join_parts false r n h = go (nat_lt n most_members) h where
   go false k = absurd (some_none ChainFull k)
 
 -- a chain has a member, since a full server lives
-chain_some : (v : Sight) (c : List Entry) → Prefixes v → Commits v c → (a : ℕ) × (rest : List ℕ) × (v.master.chain ≡ a ∷ rest)
+pub chain_some : (v : Sight) (c : List Entry) → Prefixes v → Commits v c → (a : ℕ) × (rest : List ℕ) × (v.master.chain ≡ a ∷ rest)
 chain_some v c g h = go v.master.chain refl (lives-member v h.lives.0 g h.lives.1 h.lives.3) where
   go : (chain : List ℕ) → v.master.chain ≡ chain → is_in v.master.chain h.lives.0 ≡ true → (a : ℕ) × (rest : List ℕ) × (v.master.chain ≡ a ∷ rest)
   go [] is member = absurd (false≢true (sym (ap (λ us. is_in us h.lives.0) is) ∙ member))

@@ -8,6 +8,7 @@ use Rattle.cq_base.specs.declared.party.Party.TheVariants as parties
 use Rattle.cq_base.specs.Relations.{Among, Front, Pairwise}
 use Rattle.cq_chain.specs.declared.fault.WorldFault.{WorldFault}
 use Rattle.cq_chain.specs.declared.message.Answer.{Answer}
+use Rattle.cq_chain.specs.Masters.{is_last}
 use Rattle.cq_chain.specs.Messages.{Message, Fwd, Snap}
 use Rattle.cq_chain.specs.Servers.{acts}
 use Rattle.cq_chain.specs.Steps.{answer_to, answer_to_query}
@@ -134,6 +135,32 @@ abbrev pub LaterQueriesSeeAsMuch : Type 0
 LaterQueriesSeeAsMuch = (size : ℕ) (before : List Event) (at : ℕ) (query : Query) (a : Answer) → 1 ≤ size
     → Among a (made size before) → refusal_of (world_after (first_world size) before) (Ask at query) ≡ None
     → a.length ≤ (answer_to_query ((world_after (first_world size) before).server at).entries query).length
+
+-- ---- the chain at rest
+
+-- the party is the master, or a member of the chain
+abbrev pub IsOfChain : World → Party → Type 0
+IsOfChain w parties.Master = Unit {0}
+IsOfChain w parties.Clients = ⊥
+IsOfChain w (parties.Server id) = is_in w.master.chain id ≡ true
+
+-- The chain is quiet: the master knows that the last member acts, and nothing is on its way between members, and between
+-- them and the master.
+pub record IsQuiet (w : World) : Type 0 where
+  pub ready : w.master.ready ≡ true
+  pub outboxes : (from to : Party) → IsOfChain w from → IsOfChain w to → w.outbox from to ≡ []
+  pub links : (from to : Party) → IsOfChain w from → IsOfChain w to → w.link from to ≡ []
+
+-- In a quiet chain all members have the same history.
+abbrev pub QuietMembersAgree : Type 0
+QuietMembersAgree = (size : ℕ) (events : List Event) (p s : ℕ) → 1 ≤ size → IsQuiet (world_after (first_world size) events)
+    → is_in (world_after (first_world size) events).master.chain p ≡ true → is_in (world_after (first_world size) events).master.chain s ≡ true
+    → ((world_after (first_world size) events).server p).entries ≡ ((world_after (first_world size) events).server s).entries
+
+-- In a quiet chain the last member acts.
+abbrev pub QuietTailActs : Type 0
+QuietTailActs = (size : ℕ) (events : List Event) (id : ℕ) → 1 ≤ size → IsQuiet (world_after (first_world size) events)
+    → is_last (world_after (first_world size) events).master.chain id ≡ true → acts ((world_after (first_world size) events).server id) ≡ true
 
 -- ---- the laws of the queue object, on the committed list
 

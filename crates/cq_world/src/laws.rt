@@ -4,7 +4,7 @@
 ghost use Rattle.std.specs.Prelude.{List};
 ghost use Rattle.cq_base.specs.declared.ask.Entry.{Entry};
 ghost use Rattle.cq_store.specs.Laws.{FreshOnceIn, RepeatsAreAnsweredAt, OthersDoNothingAt, EachQueueAloneIn, EachReplyAloneAt, HandsWhatWasSentAt, NoneInFlightAt, NoneDeletedAt, NoneRemovedAt, OneAcceptancePerWindowAt, FirstHandingsInOrderIn};
-ghost use Rattle.cq_world.specs.Laws.{AtEachPlace, OfCommitted, AnswersAreOfTheObject, GivenWereMade, CommittedIsOfTheHead, CommittedIsOfFullServers, CommittedGrows, CommittedIsOfArrivals, MessagesAreOfTheHistory, HistoriesAreFronts, HistoriesFallAlongTheChain, OneActs, LengthsNeverFall, LaterArrivalsStandAbove, LaterQueriesSeeAsMuch, HeadlineHolds};
+ghost use Rattle.cq_world.specs.Laws.{AtEachPlace, OfCommitted, AnswersAreOfTheObject, GivenWereMade, CommittedIsOfTheHead, CommittedIsOfFullServers, CommittedGrows, CommittedIsOfArrivals, MessagesAreOfTheHistory, HistoriesAreFronts, HistoriesFallAlongTheChain, OneActs, LengthsNeverFall, LaterArrivalsStandAbove, LaterQueriesSeeAsMuch, QuietMembersAgree, QuietTailActs, HeadlineHolds};
 
 /// Every answer that a server makes is the one that a single queue object gives which takes the committed list:
 /// to a request at the place that the answer bears, to a query after so many entries. Only answers that were
@@ -56,6 +56,13 @@ pub fn lengths_never_fall()
 pub fn later_requests_see_what_was_answered()
     ensures arrivals { LaterArrivalsStandAbove }
     ensures queries { LaterQueriesSeeAsMuch }
+{}
+
+/// In a chain that is quiet, since the master knows that its last member acts and nothing is on its way between its members
+/// and the master, all members have the same history, and the last one acts: nothing is lost on the way.
+pub fn a_quiet_chain_agrees()
+    ensures members { QuietMembersAgree }
+    ensures tail { QuietTailActs }
 {}
 
 /// On the committed list, of the entries of a client under one number at most one is fresh, the others do nothing
