@@ -23,7 +23,7 @@ use Rattle.cq_world.proofs.WholeGrowth.{Grown, tail_row, tail_idle, passed_idle,
 use Rattle.cq_world.proofs.WholeTurns.{Feeding, left_between}
 
 -- All that is known before a turn: a server lives and takes the first message of a channel, or nothing.
-pub record Ready_for (v : Sight) (c : List Entry) (k : ℕ) : Type 0 where
+pub record BeforeTurn (v : Sight) (c : List Entry) (k : ℕ) : Type 0 where
   pub prefixes : Prefixes v
   pub commits : Commits v c
   pub whole : Whole v c
@@ -56,7 +56,7 @@ passes_idle v q k m rest p at none h = go (eqb p q) refl where
   go false e = subst (λ ms. Feeds (length (v.server k).entries) ms (length (v.server p).entries)) (sym (left_from v q p k rest e)) h
 
 -- a message that is ignored is none that the predecessor, which is linked, has sent as data
-pub ignored : (v : Sight) (c : List Entry) (q k : ℕ) (m : Message) (rest : List Message) → Ready_for v c k → v.channel (parties.Server q) (parties.Server k) ≡ m ∷ rest
+pub ignored : (v : Sight) (c : List Entry) (q k : ℕ) (m : Message) (rest : List Message) → BeforeTurn v c k → v.channel (parties.Server q) (parties.Server k) ≡ m ∷ rest
     → ((v.server k).pred ≡ Some q → is_that (v.server q).succ k ≡ true → NoData m) → Feeding v c (parties.Server q) k rest (v.server k) []
 ignored v c q k m rest b at none = calm-feeding v c (parties.Server q) k (m ∷ []) rest (v.server k) [] b.prefixes b.whole b.member at refl (λ p is. is) refl (λ y. y) (λ p. refl) (λ x. refl) (λ n. n) tt (λ x. tt)
     (λ p is_pred link h. passes p is_pred link h (eqb p q) refl) (omega (arith, b.whole.acked k, within)) (λ x. tt) (λ full. omega (arith, b.whole.floors k b.member full, within)) where
@@ -71,13 +71,13 @@ ignored v c q k m rest b at none = calm-feeding v c (parties.Server q) k (m ∷ 
 -- ---- entries
 
 -- a forwarded entry that is accepted comes from a predecessor that is linked
-pub fwd_linked : (v : Sight) (c : List Entry) (p k place : ℕ) (e : Entry) (rest : List Message) → Ready_for v c k → v.channel (parties.Server p) (parties.Server k) ≡ Fwd place e ∷ rest → is_that (v.server p).succ k ≡ true
+pub fwd_linked : (v : Sight) (c : List Entry) (p k place : ℕ) (e : Entry) (rest : List Message) → BeforeTurn v c k → v.channel (parties.Server p) (parties.Server k) ≡ Fwd place e ∷ rest → is_that (v.server p).succ k ≡ true
 fwd_linked v c p k place e rest b at = elim (cases_Bool (is_that (v.server p).succ k)) [
   | inl link ↦ link
   | inr none ↦ absurd (subst (λ ms. Each NoData ms) at (b.whole.data_none p k b.member none)).0
 ]
 
-pub snap_linked : (v : Sight) (c : List Entry) (p k : ℕ) (entries : List Entry) (rest : List Message) → Ready_for v c k → v.channel (parties.Server p) (parties.Server k) ≡ Snap entries ∷ rest → is_that (v.server p).succ k ≡ true
+pub snap_linked : (v : Sight) (c : List Entry) (p k : ℕ) (entries : List Entry) (rest : List Message) → BeforeTurn v c k → v.channel (parties.Server p) (parties.Server k) ≡ Snap entries ∷ rest → is_that (v.server p).succ k ≡ true
 snap_linked v c p k entries rest b at = elim (cases_Bool (is_that (v.server p).succ k)) [
   | inl link ↦ link
   | inr none ↦ absurd (subst (λ ms. Each NoData ms) at (b.whole.data_none p k b.member none)).0
@@ -87,7 +87,7 @@ snap_linked v c p k entries rest b at = elim (cases_Bool (is_that (v.server p).s
 ack_row : (n : ℕ) (old now : Server) (x : ℕ) → (acts now ≡ true → length now.entries ≤ n) → Each (AckWithin n) (addressed (parties.Server x) (tail_news old now))
 ack_row n old now x h = tail_row (AckWithin n) old now x h
 
-pub fwd_grown : (v : Sight) (c : List Entry) (p k place : ℕ) (e : Entry) (rest : List Message) → Ready_for v c k → v.channel (parties.Server p) (parties.Server k) ≡ Fwd place e ∷ rest → (v.server k).pred ≡ Some p
+pub fwd_grown : (v : Sight) (c : List Entry) (p k place : ℕ) (e : Entry) (rest : List Message) → BeforeTurn v c k → v.channel (parties.Server p) (parties.Server k) ≡ Fwd place e ∷ rest → (v.server k).pred ≡ Some p
     → (acts (appended (v.server k) e) ≡ true → longer c (acting_history (settled (appended (v.server k) e))) ≡ (settled (appended (v.server k) e)).entries)
     → Grown v c (parties.Server p) k rest (appended (v.server k) e) (passed_on (v.server k) e ++ tail_news (v.server k) (appended (v.server k) e))
 fwd_grown v c p k place e rest b at is_pred own = record {
@@ -128,7 +128,7 @@ fwd_grown v c p k place e rest b at is_pred own = record {
   row P y h g = subst (λ ms. Each P ms) (sym (addressed-append (parties.Server y) (passed_on (v.server k) e) (tail_news (v.server k) (appended (v.server k) e)))) (each-append P (addressed (parties.Server y) (passed_on (v.server k) e)) (addressed (parties.Server y) (tail_news (v.server k) (appended (v.server k) e))) h g)
 
 -- a snapshot
-pub snap_grown : (v : Sight) (c : List Entry) (p k : ℕ) (entries : List Entry) (rest : List Message) → Ready_for v c k → v.channel (parties.Server p) (parties.Server k) ≡ Snap entries ∷ rest → (v.server k).pred ≡ Some p → (v.server k).succ ≡ None
+pub snap_grown : (v : Sight) (c : List Entry) (p k : ℕ) (entries : List Entry) (rest : List Message) → BeforeTurn v c k → v.channel (parties.Server p) (parties.Server k) ≡ Snap entries ∷ rest → (v.server k).pred ≡ Some p → (v.server k).succ ≡ None
     → (acts (with_history (v.server k) entries) ≡ true → longer c (acting_history (settled (with_history (v.server k) entries))) ≡ (settled (with_history (v.server k) entries)).entries)
     → Grown v c (parties.Server p) k rest (with_history (v.server k) entries) (tail_news (v.server k) (with_history (v.server k) entries))
 snap_grown v c p k entries rest b at is_pred alone own = record {
@@ -161,7 +161,7 @@ snap_grown v c p k entries rest b at is_pred alone own = record {
   quiet y = tail_row NoData (v.server k) (with_history (v.server k) entries) y (λ does. tt)
 
 -- a request at the head
-pub arrive_grown : (v : Sight) (c : List Entry) (k : ℕ) (e : Entry) → Ready_for v c k → (v.server k).head ≡ true
+pub arrive_grown : (v : Sight) (c : List Entry) (k : ℕ) (e : Entry) → BeforeTurn v c k → (v.server k).head ≡ true
     → (acts (appended (v.server k) e) ≡ true → longer c (acting_history (settled (appended (v.server k) e))) ≡ (settled (appended (v.server k) e)).entries)
     → Grown v c parties.Clients k (v.channel parties.Clients (parties.Server k)) (appended (v.server k) e) (passed_on (v.server k) e)
 arrive_grown v c k e b is_head own = record {

@@ -28,7 +28,7 @@ use Rattle.cq_world.proofs.WholeTurns.{Feeding}
 use Rattle.cq_world.proofs.CommitTurns.{Acting, turn-own}
 use Rattle.cq_world.proofs.Ordering.{eqb_turned}
 use Rattle.cq_world.proofs.Prefixes.{Turn}
-use Rattle.cq_world.proofs.WholeEntries.{Ready_for, passes_idle, ignored, fwd_grown, snap_grown, arrive_grown}
+use Rattle.cq_world.proofs.WholeEntries.{BeforeTurn, passes_idle, ignored, fwd_grown, snap_grown, arrive_grown}
 
 -- what the master's row has after its first word
 no_longer : (m : Message) (rest : List Message) → news (m ∷ rest) ≡ 0 → news rest ≡ 0
@@ -38,7 +38,7 @@ no_longer m rest h = h
 
 -- ---- a predecessor
 
-report_feeding : (v : Sight) (c : List Entry) (k p : ℕ) (rest : List Message) → Ready_for v c k → v.channel parties.Master (parties.Server k) ≡ Report p ∷ rest
+report_feeding : (v : Sight) (c : List Entry) (k p : ℕ) (rest : List Message) → BeforeTurn v c k → v.channel parties.Master (parties.Server k) ≡ Report p ∷ rest
     → length c ≤ length (longer c (acting_history (reported p (v.server k)).server)) → Feeding v c parties.Master k rest (reported p (v.server k)).server (reported p (v.server k)).sent
 report_feeding v c k p rest b at within = record {
   pred_known = λ q is. subst (λ i. is_in v.master.used i ≡ true) (same_one p q is) (subst (λ ms. Each (Known v.master.used) ms) at (b.whole.orders_known k)).0;
@@ -85,7 +85,7 @@ report_feeding v c k p rest b at within = record {
 
 -- ---- the tail
 
-tail_feeding : (v : Sight) (c : List Entry) (k least : ℕ) (rest : List Message) → Ready_for v c k → v.channel parties.Master (parties.Server k) ≡ BeTail least ∷ rest
+tail_feeding : (v : Sight) (c : List Entry) (k least : ℕ) (rest : List Message) → BeforeTurn v c k → v.channel parties.Master (parties.Server k) ≡ BeTail least ∷ rest
     → (acts (as_tail least (v.server k)) ≡ true → longer c (acting_history (settled (as_tail least (v.server k)))) ≡ (settled (as_tail least (v.server k))).entries)
     → Feeding v c parties.Master k rest (tailed least (v.server k)).server (tailed least (v.server k)).sent
 tail_feeding v c k least rest b at own = record {
@@ -165,7 +165,7 @@ repair_acks n to have x s = go (nat_le s.floor have) where
     one true = (tt, tt)
     one false = tt
 
-adopt_feeding : (v : Sight) (c : List Entry) (k succ have : ℕ) (rest : List Message) → Ready_for v c k → v.channel parties.Master (parties.Server k) ≡ Adopt succ have ∷ rest
+adopt_feeding : (v : Sight) (c : List Entry) (k succ have : ℕ) (rest : List Message) → BeforeTurn v c k → v.channel parties.Master (parties.Server k) ≡ Adopt succ have ∷ rest
     → length c ≤ length (longer c (acting_history (adopting succ have (v.server k)).server)) → Feeding v c parties.Master k rest (adopting succ have (v.server k)).server (adopting succ have (v.server k)).sent
 adopt_feeding v c k succ have rest b at within = record {
   pred_known = λ q is. b.whole.pred_known k q is;
@@ -263,7 +263,7 @@ after_more c s = (longer-length c (acting_history s)).0
 settled_so : (x : Server) → acts x ≡ true → acts (settled x) ≡ true
 settled_so x does = let now = is_settled x in ap (λ us. reaches (length us) (settled x).at_least) now.entries ∙ ap (λ o. reaches (length x.entries) o) now.at_least ∙ does
 
-server_feeding : (v : Sight) (c : List Entry) (p k : ℕ) (m : Message) (rest : List Message) → Ready_for v c k → (v.server k).down ≡ false → v.channel (parties.Server p) (parties.Server k) ≡ m ∷ rest
+server_feeding : (v : Sight) (c : List Entry) (p k : ℕ) (m : Message) (rest : List Message) → BeforeTurn v c k → (v.server k).down ≡ false → v.channel (parties.Server p) (parties.Server k) ≡ m ∷ rest
     → Turn v (parties.Server p) k rest (takes (parties.Server p) m (v.server k)).server (takes (parties.Server p) m (v.server k)).sent → Acting v c (parties.Server p) k rest (takes (parties.Server p) m (v.server k)).server (takes (parties.Server p) m (v.server k)).sent
     → Feeding v c (parties.Server p) k rest (takes (parties.Server p) m (v.server k)).server (takes (parties.Server p) m (v.server k)).sent
 unfolding takes
@@ -307,7 +307,7 @@ server_feeding v c p k (Ack n) rest b lives at t a = go (nat_lt (v.server k).ack
   go false = ignored v c p k (Ack n) rest b at (λ is_pred link. tt)
 server_feeding v c p k m rest b lives at t a = ignored v c p k m rest b at (λ is_pred link. tt)
 
-told_feeding : (v : Sight) (c : List Entry) (k : ℕ) (m : Message) (rest : List Message) → Ready_for v c k → (v.server k).down ≡ false → v.channel parties.Master (parties.Server k) ≡ m ∷ rest
+told_feeding : (v : Sight) (c : List Entry) (k : ℕ) (m : Message) (rest : List Message) → BeforeTurn v c k → (v.server k).down ≡ false → v.channel parties.Master (parties.Server k) ≡ m ∷ rest
     → Turn v parties.Master k rest (takes parties.Master m (v.server k)).server (takes parties.Master m (v.server k)).sent → Acting v c parties.Master k rest (takes parties.Master m (v.server k)).server (takes parties.Master m (v.server k)).sent
     → Feeding v c parties.Master k rest (takes parties.Master m (v.server k)).server (takes parties.Master m (v.server k)).sent
 unfolding takes
@@ -325,14 +325,14 @@ told_feeding v c k m rest b lives at t a = calm-feeding v c parties.Master k (m 
     (omega (arith, b.whole.acked k, after_more c (v.server k))) (λ x. tt) (λ full. omega (arith, b.whole.floors k b.member full, after_more c (v.server k)))
 
 -- a step for which nothing is taken, and by which nothing changes of neighbours and histories
-quiet_feeding : (v : Sight) (c : List Entry) (k : ℕ) (s : Server) (out : List (Party × Message)) (rest : List Message) → Ready_for v c k → v.channel parties.Clients (parties.Server k) ≡ rest → s.entries ≡ (v.server k).entries → s.pred ≡ (v.server k).pred → s.succ ≡ (v.server k).succ → s.full ≡ (v.server k).full
+quiet_feeding : (v : Sight) (c : List Entry) (k : ℕ) (s : Server) (out : List (Party × Message)) (rest : List Message) → BeforeTurn v c k → v.channel parties.Clients (parties.Server k) ≡ rest → s.entries ≡ (v.server k).entries → s.pred ≡ (v.server k).pred → s.succ ≡ (v.server k).succ → s.full ≡ (v.server k).full
     → s.acked ≡ (v.server k).acked → s.floor ≡ (v.server k).floor → Each Idle (addressed parties.Master out) → ((x : ℕ) → addressed (parties.Server x) out ≡ []) → Feeding v c parties.Clients k rest s out
 quiet_feeding v c k s out rest b at entries pred succ full acked floor idle silent_now = calm-feeding v c parties.Clients k [] rest s out b.prefixes b.whole b.member at entries (λ p is. sym pred ∙ is) succ (λ y. sym full ∙ y)
     (λ p. refl) (λ x. refl) (λ none. none) idle (λ x. subst (λ ms. Each NoData ms) (sym (silent_now x)) tt) (λ p is_pred link h. h)
     (omega (arith, acked, b.whole.acked k, after_more c s)) (λ x. subst (λ ms. Each (AckWithin (length (longer c (acting_history s)))) ms) (sym (silent_now x)) tt) (λ is. omega (arith, floor, b.whole.floors k b.member (sym full ∙ is), after_more c s))
 
 -- A server that takes any message.
-pub take-feeding : (v : Sight) (c : List Entry) (from : Party) (k : ℕ) (m : Message) (rest : List Message) → Ready_for v c k → (v.server k).down ≡ false → v.channel from (parties.Server k) ≡ m ∷ rest
+pub take-feeding : (v : Sight) (c : List Entry) (from : Party) (k : ℕ) (m : Message) (rest : List Message) → BeforeTurn v c k → (v.server k).down ≡ false → v.channel from (parties.Server k) ≡ m ∷ rest
     → Turn v from k rest (takes from m (v.server k)).server (takes from m (v.server k)).sent → Acting v c from k rest (takes from m (v.server k)).server (takes from m (v.server k)).sent
     → Feeding v c from k rest (takes from m (v.server k)).server (takes from m (v.server k)).sent
 unfolding takes
@@ -342,7 +342,7 @@ take-feeding v c parties.Clients k m rest b lives at t a = calm-feeding v c part
 take-feeding v c (parties.Server p) k m rest b lives at t a = server_feeding v c p k m rest b lives at t a
 
 -- A request arrives.
-pub arrive-feeding : (v : Sight) (c : List Entry) (k clock : ℕ) (request : Request) → Ready_for v c k → (v.server k).down ≡ false → (v.server k).head ≡ true
+pub arrive-feeding : (v : Sight) (c : List Entry) (k clock : ℕ) (request : Request) → BeforeTurn v c k → (v.server k).down ≡ false → (v.server k).head ≡ true
     → Turn v parties.Clients k (v.channel parties.Clients (parties.Server k)) (arrived clock request (v.server k)).server (arrived clock request (v.server k)).sent
     → Acting v c parties.Clients k (v.channel parties.Clients (parties.Server k)) (arrived clock request (v.server k)).server (arrived clock request (v.server k)).sent
     → Feeding v c parties.Clients k (v.channel parties.Clients (parties.Server k)) (arrived clock request (v.server k)).server (arrived clock request (v.server k)).sent
@@ -353,10 +353,10 @@ arrive-feeding v c k clock request b lives is_head t a =
     (arrive_grown v c k e b is_head (λ does. turn-own v c parties.Clients k (v.channel parties.Clients (parties.Server k)) (settled (appended (v.server k) e)) (passed_on (v.server k) e) b.prefixes b.commits t a (settled_so (appended (v.server k) e) does) ((is_settled (appended (v.server k) e)).down ∙ lives)))
 
 -- A query comes.
-pub ask-feeding : (v : Sight) (c : List Entry) (k : ℕ) (query : Query) → Ready_for v c k → Feeding v c parties.Clients k (v.channel parties.Clients (parties.Server k)) (asked query (v.server k)).server (asked query (v.server k)).sent
+pub ask-feeding : (v : Sight) (c : List Entry) (k : ℕ) (query : Query) → BeforeTurn v c k → Feeding v c parties.Clients k (v.channel parties.Clients (parties.Server k)) (asked query (v.server k)).server (asked query (v.server k)).sent
 unfolding asked
 ask-feeding v c k query b = quiet_feeding v c k (v.server k) _ (v.channel parties.Clients (parties.Server k)) b refl refl refl refl refl refl refl tt (λ x. refl)
 
 -- A server crashes.
-pub crash-feeding : (v : Sight) (c : List Entry) (k : ℕ) → Ready_for v c k → Feeding v c parties.Clients k (v.channel parties.Clients (parties.Server k)) (crashed (v.server k)).server (crashed (v.server k)).sent
+pub crash-feeding : (v : Sight) (c : List Entry) (k : ℕ) → BeforeTurn v c k → Feeding v c parties.Clients k (v.channel parties.Clients (parties.Server k)) (crashed (v.server k)).server (crashed (v.server k)).sent
 crash-feeding v c k b = quiet_feeding v c k (record (v.server k) { down = true }) [] (v.channel parties.Clients (parties.Server k)) b refl refl refl refl refl refl refl tt (λ x. refl)

@@ -35,7 +35,7 @@ use Rattle.cq_world.proofs.Wholes.{Whole, reports_of, haves_of, adopts_of, news,
 use Rattle.cq_world.proofs.WholeChanges.{detected-whole}
 use Rattle.cq_world.proofs.WholeJoins.{joined-whole}
 use Rattle.cq_world.proofs.WholeOrders.{heard-whole}
-use Rattle.cq_world.proofs.WholeEntries.{Ready_for}
+use Rattle.cq_world.proofs.WholeEntries.{BeforeTurn}
 use Rattle.cq_world.proofs.WholeMessages.{take-feeding, arrive-feeding, ask-feeding, crash-feeding}
 use Rattle.cq_world.proofs.WholeTurns.{Feeding, turn-whole}
 
@@ -186,8 +186,8 @@ turns w new c from k rest s out good h is t f = subst (λ us. Whole (sight new) 
     (subst (λ v. Whole v (longer c (acting_history s))) (sym is) (turn-whole (sight w) c from k rest s out good.prefixes h t f))
 
 -- what is known before a turn
-ready_for : (w : World) (c : List Entry) (k : ℕ) → Good w c → Whole (sight w) c → ((id : ℕ) → Stamped (w.server id).entries) → is_in w.master.used k ≡ true → (w.server k).down ≡ false → Ready_for (sight w) c k
-ready_for w c k good h stamps known lives = record { prefixes = good.prefixes; commits = good.commits; whole = h; stamps = stamps; member = lives-member (sight w) k good.prefixes known lives }
+before_turn : (w : World) (c : List Entry) (k : ℕ) → Good w c → Whole (sight w) c → ((id : ℕ) → Stamped (w.server id).entries) → is_in w.master.used k ≡ true → (w.server k).down ≡ false → BeforeTurn (sight w) c k
+before_turn w c k good h stamps known lives = record { prefixes = good.prefixes; commits = good.commits; whole = h; stamps = stamps; member = lives-member (sight w) k good.prefixes known lives }
 
 put_whole : (w : World) (c : List Entry) (from to : Party) → Good w c → Whole (sight w) c → Whole (sight (after_put w from to)) (longest_at (after_put w from to) c)
 put_whole w c from parties.Clients good h = stays w (after_put w from parties.Clients) c refl good (subst (λ v. Whole v c) (sym (sight-given w from)) (aside_whole (sight w) c from parties.Clients (w.link from parties.Clients ++ drop 1 (w.outbox from parties.Clients))
@@ -229,7 +229,7 @@ taken_whole w c from (parties.Server k) (m ∷ ms) at known lives good h stamps 
     let step = takes from m (w.server k) in
     let t = take-turn (sight w) from k m rest good.prefixes known lives front in
     turns w (after_take w from (parties.Server k) (m ∷ ms)) c from k rest step.server step.sent good h (sight-taken w from k m ms step at) t
-    (take-feeding (sight w) c from k m rest (ready_for w c k good h stamps known lives) lives front t (take-acting (sight w) c from k m rest good.prefixes good.commits (lives-member (sight w) k good.prefixes known lives) front))
+    (take-feeding (sight w) c from k m rest (before_turn w c k good h stamps known lives) lives front t (take-acting (sight w) c from k m rest good.prefixes good.commits (lives-member (sight w) k good.prefixes known lives) front))
 
 detect_whole : (w : World) (c : List Entry) (id : ℕ) → refusal_of_detect w id ≡ None → Good w c → Whole (sight w) c → Whole (sight (ordered w (detected id w.master))) (longest_at (ordered w (detected id w.master)) c)
 unfolding refusal_of_detection
@@ -253,11 +253,11 @@ next_whole w c (Arrive at clock request) free good h stamps =
     let member = lives-member (sight w) at good.prefixes parts.0 parts.1 in
     let t = arrive-turn (sight w) at clock request good.prefixes parts.0 parts.1 (at-head (w.server at) parts.2) in
     turns w (stepped w at step) c parties.Clients at (channel w parties.Clients (parties.Server at)) step.server step.sent good h (sight-step w at step) t
-    (arrive-feeding (sight w) c at clock request (ready_for w c at good h stamps parts.0 parts.1) parts.1 (at-head (w.server at) parts.2) t (arrive-acting (sight w) c at clock request good.prefixes good.commits member (at-head (w.server at) parts.2)))
+    (arrive-feeding (sight w) c at clock request (before_turn w c at good h stamps parts.0 parts.1) parts.1 (at-head (w.server at) parts.2) t (arrive-acting (sight w) c at clock request good.prefixes good.commits member (at-head (w.server at) parts.2)))
 next_whole w c (Ask at query) free good h stamps =
     let parts = server-parts w at (refusal_of_query (w.server at)) free in
     let step = asked query (w.server at) in
-    turns w (stepped w at step) c parties.Clients at (channel w parties.Clients (parties.Server at)) step.server step.sent good h (sight-step w at step) (ask-turn (sight w) at query good.prefixes parts.0 parts.1) (ask-feeding (sight w) c at query (ready_for w c at good h stamps parts.0 parts.1))
+    turns w (stepped w at step) c parties.Clients at (channel w parties.Clients (parties.Server at)) step.server step.sent good h (sight-step w at step) (ask-turn (sight w) at query good.prefixes parts.0 parts.1) (ask-feeding (sight w) c at query (before_turn w c at good h stamps parts.0 parts.1))
 next_whole w c (Put from to) free good h stamps = put_whole w c from to good h
 next_whole w c (Take from to) free good h stamps =
     let known = known-parts (knows w from && knows w to) (unless_down (is_down w to) (refusal_of_take w from to (w.link from to))) free in
@@ -266,7 +266,7 @@ next_whole w c (Take from to) free good h stamps =
 next_whole w c (Crash id) free good h stamps =
     let parts = server-parts w id (refusal_of_crash w id) free in
     let step = crashed (w.server id) in
-    turns w (stepped w id step) c parties.Clients id (channel w parties.Clients (parties.Server id)) step.server step.sent good h (sight-step w id step) (crash-turn (sight w) id good.prefixes parts.0 parts.1) (crash-feeding (sight w) c id (ready_for w c id good h stamps parts.0 parts.1))
+    turns w (stepped w id step) c parties.Clients id (channel w parties.Clients (parties.Server id)) step.server step.sent good h (sight-step w id step) (crash-turn (sight w) id good.prefixes parts.0 parts.1) (crash-feeding (sight w) c id (before_turn w c id good h stamps parts.0 parts.1))
 next_whole w c (Detect id) free good h stamps = detect_whole w c id (known-parts (is_in w.master.used id) (refusal_of_detect w id) free).1 good h
 next_whole w c (Join id) free good h stamps = join_event w c id free good h
 
