@@ -141,18 +141,6 @@ next_arrived w (Crash id) arrivals g h = stepped_arrived arrivals [] w id (crash
 next_arrived w (Detect id) arrivals g h = wider arrivals [] w h
 next_arrived w (Join id) arrivals g h = wider arrivals [] w h
 
-refused_none : (event : Event) (fault : WorldFault) → arrival_if event (Some fault) ≡ []
-refused_none (Arrive at clock request) fault = refl
-refused_none event fault = none_else event where
-  none_else : (other : Event) → arrival_if other (Some fault) ≡ []
-  none_else (Arrive at clock request) = refl
-  none_else (Ask at query) = refl
-  none_else (Put from to) = refl
-  none_else (Take from to) = refl
-  none_else (Crash id) = refl
-  none_else (Detect id) = refl
-  none_else (Join id) = refl
-
 unless_arrived : (w : World) (event : Event) (refusal : Option WorldFault) (arrivals : List Arrival) → Prefixes (sight w) → Arrived arrivals w → Arrived (arrivals ++ arrival_if event refusal) (unless_refused w event refusal)
 unless_arrived w event None arrivals g h = next_arrived w event arrivals g h
 unless_arrived w event (Some fault) arrivals g h = wider arrivals (arrival_if event (Some fault)) w h

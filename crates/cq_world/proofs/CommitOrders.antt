@@ -137,9 +137,6 @@ one_more j to m P ms yes_so not_so = subst (λ us. P (ms ++ us)) (sym (one_told 
 pub each_one : (P : Message → Type 0) (j to : ℕ) (m : Message) (ms : List Message) → Each P ms → (eqb j to ≡ true → P m) → Each P (ms ++ told_to j ((parties.Server to, m) ∷ []))
 each_one P j to m ms h k = one_more j to m (λ us. Each P us) ms (λ e. each-append P ms (m ∷ []) h (k e, tt)) (λ e. h)
 
-same_number : (j to : ℕ) → eqb j to ≡ true → j ≡ to
-same_number j to e = eqb-true j to e
-
 adopt_commits : (v : Sight) (c : List Entry) (p s count : ℕ) → Prefixes v → Commits v c → stands_before p s v.master.chain ≡ true → Commits (said v v.master ((parties.Server p, Adopt s count) ∷ [])) c
 adopt_commits v c p s count g h before = record {
   acting = h.acting;

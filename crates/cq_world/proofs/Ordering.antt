@@ -382,10 +382,6 @@ pub out_more : (ids : List ℕ) (id j : ℕ) → is_in (ids ++ id ∷ []) j ≡ 
 out_more [] id j h = (refl, (or_parts (eqb id j) false h).0)
 out_more (x ∷ ids) id j h = let parts = or_parts (eqb x j) (is_in (ids ++ id ∷ []) j) h in let rest = out_more ids id j parts.1 in (ap (λ b. b || is_in ids j) parts.0 ∙ rest.0, rest.1)
 
--- the first stays the first
-first_more : (a : ℕ) (rest : List ℕ) (id j : ℕ) → is_first ((a ∷ rest) ++ id ∷ []) j ≡ is_first (a ∷ rest) j
-first_more a rest id j = refl
-
 -- a chain that goes on with one that has the last member as predecessor
 linked_more : (v : Sight) (m : Master) (out : List (Party × Message)) (a : ℕ) (rest : List ℕ) (id : ℕ) → ((s : ℕ) → Among s rest → reports (told_to s out) ≡ []) → Linked v a rest → is_last (ups (said v m out) id) (last_of a rest) ≡ true → Linked (said v m out) a (rest ++ id ∷ [])
 linked_more v m out a [] id none l last = (last, tt)

@@ -139,10 +139,6 @@ climbs_turn v from k rest s out h t id = go (eqb id k) refl where
   go false other = subst (λ us. Climbs (set_at v.server k s) id us) (sym (ups_other v from k rest s out id other))
       (climbs-other v.server (set_at v.server k s) k id (ups v id) (turn_grows v from k rest s out t) t.lives other (h.climbs id))
 
--- a server among the rest of a chain isn't its first
-not_first : (a : ℕ) (chain : List ℕ) (s : ℕ) → ((b : ℕ) → Among b chain → eqb a b ≡ false) → Among s chain → is_first (a ∷ chain) s ≡ false
-not_first a chain s apart among = apart s among
-
 linked_turn : (v w : Sight) (chain : List ℕ) (p : ℕ) → ((s : ℕ) → Among s chain → (q : ℕ) → is_last (ups v s) q ≡ true → is_last (ups w s) q ≡ true) → Linked v p chain → Linked w p chain
 linked_turn v w [] p h l = tt
 linked_turn v w (s ∷ chain) p h l = (h s (inl refl) p l.0, linked_turn v w chain s (λ r among. h r (inr among)) l.1)

@@ -5,7 +5,7 @@ use Rattle.cq_base.specs.declared.ask.Entry.{Entry}
 use Rattle.cq_base.specs.declared.party.Party.{Party}
 use Rattle.cq_base.specs.declared.party.Party.TheVariants as parties
 use Rattle.cq_chain.specs.Masters.{is_in, stands_before}
-use Rattle.cq_chain.specs.Messages.{Message, Fwd, Snap, Ack, Ready, Answers}
+use Rattle.cq_chain.specs.Messages.{Message, Fwd, Ack, Ready, Answers}
 use Rattle.cq_chain.specs.Parties.{addressed}
 use Rattle.cq_chain.specs.Servers.{Server, acts, is_that}
 use Rattle.cq_chain.specs.Steps.{to_server, when, appended, settled, begins_to_act, answer_to, passed_on, tail_news}
@@ -43,16 +43,6 @@ passed_row s e x = addressed-append (parties.Server x) (to_server s.succ (Fwd (l
       to_one None = refl
       to_one (Some y) = ap (λ b. cond b (Fwd (length s.entries + 1) e ∷ []) []) (eqb_sym x y)
 
--- acknowledgements alone
-abbrev Acks : Message → Type 0
-Acks (Ack n) = Unit {0}
-Acks m = ⊥
-
-acks_data : (m : Message) → Acks m → NoData m
-acks_data (Fwd place e) h = absurd h
-acks_data (Snap entries) h = absurd h
-acks_data m h = tt
-
 -- what goes to a server alone, to others or to it
 pub to_each : (P : Message → Type 0) (o : Option ℕ) (m : Message) (x : ℕ) → P m → Each P (addressed (parties.Server x) (to_server o m))
 to_each P None m x h = tt
@@ -73,10 +63,6 @@ tail_row P before now x h = subst (λ ms. Each P ms) (sym (addressed-append (par
       second false = tt
 
 -- ---- steps by which the history grows
-
--- what a server that acts has is committed
-own_length : (c : List Entry) (s : Server) → longer c (acting_history s) ≡ s.entries → length s.entries ≡ length (longer c (acting_history s))
-own_length c s is = ap length (sym is)
 
 -- acknowledged is what was, or what is committed now
 pub settled_acked : (c : List Entry) (x : Server) → x.acked ≤ length c → (acts x ≡ true → longer c (acting_history (settled x)) ≡ (settled x).entries) → (settled x).acked ≤ length (longer c (acting_history (settled x)))

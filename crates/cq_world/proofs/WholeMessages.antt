@@ -30,12 +30,6 @@ use Rattle.cq_world.proofs.Ordering.{eqb_turned}
 use Rattle.cq_world.proofs.Prefixes.{Turn}
 use Rattle.cq_world.proofs.WholeEntries.{BeforeTurn, passes_idle, ignored, fwd_grown, snap_grown, arrive_grown}
 
--- what the master's row has after its first word
-no_longer : (m : Message) (rest : List Message) → news (m ∷ rest) ≡ 0 → news rest ≡ 0
-no_longer (Adopt s n) rest h = absurd (omega (arith, h))
-no_longer (BeTail least) rest h = absurd (omega (arith, h))
-no_longer m rest h = h
-
 -- ---- a predecessor
 
 report_feeding : (v : Sight) (c : List Entry) (k p : ℕ) (rest : List Message) → BeforeTurn v c k → v.channel parties.Master (parties.Server k) ≡ Report p ∷ rest
