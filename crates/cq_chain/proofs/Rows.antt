@@ -1,10 +1,13 @@
--- Worked steps of servers and of the master, each computed by the definitions to what the rules of the chain give. The results were
--- worked out by hand.
+-- Worked steps of servers, of the master and of a client, each computed by the definitions to what the rules of the
+-- chain give. The results were worked out by hand.
 use Rattle.std.proofs.Common.{◌≡◌, ℕ, [], ◌∷◌, None, Some, true, false, codes, refl}
+use Rattle.cq_base.specs.declared.ask.Ask.{Ask}
 use Rattle.cq_base.specs.declared.ask.Ask.TheVariants.{Remove}
 use Rattle.cq_base.specs.declared.ask.Entry.{Entry}
 use Rattle.cq_base.specs.declared.party.Party.TheVariants as parties
 use Rattle.cq_base.specs.History.{last_moment}
+use Rattle.cq_chain.specs.Clients.{Client, first_client, refusal_of_ask, next_request, asked, open_request, closes, after_answer}
+use Rattle.cq_chain.specs.declared.fault.ClientFault.TheVariants.{Busy, NumbersSpent}
 use Rattle.cq_chain.specs.declared.fault.WorldFault.TheVariants.{NoSuchServer, LastFull, JoinPending, IdUsed, ChainFull}
 use Rattle.cq_chain.specs.Masters.{Master, numbers_from, first_master, no_order, detected, refusal_of_detection, joined, refusal_of_join, hears}
 use Rattle.cq_chain.specs.Messages.{Message, Fwd, Snap, Ack, BeHead, Report, Adopt, BeTail, Have, Adopted, Ready, Answers}
@@ -212,3 +215,62 @@ ready = refl
 ready_of_another : (hears 1 Ready (detected 3 of_three).master).master.ready ≡ false
 unfolding numbers_from hears detected
 ready_of_another = refl
+
+-- ---- a client
+
+-- what it asks
+abbrev removal : Ask
+removal = Remove (codes "q.fifo")
+
+-- client 7 before its first request, while that one is open, and after its answer of length 5
+abbrev silent_client : Client
+silent_client = first_client 7
+
+abbrev waiting_client : Client
+waiting_client = asked silent_client removal
+
+abbrev answered_client : Client
+answered_client = after_answer waiting_client 1 5
+
+first_request : next_request silent_client removal ≡ record { client = 7; number = 1; ask = removal }
+first_request = refl
+
+no_open_request : open_request silent_client ≡ None
+no_open_request = refl
+
+busy : refusal_of_ask waiting_client ≡ Some Busy
+busy = refl
+
+same_request_again : open_request waiting_client ≡ Some (next_request silent_client removal)
+same_request_again = refl
+
+-- an answer under another number closes nothing
+answer_to_another : after_answer waiting_client 2 5 ≡ waiting_client
+answer_to_another = refl
+
+answer_of_length_0 : closes waiting_client 1 0 ≡ false
+answer_of_length_0 = refl
+
+answered : answered_client ≡ record { id = 7; used = 1; pending = None; length = 5 }
+answered = refl
+
+-- nor does one more under the number that was answered
+answered_again : closes answered_client 1 6 ≡ false
+answered_again = refl
+
+second_request : next_request answered_client removal ≡ record { client = 7; number = 2; ask = removal }
+second_request = refl
+
+-- it needs an answer of a length above that of the one before
+answer_of_the_old_length : closes (asked answered_client removal) 2 5 ≡ false
+answer_of_the_old_length = refl
+
+answer_above_it : after_answer (asked answered_client removal) 2 6 ≡ record { id = 7; used = 2; pending = None; length = 6 }
+answer_above_it = refl
+
+-- the last number is 2^62
+last_number : refusal_of_ask (record silent_client { used = 4611686018427387903 }) ≡ None
+last_number = refl
+
+numbers_spent : refusal_of_ask (record silent_client { used = 4611686018427387904 }) ≡ Some NumbersSpent
+numbers_spent = refl

@@ -1,5 +1,7 @@
--- The numbers and names of the faults of servers, master and world.
+-- The numbers and names of the faults of servers, master, world and clients.
 use Rattle.std.specs.Prelude.{◌≡◌, ℕ, List, codes, Option, None, Some}
+use Rattle.cq_chain.specs.declared.fault.ClientFault.{ClientFault}
+use Rattle.cq_chain.specs.declared.fault.ClientFault.TheVariants as client
 use Rattle.cq_chain.specs.declared.fault.WorldFault.{WorldFault}
 use Rattle.cq_chain.specs.declared.fault.WorldFault.TheVariants.{NoSuchServer, ServerDown, LinkEmpty, OutboxEmpty, LastFull, JoinPending, IdUsed, ChainFull, NotDown, NotHead, HistoryFull, NotTail, NoMemory}
 
@@ -39,3 +41,22 @@ name_of NoMemory = codes "NoMemory"
 abbrev pub IsRefusal : WorldFault → Option WorldFault → Type 0
 IsRefusal NoMemory refusal = refusal ≡ None
 IsRefusal fault refusal = refusal ≡ Some fault
+
+-- ---- clients
+
+-- the number of a client's fault
+abbrev pub client_code_of : ClientFault → ℕ
+client_code_of client.Busy = 43
+client_code_of client.NumbersSpent = 44
+client_code_of client.NoMemory = 20
+
+-- its name
+abbrev pub client_name_of : ClientFault → List ℕ
+client_name_of client.Busy = codes "Busy"
+client_name_of client.NumbersSpent = codes "NumbersSpent"
+client_name_of client.NoMemory = codes "NoMemory"
+
+-- The fault is the first refusal that there is. Want of memory is told only where nothing else refuses.
+abbrev pub IsClientRefusal : ClientFault → Option ClientFault → Type 0
+IsClientRefusal client.NoMemory refusal = refusal ≡ None
+IsClientRefusal fault refusal = refusal ≡ Some fault

@@ -8,3 +8,4 @@ pub mod Masters
 pub mod Boxes
 pub mod Stands
 pub mod Waiting
+pub mod Clients

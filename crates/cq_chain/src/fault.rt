@@ -1,5 +1,6 @@
 ghost use Rattle.std.specs.Prelude.{◌≡◌};
-ghost use Rattle.cq_chain.specs.Faults.{code_of, name_of};
+ghost use Rattle.cq_chain.specs.Faults.{code_of, name_of, client_code_of, client_name_of};
+ghost use Rattle.cq_chain.specs.declared.fault.ClientFault.TheVariants as client_faults;
 ghost use Rattle.cq_chain.specs.declared.fault.WorldFault.TheVariants as faults;
 
 use cq_base::NoMemory as OutOfMemory;
@@ -94,5 +95,56 @@ impl From<OutOfMemory> for WorldFault {
 
     fn from(_error: OutOfMemory) -> WorldFault {
         WorldFault::NoMemory
+    }
+}
+
+/// Why a client refuses to ask.
+#[derive(Clone, Copy, Debug, PartialEq, Eq, Error)]
+pub enum ClientFault {
+    #[error("a request is open")]
+    Busy,
+    #[error("all numbers were used")]
+    NumbersSpent,
+    #[error("out of memory")]
+    NoMemory,
+}
+
+impl ClientFault {
+    /// The number that stands for the fault in what the program prints.
+    pub fn code(&self) -> u16
+        ensures { result ≡ client_code_of self.now }
+    {
+        match self {
+            ClientFault::Busy => 43,
+            ClientFault::NumbersSpent => 44,
+            ClientFault::NoMemory => 20,
+        }
+    }
+
+    /// The fault's name.
+    pub fn name(&self) -> &'static str
+        ensures { result.now ≡ client_name_of self.now }
+    {
+        match self {
+            ClientFault::Busy => "Busy",
+            ClientFault::NumbersSpent => "NumbersSpent",
+            ClientFault::NoMemory => "NoMemory",
+        }
+    }
+}
+
+impl From<AllocError> for ClientFault {
+    ghost from_gives = { λ _ fault. fault ≡ client_faults.NoMemory };
+
+    fn from(_error: AllocError) -> ClientFault {
+        ClientFault::NoMemory
+    }
+}
+
+impl From<OutOfMemory> for ClientFault {
+    ghost from_gives = { λ _ fault. fault ≡ client_faults.NoMemory };
+
+    fn from(_error: OutOfMemory) -> ClientFault {
+        ClientFault::NoMemory
     }
 }

@@ -1,8 +1,9 @@
-//! The servers of a chain and its master, each by itself: what it does when a request, a query, a message or
-//! the news of a crash comes to it.
+//! The servers of a chain, its master and its clients, each by itself: what it does when a request, a query, a
+//! message, an answer or the news of a crash comes to it.
 //! `specs/` holds the rules.
 #![tactic(auto)]
 
+mod client;
 mod fault;
 mod history;
 mod master;
@@ -13,7 +14,8 @@ mod server;
 #[cfg(test)]
 mod tests;
 
-pub use fault::WorldFault;
+pub use client::Client;
+pub use fault::{ClientFault, WorldFault};
 pub use history::History;
 pub use master::Master;
 pub use message::{Answer, Message};

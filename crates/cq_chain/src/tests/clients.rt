@@ -1,0 +1,135 @@
+use super::common::create;
+use crate::{Client, ClientFault};
+use cq_base::{Ask, QueueName, Reply, Request};
+use std::alloc::Global;
+use std::process::Abort;
+use std::test::Fail;
+
+/// It asks, once more where memory is refused.
+fn ask(client: &mut Client, what: &Ask) -> Result<Request, ClientFault> {
+    let first = client.ask(what);
+    if first == Err(ClientFault::NoMemory) {
+        return client.ask(what);
+    }
+    first
+}
+
+/// The open request once more, and once more where memory is refused.
+fn again(client: &Client) -> Result<Option<Request>, Fail> {
+    match client.again() {
+        Ok(request) => Ok(request),
+        Err(_) => Ok(client.again()?),
+    }
+}
+
+/// It asks under the number that it has to.
+fn check_ask(rt: &impl Abort, alloc: Global, client: &mut Client, number: u64) -> Result<(), Fail> {
+    let want = create(alloc, number)?;
+    let got = ask(client, &want.ask)?;
+    assert!(rt; got == want);
+    Ok(())
+}
+
+/// The open request is that of that number.
+fn check_again(rt: &impl Abort, alloc: Global, client: &Client, number: u64) -> Result<(), Fail> {
+    let want = create(alloc, number)?;
+    let got = again(client)?.ok_or("no request is open")?;
+    assert!(rt; got == want);
+    Ok(())
+}
+
+/// No request is open.
+fn check_closed(rt: &impl Abort, client: &Client) -> Result<(), Fail> {
+    let got = again(client)?;
+    assert!(rt; got.is_none());
+    Ok(())
+}
+
+/// It refuses to ask, since a request is open.
+fn check_busy(rt: &impl Abort, alloc: Global, client: &mut Client) -> Result<(), Fail> {
+    let other = Ask::Remove {
+        queue: QueueName::new(alloc, "r.fifo")?,
+    };
+    let got = ask(client, &other);
+    assert!(rt; got == Err(ClientFault::Busy));
+    Ok(())
+}
+
+/// Whether an answer of that number and length closes the open request.
+fn take(client: &mut Client, number: u64, length: u64) -> bool {
+    client.take(number, length, &Reply::Created(1))
+}
+
+fn check_one_request_at_a_time(
+    rt: &impl Abort,
+    alloc: Global,
+    client: &mut Client,
+) -> Result<(), Fail> {
+    check_closed(rt, client)?;
+    check_ask(rt, alloc, client, 1)?;
+    check_busy(rt, alloc, client)?;
+    check_again(rt, alloc, client, 1)?;
+    check_again(rt, alloc, client, 1)
+}
+
+#[test]
+fn one_request_at_a_time(rt: HostRuntime) -> Result<(), Fail> {
+    let alloc = rt.alloc();
+    let mut client = Client::new(1);
+    check_one_request_at_a_time(&rt, alloc, &mut client)
+}
+
+fn check_the_first_answer_closes_its_request(
+    rt: &impl Abort,
+    alloc: Global,
+    client: &mut Client,
+) -> Result<(), Fail> {
+    check_ask(rt, alloc, client, 1)?;
+    assert!(rt; !take(client, 2, 5));
+    check_again(rt, alloc, client, 1)?;
+    assert!(rt; take(client, 1, 5));
+    check_closed(rt, client)?;
+    assert!(rt; !take(client, 1, 6));
+    Ok(())
+}
+
+#[test]
+fn the_first_answer_closes_its_request(rt: HostRuntime) -> Result<(), Fail> {
+    let alloc = rt.alloc();
+    let mut client = Client::new(1);
+    check_the_first_answer_closes_its_request(&rt, alloc, &mut client)
+}
+
+fn check_lengths_of_answers_rise(
+    rt: &impl Abort,
+    alloc: Global,
+    client: &mut Client,
+) -> Result<(), Fail> {
+    check_ask(rt, alloc, client, 1)?;
+    assert!(rt; !take(client, 1, 0) && take(client, 1, 5));
+    check_ask(rt, alloc, client, 2)?;
+    assert!(rt; !take(client, 2, 5));
+    check_again(rt, alloc, client, 2)?;
+    assert!(rt; take(client, 2, 6));
+    check_closed(rt, client)
+}
+
+#[test]
+fn lengths_of_answers_rise(rt: HostRuntime) -> Result<(), Fail> {
+    let alloc = rt.alloc();
+    let mut client = Client::new(1);
+    check_lengths_of_answers_rise(&rt, alloc, &mut client)
+}
+
+fn check_fault(rt: &impl Abort, fault: ClientFault, code: u16, name: &str) {
+    assert_eq!(rt; fault.code(), code);
+    assert_eq!(rt; fault.name(), name);
+}
+
+#[test]
+fn faults_have_their_codes_and_names(rt: HostRuntime) -> Result<(), Fail> {
+    check_fault(&rt, ClientFault::Busy, 43, "Busy");
+    check_fault(&rt, ClientFault::NumbersSpent, 44, "NumbersSpent");
+    check_fault(&rt, ClientFault::NoMemory, 20, "NoMemory");
+    Ok(())
+}
