@@ -1,14 +1,1 @@
--- lines in
-pub mod JsonText
-pub mod Members
-pub mod Receipts
-pub mod Sizes
-pub mod Cutting
-pub mod ReadSoFar
-pub mod Ends
--- lines out
-pub mod Floats
-pub mod Texts
--- what a script does
-pub mod Replayed
-pub mod WorldStates
+mod Asked

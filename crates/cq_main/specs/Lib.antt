@@ -1,17 +1,2 @@
--- lines in
-pub mod Fields
-pub mod Receipts
-pub mod Events
-pub mod Line
-pub mod Readers
-pub mod Lines
-pub mod Readings
--- lines out
-pub mod Answers
--- what a script does
-pub mod Worlds
-pub mod Runs
-pub mod Replays
--- faults, readers and writers
-pub mod Faults
-pub mod Checks
+pub mod CommandLine
+pub mod Statuses

@@ -1,7 +1,7 @@
 ghost use Rattle.std.specs.Prelude.{◌≡◌};
-ghost use Rattle.cq_main.specs.Faults.{status_of};
+ghost use Rattle.cq_main.specs.Statuses.{status_of};
 
-use crate::script::ScriptFault;
+use cq_script::ScriptFault;
 use std::io;
 use std::io::Write;
 

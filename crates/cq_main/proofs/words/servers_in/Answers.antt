@@ -1,0 +1,11 @@
+use Rattle.std.specs.Str.Parse.{ExplainsUnsignedError, HasUnsignedDigitsIfOk, ParsesUnsigned}
+use Rattle.clap.specs.Words.{found_of}
+use Rattle.cq_main.proofs.Asked.{asked_by, asked_without}
+use Rattle.cq_main.proofs.words.servers_in.Goals as goal
+
+pub returns-in-None-clause-asked : goal.returns-in-None-clause-asked
+returns-in-None-clause-asked c = asked_without _ c.in-None.ensures.rows
+
+pub returns-in-Some-clause-asked : goal.returns-in-Some-clause-asked
+returns-in-Some-clause-asked c = asked_by (λ text r. ParsesUnsigned 8 10 text r × ExplainsUnsignedError 10 text r × HasUnsignedDigitsIfOk text r)
+    (λ text n gives. gives.0.1) _ (found_of c.in-Some.replay.now) _ c.in-Some.ensures.rows c.get_one.ensures.none c.get_one.ensures.value

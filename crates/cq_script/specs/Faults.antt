@@ -1,0 +1,20 @@
+-- The number and the name of each fault.
+use Rattle.std.specs.Prelude.{ℕ, List, codes}
+use Rattle.cq_script.specs.declared.fault.ScriptFault.{ScriptFault}
+use Rattle.cq_script.specs.declared.fault.ScriptFault.TheVariants.{BadLine, LineTooLong, TooManyLines, ReadFailed, WriteFailed, NoMemory}
+
+abbrev pub code_of : ScriptFault → ℕ
+code_of (BadLine n) = 61
+code_of (LineTooLong n) = 62
+code_of TooManyLines = 63
+code_of ReadFailed = 64
+code_of WriteFailed = 65
+code_of NoMemory = 20
+
+abbrev pub name_of : ScriptFault → List ℕ
+name_of (BadLine n) = codes "BadLine"
+name_of (LineTooLong n) = codes "LineTooLong"
+name_of TooManyLines = codes "TooManyLines"
+name_of ReadFailed = codes "ReadFailed"
+name_of WriteFailed = codes "WriteFailed"
+name_of NoMemory = codes "NoMemory"

@@ -1,0 +1,42 @@
+-- What a line of a script says. A line is the list of its bytes, its line feed left out.
+use Rattle.std.specs.Prelude.{ℕ, ◌≡◌, ◌||◌, ◌==◌, List, Bool, if◌then◌else◌, Option, Some, None, Result, Ok, Err}
+use Rattle.std.specs.List.{list_all}
+use Rattle.std.specs.Str.{is_utf8}
+use Rattle.serde_json.specs.Data.{Data}
+use Rattle.serde_json.specs.Read.{read}
+use Rattle.cq_script.specs.Events.{event_in}
+use Rattle.cq_script.specs.Fields.{Reason, bad, refused, ◌>>=◌, or_bad}
+use Rattle.cq_world.specs.declared.event.Event.{Event}
+use Rattle.cq_script.specs.declared.event_line.Line.{Line}
+use Rattle.cq_script.specs.declared.event_line.Line.TheVariants as lines
+use Rattle.cq_script.specs.declared.event_line.LineFault.{LineFault}
+use Rattle.cq_script.specs.declared.event_line.LineFault.TheVariants.{Bad, NoMemory}
+
+-- a space, a tab or a carriage return
+abbrev pub is_blank_byte : ℕ → Bool
+is_blank_byte b = b == 32 || b == 9 || b == 13
+
+-- The value that the bytes are as JSON, by serde_json's rules: of a key that an object has twice the
+-- last value stands, arrays and objects nest to 127 levels, and each number fits a double.
+abbrev pub json_of : List ℕ → Option Data
+json_of bytes = if is_utf8 bytes then read bytes else None
+
+-- the event that the bytes say
+abbrev pub event_from : List ℕ → Result Event Reason
+event_from bytes = or_bad (json_of bytes) >>= event_in
+
+-- the line that says this
+abbrev pub line_saying : Result Event Reason → Option Line
+line_saying (Ok event) = Some (lines.Event event)
+line_saying (Err bad) = None
+line_saying (Err (refused fault)) = Some (lines.Refused fault)
+
+-- what the line says; none: it is bad
+unfoldable pub line_of : List ℕ → Option Line
+line_of bytes = if list_all is_blank_byte bytes then Some lines.Blank else line_saying (event_from bytes)
+
+-- the line was read as it says, unless memory was at fault
+abbrev pub Reads : Result Line LineFault → Option Line → Type 0
+Reads (Ok line) says = says ≡ Some line
+Reads (Err Bad) says = says ≡ None
+Reads (Err NoMemory) says = Unit {0}

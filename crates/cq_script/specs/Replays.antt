@@ -1,0 +1,32 @@
+-- What running a script has written, by its answer.
+use Rattle.std.specs.Prelude.{◌≡◌, ℕ, List, ◌++◌, Option, None, Some, IfSome, Result, Ok, Err}
+use Rattle.std.specs.Io.KnownBytes.{IsAtEnd}
+use Rattle.cq_script.specs.declared.fault.ScriptFault.{ScriptFault}
+use Rattle.cq_script.specs.declared.fault.ScriptFault.TheVariants.{BadLine, LineTooLong, TooManyLines, ReadFailed, WriteFailed, NoMemory}
+use Rattle.cq_script.specs.Lines.{Script, IsOpen, script_of, ended_part}
+use Rattle.cq_script.specs.Output.{text_of}
+use Rattle.cq_script.specs.Runs.{BeginsWith}
+
+-- the script has this fault first, if any, and exactly the text of its items on so many servers was written
+pub record WritesScript (size : ℕ) (script : Script) (fault : Option ScriptFault) (output : List ℕ) : Type 0 where
+  pub fault_is : script.fault ≡ fault
+  pub text_is : output ≡ text_of size script.items
+
+-- the reader held a script with this fault, and the items before it have written their text
+abbrev pub Fails : ℕ → ScriptFault → List ℕ → Option (List ℕ) → List ℕ → Type 0
+Fails size f input left output = IfSome left (λ more. WritesScript size (script_of (input ++ more)) (Some f) output)
+
+-- the reader held a script of whose text this is a front
+abbrev pub IsFront : ℕ → List ℕ → Option (List ℕ) → List ℕ → Type 0
+IsFront size input left output = IfSome left (λ more. BeginsWith (text_of size (script_of (input ++ more)).items) output)
+
+-- On so many servers: `input` was read, `left` is what the reader has left, if that is known, and `output` was
+-- written.
+abbrev pub Replays : ℕ → Result (Unit {0}) ScriptFault → List ℕ → Option (List ℕ) → List ℕ → Type 0
+Replays size (Ok _) input left output = IsAtEnd left × WritesScript size (script_of input) None output
+Replays size (Err (BadLine n)) input left output = Fails size (BadLine n) input left output
+Replays size (Err (LineTooLong n)) input left output = Fails size (LineTooLong n) input left output
+Replays size (Err TooManyLines) input left output = Fails size TooManyLines input left output
+Replays size (Err ReadFailed) input left output = WritesScript size (script_of (ended_part input)) None output × IsOpen (script_of input).fault
+Replays size (Err WriteFailed) input left output = IsFront size input left output
+Replays size (Err NoMemory) input left output = IsFront size input left output

@@ -1,0 +1,53 @@
+-- What a run of items has written.
+use Rattle.std.specs.Prelude.{◌≡◌, ℕ, List, ◌++◌, Option, Result, Ok, Err, Bool, true, false}
+use Rattle.std.specs.Io.KnownBytes.{Appends}
+use Rattle.cq_script.specs.declared.fault.ScriptFault.{ScriptFault}
+use Rattle.cq_script.specs.declared.fault.ScriptFault.TheVariants.{BadLine, LineTooLong, TooManyLines, ReadFailed, WriteFailed, NoMemory}
+
+-- the text goes on after these bytes, or ends with them
+abbrev pub BeginsWith : List ℕ → List ℕ → Type 0
+BeginsWith text front = (rest : List ℕ) × (text ≡ front ++ rest)
+
+-- all of the text was written, or a front of it where the writing failed or memory ran out
+abbrev pub WritesFront : Result (Unit {0}) ScriptFault → List ℕ → List ℕ → Type 0
+WritesFront (Ok _) text output = output ≡ text
+WritesFront (Err (BadLine n)) text output = ⊥
+WritesFront (Err (LineTooLong n)) text output = ⊥
+WritesFront (Err TooManyLines) text output = ⊥
+WritesFront (Err ReadFailed) text output = ⊥
+WritesFront (Err WriteFailed) text output = BeginsWith text output
+WritesFront (Err NoMemory) text output = BeginsWith text output
+
+-- a writer took all of the text, or a front of it
+abbrev pub Takes : Result (Unit {0}) ScriptFault → List ℕ → Option (List ℕ) → Option (List ℕ) → Type 0
+Takes result text old new = (output : List ℕ) × Appends old new output × WritesFront result text output
+
+-- whether memory ran out
+abbrev pub ends_by_memory : Result (Unit {0}) ScriptFault → Bool
+ends_by_memory (Ok _) = false
+ends_by_memory (Err (BadLine n)) = false
+ends_by_memory (Err (LineTooLong n)) = false
+ends_by_memory (Err TooManyLines) = false
+ends_by_memory (Err ReadFailed) = false
+ends_by_memory (Err WriteFailed) = false
+ends_by_memory (Err NoMemory) = true
+
+-- the writer has not failed where all was written, and has where the answer says so
+abbrev pub EndsWriting : Result (Unit {0}) ScriptFault → Bool → Type 0
+EndsWriting (Ok _) failed = failed ≡ false
+EndsWriting (Err (BadLine n)) failed = ⊥
+EndsWriting (Err (LineTooLong n)) failed = ⊥
+EndsWriting (Err TooManyLines) failed = ⊥
+EndsWriting (Err ReadFailed) failed = ⊥
+EndsWriting (Err WriteFailed) failed = failed ≡ true
+EndsWriting (Err NoMemory) failed = Unit {0}
+
+-- a fact, unless the answer is that the writing was cut short
+abbrev pub OnWritten : Result (Unit {0}) ScriptFault → Type 0 → Type 0
+OnWritten (Ok _) P = P
+OnWritten (Err (BadLine n)) P = P
+OnWritten (Err (LineTooLong n)) P = P
+OnWritten (Err TooManyLines) P = P
+OnWritten (Err ReadFailed) P = P
+OnWritten (Err WriteFailed) P = Unit {0}
+OnWritten (Err NoMemory) P = Unit {0}

@@ -1,0 +1,123 @@
+ghost use Rattle.serde_json.specs.View.{view};
+ghost use Rattle.cq_script.specs.Events as spec;
+ghost use Rattle.cq_script.specs.Readers.{Gives, same};
+
+use crate::ask::read_ask;
+use crate::fields::{
+    Stop, has_only, member_at, moment_at, party_at, server_at, text_at, u32_at, u64_at,
+};
+use crate::texts::queue_name;
+use cq_base::{Query, Request, ServerId};
+use cq_world::Event;
+use serde_json::Value;
+use std::alloc::Global;
+
+#[tactic(auto, unfolding(crate::specs::Events::arrive_in))]
+fn read_arrive(alloc: Global, value: &Value) -> Result<Event, Stop>
+    ensures { Gives same result (spec.arrive_in (view value.now)) }
+{
+    if !has_only(value, &["op", "at", "clock", "client", "number", "ask"]) {
+        return Err(Stop::Bad);
+    }
+    let at = server_at(value, "at")?;
+    let clock = moment_at(value, "clock")?;
+    let client = u32_at(value, "client")?;
+    let number = u64_at(value, "number")?;
+    let ask = read_ask(alloc, member_at(value, "ask")?)?;
+    Ok(Event::Arrive {
+        at,
+        clock,
+        request: Request {
+            client,
+            number,
+            ask,
+        },
+    })
+}
+
+#[tactic(auto, unfolding(crate::specs::Events::query_in))]
+fn read_query(alloc: Global, value: &Value) -> Result<Event, Stop>
+    ensures { Gives same result (spec.query_in (view value.now)) }
+{
+    if !has_only(value, &["op", "at", "client", "tag", "queue"]) {
+        return Err(Stop::Bad);
+    }
+    let at = server_at(value, "at")?;
+    let client = u32_at(value, "client")?;
+    let tag = u64_at(value, "tag")?;
+    let queue = text_at(value, "queue")?;
+    Ok(Event::Ask {
+        at,
+        query: Query {
+            client,
+            tag,
+            queue: queue_name(alloc, queue)?,
+        },
+    })
+}
+
+#[tactic(auto, unfolding(crate::specs::Events::put_in))]
+fn read_put(value: &Value) -> Result<Event, Stop>
+    ensures { Gives same result (spec.put_in (view value.now)) }
+{
+    if !has_only(value, &["op", "from", "to"]) {
+        return Err(Stop::Bad);
+    }
+    let from = party_at(value, "from")?;
+    let to = party_at(value, "to")?;
+    Ok(Event::Put { from, to })
+}
+
+#[tactic(auto, unfolding(crate::specs::Events::take_in))]
+fn read_take(value: &Value) -> Result<Event, Stop>
+    ensures { Gives same result (spec.take_in (view value.now)) }
+{
+    if !has_only(value, &["op", "from", "to"]) {
+        return Err(Stop::Bad);
+    }
+    let from = party_at(value, "from")?;
+    let to = party_at(value, "to")?;
+    Ok(Event::Take { from, to })
+}
+
+/// The server of an event that has nothing else.
+#[tactic(auto, unfolding(crate::specs::Events::server_in))]
+fn read_server(value: &Value) -> Result<ServerId, Stop>
+    ensures { Gives same result (spec.server_in (view value.now)) }
+{
+    if !has_only(value, &["op", "server"]) {
+        return Err(Stop::Bad);
+    }
+    server_at(value, "server")
+}
+
+/// The event that the value says.
+#[tactic(auto, unfolding(crate::specs::Events::event_in))]
+pub(crate) fn read_event(alloc: Global, value: &Value) -> Result<Event, Stop>
+    ensures { Gives same result (spec.event_in (view value.now)) }
+{
+    let op = text_at(value, "op")?;
+    if op == "arrive" {
+        read_arrive(alloc, value)
+    } else if op == "ask" {
+        read_query(alloc, value)
+    } else if op == "put" {
+        read_put(value)
+    } else if op == "take" {
+        read_take(value)
+    } else if op == "crash" {
+        Ok(Event::Crash {
+            server: read_server(value)?,
+        })
+    } else if op == "detect" {
+        Ok(Event::Detect {
+            server: read_server(value)?,
+        })
+    } else if op == "join" {
+        Ok(Event::Join {
+            server: read_server(value)?,
+        })
+    } else {
+        Err(Stop::Bad)
+    }
+}

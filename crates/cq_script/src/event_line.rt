@@ -1,0 +1,87 @@
+ghost use Rattle.std.specs.Prelude.{◌≡◌, Ok, Err};
+ghost use Rattle.std.specs.List.{list_all};
+ghost use Rattle.serde_json.specs.View.{view};
+ghost use Rattle.cq_script.specs.Line.{is_blank_byte, json_of, event_from, line_of, Reads};
+ghost use Rattle.cq_script.specs.Fields.{or_bad};
+ghost use Rattle.cq_script.specs.Readers.{Gives, same};
+
+use crate::event::read_event;
+use crate::fields::Stop;
+use cq_base::BaseFault;
+use cq_world::Event;
+use serde_json::Value;
+use std::alloc::Global;
+use thiserror::Error;
+
+/// What a line of a script is.
+#[derive(Debug, PartialEq, Eq, Drop)]
+pub enum Line {
+    /// Nothing but spaces, tabs and carriage returns.
+    Blank,
+    /// It says this event.
+    Event(Event),
+    /// It would say an event, but a text in it breaks that text's rule.
+    Refused(BaseFault),
+}
+
+/// Why a line could not be read.
+#[derive(Clone, Copy, Debug, PartialEq, Eq, Error)]
+pub enum LineFault {
+    /// The line is none of the script's.
+    #[error("bad line")]
+    Bad,
+    /// There was no memory to read it.
+    #[error("no memory")]
+    NoMemory,
+}
+
+fn is_blank(bytes: &[u8]) -> bool
+    ensures { result ≡ list_all is_blank_byte bytes.now }
+{
+    bytes
+        .iter()
+        .all(|byte| *byte == b' ' || *byte == b'\t' || *byte == b'\r')
+}
+
+#[tactic(auto, using(crate::proofs::JsonText::json_of_read, crate::proofs::JsonText::json_of_refused))]
+fn parse(alloc: Global, bytes: &[u8]) -> Result<Value, Stop>
+    ensures { Gives view result (or_bad (json_of bytes.now)) }
+{
+    match Value::from_slice(alloc, bytes) {
+        Ok(value) => Ok(value),
+        Err(error) => {
+            if error.is_memory() {
+                Err(Stop::Memory)
+            } else {
+                Err(Stop::Bad)
+            }
+        }
+    }
+}
+
+fn read_object(alloc: Global, bytes: &[u8]) -> Result<Event, Stop>
+    ensures { Gives same result (event_from bytes.now) }
+{
+    let value = parse(alloc, bytes)?;
+    read_event(alloc, &value)
+}
+
+/// What the line with these bytes, its line feed left out, says. A line that says nothing that a script can have is
+/// Bad; one that is good but for a text that breaks its rule is read as Refused with that fault. O(bytes).
+#[tactic(auto, unfolding(crate::specs::Line::line_of))]
+pub fn event_of(alloc: Global, bytes: &[u8]) -> Result<Line, LineFault>
+    ensures { Reads result (line_of bytes.now) }
+{
+    if is_blank(bytes) {
+        return Ok(Line::Blank);
+    }
+    match read_object(alloc, bytes) {
+        Ok(event) => Ok(Line::Event(event)),
+        Err(Stop::Bad) => Err(LineFault::Bad),
+        Err(Stop::Text(fault)) => Ok(Line::Refused(fault)),
+        Err(Stop::Memory) => Err(LineFault::NoMemory),
+    }
+}
+
+#[cfg(test)]
+mod tests;

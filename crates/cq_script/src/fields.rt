@@ -1,0 +1,200 @@
+ghost use Rattle.std.specs.Prelude.{◌≡◌, ◌≤◌, ◌^◌, ◌-◌, map, string_bytes, IfOk};
+ghost use Rattle.std.specs.BTreeMap.{keys as keys_of};
+ghost use Rattle.std.specs.List.{list_any, list_all};
+ghost use Rattle.std.specs.Str.{bytes_eq};
+ghost use Rattle.serde_json.specs.View.{view};
+ghost use Rattle.cq_script.specs.Fields as spec;
+ghost use Rattle.cq_script.specs.Readers.{Gives, same};
+
+use cq_base::{
+    BATCH_LIMIT, BaseFault, BatchSize, MOMENT_LIMIT, Moment, Party, SECONDS_LIMIT, Seconds,
+    ServerId,
+};
+use serde_json::{Map, Value};
+
+/// Why reading a line stopped before an event was made.
+pub(crate) enum Stop {
+    /// The line is none of the script's.
+    Bad,
+    /// One of its texts breaks that text's rule.
+    Text(BaseFault),
+    /// There was no memory to read it.
+    Memory,
+}
+
+impl From<BaseFault> for Stop {
+    ghost use Rattle.std.specs.Prelude.{◌≡◌};
+    ghost use Rattle.cq_script.specs.Readers.{stop_of};
+
+    ghost from_gives = { λ fault stop. stop ≡ stop_of fault };
+
+    fn from(fault: BaseFault) -> Stop {
+        match fault {
+            BaseFault::NoMemory => Stop::Memory,
+            _ => Stop::Text(fault),
+        }
+    }
+}
+
+fn is_among(keys: &[&str], name: &str) -> bool
+    ensures { result ≡ list_any (λ key. bytes_eq key.now name.now) keys.now }
+{
+    keys.iter().any(|key| *key == name)
+}
+
+fn are_among(keys: &[&str], members: &Map<String, Value>) -> bool
+    ensures { result ≡ list_all
+        (λ name. list_any (λ key. bytes_eq key.now (string_bytes name)) keys.now)
+        (keys_of members.now) }
+{
+    members.keys().all(|name| is_among(keys, name.as_str()))
+}
+
+/// Whether it is an object, and no key in it is another than these.
+#[tactic(auto, using(crate::proofs::Members::members_among_view))]
+pub(crate) fn has_only(value: &Value, keys: &[&str]) -> bool
+    ensures { result ≡ spec.has_only (map (λ key. key.now) keys.now) (view value.now) }
+{
+    match value.as_object() {
+        Some(members) => are_among(keys, members),
+        None => false,
+    }
+}
+
+/// The value under the key.
+pub(crate) fn member_at<'v>(value: &'v Value, key: &str) -> Result<&'v Value, Stop>
+    ensures { Gives (λ v. view v.now) result (spec.member_at key.now (view value.now)) }
+{
+    match value.get(key) {
+        Some(found) => Ok(found),
+        None => Err(Stop::Bad),
+    }
+}
+
+/// The text under the key.
+pub(crate) fn text_at<'v>(value: &'v Value, key: &str) -> Result<&'v str, Stop>
+    ensures { Gives (λ t. t.now) result (spec.text_at key.now (view value.now)) }
+{
+    match member_at(value, key)?.as_str() {
+        Some(text) => Ok(text),
+        None => Err(Stop::Bad),
+    }
+}
+
+fn whole(value: &Value, low: u64, high: u64) -> Result<u64, Stop>
+    ensures value { Gives same result (spec.whole low high (view value.now)) }
+    ensures least { IfOk result (λ number. low ≤ number) }
+    ensures most { IfOk result (λ number. number ≤ high) }
+{
+    match value.as_u64() {
+        Some(number) => {
+            if low <= number && number <= high {
+                Ok(number)
+            } else {
+                Err(Stop::Bad)
+            }
+        }
+        None => Err(Stop::Bad),
+    }
+}
+
+fn seconds(value: &Value) -> Result<Seconds, Stop>
+    ensures { Gives same result (spec.whole 0 43200 (view value.now)) }
+{
+    Ok(Seconds::new(whole(value, 0, u64::from(SECONDS_LIMIT))? as u32).unwrap())
+}
+
+fn batch_size(value: &Value) -> Result<BatchSize, Stop>
+    ensures { Gives same result (spec.whole 1 10 (view value.now)) }
+{
+    Ok(BatchSize::new(whole(value, 1, u64::from(BATCH_LIMIT))? as u8).unwrap())
+}
+
+fn server(value: &Value) -> Result<ServerId, Stop>
+    ensures { Gives same result (spec.whole 1 (2 ^ 32 - 1) (view value.now)) }
+{
+    Ok(ServerId::new(whole(value, 1, u64::from(u32::MAX))? as u32).unwrap())
+}
+
+fn party_named(name: &str) -> Result<Party, Stop>
+    ensures { Gives same result (spec.party_named name.now) }
+{
+    if name == "master" {
+        Ok(Party::Master)
+    } else if name == "clients" {
+        Ok(Party::Clients)
+    } else {
+        Err(Stop::Bad)
+    }
+}
+
+fn party(value: &Value) -> Result<Party, Stop>
+    ensures { Gives same result (spec.party_in (view value.now)) }
+{
+    match value.as_str() {
+        Some(name) => party_named(name),
+        None => Ok(Party::Server(server(value)?)),
+    }
+}
+
+/// The server under the key.
+pub(crate) fn server_at(value: &Value, key: &str) -> Result<ServerId, Stop>
+    ensures { Gives same result (spec.number_at 1 (2 ^ 32 - 1) key.now (view value.now)) }
+{
+    server(member_at(value, key)?)
+}
+
+/// The party under the key.
+pub(crate) fn party_at(value: &Value, key: &str) -> Result<Party, Stop>
+    ensures { Gives same result (spec.party_at key.now (view value.now)) }
+{
+    party(member_at(value, key)?)
+}
+
+/// The number under the key.
+pub(crate) fn u32_at(value: &Value, key: &str) -> Result<u32, Stop>
+    ensures { Gives same result (spec.number_at 0 (2 ^ 32 - 1) key.now (view value.now)) }
+{
+    Ok(whole(member_at(value, key)?, 0, u64::from(u32::MAX))? as u32)
+}
+
+/// The number under the key.
+pub(crate) fn u64_at(value: &Value, key: &str) -> Result<u64, Stop>
+    ensures { Gives same result (spec.number_at 0 (2 ^ 64 - 1) key.now (view value.now)) }
+{
+    whole(member_at(value, key)?, 0, u64::MAX)
+}
+
+/// The moment under the key.
+pub(crate) fn moment_at(value: &Value, key: &str) -> Result<Moment, Stop>
+    ensures { Gives same result (spec.number_at 0 (2 ^ 60) key.now (view value.now)) }
+{
+    Ok(Moment::new(whole(member_at(value, key)?, 0, MOMENT_LIMIT)?).unwrap())
+}
+
+/// The visibility timeout under the key.
+pub(crate) fn seconds_at(value: &Value, key: &str) -> Result<Seconds, Stop>
+    ensures { Gives same result (spec.number_at 0 43200 key.now (view value.now)) }
+{
+    seconds(member_at(value, key)?)
+}
+
+/// The visibility timeout under the key, which may be missing.
+pub(crate) fn seconds_if_at(value: &Value, key: &str) -> Result<Option<Seconds>, Stop>
+    ensures { Gives same result (spec.number_if_at 0 43200 key.now (view value.now)) }
+{
+    match value.get(key) {
+        Some(found) => Ok(Some(seconds(found)?)),
+        None => Ok(None),
+    }
+}
+
+/// The number of messages under the key, which may be missing.
+pub(crate) fn batch_size_if_at(value: &Value, key: &str) -> Result<Option<BatchSize>, Stop>
+    ensures { Gives same result (spec.number_if_at 1 10 key.now (view value.now)) }
+{
+    match value.get(key) {
+        Some(found) => Ok(Some(batch_size(found)?)),
+        None => Ok(None),
+    }
+}

@@ -1,0 +1,29 @@
+//! Scripts: lines of JSON that say what happens in a world of servers, what comes of it, and lines of JSON that
+//! tell it.
+//! `specs/` holds the rules.
+#![tactic(auto)]
+
+mod ask;
+mod checked;
+mod event;
+mod event_line;
+mod fault;
+mod fields;
+mod lines;
+mod outcomes;
+mod output_line;
+mod run;
+mod sink;
+mod source;
+mod steps;
+#[cfg(test)]
+mod tests;
+mod texts;
+
+pub use checked::Checked;
+pub use event_line::{Line, LineFault, event_of};
+pub use fault::ScriptFault;
+pub use output_line::{answer_line, refused_line};
+pub use run::replay;
+pub use sink::Sink;
+pub use source::Source;

@@ -1,0 +1,424 @@
+//! Scripts that are cut short or too long, and readers and writers that give up.
+
+mod examples;
+
+use crate::checked::Checked;
+use crate::fault::ScriptFault;
+use crate::lines::{LINE_LIMIT, LINES_LIMIT};
+use crate::run::replay;
+use crate::sink::Sink;
+use crate::source::Source;
+use cq_base::ChainSize;
+use std::alloc::Global;
+use std::io;
+use std::io::{ErrorKind, Read, Write};
+use std::test::Fail;
+
+/// Gives at most `step` bytes at a time. It fails once it has given `good` bytes, and is
+/// interrupted before each read that gives some.
+#[derive(Drop)]
+struct Pieces<'a> {
+    rest: &'a [u8],
+    step: usize,
+    good: usize,
+    interrupted: bool,
+}
+
+impl<'a> Pieces<'a> {
+    fn new(rest: &'a [u8], step: usize) -> Pieces<'a> {
+        Pieces {
+            rest,
+            step,
+            good: usize::MAX,
+            interrupted: false,
+        }
+    }
+}
+
+impl Read for Pieces<'_> {
+    fn read(&mut self, buf: &mut [u8]) -> io::Result<usize> {
+        self.interrupted = !self.interrupted;
+        if self.interrupted {
+            return Err(io::Error::new(ErrorKind::Interrupted, "not yet"));
+        }
+        if self.good == 0 {
+            return Err(io::Error::other("gone"));
+        }
+        let count = self.step.min(self.good).min(self.rest.len()).min(buf.len());
+        let (front, later) = self.rest.split_at(count);
+        buf[..count].copy_from_slice(front);
+        self.rest = later;
+        self.good -= count;
+        Ok(count)
+    }
+}
+
+/// Takes at most `step` bytes at a time, and no more than `room`. A full one fails, or takes
+/// nothing if it is `silent`.
+#[derive(Drop)]
+struct Room<'a> {
+    taken: &'a mut Vec<u8>,
+    step: usize,
+    room: usize,
+    silent: bool,
+}
+
+impl Write for Room<'_> {
+    fn write(&mut self, buf: &[u8]) -> io::Result<usize> {
+        if self.room == 0 && !self.silent {
+            return Err(io::Error::other("full"));
+        }
+        let count = self.step.min(self.room).min(buf.len());
+        self.taken.extend_from_slice(&buf[..count])?;
+        self.room -= count;
+        Ok(count)
+    }
+
+    fn flush(&mut self) -> io::Result<()> {
+        Ok(())
+    }
+}
+
+/// Replays a script on one server into a writer of so much room, and gives the answer and what was written.
+fn replayed(
+    alloc: Global,
+    reader: Pieces<'_>,
+    room: usize,
+    silent: bool,
+) -> (Result<(), ScriptFault>, Vec<u8>) {
+    replayed_on(alloc, ChainSize::one(), reader, room, silent)
+}
+
+/// The same on so many servers.
+fn replayed_on(
+    alloc: Global,
+    size: ChainSize,
+    reader: Pieces<'_>,
+    room: usize,
+    silent: bool,
+) -> (Result<(), ScriptFault>, Vec<u8>) {
+    let mut taken = Vec::new(alloc);
+    let mut source = Checked::new(reader);
+    let mut sink = Checked::new(Room {
+        taken: &mut taken,
+        step: 2,
+        room,
+        silent,
+    });
+    let answer = replay(alloc, size, &mut source, &mut sink);
+    (answer, taken)
+}
+
+/// A queue is made, a message sent and received, each answer given at once.
+const FIRST_PATH: &str =
+    r#"{"op":"arrive","at":1,"clock":1000,"client":1,"number":1,"ask":{"kind":"create","queue":"q.fifo","visibility":30}}
+{"op":"put","from":1,"to":"clients"}
+{"op":"arrive","at":1,"clock":1001,"client":1,"number":2,"ask":{"kind":"send","queue":"q.fifo","group":"a","dedup":"d1","body":"hello"}}
+{"op":"put","from":1,"to":"clients"}
+{"op":"arrive","at":1,"clock":1002,"client":1,"number":3,"ask":{"kind":"receive","queue":"q.fifo","size":1}}
+{"op":"put","from":1,"to":"clients"}
+"#;
+
+const FIRST_PATH_TEXT: &str =
+    r#"{"client":1,"length":1,"line":2,"number":1,"reply":{"incarnation":1,"kind":"created"}}
+{"client":1,"length":2,"line":4,"number":2,"reply":{"kind":"sent","sequence":1}}
+{"client":1,"length":3,"line":6,"number":3,"reply":{"kind":"received","messages":[{"body":"hello","group":"a","receipt":"1-1-1"}]}}
+"#;
+
+/// The first two lines of the first path, and one that is cut.
+const CUT_LINE: &str =
+    r#"{"op":"arrive","at":1,"clock":1000,"client":1,"number":1,"ask":{"kind":"create","queue":"q.fifo","visibility":30}}
+{"op":"put","from":1,"to":"clients"}
+{"op":"put","fro"#;
+
+const CUT_LINE_TEXT: &str =
+    r#"{"client":1,"length":1,"line":2,"number":1,"reply":{"incarnation":1,"kind":"created"}}
+"#;
+
+/// A receive on a queue that was never made.
+const NO_QUEUE: &str =
+    r#"{"op":"arrive","at":1,"clock":0,"client":1,"number":1,"ask":{"kind":"receive","queue":"q.fifo"}}
+{"op":"put","from":1,"to":"clients"}
+"#;
+
+const NO_QUEUE_TEXT: &str =
+    r#"{"client":1,"length":1,"line":2,"number":1,"reply":{"code":1,"kind":"refused","name":"QueueDoesNotExist"}}
+"#;
+
+/// Another server, no answer that waits, and a group with a space; then two answers in their order, and a body that
+/// no message may have.
+const REFUSALS: &str =
+    r#"{"op":"arrive","at":2,"clock":0,"client":1,"number":1,"ask":{"kind":"create","queue":"q.fifo"}}
+
+{"op":"put","from":1,"to":"clients"}
+{"op":"arrive","at":1,"clock":0,"client":1,"number":1,"ask":{"kind":"send","queue":"q.fifo","group":"a b","dedup":"d","body":"x"}}
+{"op":"arrive","at":1,"clock":7,"client":4294967295,"number":18446744073709551615,"ask":{"kind":"create","queue":"q.fifo"}}
+{"op":"arrive","at":1,"clock":3,"client":0,"number":0,"ask":{"kind":"create","queue":"q.fifo","visibility":31}}
+{"op":"put","from":1,"to":"clients"}
+{"op":"put","from":1,"to":"clients"}
+{"op":"arrive","at":1,"clock":9,"client":1,"number":2,"ask":{"kind":"send","queue":"q.fifo","group":"a","dedup":"d","body":"\u0000"}}
+"#;
+
+const REFUSALS_TEXT: &str = r#"{"line":1,"name":"NoSuchServer","refused":31}
+{"line":3,"name":"OutboxEmpty","refused":34}
+{"line":4,"name":"BadGroup","refused":12}
+{"client":4294967295,"length":1,"line":7,"number":18446744073709551615,"reply":{"incarnation":1,"kind":"created"}}
+{"client":0,"length":2,"line":8,"number":0,"reply":{"code":2,"kind":"refused","name":"QueueNameExists"}}
+{"line":9,"name":"InvalidMessageContents","refused":14}
+"#;
+
+#[test]
+fn reads_and_writes_in_parts(rt: HostRuntime) {
+    let cases = [
+        ("", Ok(()), ""),
+        ("\n \t\r\n\n", Ok(()), ""),
+        (FIRST_PATH, Ok(()), FIRST_PATH_TEXT),
+        (FIRST_PATH.trim_end(), Ok(()), FIRST_PATH_TEXT),
+        (CUT_LINE, Err(ScriptFault::BadLine(3)), CUT_LINE_TEXT),
+        (NO_QUEUE, Ok(()), NO_QUEUE_TEXT),
+        (REFUSALS, Ok(()), REFUSALS_TEXT),
+    ];
+    for (script, answer, text) in cases {
+        for step in [1, 7, 65536] {
+            let reader = Pieces::new(script.as_bytes(), step);
+            let (got, taken) = replayed(rt.alloc(), reader, usize::MAX, false);
+            assert_eq!(rt; got, answer, "the answer to {script:?} by {step}");
+            assert_eq!(rt;
+                taken.as_slice(),
+                text.as_bytes(),
+                "the text of {script:?} by {step}"
+            );
+        }
+    }
+}
+
+/// A query at the tail, which crashes once it has answered.
+const TWO_SERVERS: &str = r#"{"op":"ask","at":2,"client":7,"tag":9,"queue":"q.fifo"}
+
+{"op":"put","from":2,"to":"clients"}
+{"op":"crash","server":2}
+{"op":"put","from":2,"to":1}
+"#;
+
+const TWO_SERVERS_TEXT: &str =
+    r#"{"client":7,"length":0,"line":3,"reply":{"code":1,"kind":"refused","name":"QueueDoesNotExist"},"tag":9}
+{"line":5,"name":"ServerDown","refused":32}
+"#;
+
+/// Each event at a place where it is refused, then an entry that goes down the chain.
+const WRONG_PLACES: &str =
+    r#"{"op":"arrive","at":2,"clock":0,"client":1,"number":1,"ask":{"kind":"remove","queue":"q.fifo"}}
+{"op":"ask","at":1,"client":1,"tag":1,"queue":"q.fifo"}
+{"op":"take","from":1,"to":2}
+{"op":"put","from":1,"to":2}
+{"op":"take","from":2,"to":"clients"}
+{"op":"arrive","at":7,"clock":0,"client":1,"number":1,"ask":{"kind":"remove","queue":"q.fifo"}}
+{"op":"arrive","at":7,"clock":0,"client":1,"number":1,"ask":{"kind":"send","queue":"q.fifo","group":"a b","dedup":"d","body":"x"}}
+{"op":"detect","server":2}
+{"op":"join","server":2}
+{"op":"crash","server":9}
+{"op":"arrive","at":1,"clock":5,"client":1,"number":1,"ask":{"kind":"create","queue":"q.fifo"}}
+{"op":"put","from":1,"to":2}
+{"op":"take","from":1,"to":2}
+{"op":"put","from":2,"to":"clients"}
+"#;
+
+const WRONG_PLACES_TEXT: &str = r#"{"line":1,"name":"NotHead","refused":40}
+{"line":2,"name":"NotTail","refused":42}
+{"line":3,"name":"LinkEmpty","refused":33}
+{"line":4,"name":"OutboxEmpty","refused":34}
+{"line":5,"name":"LinkEmpty","refused":33}
+{"line":6,"name":"NoSuchServer","refused":31}
+{"line":7,"name":"BadGroup","refused":12}
+{"line":8,"name":"NotDown","refused":39}
+{"line":9,"name":"IdUsed","refused":37}
+{"line":10,"name":"NoSuchServer","refused":31}
+{"client":1,"length":1,"line":14,"number":1,"reply":{"incarnation":1,"kind":"created"}}
+"#;
+
+#[test]
+fn runs_two_servers(rt: HostRuntime) -> Result<(), Fail> {
+    let two = ChainSize::new(2).ok_or("two servers are a chain")?;
+    let cases = [
+        (TWO_SERVERS, TWO_SERVERS_TEXT),
+        (WRONG_PLACES, WRONG_PLACES_TEXT),
+    ];
+    for (script, text) in cases {
+        let reader = Pieces::new(script.as_bytes(), 65536);
+        let (answer, taken) = replayed_on(rt.alloc(), two, reader, usize::MAX, false);
+        assert_eq!(rt; answer, Ok(()));
+        assert_eq!(rt; taken.as_slice(), text.as_bytes(), "the text of {script:?}");
+    }
+    Ok(())
+}
+
+/// Each of these lines alone is bad.
+#[test]
+fn ends_at_a_bad_line(rt: HostRuntime) -> Result<(), Fail> {
+    let lines = [
+        b"\xff".as_slice(),
+        br#"{"op":"crash","server":-1}"#.as_slice(),
+        br#"{"op":"crash","server":1.0}"#.as_slice(),
+        br#"{"op":"crash","server":0}"#.as_slice(),
+        br#"{"op":"crash","server":4294967296}"#.as_slice(),
+        br#"{"op":"crash","server":1,"x":0}"#.as_slice(),
+        b"[]".as_slice(),
+    ];
+    for line in lines {
+        let (answer, taken) = replayed(rt.alloc(), Pieces::new(line, 65536), usize::MAX, false);
+        assert_eq!(rt; answer, Err(ScriptFault::BadLine(1)), "at {line:?}");
+        assert_eq!(rt; taken.len(), 0);
+    }
+    let nested = vec![in rt.alloc(); b'['; 200]?;
+    let (answer, _) = replayed(rt.alloc(), Pieces::new(nested.as_slice(), 65536), 0, false);
+    assert_eq!(rt; answer, Err(ScriptFault::BadLine(1)));
+    Ok(())
+}
+
+/// Three lines of 37 bytes with their line feeds, each refused in 45 bytes.
+const PUTS: &str = r#"{"op":"put","from":1,"to":"clients"}
+{"op":"put","from":1,"to":"clients"}
+{"op":"put","from":1,"to":"clients"}
+"#;
+
+const PUTS_TEXT: &str = r#"{"line":1,"name":"OutboxEmpty","refused":34}
+{"line":2,"name":"OutboxEmpty","refused":34}
+{"line":3,"name":"OutboxEmpty","refused":34}
+"#;
+
+#[test]
+fn runs_the_lines_before_a_failed_read(rt: HostRuntime) {
+    for (good, lines) in [(0, 0), (36, 0), (37, 1), (38, 1), (110, 2), (111, 3)] {
+        let mut reader = Pieces::new(PUTS.as_bytes(), 7);
+        reader.good = good;
+        let (answer, taken) = replayed(rt.alloc(), reader, usize::MAX, false);
+        assert_eq!(rt; answer, Err(ScriptFault::ReadFailed), "after {good} bytes");
+        assert_eq!(rt;
+            taken.as_slice(),
+            &PUTS_TEXT.as_bytes()[..45 * lines],
+            "after {good} bytes"
+        );
+    }
+}
+
+#[test]
+fn writes_the_front_that_fits(rt: HostRuntime) -> Result<(), Fail> {
+    let mut script = String::from_str(rt.alloc(), PUTS)?;
+    script.push_str("x")?;
+    for silent in [false, true] {
+        for room in [0, 1, 2, 44, 45, 46, 134] {
+            let reader = Pieces::new(script.as_bytes(), 7);
+            let (answer, taken) = replayed(rt.alloc(), reader, room, silent);
+            assert_eq!(rt;
+                answer,
+                Err(ScriptFault::WriteFailed),
+                "with room for {room}"
+            );
+            assert_eq!(rt;
+                taken.as_slice(),
+                &PUTS_TEXT.as_bytes()[..room],
+                "with room for {room}"
+            );
+        }
+        let reader = Pieces::new(script.as_bytes(), 7);
+        let (answer, taken) = replayed(rt.alloc(), reader, 135, silent);
+        assert_eq!(rt; answer, Err(ScriptFault::BadLine(4)));
+        assert_eq!(rt; taken.as_slice(), PUTS_TEXT.as_bytes());
+    }
+    Ok(())
+}
+
+#[test]
+fn counts_lines_up_to_the_limit(rt: HostRuntime) -> Result<(), Fail> {
+    let many = vec![in rt.alloc(); b'\n'; LINES_LIMIT as usize]?;
+    let (answer, _) = replayed(rt.alloc(), Pieces::new(many.as_slice(), 65536), 0, false);
+    assert_eq!(rt; answer, Ok(()));
+    for last in [b"\n", b" "] {
+        let mut more = many.clone()?;
+        more.extend_from_slice(last)?;
+        let (answer, _) = replayed(rt.alloc(), Pieces::new(more.as_slice(), 65536), 0, false);
+        assert_eq!(rt; answer, Err(ScriptFault::TooManyLines));
+    }
+    Ok(())
+}
+
+#[test]
+fn takes_lines_up_to_the_limit(rt: HostRuntime) -> Result<(), Fail> {
+    let mut long = vec![in rt.alloc(); b' '; LINE_LIMIT]?;
+    for end in ["", "\n"] {
+        long.extend_from_slice(end.as_bytes())?;
+        let (answer, _) = replayed(rt.alloc(), Pieces::new(long.as_slice(), 65536), 0, false);
+        assert_eq!(rt; answer, Ok(()), "a line that ends with {end:?}");
+    }
+    long.insert(0, b' ')?;
+    let (answer, _) = replayed(rt.alloc(), Pieces::new(long.as_slice(), 65536), 0, false);
+    assert_eq!(rt; answer, Err(ScriptFault::LineTooLong(1)));
+    Ok(())
+}
+
+#[test]
+fn remembers_failures(rt: HostRuntime) {
+    let mut reader = Pieces::new(b"12", 1);
+    reader.good = 1;
+    let mut source = Checked::new(reader);
+    let mut byte = [0];
+    assert_eq!(rt; source.read(&mut byte).ok(), Some(1));
+    assert!(rt; !source.failed(), "an interrupted read is made again");
+    assert_eq!(rt; source.read(&mut byte).ok(), None);
+    assert!(rt; source.failed());
+
+    let mut taken = Vec::new(rt.alloc());
+    let mut sink = Checked::new(Room {
+        taken: &mut taken,
+        step: 2,
+        room: 0,
+        silent: true,
+    });
+    assert_eq!(rt; sink.write(&[]).ok(), Some(0));
+    assert!(rt; !sink.failed(), "no bytes are all taken");
+    assert_eq!(rt; sink.write(b"1").ok(), Some(0));
+    assert!(rt; sink.failed());
+}
+
+#[test]
+fn faults_have_numbers_and_names(rt: HostRuntime) -> Result<(), Fail> {
+    let cases = [
+        (
+            ScriptFault::BadLine(3),
+            61,
+            "BadLine",
+            "line 3 is not a line of a script",
+        ),
+        (
+            ScriptFault::LineTooLong(4),
+            62,
+            "LineTooLong",
+            "line 4 is too long",
+        ),
+        (
+            ScriptFault::TooManyLines,
+            63,
+            "TooManyLines",
+            "the script has too many lines",
+        ),
+        (
+            ScriptFault::ReadFailed,
+            64,
+            "ReadFailed",
+            "the script could not be read",
+        ),
+        (
+            ScriptFault::WriteFailed,
+            65,
+            "WriteFailed",
+            "the output could not be written",
+        ),
+        (ScriptFault::NoMemory, 20, "NoMemory", "out of memory"),
+    ];
+    for (fault, code, name, text) in cases {
+        assert_eq!(rt; fault.code(), code);
+        assert_eq!(rt; fault.name(), name);
+        assert_eq!(rt; fault.to_string(rt.alloc())?.as_str(), text);
+    }
+    Ok(())
+}

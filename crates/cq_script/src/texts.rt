@@ -1,0 +1,49 @@
+ghost use Rattle.std.specs.Prelude.{◌≡◌, ◌↔◌, Ok};
+ghost use Rattle.cq_base.specs.Handle.{Handle, IsHandle, handle_text};
+ghost use Rattle.cq_script.specs.Fields as spec;
+ghost use Rattle.cq_script.specs.Readers.{Gives, same};
+ghost use Rattle.cq_script.specs.Receipts.{receipt_handle};
+
+use crate::fields::Stop;
+use cq_base::{Body, DedupId, GroupId, QueueName, Receipt};
+use std::alloc::Global;
+
+/// The queue name with that text.
+pub(crate) fn queue_name(alloc: Global, text: &str) -> Result<QueueName, Stop>
+    ensures { Gives same result (spec.queue_name text.now) }
+{
+    Ok(QueueName::new(alloc, text)?)
+}
+
+/// The message group id with that text.
+pub(crate) fn group_id(alloc: Global, text: &str) -> Result<GroupId, Stop>
+    ensures { Gives same result (spec.group_id text.now) }
+{
+    Ok(GroupId::new(alloc, text)?)
+}
+
+/// The message deduplication id with that text.
+pub(crate) fn dedup_id(alloc: Global, text: &str) -> Result<DedupId, Stop>
+    ensures { Gives same result (spec.dedup_id text.now) }
+{
+    Ok(DedupId::new(alloc, text)?)
+}
+
+/// The message body with that text.
+pub(crate) fn message_body(alloc: Global, text: &str) -> Result<Body, Stop>
+    ensures { Gives same result (spec.message_body text.now) }
+{
+    Ok(Body::new(alloc, text)?)
+}
+
+/// The receipt handle with that text. It takes no memory.
+#[tactic(auto, using(crate::proofs::Receipts::receipt_found, crate::proofs::Receipts::receipt_none, crate::proofs::Receipts::receipt_exact))]
+pub(crate) fn receipt(text: &str) -> Result<Receipt, Stop>
+    ensures value { Gives same result (receipt_handle text.now) }
+    ensures exact { (h : Handle) → (receipt_handle text.now ≡ Ok h) ↔ (IsHandle h × (text.now ≡ handle_text h)) }
+{
+    match Receipt::read(text.as_bytes()) {
+        Some(receipt) => Ok(receipt),
+        None => Err(Stop::Bad),
+    }
+}
