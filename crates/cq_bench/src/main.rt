@@ -1,0 +1,38 @@
+//! Reads lines of JSON on standard input and writes them again, by `serde_json` alone. What `cq replay` takes for the
+//! same lines is measured against this.
+#![tactic(auto)]
+
+use serde_json::Value;
+use std::alloc::Global;
+use std::io;
+use std::io::Write;
+use std::process::ExitCode;
+
+/// The line again, as `serde_json` writes it. None: it is no JSON, or there was no memory.
+fn written_again(alloc: Global, line: &str) -> Option<Vec<u8>> {
+    let value = Value::from_slice(alloc, line.as_bytes()).ok()?;
+    let mut text = value.to_vec(alloc).ok()?;
+    text.push(b'\n').ok()?;
+    Some(text)
+}
+
+fn copy_lines(rt: &HostRuntime) -> io::Result<()> {
+    let mut writer = io::writer(rt);
+    for line in rt.lines(rt.alloc()) {
+        match written_again(rt.alloc(), line?.as_str()) {
+            Some(text) => writer.write_all(text.as_slice())?,
+            None => return Err(io::Error::other("a line is no JSON, or memory ran out")),
+        }
+    }
+    writer.flush()
+}
+
+fn main(rt: HostRuntime) -> ExitCode {
+    match copy_lines(&rt) {
+        Ok(()) => ExitCode::SUCCESS,
+        Err(_) => {
+            let _ = rt.eprintln("cq_bench: a line is no JSON, or it can't be read or written");
+            ExitCode::FAILURE
+        }
+    }
+}
