@@ -5,6 +5,7 @@ use Rattle.std.specs.Str.{bytes_eq}
 use Rattle.serde_json.specs.Data.{Data}
 use Rattle.cq_base.specs.declared.ask.Ask.{Ask}
 use Rattle.cq_base.specs.declared.ask.Ask.TheVariants.{Create, Remove, Send, Receive, Delete, Change}
+use Rattle.cq_base.specs.declared.party.Party.{Party}
 use Rattle.cq_script.specs.Fields.{Reason, bad, ◌>>=◌, has_only, member_at, text_at, number_at, number_if_at, party_at, queue_name, group_id, dedup_id, message_body}
 use Rattle.cq_script.specs.Receipts.{receipt_handle}
 use Rattle.cq_world.specs.declared.event.Event.{Event}
@@ -99,19 +100,16 @@ query_in d = if has_only (codes "op" ∷ codes "at" ∷ codes "client" ∷ codes
   queue ← queue_name name
   Ok (events.Ask at (record { client = client; tag = tag; queue = queue }))) else Err bad
 
--- The first message that waits at one party for another is put on its link.
-unfoldable pub put_in : Data → Result Event Reason
-put_in d = if has_only (codes "op" ∷ codes "from" ∷ codes "to" ∷ []) d then (do
+-- both ends of an event that has nothing else
+unfoldable pub ends_in : Data → Result (Party × Party) Reason
+ends_in d = if has_only (codes "op" ∷ codes "from" ∷ codes "to" ∷ []) d then (do
   from ← party_at (codes "from") d
   to ← party_at (codes "to") d
-  Ok (events.Put from to)) else Err bad
+  Ok (from, to)) else Err bad
 
--- The first message of a link is taken.
-unfoldable pub take_in : Data → Result Event Reason
-take_in d = if has_only (codes "op" ∷ codes "from" ∷ codes "to" ∷ []) d then (do
-  from ← party_at (codes "from") d
-  to ← party_at (codes "to") d
-  Ok (events.Take from to)) else Err bad
+-- the event of a link, if both ends are said
+abbrev pub of_ends : (Party → Party → Event) → Result (Party × Party) Reason → Result Event Reason
+of_ends event ends = ends >>= λ link. Ok (event link.0 link.1)
 
 -- the server of an event that has nothing else
 unfoldable pub server_in : Data → Result ℕ Reason
@@ -127,8 +125,8 @@ event_in d = do
   op ← text_at (codes "op") d
   if bytes_eq op (codes "arrive") then arrive_in d
       else (if bytes_eq op (codes "ask") then query_in d
-      else (if bytes_eq op (codes "put") then put_in d
-      else (if bytes_eq op (codes "take") then take_in d
+      else (if bytes_eq op (codes "put") then of_ends events.Put (ends_in d)
+      else (if bytes_eq op (codes "take") then of_ends events.Take (ends_in d)
       else (if bytes_eq op (codes "crash") then of_server events.Crash (server_in d)
       else (if bytes_eq op (codes "detect") then of_server events.Detect (server_in d)
       else (if bytes_eq op (codes "join") then of_server events.Join (server_in d) else Err bad))))))

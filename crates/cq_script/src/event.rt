@@ -7,7 +7,7 @@ use crate::fields::{
     Stop, has_only, member_at, moment_at, party_at, server_at, text_at, u32_at, u64_at,
 };
 use crate::texts::queue_name;
-use cq_base::{Query, Request, ServerId};
+use cq_base::{Party, Query, Request, ServerId};
 use cq_world::Event;
 use serde_json::Value;
 use std::alloc::Global;
@@ -56,28 +56,17 @@ fn read_query(alloc: Global, value: &Value) -> Result<Event, Stop>
     })
 }
 
-#[tactic(auto, unfolding(crate::specs::Events::put_in))]
-fn read_put(value: &Value) -> Result<Event, Stop>
-    ensures { Gives same result (spec.put_in (view value.now)) }
+/// Both ends of an event that has nothing else.
+#[tactic(auto, unfolding(crate::specs::Events::ends_in))]
+fn read_ends(value: &Value) -> Result<(Party, Party), Stop>
+    ensures { Gives same result (spec.ends_in (view value.now)) }
 {
     if !has_only(value, &["op", "from", "to"]) {
         return Err(Stop::Bad);
     }
     let from = party_at(value, "from")?;
     let to = party_at(value, "to")?;
-    Ok(Event::Put { from, to })
-}
-
-#[tactic(auto, unfolding(crate::specs::Events::take_in))]
-fn read_take(value: &Value) -> Result<Event, Stop>
-    ensures { Gives same result (spec.take_in (view value.now)) }
-{
-    if !has_only(value, &["op", "from", "to"]) {
-        return Err(Stop::Bad);
-    }
-    let from = party_at(value, "from")?;
-    let to = party_at(value, "to")?;
-    Ok(Event::Take { from, to })
+    Ok((from, to))
 }
 
 /// The server of an event that has nothing else.
@@ -102,9 +91,11 @@ pub(crate) fn read_event(alloc: Global, value: &Value) -> Result<Event, Stop>
     } else if op == "ask" {
         read_query(alloc, value)
     } else if op == "put" {
-        read_put(value)
+        let (from, to) = read_ends(value)?;
+        Ok(Event::Put { from, to })
     } else if op == "take" {
-        read_take(value)
+        let (from, to) = read_ends(value)?;
+        Ok(Event::Take { from, to })
     } else if op == "crash" {
         Ok(Event::Crash {
             server: read_server(value)?,

@@ -1,12 +1,9 @@
 -- What came of the run of the events is what is told.
-use Rattle.std.proofs.Common.{◌≡◌, ◌∙◌, sym, ap, [], take}
-use Rattle.std.proofs.lemmas.Result.{err_from_is_err_and}
-use Rattle.std.proofs.KnownBytes.{Appends-nil}
+use Rattle.std.proofs.Common.{◌≡◌, ◌∙◌, ap, take}
 use Rattle.cq_world.specs.Runs.{given_from, refused_from}
 use Rattle.cq_world.specs.Worlds.{first_world}
 use Rattle.cq_script.specs.Output.{text_of}
 use Rattle.cq_script.specs.Steps.{events_of}
-use Rattle.cq_script.proofs.Fronts.{nothing_written_yet}
 use Rattle.cq_script.proofs.Telling.{run_told}
 use Rattle.cq_script.proofs.run.run_items.Goals as goal
 

@@ -1,5 +1,5 @@
 -- Each item adds its event and its mark.
-use Rattle.std.proofs.Common.{◌≡◌, ◌∷◌, rules, refl}
+use Rattle.std.proofs.Common.{◌≡◌, ◌∷◌, rules}
 use Rattle.cq_script.specs.Steps.{events_of}
 use Rattle.cq_script.proofs.Telling.{item_pushed}
 use Rattle.cq_script.proofs.steps.steps_of.Goals as goal
