@@ -111,10 +111,6 @@ last-more [] p = eq-eqb p p refl
 last-more (y ∷ []) p = eq-eqb p p refl
 last-more (y ∷ z ∷ r) p = last-more (z ∷ r) p
 
--- the last stays without the first, if another one follows
-pub last-next : (y z : ℕ) (r : List ℕ) (p : ℕ) → is_last (y ∷ z ∷ r) p ≡ true → is_last (z ∷ r) p ≡ true
-last-next y z r p h = h
-
 -- predecessors are told one after another
 pub reports-append : (xs ys : List Message) → reports (xs ++ ys) ≡ reports xs ++ reports ys
 reports-append [] ys = refl

@@ -8,7 +8,6 @@ use Rattle.cq_base.specs.Relations.{Among, Front}
 use Rattle.cq_chain.specs.Messages.{Message}
 use Rattle.cq_chain.specs.Parties.{same, addressed}
 use Rattle.cq_chain.specs.Steps.{to_server, when}
-use Rattle.cq_world.specs.Events.{first_of}
 
 -- P holds of each
 abbrev pub Each : {X : Type 0} → (X → Type 0) → List X → Type 0
@@ -29,11 +28,6 @@ each-follows P Q (x ∷ xs) follows h = (follows x h.0, each-follows P Q xs foll
 pub each-drop : {X : Type 0} (P : X → Type 0) (xs : List X) → Each P xs → Each P (drop 1 xs)
 each-drop P [] h = tt
 each-drop P (x ∷ xs) h = h.1
-
--- of the first alone
-pub each-first : (P : Message → Type 0) (ms : List Message) → Each P ms → Each P (first_of ms)
-each-first P [] h = tt
-each-first P (m ∷ ms) h = (h.0, tt)
 
 -- of one of them
 pub each-among : {X : Type 0} (P : X → Type 0) (x : X) (xs : List X) → Each P xs → Among x xs → P x

@@ -1,15 +1,15 @@
 -- What is found of links after one of them changed.
-use Rattle.std.proofs.Common.{◌≡◌, ◌<◌, ◌∙◌, ap, sym, refl, subst, ◌&&◌, List, Option, Some, None, cond, inl, inr, arith}
+use Rattle.std.proofs.Common.{◌≡◌, ◌<◌, ◌∙◌, ap, sym, refl, ◌&&◌, List, Option, Some, None, cond, inl, inr, arith}
 use Rattle.std.proofs.lemmas.Bool.{cases_Bool}
 use Rattle.cq_base.specs.declared.party.Party.{Party}
 use Rattle.cq_chain.specs.declared.message.Message.{Message}
 use Rattle.cq_chain.specs.Boxes.{Row, messages_of, room_of}
 use Rattle.cq_chain.specs.Parties.{same}
-use Rattle.cq_world.specs.Kept.{row_at, messages_at, room_at}
+use Rattle.cq_world.specs.Kept.{row_at, messages_at}
 use Rattle.cq_world.specs.Worlds.{set_pair}
 use Rattle.cq_world.specs.declared.links.Pair.{Pair}
 use Rattle.cq_world.proofs.PairKeys.{IsWritten}
-use Rattle.cq_world.proofs.Parties.{same-true, both, same-pair}
+use Rattle.cq_world.proofs.Parties.{same-true, both}
 
 -- what is found then
 pub written : (old new : List (Pair × Row)) (from to : Party) (row : Row) (ms : List Message) → IsWritten old new from to row → row.messages ≡ ms → (x y : Party) → messages_at new x y ≡ set_pair (messages_at old) from to ms x y
@@ -28,10 +28,6 @@ set-same link from to ms is x y = elim (cases_Bool (same x from && same y to)) [
 -- a row that keeps its messages
 pub kept : (old new : List (Pair × Row)) (from to : Party) (row : Row) → IsWritten old new from to row → row.messages ≡ messages_at old from to → (x y : Party) → messages_at new x y ≡ messages_at old x y
 kept old new from to row h is x y = written old new from to row (messages_at old from to) h is x y ∙ set-same (messages_at old) from to (messages_at old from to) refl x y
-
--- the row of a link that was just made
-pub room-made : (old new : List (Pair × Row)) (from to : Party) (row : Row) → IsWritten old new from to row → 0 < row.room → 0 < room_at new from to
-room-made old new from to row h room = subst (λ o. 0 < room_of o) (sym (h from to ∙ ap (λ b. cond b (Some row) (row_at old from to)) (same-pair from to))) room
 
 -- where nothing is kept there is no room
 some-none : {row : Row} → Some row ≡ None → ⊥

@@ -11,11 +11,8 @@ ghost use Rattle.cq_world.specs.Worlds.{World, is_in};
 ghost use Rattle.cq_world.specs.declared.event.Event.TheVariants as events;
 
 use super::Sim;
-use cq_base::{NoMemory, ServerId};
+use cq_base::{CHAIN_LIMIT, NoMemory, ServerId};
 use cq_chain::{Server, WorldFault};
-
-/// The most members of a chain.
-const MOST_MEMBERS: usize = 8;
 
 impl Sim {
     /// The server is there, is full, and lives: O(1).
@@ -90,7 +87,7 @@ impl Sim {
         if self.servers.contains_key(&id) {
             return Err(WorldFault::IdUsed);
         }
-        if MOST_MEMBERS <= self.master.chain().len() {
+        if usize::from(CHAIN_LIMIT) <= self.master.chain().len() {
             return Err(WorldFault::ChainFull);
         }
         if !self.master.is_ready() {

@@ -1,5 +1,5 @@
 -- Its number is new, the chain has room, and the last member is ready.
-use Rattle.std.proofs.Common.{◌<◌, ◌≤◌, ◌∙◌, sym, subst, length}
+use Rattle.std.proofs.Common.{◌<◌, ◌≤◌, ◌∙◌, ap, sym, length, arith}
 use Rattle.std.proofs.lemmas.Bool.{le-ltb, lt-ltb}
 use Rattle.cq_base.specs.declared.party.Party.TheVariants as parties
 use Rattle.cq_world.specs.Kept.{server_at}
@@ -14,13 +14,14 @@ returns-then-contains_key c = λ w h.
     let there = kept-known (server_at c.args.self.now.servers id) (is_in w.master.used id) (w.server id) (w.outbox (parties.Server id)) ((holds c.args.self.now w h).servers id) in
     refused-used id w.master (sym (c.contains_key.ensures ∙ there) ∙ c.if-contains_key.true)
 
-pub returns-then-chain-ge-MOST_MEMBERS : goal.returns-then-chain-ge-MOST_MEMBERS
-returns-then-chain-ge-MOST_MEMBERS c = λ w h.
+pub returns-then-from-chain : goal.returns-then-from-chain
+returns-then-from-chain c = λ w h.
     let id = c.args.id in
     let there = kept-known (server_at c.args.self.now.servers id) (is_in w.master.used id) (w.server id) (w.outbox (parties.Server id)) ((holds c.args.self.now w h).servers id) in
     let fresh = sym (c.contains_key.ensures ∙ there) ∙ c.if-contains_key.false in
     let own = (holds c.args.self.now w h).master in
-    refused-full id w.master fresh (le-ltb (length w.master.chain) 8 (subst (λ ids. 8 ≤ length ids) (c.chain.ensures w.master (w.outbox parties.Master) own) c.if-chain-ge-MOST_MEMBERS.true))
+    let full : 8 ≤ length w.master.chain = omega (arith, ap (λ ids. length ids) (c.chain.ensures w.master (w.outbox parties.Master) own), c.from.ensures) in
+    refused-full id w.master fresh (le-ltb (length w.master.chain) 8 full)
 
 pub returns-then-not-is_ready : goal.returns-then-not-is_ready
 returns-then-not-is_ready c = λ w h.
@@ -28,7 +29,8 @@ returns-then-not-is_ready c = λ w h.
     let there = kept-known (server_at c.args.self.now.servers id) (is_in w.master.used id) (w.server id) (w.outbox (parties.Server id)) ((holds c.args.self.now w h).servers id) in
     let fresh = sym (c.contains_key.ensures ∙ there) ∙ c.if-contains_key.false in
     let own = (holds c.args.self.now w h).master in
-    let room = lt-ltb (length w.master.chain) 8 (subst (λ ids. length ids < 8) (c.chain.ensures w.master (w.outbox parties.Master) own) c.if-chain-ge-MOST_MEMBERS.false) in
+    let few : length w.master.chain < 8 = omega (arith, ap (λ ids. length ids) (c.chain.ensures w.master (w.outbox parties.Master) own), c.from.ensures) in
+    let room = lt-ltb (length w.master.chain) 8 few in
     refused-pending id w.master fresh room (sym (c.is_ready.ensures w.master (w.outbox parties.Master) own) ∙ c.if-not-is_ready.true)
 
 pub returns : goal.returns
@@ -37,5 +39,6 @@ returns c = λ w h.
     let there = kept-known (server_at c.args.self.now.servers id) (is_in w.master.used id) (w.server id) (w.outbox (parties.Server id)) ((holds c.args.self.now w h).servers id) in
     let fresh = sym (c.contains_key.ensures ∙ there) ∙ c.if-contains_key.false in
     let own = (holds c.args.self.now w h).master in
-    let room = lt-ltb (length w.master.chain) 8 (subst (λ ids. length ids < 8) (c.chain.ensures w.master (w.outbox parties.Master) own) c.if-chain-ge-MOST_MEMBERS.false) in
+    let few : length w.master.chain < 8 = omega (arith, ap (λ ids. length ids) (c.chain.ensures w.master (w.outbox parties.Master) own), c.from.ensures) in
+    let room = lt-ltb (length w.master.chain) 8 few in
     allowed id w.master fresh room (sym (c.is_ready.ensures w.master (w.outbox parties.Master) own) ∙ c.if-not-is_ready.false)
