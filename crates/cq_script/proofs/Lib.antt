@@ -12,3 +12,4 @@ pub mod Fronts
 -- what a script does
 pub mod Replayed
 pub mod Telling
+pub mod RunTold

@@ -14,6 +14,7 @@ pub mod Steps
 pub mod Outcomes
 pub mod Runs
 pub mod Replays
+pub mod Laws
 -- faults, readers and writers
 pub mod Faults
 pub mod Checks

@@ -9,6 +9,7 @@ mod event;
 mod event_line;
 mod fault;
 mod fields;
+pub mod laws;
 mod lines;
 mod outcomes;
 mod output_line;

@@ -1,0 +1,105 @@
+-- The text of items, told by what the run of their events gives and refuses.
+use Rattle.std.proofs.Common.{◌≡◌, ℕ, ◌+◌, ◌<◌, ◌≤◌, ◌==◌, cond, false, List, [], ◌∷◌, ◌++◌, Option, None, Some, Result, Ok, Err, refl, sym, ap, ◌∙◌, arith}
+use borrow.Author.Tests.{ne_eqb, eq-eqb}
+use Rattle.cq_base.specs.declared.fault.BaseFault.{BaseFault}
+use Rattle.cq_chain.specs.declared.fault.WorldFault.{WorldFault}
+use Rattle.cq_chain.specs.declared.message.Answer.{Answer}
+use Rattle.cq_world.specs.Events.{refusal_of, after}
+use Rattle.cq_world.specs.Runs.{numbered, given_if, given_from, refused_from}
+use Rattle.cq_world.specs.Worlds.{World, first_world}
+use Rattle.cq_world.specs.declared.event.Event.{Event}
+use Rattle.cq_script.specs.Laws.{of_number, outcome_text, said_by_run, number_after, told_by_run, TextIsOfTheRun}
+use Rattle.cq_script.specs.Output.{event_text, said_text, after_said, output, text_from, text_of}
+use Rattle.cq_script.specs.Steps.{events_in, events_of}
+use Rattle.cq_script.specs.declared.lines.Item.{Item}
+
+-- ---- numbers
+
+-- another number is looked for behind what is numbered
+number_skipped : {A : Type 0} (j n : ℕ) (found : Option A) (later : List (ℕ × A)) → n < j → of_number j (numbered n found ++ later) ≡ of_number j later
+number_skipped j n None later less = refl
+number_skipped j n (Some a) later less =
+    let other : (n == j) ≡ false = ne_eqb n j (λ e. absurd (omega (arith, e, less))) in
+    ap (λ t. cond t (Some a) (of_number j later)) other
+
+-- what comes later has no earlier number
+number_before : {A : Type 0} (j n : ℕ) (found : Option A) (later : List (ℕ × A)) → j < n → of_number j later ≡ None → of_number j (numbered n found ++ later) ≡ None
+number_before j n None later less none = none
+number_before j n (Some a) later less none =
+    let other : (n == j) ≡ false = ne_eqb n j (λ e. absurd (omega (arith, e, less))) in
+    ap (λ t. cond t (Some a) (of_number j later)) other ∙ none
+
+number_here : {A : Type 0} (n : ℕ) (found : Option A) (later : List (ℕ × A)) → of_number n later ≡ None → of_number n (numbered n found ++ later) ≡ found
+number_here n None later none = none
+number_here n (Some a) later none = ap (λ t. cond t (Some a) (of_number n later)) (eq-eqb n n refl)
+
+given-later : (j n : ℕ) (w : World) (events : List Event) → j < n → of_number j (given_from n w events) ≡ None
+unfolding given_from
+given-later j n w [] less = refl
+given-later j n w (e ∷ es) less =
+    number_before j n (given_if w e (refusal_of w e)) (given_from (n + 1) (after w e) es) less (given-later j (n + 1) (after w e) es (omega (arith, less)))
+
+refused-later : (j n : ℕ) (w : World) (events : List Event) → j < n → of_number j (refused_from n w events) ≡ None
+unfolding refused_from
+refused-later j n w [] less = refl
+refused-later j n w (e ∷ es) less =
+    number_before j n (refusal_of w e) (refused_from (n + 1) (after w e) es) less (refused-later j (n + 1) (after w e) es (omega (arith, less)))
+
+-- ---- items
+
+-- the lists have, from that number on, what these events give and refuse
+record IsOf (n : ℕ) (given : List (ℕ × Answer)) (refused : List (ℕ × WorldFault)) (w : World) (events : List Event) : Type 0 where
+  gives : (j : ℕ) → n ≤ j → of_number j given ≡ of_number j (given_from n w events)
+  refuses : (j : ℕ) → n ≤ j → of_number j refused ≡ of_number j (refused_from n w events)
+
+given_at : (n : ℕ) (given : List (ℕ × Answer)) (refused : List (ℕ × WorldFault)) (w : World) (e : Event) (es : List Event) → IsOf n given refused w (e ∷ es)
+    → of_number n given ≡ given_if w e (refusal_of w e)
+unfolding given_from
+given_at n given refused w e es is =
+    is.gives n (omega arith) ∙ number_here n (given_if w e (refusal_of w e)) (given_from (n + 1) (after w e) es) (given-later n (n + 1) (after w e) es (omega arith))
+
+refused_at : (n : ℕ) (given : List (ℕ × Answer)) (refused : List (ℕ × WorldFault)) (w : World) (e : Event) (es : List Event) → IsOf n given refused w (e ∷ es)
+    → of_number n refused ≡ refusal_of w e
+unfolding refused_from
+refused_at n given refused w e es is =
+    is.refuses n (omega arith) ∙ number_here n (refusal_of w e) (refused_from (n + 1) (after w e) es) (refused-later n (n + 1) (after w e) es (omega arith))
+
+IsOf-next : (n : ℕ) (given : List (ℕ × Answer)) (refused : List (ℕ × WorldFault)) (w : World) (e : Event) (es : List Event) → IsOf n given refused w (e ∷ es)
+    → IsOf (n + 1) given refused (after w e) es
+unfolding given_from refused_from
+IsOf-next n given refused w e es is = record {
+  gives = λ j l. is.gives j (omega (arith, l)) ∙ number_skipped j n (given_if w e (refusal_of w e)) (given_from (n + 1) (after w e) es) (omega (arith, l));
+  refuses = λ j l. is.refuses j (omega (arith, l)) ∙ number_skipped j n (refusal_of w e) (refused_from (n + 1) (after w e) es) (omega (arith, l));
+}
+
+-- an event's line, by its refusal
+same_outcome : (line : ℕ) (w : World) (e : Event) (refusal : Option WorldFault) → event_text line w e refusal ≡ outcome_text line (given_if w e refusal) refusal
+same_outcome line w e None = refl
+same_outcome line w e (Some fault) = refl
+
+-- a line, and those behind it
+told_line : (n line : ℕ) (given : List (ℕ × Answer)) (refused : List (ℕ × WorldFault)) (w : World) (said : Result Event BaseFault) (items : List Item)
+    → ((m : ℕ) (v : World) → IsOf m given refused v (events_of items) → text_from v items ≡ told_by_run m given refused items)
+    → IsOf n given refused w (events_in said ++ events_of items)
+    → said_text line w said ++ text_from (after_said w said) items ≡ said_by_run n given refused line said ++ told_by_run (number_after n said) given refused items
+told_line n line given refused w (Ok e) items go is =
+    let here : event_text line w e (refusal_of w e) ≡ outcome_text line (of_number n given) (of_number n refused) =
+    same_outcome line w e (refusal_of w e) ∙ sym (ap (λ g. outcome_text line g (of_number n refused)) (given_at n given refused w e (events_of items) is)
+    ∙ ap (λ r. outcome_text line (given_if w e (refusal_of w e)) r) (refused_at n given refused w e (events_of items) is)) in
+    ap (λ text. text ++ text_from (after w e) items) here
+    ∙ ap (λ text. outcome_text line (of_number n given) (of_number n refused) ++ text) (go (n + 1) (after w e) (IsOf-next n given refused w e (events_of items) is))
+told_line n line given refused w (Err fault) items go is = ap (λ text. said_text line w (Err fault) ++ text) (go n w is)
+
+told_items : (n : ℕ) (given : List (ℕ × Answer)) (refused : List (ℕ × WorldFault)) (w : World) (items : List Item)
+    → IsOf n given refused w (events_of items) → text_from w items ≡ told_by_run n given refused items
+unfolding text_from output told_by_run events_of
+told_items n given refused w [] is = refl
+told_items n given refused w (item ∷ items) is =
+    told_line n item.number given refused w item.said items (λ m v. told_items m given refused v items) is
+
+pub text_is_of_the_run : (size : ℕ) (items : List Item) → TextIsOfTheRun size items
+unfolding TextIsOfTheRun text_of
+text_is_of_the_run size items =
+    let first = first_world size in
+    let events = events_of items in
+    told_items 1 (given_from 1 first events) (refused_from 1 first events) first items (record { gives = λ j l. refl; refuses = λ j l. refl })

@@ -1,0 +1,45 @@
+-- What a script writes, told by what the run of its events gives and refuses.
+use Rattle.std.specs.Prelude.{◌≡◌, ℕ, ◌+◌, ◌==◌, if◌then◌else◌, List, [], ◌∷◌, ◌++◌, Option, None, Some, Result, Ok, Err}
+use Rattle.cq_base.specs.declared.fault.BaseFault.{BaseFault}
+use Rattle.cq_base.specs.Fault as texts
+use Rattle.cq_chain.specs.declared.fault.WorldFault.{WorldFault}
+use Rattle.cq_chain.specs.declared.message.Answer.{Answer}
+use Rattle.cq_chain.specs.Faults as worlds
+use Rattle.cq_world.specs.Runs.{given_from, refused_from}
+use Rattle.cq_world.specs.Worlds.{first_world}
+use Rattle.cq_world.specs.declared.event.Event.{Event}
+use Rattle.cq_script.specs.Answers.{refused_text}
+use Rattle.cq_script.specs.Output.{given_text, text_of}
+use Rattle.cq_script.specs.Steps.{events_of}
+use Rattle.cq_script.specs.declared.lines.Item.{Item}
+
+-- what has that number, if anything has
+abbrev pub of_number : {A : Type 0} → ℕ → List (ℕ × A) → Option A
+of_number n [] = None
+of_number n (x ∷ xs) = if x.0 == n then Some x.1 else of_number n xs
+
+-- the line of an event, by its refusal, if it was refused, and else by what it gave, if it gave something
+abbrev pub outcome_text : ℕ → Option Answer → Option WorldFault → List ℕ
+outcome_text line given None = given_text line given
+outcome_text line given (Some fault) = refused_text line (worlds.code_of fault) (worlds.name_of fault)
+
+-- what the line of that number writes, where the next event is the nth of a run that gave and refused this
+abbrev pub said_by_run : ℕ → List (ℕ × Answer) → List (ℕ × WorldFault) → ℕ → Result Event BaseFault → List ℕ
+said_by_run n given refused line (Ok event) = outcome_text line (of_number n given) (of_number n refused)
+said_by_run n given refused line (Err fault) = refused_text line (texts.code_of fault) (texts.name_of fault)
+
+-- the number of the next event behind such a line
+abbrev pub number_after : ℕ → Result Event BaseFault → ℕ
+number_after n (Ok event) = n + 1
+number_after n (Err fault) = n
+
+-- what items write, where the next event is the nth of a run that gave and refused this
+unfoldable pub told_by_run : ℕ → List (ℕ × Answer) → List (ℕ × WorldFault) → List Item → List ℕ
+told_by_run n given refused [] = []
+told_by_run n given refused (item ∷ items) =
+    said_by_run n given refused item.number item.said ++ told_by_run (number_after n item.said) given refused items
+
+-- The text of a script is that of what the run of its events gives and refuses, each at the line that says its event.
+unfoldable pub TextIsOfTheRun : ℕ → List Item → Type 0
+TextIsOfTheRun size items =
+    text_of size items ≡ told_by_run 1 (given_from 1 (first_world size) (events_of items)) (refused_from 1 (first_world size) (events_of items)) items
