@@ -5,7 +5,7 @@
 use serde_json::Value;
 use std::alloc::Global;
 use std::io;
-use std::io::Write;
+use std::io::{BufRead, BufReader, BufWriter, Write};
 use std::process::ExitCode;
 
 /// The line again, as `serde_json` writes it. None: it is no JSON, or there was no memory.
@@ -17,8 +17,8 @@ fn written_again(alloc: Global, line: &str) -> Option<Vec<u8>> {
 }
 
 fn copy_lines(rt: &HostRuntime) -> io::Result<()> {
-    let mut writer = io::writer(rt);
-    for line in rt.lines(rt.alloc()) {
+    let mut writer = BufWriter::new(rt.alloc(), io::writer(rt))?;
+    for line in BufReader::new(rt.alloc(), rt.reader())?.lines(rt.alloc()) {
         match written_again(rt.alloc(), line?.as_str()) {
             Some(text) => writer.write_all(text.as_slice())?,
             None => return Err(io::Error::other("a line is no JSON, or memory ran out")),
