@@ -86,8 +86,8 @@ unfolding refusal_of_taking
 ack-not-refused s from n m is = ap (λ x. refusal_of_taking (parties.Server from) x s) is
 
 -- what a snapshot stands for
-pub snapshot-seen : (message : rust.Message) (count : ℕ) (state : List Entry) (m : Message) → message ≡ kept.Snap count state → Means message m → m ≡ Snap state
-snapshot-seen message count state m is h = (means-seen message (kept.Snap count state) m is h).0
+pub snapshot-seen : (message : rust.Message) (state : List Entry) (m : Message) → message ≡ kept.Snap state → Means message m → m ≡ Snap state
+snapshot-seen message state m is h = means-seen message (kept.Snap state) m is h
 
 pub snapshot-not-refused : (s : Server) (from : ℕ) (state : List Entry) (m : Message) → m ≡ Snap state → refusal_of_taking (parties.Server from) m s ≡ None
 unfolding refusal_of_taking
@@ -95,11 +95,11 @@ snapshot-not-refused s from state m is = ap (λ x. refusal_of_taking (parties.Se
 
 -- what no server says to a server
 
-pub takes-others : (s : Server) (from : ℕ) (message : rust.Message) (m : Message) → ((place : ℕ) (e : Entry) → message ≡ kept.Fwd place e → ⊥) → ((count : ℕ) (state : List Entry) → message ≡ kept.Snap count state → ⊥)
+pub takes-others : (s : Server) (from : ℕ) (message : rust.Message) (m : Message) → ((place : ℕ) (e : Entry) → message ≡ kept.Fwd place e → ⊥) → ((state : List Entry) → message ≡ kept.Snap state → ⊥)
     → ((place : ℕ) → message ≡ kept.Ack place → ⊥) → Means message m → takes (parties.Server from) m s ≡ silent s
 unfolding takes
 takes-others s from (kept.Fwd place e) m fwd snap ack h = absurd (fwd place e refl)
-takes-others s from (kept.Snap count state) m fwd snap ack h = absurd (snap count state refl)
+takes-others s from (kept.Snap state) m fwd snap ack h = absurd (snap state refl)
 takes-others s from (kept.Ack place) m fwd snap ack h = absurd (ack place refl)
 takes-others s from kept.BeHead m fwd snap ack h = ap (λ x. takes (parties.Server from) x s) h
 takes-others s from (kept.Report pred) m fwd snap ack h = ap (λ x. takes (parties.Server from) x s) h
@@ -113,7 +113,7 @@ takes-others s from (kept.Answer answer) m fwd snap ack h = ap (λ x. takes (par
 pub others-not-refused : (s : Server) (from : ℕ) (message : rust.Message) (m : Message) → ((place : ℕ) (e : Entry) → message ≡ kept.Fwd place e → ⊥) → Means message m → refusal_of_taking (parties.Server from) m s ≡ None
 unfolding refusal_of_taking
 others-not-refused s from (kept.Fwd place e) m fwd h = absurd (fwd place e refl)
-others-not-refused s from (kept.Snap count state) m fwd h = ap (λ x. refusal_of_taking (parties.Server from) x s) h.0
+others-not-refused s from (kept.Snap state) m fwd h = ap (λ x. refusal_of_taking (parties.Server from) x s) h
 others-not-refused s from (kept.Ack place) m fwd h = ap (λ x. refusal_of_taking (parties.Server from) x s) h
 others-not-refused s from kept.BeHead m fwd h = ap (λ x. refusal_of_taking (parties.Server from) x s) h
 others-not-refused s from (kept.Report pred) m fwd h = ap (λ x. refusal_of_taking (parties.Server from) x s) h
@@ -153,7 +153,7 @@ pub takes-no_order : (s : Server) (message : rust.Message) (m : Message) → (me
     → ((least : ℕ) → message ≡ kept.BeTail least → ⊥) → Means message m → takes parties.Master m s ≡ silent s
 unfolding takes
 takes-no_order s (kept.Fwd place e) m head report adopt tail h = ap (λ x. takes parties.Master x s) h
-takes-no_order s (kept.Snap count state) m head report adopt tail h = ap (λ x. takes parties.Master x s) h.0
+takes-no_order s (kept.Snap state) m head report adopt tail h = ap (λ x. takes parties.Master x s) h
 takes-no_order s (kept.Ack place) m head report adopt tail h = ap (λ x. takes parties.Master x s) h
 takes-no_order s kept.BeHead m head report adopt tail h = absurd (head refl)
 takes-no_order s (kept.Report pred) m head report adopt tail h = absurd (report pred refl)

@@ -1,5 +1,5 @@
 -- What has to be kept of a server's state and its outboxes, and what it means that a call is a step.
-use Rattle.std.specs.Prelude.{◌≡◌, List, [], ◌∷◌, ◌++◌, length, drop, Option, None, Some, Result, Ok, Err, ⊤, if◌then◌else◌}
+use Rattle.std.specs.Prelude.{◌≡◌, List, [], ◌∷◌, ◌++◌, drop, Option, None, Some, Result, Ok, Err, ⊤, if◌then◌else◌}
 use Rattle.cq_base.specs.declared.party.Party.{Party}
 use Rattle.cq_base.specs.declared.party.Party.TheVariants as parties
 use Rattle.cq_chain.specs.declared.fault.WorldFault.{WorldFault}
@@ -18,7 +18,7 @@ use Rattle.cq_chain.specs.Steps.{Step}
 -- a message as it is kept stands for a message
 abbrev pub Means : rust.Message → Message → Type 0
 Means (kept.Fwd place entry) m = m ≡ Fwd place entry
-Means (kept.Snap count state) m = (m ≡ Snap state) × (count ≡ length state)
+Means (kept.Snap state) m = m ≡ Snap state
 Means (kept.Ack place) m = m ≡ Ack place
 Means kept.BeHead m = m ≡ BeHead
 Means (kept.Report pred) m = m ≡ Report pred

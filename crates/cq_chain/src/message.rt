@@ -20,8 +20,8 @@ pub struct Answer {
 pub enum Message {
     /// To a successor: the entry at that place of the sender's history, from 1.
     Fwd { place: u64, entry: Entry },
-    /// To a successor that joins: the sender's whole history, of so many entries.
-    Snap { count: u64, state: History },
+    /// To a successor that joins: the sender's whole history, which knows how many entries it has.
+    Snap { state: History },
     /// To a predecessor: all entries up to that place have reached the tail.
     Ack { place: u64 },
     /// From the master: the server is the head from now on.

@@ -50,9 +50,8 @@ fn snapshot(alloc: Global, history: &History) -> Result<Row, NoMemory>
 {
     let mut row = Row::new(alloc);
     let state = history.try_copy()?;
-    let count = state.count();
     row.reserve(1)?;
-    row.push(Message::Snap { count, state });
+    row.push(Message::Snap { state });
     Ok(row)
 }
 

@@ -91,7 +91,7 @@ impl Server {
     {
         match message {
             Message::Fwd { place, entry } => self.take_fwd(from, *place, entry),
-            Message::Snap { state, .. } => Ok(self.take_snap(from, state)?),
+            Message::Snap { state } => Ok(self.take_snap(from, state)?),
             Message::Ack { place } => Ok(self.take_ack(*place)?),
             _ => Ok(()),
         }

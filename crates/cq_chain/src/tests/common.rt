@@ -255,9 +255,9 @@ pub(super) fn text(alloc: Global, message: &Message) -> Result<String, Fail> {
             let milliseconds = entry.moment.get();
             Ok(format!(in alloc; "fwd {place} at {milliseconds}")?)
         }
-        Message::Snap { count, state } => {
+        Message::Snap { state } => {
             let entries = state.count();
-            Ok(format!(in alloc; "snap {count} of {entries}")?)
+            Ok(format!(in alloc; "snap of {entries}")?)
         }
         Message::Ack { place } => Ok(format!(in alloc; "ack {place}")?),
         Message::Answer(answer) => answer_text(alloc, answer),

@@ -82,7 +82,7 @@ fn check_a_successor_is_sent_a_snapshot_of_what_is_acknowledged(
     head: &mut Server,
 ) -> Result<(), Fail> {
     adopt(head, 3, 1)?;
-    check_sent(rt, alloc, head, 3, "snap 2 of 2")?;
+    check_sent(rt, alloc, head, 3, "snap of 2")?;
     check_put(rt, alloc, head, Party::Master, "adopted 3 with 2")
 }
 
