@@ -105,9 +105,9 @@ impl Server {
         })
     }
 
-    /// A server that joins a chain later (a choice of this project). It has no entry and no neighbour, until the
-    /// master tells it of one. It keeps the allocator.
-    pub fn joining(alloc: Global) -> Result<Server, NoMemory>
+    /// The server of that number, which joins a chain later (a choice of this project). It has no entry and no
+    /// neighbour, until the master tells it of one, and nothing of it depends on its number. It keeps the allocator.
+    pub fn joining(alloc: Global, _id: ServerId) -> Result<Server, NoMemory>
         ensures { IfOk result (λ server. StandsFor server joining (λ _. [])) }
     {
         Ok(Server {

@@ -36,7 +36,7 @@ fn place(tail: &mut Server) -> Result<(), Fail> {
 
 /// A server that joins behind server 1, and was told that it is the tail, from two entries on.
 fn joined(alloc: Global) -> Result<Server, Fail> {
-    let mut tail = Server::joining(alloc)?;
+    let mut tail = Server::joining(alloc, id(3)?)?;
     place(&mut tail)?;
     Ok(tail)
 }

@@ -96,14 +96,14 @@ impl Sim {
         Ok(())
     }
 
-    /// A server that joins, with room for it in the map.
-    fn make_joining(&mut self) -> Result<Server, NoMemory>
+    /// A server that joins under that number, with room for it in the map.
+    fn make_joining(&mut self, id: ServerId) -> Result<Server, NoMemory>
         ensures same { (w : World) → StandsFor self.old w → StandsFor self.new w }
         ensures server { IfOk result (λ server. chain.StandsFor server joining (λ _. [])) }
         ensures room { OnOk result (0 < spare self.new.servers) }
     {
         self.servers.reserve(1)?;
-        Server::joining(self.alloc)
+        Server::joining(self.alloc, id)
     }
 
     /// A new server joins. It and its place are made before the master learns of it.
@@ -114,7 +114,7 @@ impl Sim {
             IsRefusal fault (refusal_of w (events.Join id)) × StandsFor self.new w) }
     {
         self.check_join(id)?;
-        let server = self.make_joining()?;
+        let server = self.make_joining(id)?;
         self.master.join(id)?;
         match self.servers.insert(id, server) {
             Ok(_) => Ok(()),
