@@ -6,7 +6,7 @@ use Rattle.cq_base.specs.declared.ask.Query.{Query}
 use Rattle.cq_base.specs.declared.ask.Request.{Request}
 use Rattle.cq_base.specs.declared.party.Party.{Party}
 use Rattle.cq_base.specs.declared.party.Party.TheVariants as parties
-use Rattle.cq_base.specs.Relations.{Among, Front, Pairwise}
+use Rattle.cq_base.specs.Relations.{Front, Pairwise}
 use Rattle.cq_base.proofs.Among.{among-append}
 use Rattle.cq_chain.specs.declared.fault.WorldFault.{WorldFault}
 use Rattle.cq_chain.specs.declared.message.Answer.{Answer}
@@ -18,12 +18,12 @@ use Rattle.cq_chain.specs.Steps.{silent, to_server, when, appended, settled, beg
 use Rattle.cq_world.specs.Worlds.{World, is_in, channel, stepped}
 use Rattle.cq_world.specs.Events.{knows, unless_down, is_down, refusal_of, refusal_of_take, after, next, unless_refused, answers_in, after_take}
 use Rattle.cq_world.specs.Laws.{IsAnswered}
-use Rattle.cq_world.specs.Runs.{longer, acting_history, longest_at, longest_from, sent_by, sent_by_taking, made_if, made_from}
+use Rattle.cq_world.specs.Runs.{world_after, longer, acting_history, longest_at, longest_from, sent_by, sent_by_taking, made_if, made_from}
 use Rattle.cq_world.specs.declared.event.Event.{Event}
 use Rattle.cq_world.specs.declared.event.Event.TheVariants.{Arrive, Ask, Put, Take, Crash, Detect, Join}
 use Rattle.cq_world.proofs.CommitSteps.{take-acting, arrive-acting, ask-acting}
 use Rattle.cq_world.proofs.CommitTurns.{Acting, turn-own}
-use Rattle.cq_world.proofs.Eaches.{Each, each-append, each-among, each-follows, each-when, each-to_server, front-refl}
+use Rattle.cq_world.proofs.Eaches.{Each, each-append, each-among, each-follows, each-when, each-to_server, front-trans}
 use Rattle.cq_world.proofs.Prefixes.{Turn}
 use Rattle.cq_world.proofs.Running.{Good, onward, list-turned, runs-grow}
 use Rattle.cq_world.proofs.Settled.{is_settled}
@@ -57,10 +57,48 @@ each-made P ((parties.Clients, m) ∷ xs) h = answers_first P m (answers_in_all 
 
 -- ---- answers and lists
 
--- an answer over a list is one over a longer list, and after more events
-pub answered-more : (xs ys : List Entry) (old new : List Event) (a : Answer) → Front xs ys → ((e : Event) → Among e old → Among e new) → IsAnswered xs old a → IsAnswered ys new a
-answered-more xs ys old new a h k (inl (before, rest, e, split, is)) = inl (before, rest ++ h.0, e, h.1 ∙ ap (λ us. us ++ h.0) split ∙ append_assoc before (e ∷ rest) h.0, is)
-answered-more xs ys old new a h k (inr (before, rest, query, at, split, among, is)) = inr (before, rest ++ h.0, query, at, h.1 ∙ ap (λ us. us ++ h.0) split ∙ append_assoc before rest h.0, k (Ask at query) among, is)
+-- an answer over a list is one over a longer list
+answered-longer : (xs ys : List Entry) (w : World) (events : List Event) (a : Answer) → Front xs ys → IsAnswered xs w events a → IsAnswered ys w events a
+answered-longer xs ys w events a h (inl (before, rest, e, split, is)) = inl (before, rest ++ h.0, e, h.1 ∙ ap (λ us. us ++ h.0) split ∙ append_assoc before (e ∷ rest) h.0, is)
+answered-longer xs ys w events a h (inr q) = inr (record {
+  earlier = q.earlier;
+  later = q.later;
+  at = q.at;
+  query = q.query;
+  asked = q.asked;
+  free = q.free;
+  front = front-trans ((world_after w q.earlier).server q.at).entries xs ys q.front h;
+  answer = q.answer;
+})
+
+-- what an event alone is answered, it is answered with others after it
+answered-first : (list : List Entry) (w : World) (event : Event) (events : List Event) (a : Answer) → IsAnswered list w (event ∷ []) a → IsAnswered list w (event ∷ events) a
+answered-first list w event events a (inl request) = inl request
+answered-first list w event events a (inr q) = inr (record {
+  earlier = q.earlier;
+  later = q.later ++ events;
+  at = q.at;
+  query = q.query;
+  asked = ap (λ us. us ++ events) q.asked ∙ append_assoc q.earlier (Ask q.at q.query ∷ q.later) events;
+  free = q.free;
+  front = q.front;
+  answer = q.answer;
+})
+
+-- what events are answered after another one, they are answered with it
+answered-later : (list : List Entry) (w : World) (event : Event) (events : List Event) (a : Answer) → IsAnswered list (after w event) events a → IsAnswered list w (event ∷ events) a
+unfolding world_after
+answered-later list w event events a (inl request) = inl request
+answered-later list w event events a (inr q) = inr (record {
+  earlier = event ∷ q.earlier;
+  later = q.later;
+  at = q.at;
+  query = q.query;
+  asked = ap (λ us. event ∷ us) q.asked;
+  free = q.free;
+  front = q.front;
+  answer = q.answer;
+})
 
 -- ---- steps
 
@@ -95,12 +133,12 @@ told_tailed P least s = each-when (λ x. TellsTo P x.0 x.1) (acts (as_tail least
 -- ---- what is right
 
 -- An answer is over this list, and bears its length.
-abbrev pub IsRight : List Entry → List Event → Answer → Type 0
-IsRight list events a = IsAnswered list events a × (a.length ≡ length list)
+abbrev pub IsRight : List Entry → World → List Event → Answer → Type 0
+IsRight list w events a = IsAnswered list w events a × (a.length ≡ length list)
 
 -- the answer to an entry that has come to a server that acts now
-entry_right : (s : Server) (e : Entry) (list : List Entry) (events : List Event) → list ≡ (settled (appended s e)).entries → IsRight list events (answer_to s.entries e)
-entry_right s e list events is = let whole = is ∙ (is_settled (appended s e)).entries in (inl (s.entries, [], e, whole, refl), sym (ap length whole ∙ length-append s.entries (e ∷ [])))
+entry_right : (s : Server) (e : Entry) (list : List Entry) (w : World) (events : List Event) → list ≡ (settled (appended s e)).entries → IsRight list w events (answer_to s.entries e)
+entry_right s e list w events is = let whole = is ∙ (is_settled (appended s e)).entries in (inl (s.entries, [], e, whole, refl), sym (ap length whole ∙ length-append s.entries (e ∷ [])))
 
 -- a server that settles acts as before
 settled_does : (x : Server) → acts x ≡ true → acts (settled x) ≡ true
@@ -116,9 +154,18 @@ arrived_tells : (clock : ℕ) (request : Request) (s : Server) (P : Answer → T
 unfolding arrived
 arrived_tells clock request s P h = told_entry P s (stamped s.entries clock request) h
 
-asked_tells : (k : ℕ) (query : Query) (s : Server) (list : List Entry) → list ≡ s.entries → AllTell (IsRight list (Ask k query ∷ [])) (asked query s).sent
-unfolding asked
-asked_tells k query s list is = ((inr (s.entries, [], query, k, is ∙ sym (append-nil s.entries), inl refl, refl), sym (ap length is)), tt)
+asked_tells : (w : World) (k : ℕ) (query : Query) (list : List Entry) → refusal_of w (Ask k query) ≡ None → list ≡ (w.server k).entries → AllTell (IsRight list w (Ask k query ∷ [])) (asked query (w.server k)).sent
+unfolding asked world_after
+asked_tells w k query list free is = ((inr (record {
+  earlier = [];
+  later = [];
+  at = k;
+  query = query;
+  asked = refl;
+  free = free;
+  front = ([], is ∙ sym (append-nil (w.server k).entries));
+  answer = refl;
+}), sym (ap length is)), tt)
 
 query_own : (query : Query) (s : Server) (c : List Entry) → s.down ≡ false → acts s ≡ true → (acts (asked query s).server ≡ true → (asked query s).server.down ≡ false → longer c (acting_history (asked query s).server) ≡ (asked query s).server.entries) → longer c (acting_history (asked query s).server) ≡ s.entries
 unfolding asked
@@ -127,26 +174,26 @@ query_own query s c lives does h = h does lives
 -- what a server says when it takes a message of another one
 told_taking : (w new : World) (c : List Entry) (p k : ℕ) (m : Message) (rest : List Message) (events : List Event) → Good w c → is_in w.master.used k ≡ true → (w.server k).down ≡ false
     → channel w (parties.Server p) (parties.Server k) ≡ m ∷ rest
-    → longest_at new c ≡ longer c (acting_history (takes (parties.Server p) m (w.server k)).server) → AllTell (IsRight (longest_at new c) events) (takes (parties.Server p) m (w.server k)).sent
+    → longest_at new c ≡ longer c (acting_history (takes (parties.Server p) m (w.server k)).server) → AllTell (IsRight (longest_at new c) w events) (takes (parties.Server p) m (w.server k)).sent
 unfolding takes
 told_taking w new c p k (Fwd place e) rest events good known lives at is =
     go (is_next (w.server k) p place e) is (take-turn (sight w) (parties.Server p) k (Fwd place e) rest good.prefixes known lives at) (take-acting (sight w) c (parties.Server p) k (Fwd place e) rest good.prefixes good.commits (lives-member (sight w) k good.prefixes known lives) at) where
       go : (t : Bool) → longest_at new c ≡ longer c (acting_history (cond t (forwarded e (w.server k)) (silent (w.server k))).server)
           → Turn (sight w) (parties.Server p) k rest (cond t (forwarded e (w.server k)) (silent (w.server k))).server (cond t (forwarded e (w.server k)) (silent (w.server k))).sent
           → Acting (sight w) c (parties.Server p) k rest (cond t (forwarded e (w.server k)) (silent (w.server k))).server (cond t (forwarded e (w.server k)) (silent (w.server k))).sent
-          → AllTell (IsRight (longest_at new c) events) (cond t (forwarded e (w.server k)) (silent (w.server k))).sent
-      go true list t a = each-append (λ x. TellsTo (IsRight (longest_at new c) events) x.0 x.1) (passed_on (w.server k) e) (tail_news (w.server k) (appended (w.server k) e))
-          (told_entry (IsRight (longest_at new c) events) (w.server k) e (λ does. entry_right (w.server k) e (longest_at new c) events
+          → AllTell (IsRight (longest_at new c) w events) (cond t (forwarded e (w.server k)) (silent (w.server k))).sent
+      go true list t a = each-append (λ x. TellsTo (IsRight (longest_at new c) w events) x.0 x.1) (passed_on (w.server k) e) (tail_news (w.server k) (appended (w.server k) e))
+          (told_entry (IsRight (longest_at new c) w events) (w.server k) e (λ does. entry_right (w.server k) e (longest_at new c) w events
           (list ∙ turn-own (sight w) c (parties.Server p) k rest (forwarded e (w.server k)).server (forwarded e (w.server k)).sent good.prefixes good.commits t a (settled_does (appended (w.server k) e) does) ((is_settled (appended (w.server k) e)).down ∙ lives))))
-          (told_tail (IsRight (longest_at new c) events) (w.server k) (appended (w.server k) e))
+          (told_tail (IsRight (longest_at new c) w events) (w.server k) (appended (w.server k) e))
       go false list t a = tt
 told_taking w new c p k (Snap entries) rest events good known lives at is = go (is_restoring (w.server k) p entries) where
-  go : (t : Bool) → AllTell (IsRight (longest_at new c) events) (cond t (restored entries (w.server k)) (silent (w.server k))).sent
-  go true = told_tail (IsRight (longest_at new c) events) (w.server k) (with_history (w.server k) entries)
+  go : (t : Bool) → AllTell (IsRight (longest_at new c) w events) (cond t (restored entries (w.server k)) (silent (w.server k))).sent
+  go true = told_tail (IsRight (longest_at new c) w events) (w.server k) (with_history (w.server k) entries)
   go false = tt
 told_taking w new c p k (Ack n) rest events good known lives at is = go (nat_lt (w.server k).acked (min n (length (w.server k).entries))) where
-  go : (t : Bool) → AllTell (IsRight (longest_at new c) events) (cond t (record { server = record (w.server k) { acked = min n (length (w.server k).entries); floor = max (w.server k).floor (min n (length (w.server k).entries)) }; sent = to_server (w.server k).pred (Ack (min n (length (w.server k).entries))) }) (silent (w.server k))).sent
-  go true = each-to_server (λ x. TellsTo (IsRight (longest_at new c) events) x.0 x.1) (w.server k).pred (Ack (min n (length (w.server k).entries))) (λ i. tt)
+  go : (t : Bool) → AllTell (IsRight (longest_at new c) w events) (cond t (record { server = record (w.server k) { acked = min n (length (w.server k).entries); floor = max (w.server k).floor (min n (length (w.server k).entries)) }; sent = to_server (w.server k).pred (Ack (min n (length (w.server k).entries))) }) (silent (w.server k))).sent
+  go true = each-to_server (λ x. TellsTo (IsRight (longest_at new c) w events) x.0 x.1) (w.server k).pred (Ack (min n (length (w.server k).entries))) (λ i. tt)
   go false = tt
 told_taking w new c p k m rest events good known lives at is = tt
 
@@ -161,12 +208,12 @@ told_order P s m = tt
 
 -- what is said by the taking of the first message of a link
 told_taken : (w : World) (c : List Entry) (from to : Party) (ms : List Message) (events : List Event) → w.link from to ≡ ms → knows w to ≡ true → is_down w to ≡ false → Good w c
-    → AllTell (IsRight (longest_at (after_take w from to ms) c) events) (sent_by_taking w from to ms)
+    → AllTell (IsRight (longest_at (after_take w from to ms) c) w events) (sent_by_taking w from to ms)
 unfolding takes
 told_taken w c from to [] events at known lives good = tt
 told_taken w c from parties.Master (m ∷ ms) events at known lives good = tt
 told_taken w c from parties.Clients (m ∷ ms) events at known lives good = tt
-told_taken w c parties.Master (parties.Server k) (m ∷ ms) events at known lives good = told_order (IsRight (longest_at (after_take w parties.Master (parties.Server k) (m ∷ ms)) c) events) (w.server k) m
+told_taken w c parties.Master (parties.Server k) (m ∷ ms) events at known lives good = told_order (IsRight (longest_at (after_take w parties.Master (parties.Server k) (m ∷ ms)) c) w events) (w.server k) m
 told_taken w c parties.Clients (parties.Server k) (m ∷ ms) events at known lives good = tt
 told_taken w c (parties.Server p) (parties.Server k) (m ∷ ms) events at known lives good =
     let new = after_take w (parties.Server p) (parties.Server k) (m ∷ ms) in
@@ -176,31 +223,31 @@ told_taken w c (parties.Server p) (parties.Server k) (m ∷ ms) events at known 
 
 -- what is said when a request arrives
 arrive_right : (w : World) (c : List Entry) (k clock : ℕ) (request : Request) → Good w c → (is_in w.master.used k ≡ true) × ((w.server k).down ≡ false) × (refusal_of_arrival (w.server k) ≡ None)
-    → AllTell (IsRight (longest_at (stepped w k (arrived clock request (w.server k))) c) (Arrive k clock request ∷ [])) (arrived clock request (w.server k)).sent
-arrive_right w c k clock request good parts = arrived_tells clock request (w.server k) (IsRight (longest_at (stepped w k (arrived clock request (w.server k))) c) (Arrive k clock request ∷ [])) right where
+    → AllTell (IsRight (longest_at (stepped w k (arrived clock request (w.server k))) c) w (Arrive k clock request ∷ [])) (arrived clock request (w.server k)).sent
+arrive_right w c k clock request good parts = arrived_tells clock request (w.server k) (IsRight (longest_at (stepped w k (arrived clock request (w.server k))) c) w (Arrive k clock request ∷ [])) right where
   own : acts (arrived clock request (w.server k)).server ≡ true → (arrived clock request (w.server k)).server.down ≡ false → longest_at (stepped w k (arrived clock request (w.server k))) c ≡ (arrived clock request (w.server k)).server.entries
   own does lives = list-turned w (stepped w k (arrived clock request (w.server k))) c parties.Clients k (channel w parties.Clients (parties.Server k)) (arrived clock request (w.server k)).server (arrived clock request (w.server k)).sent good (sight-step w k (arrived clock request (w.server k))) parts.0
       ∙ turn-own (sight w) c parties.Clients k (channel w parties.Clients (parties.Server k)) (arrived clock request (w.server k)).server (arrived clock request (w.server k)).sent good.prefixes good.commits
       (arrive-turn (sight w) k clock request good.prefixes parts.0 parts.1 (at-head (w.server k) parts.2))
       (arrive-acting (sight w) c k clock request good.prefixes good.commits (lives-member (sight w) k good.prefixes parts.0 parts.1) (at-head (w.server k) parts.2)) does lives
 
-  right : acts (appended (w.server k) (stamped (w.server k).entries clock request)) ≡ true → IsRight (longest_at (stepped w k (arrived clock request (w.server k))) c) (Arrive k clock request ∷ []) (answer_to (w.server k).entries (stamped (w.server k).entries clock request))
-  right does = entry_right (w.server k) (stamped (w.server k).entries clock request) (longest_at (stepped w k (arrived clock request (w.server k))) c) (Arrive k clock request ∷ [])
+  right : acts (appended (w.server k) (stamped (w.server k).entries clock request)) ≡ true → IsRight (longest_at (stepped w k (arrived clock request (w.server k))) c) w (Arrive k clock request ∷ []) (answer_to (w.server k).entries (stamped (w.server k).entries clock request))
+  right does = entry_right (w.server k) (stamped (w.server k).entries clock request) (longest_at (stepped w k (arrived clock request (w.server k))) c) w (Arrive k clock request ∷ [])
       (arrived_entries clock request (w.server k) (longest_at (stepped w k (arrived clock request (w.server k))) c) does parts.1 own)
 
 -- what is said to a query
-query_right : (w : World) (c : List Entry) (k : ℕ) (query : Query) → Good w c → (is_in w.master.used k ≡ true) × ((w.server k).down ≡ false) × (refusal_of_query (w.server k) ≡ None)
-    → AllTell (IsRight (longest_at (stepped w k (asked query (w.server k))) c) (Ask k query ∷ [])) (asked query (w.server k)).sent
-query_right w c k query good parts = asked_tells k query (w.server k) (longest_at (stepped w k (asked query (w.server k))) c)
+query_right : (w : World) (c : List Entry) (k : ℕ) (query : Query) → Good w c → refusal_of w (Ask k query) ≡ None → (is_in w.master.used k ≡ true) × ((w.server k).down ≡ false) × (refusal_of_query (w.server k) ≡ None)
+    → AllTell (IsRight (longest_at (stepped w k (asked query (w.server k))) c) w (Ask k query ∷ [])) (asked query (w.server k)).sent
+query_right w c k query good free parts = asked_tells w k query (longest_at (stepped w k (asked query (w.server k))) c) free
     (list-turned w (stepped w k (asked query (w.server k))) c parties.Clients k (channel w parties.Clients (parties.Server k)) (asked query (w.server k)).server (asked query (w.server k)).sent good (sight-step w k (asked query (w.server k))) parts.0
     ∙ query_own query (w.server k) c parts.1 (at-tail (w.server k) parts.2) (λ does lives. turn-own (sight w) c parties.Clients k (channel w parties.Clients (parties.Server k)) (asked query (w.server k)).server (asked query (w.server k)).sent good.prefixes good.commits
     (ask-turn (sight w) k query good.prefixes parts.0 parts.1) (ask-acting (sight w) c k query good.prefixes good.commits (lives-member (sight w) k good.prefixes parts.0 parts.1)) does lives))
 
 -- what is said by an event that isn't refused
-told_event : (w : World) (c : List Entry) (event : Event) → Good w c → refusal_of w event ≡ None → AllTell (IsRight (longest_at (next w event) c) (event ∷ [])) (sent_by w event)
+told_event : (w : World) (c : List Entry) (event : Event) → Good w c → refusal_of w event ≡ None → AllTell (IsRight (longest_at (next w event) c) w (event ∷ [])) (sent_by w event)
 unfolding refusal_of next
 told_event w c (Arrive at clock request) good free = arrive_right w c at clock request good (server-parts w at (refusal_of_arrival (w.server at)) free)
-told_event w c (Ask at query) good free = query_right w c at query good (server-parts w at (refusal_of_query (w.server at)) free)
+told_event w c (Ask at query) good free = query_right w c at query good free (server-parts w at (refusal_of_query (w.server at)) free)
 told_event w c (Put from to) good free = tt
 told_event w c (Take from to) good free =
     let known = known-parts (knows w from && knows w to) (unless_down (is_down w to) (refusal_of_take w from to (w.link from to))) free in
@@ -210,35 +257,30 @@ told_event w c (Crash id) good free = tt
 told_event w c (Detect id) good free = tt
 told_event w c (Join id) good free = tt
 
-made_by : (w : World) (c : List Entry) (event : Event) (refusal : Option WorldFault) → refusal_of w event ≡ refusal → Good w c → Each (IsRight (longest_at (unless_refused w event refusal) c) (event ∷ [])) (made_if w event refusal)
-made_by w c event None free good = each-made (IsRight (longest_at (next w event) c) (event ∷ [])) (sent_by w event) (told_event w c event good free)
+made_by : (w : World) (c : List Entry) (event : Event) (refusal : Option WorldFault) → refusal_of w event ≡ refusal → Good w c → Each (IsRight (longest_at (unless_refused w event refusal) c) w (event ∷ [])) (made_if w event refusal)
+made_by w c event None free good = each-made (IsRight (longest_at (next w event) c) w (event ∷ [])) (sent_by w event) (told_event w c event good free)
 made_by w c event (Some fault) refused good = tt
 
 -- The answers that an event makes.
-pub made-right : (w : World) (c : List Entry) (event : Event) → Good w c → Each (IsRight (longest_at (after w event) c) (event ∷ [])) (made_if w event (refusal_of w event))
+pub made-right : (w : World) (c : List Entry) (event : Event) → Good w c → Each (IsRight (longest_at (after w event) c) w (event ∷ [])) (made_if w event (refusal_of w event))
 unfolding after
 made-right w c event good = made_by w c event (refusal_of w event) refl good
 
 -- ---- runs
 
--- an event alone is among the events that it begins
-begins_with : (event e : Event) (events : List Event) → Among e (event ∷ []) → Among e (event ∷ events)
-begins_with event e events (inl is) = inl is
-begins_with event e events (inr none) = absurd none
-
 -- The answers that all events make.
-pub all-answered : (events : List Event) (w : World) (c : List Entry) → Good w (longest_at w c) → Each (IsAnswered (longest_from c w events) events) (made_from w events)
+pub all-answered : (events : List Event) (w : World) (c : List Entry) → Good w (longest_at w c) → Each (IsAnswered (longest_from c w events) w events) (made_from w events)
 unfolding made_from longest_from
 all-answered [] w c good = tt
 all-answered (event ∷ events) w c good =
     let now = longest_at w c in
     let step = onward w now event good in
     let last = longest_from now (after w event) events in
-    each-append (IsAnswered last (event ∷ events)) (made_if w event (refusal_of w event)) (made_from (after w event) events)
-    (each-follows (IsRight (longest_at (after w event) now) (event ∷ [])) (IsAnswered last (event ∷ events)) (made_if w event (refusal_of w event))
-    (λ a right. answered-more (longest_at (after w event) now) last (event ∷ []) (event ∷ events) a (runs-grow events (after w event) now step.good) (λ e. begins_with event e events) right.0) (made-right w now event good))
-    (each-follows (IsAnswered last events) (IsAnswered last (event ∷ events)) (made_from (after w event) events)
-    (λ a. answered-more last last events (event ∷ events) a (front-refl last) (λ e among. inr among)) (all-answered events (after w event) now step.good))
+    each-append (IsAnswered last w (event ∷ events)) (made_if w event (refusal_of w event)) (made_from (after w event) events)
+    (each-follows (IsRight (longest_at (after w event) now) w (event ∷ [])) (IsAnswered last w (event ∷ events)) (made_if w event (refusal_of w event))
+    (λ a right. answered-first last w event events a (answered-longer (longest_at (after w event) now) last w (event ∷ []) a (runs-grow events (after w event) now step.good) right.0)) (made-right w now event good))
+    (each-follows (IsAnswered last (after w event) events) (IsAnswered last w (event ∷ events)) (made_from (after w event) events)
+    (λ a. answered-later last w event events a) (all-answered events (after w event) now step.good))
 
 -- a front isn't longer
 pub front_length : (xs ys : List Entry) → Front xs ys → length xs ≤ length ys
@@ -253,7 +295,7 @@ all-long (event ∷ events) w c good =
     let step = onward w now event good in
     let grows = front_length now (longest_at (after w event) now) step.grows in
     each-append (λ a. length now ≤ a.length) (made_if w event (refusal_of w event)) (made_from (after w event) events)
-    (each-follows (IsRight (longest_at (after w event) now) (event ∷ [])) (λ a. length now ≤ a.length) (made_if w event (refusal_of w event)) (λ a right. omega (arith, right.1, grows)) (made-right w now event good))
+    (each-follows (IsRight (longest_at (after w event) now) w (event ∷ [])) (λ a. length now ≤ a.length) (made_if w event (refusal_of w event)) (λ a right. omega (arith, right.1, grows)) (made-right w now event good))
     (each-follows (λ a. length (longest_at (after w event) now) ≤ a.length) (λ a. length now ≤ a.length) (made_from (after w event) events) (λ a long. omega (arith, long, grows)) (all-long events (after w event) now step.good))
 
 -- No answer bears a length above what is committed after it.
@@ -266,7 +308,7 @@ all-within (event ∷ events) w c good =
     let last = longest_from now (after w event) events in
     let grows = front_length (longest_at (after w event) now) last (runs-grow events (after w event) now step.good) in
     each-append (λ a. a.length ≤ length last) (made_if w event (refusal_of w event)) (made_from (after w event) events)
-    (each-follows (IsRight (longest_at (after w event) now) (event ∷ [])) (λ a. a.length ≤ length last) (made_if w event (refusal_of w event)) (λ a right. omega (arith, right.1, grows)) (made-right w now event good))
+    (each-follows (IsRight (longest_at (after w event) now) w (event ∷ [])) (λ a. a.length ≤ length last) (made_if w event (refusal_of w event)) (λ a right. omega (arith, right.1, grows)) (made-right w now event good))
     (all-within events (after w event) now step.good)
 
 -- of answers of one length, and others that aren't shorter
@@ -288,5 +330,5 @@ all-rising (event ∷ events) w c good =
     let now = longest_at w c in
     let step = onward w now event good in
     never_falls (length (longest_at (after w event) now)) (made_if w event (refusal_of w event)) (made_from (after w event) events)
-    (each-follows (IsRight (longest_at (after w event) now) (event ∷ [])) (λ a. a.length ≡ length (longest_at (after w event) now)) (made_if w event (refusal_of w event)) (λ a right. right.1) (made-right w now event good))
+    (each-follows (IsRight (longest_at (after w event) now) w (event ∷ [])) (λ a. a.length ≡ length (longest_at (after w event) now)) (made_if w event (refusal_of w event)) (λ a right. right.1) (made-right w now event good))
     (all-long events (after w event) now step.good) (all-rising events (after w event) now step.good)

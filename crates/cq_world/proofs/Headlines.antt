@@ -15,7 +15,7 @@ use Rattle.cq_store.proofs.OneQueue.{others_do_nothing}
 use Rattle.cq_store.proofs.Repeats.{fresh_once, repeats_answered}
 use Rattle.cq_store.proofs.Windows.{one_acceptance}
 use Rattle.cq_world.specs.Events.{refusal_of, after}
-use Rattle.cq_world.specs.Laws.{AnswersAreOfTheObject, IsAnswered, CommittedIsOfTheHead, CommittedIsOfFullServers, CommittedGrows, CommittedIsOfArrivals, MessagesAreOfTheHistory, HistoriesAreFronts, HistoriesFallAlongTheChain, OneActs, LengthsNeverFall, LaterArrivalsStandAbove, LaterQueriesSeeAsMuch, HeadlineHolds, Speaks, arrivals_from, AreArrivals}
+use Rattle.cq_world.specs.Laws.{AnswersAreOfTheObject, IsOfTheObject, CommittedIsOfTheHead, CommittedIsOfFullServers, CommittedGrows, CommittedIsOfArrivals, MessagesAreOfTheHistory, HistoriesAreFronts, HistoriesFallAlongTheChain, OneActs, LengthsNeverFall, LaterArrivalsStandAbove, LaterQueriesSeeAsMuch, HeadlineHolds, Speaks, arrivals_from, AreArrivals}
 use Rattle.cq_world.specs.Runs.{world_after, made_from, made, committed, longest_at, longest_from}
 use Rattle.cq_world.specs.Worlds.{World, first_world, channel}
 use Rattle.cq_world.specs.declared.event.Event.{Event}
@@ -44,7 +44,7 @@ run_good size events some = runs-good events (first_world size) [] (first-good s
 
 pub of_one_object : AnswersAreOfTheObject
 unfolding made committed
-of_one_object size events some a among = each-among (IsAnswered (committed size events) events) a (made size events) (all-answered events (first_world size) [] (first-good size some)) among
+of_one_object size events some a among = each-among (IsOfTheObject size events) a (made size events) (all-answered events (first_world size) [] (first-good size some)) among
 
 pub never_fall : LengthsNeverFall
 unfolding made

@@ -25,18 +25,31 @@ use Rattle.cq_world.specs.declared.event.Event.TheVariants.{Arrive, Ask}
 abbrev pub AnswersRequest : List Entry → Answer → Type 0
 AnswersRequest list a = (before rest : List Entry) × (e : Entry) × (list ≡ before ++ (e ∷ rest)) × (a ≡ answer_to before e)
 
--- the answer to a query of these events is that after so many entries of the list as it says
-abbrev pub AnswersQuery : List Entry → List Event → Answer → Type 0
-AnswersQuery list events a = (before rest : List Entry) × (query : Query) × (at : ℕ) × (list ≡ before ++ rest) × Among (Ask at query) events × (a ≡ answer_to_query before query)
+-- The answer to a query was made by one of these events, from that world on: one that asked that very query and wasn't
+-- refused. It is that after the entries that the server had then, which begin the list.
+pub record AnswersQuery (list : List Entry) (w : World) (events : List Event) (a : Answer) : Type 0 where
+  pub earlier : List Event
+  pub later : List Event
+  pub at : ℕ
+  pub query : Query
+  pub asked : events ≡ earlier ++ (Ask at query ∷ later)
+  pub free : refusal_of (world_after w earlier) (Ask at query) ≡ None
+  pub front : Front ((world_after w earlier).server at).entries list
+  pub answer : a ≡ answer_to_query ((world_after w earlier).server at).entries query
 
 -- The answer is the one that a single queue object gives that takes the entries of the list in order: the reply
--- to the entry at the place that the answer bears, or the counts after so many entries.
-abbrev pub IsAnswered : List Entry → List Event → Answer → Type 0
-IsAnswered list events a = AnswersRequest list a ⊎ AnswersQuery list events a
+-- to the entry at the place that the answer bears, or the counts after so many entries, to a query of these events, from
+-- that world on.
+abbrev pub IsAnswered : List Entry → World → List Event → Answer → Type 0
+IsAnswered list w events a = AnswersRequest list a ⊎ AnswersQuery list w events a
+
+-- The answer is the queue object's, over the committed list of a run.
+abbrev pub IsOfTheObject : ℕ → List Event → Answer → Type 0
+IsOfTheObject size events a = IsAnswered (committed size events) (first_world size) events a
 
 -- Every answer that a run makes is the queue object's, over the committed list.
 abbrev pub AnswersAreOfTheObject : Type 0
-AnswersAreOfTheObject = (size : ℕ) (events : List Event) → 1 ≤ size → (a : Answer) → Among a (made size events) → IsAnswered (committed size events) events a
+AnswersAreOfTheObject = (size : ℕ) (events : List Event) → 1 ≤ size → (a : Answer) → Among a (made size events) → IsOfTheObject size events a
 
 -- Every answer that a run gives to the clients is one that it made.
 abbrev pub GivenWereMade : Type 0
@@ -179,8 +192,8 @@ OfCommitted P = (size : ℕ) (events : List Event) → 1 ≤ size → P (committ
 -- after its or its queue's deletion, and repeats within five minutes add nothing.
 pub record Headline (size : ℕ) (events : List Event) : Type 0 where
   -- every answer is one queue object's
-  pub answers : (a : Answer) → Among a (made size events) → IsAnswered (committed size events) events a
-  pub given : (n : ℕ) (a : Answer) → Among (n, a) (given_from 1 (first_world size) events) → IsAnswered (committed size events) events a
+  pub answers : (a : Answer) → Among a (made size events) → IsOfTheObject size events a
+  pub given : (n : ℕ) (a : Answer) → Among (n, a) (given_from 1 (first_world size) events) → IsOfTheObject size events a
   -- over one growing list
   pub grows : (before more : List Event) → events ≡ before ++ more → Front (committed size before) (committed size events)
   pub stamped : Stamped (committed size events)
