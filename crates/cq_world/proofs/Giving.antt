@@ -12,7 +12,7 @@ use Rattle.cq_chain.specs.Parties.{same, addressed}
 use Rattle.cq_chain.specs.Steps.{Step, takes, arrived, asked, crashed}
 use Rattle.cq_world.specs.Worlds.{World, first_world, stepped, ordered}
 use Rattle.cq_world.specs.Events.{refusal_of, after, next, unless_refused, answers_in, first_of, head_of, given_to, given_by, after_put, after_take, without_first}
-use Rattle.cq_world.specs.Runs.{numbered, given_if, given_from, sent_by_taking, made_if, made_from, made}
+use Rattle.cq_world.specs.Runs.{world_after, numbered, given_if, given_from, sent_by_taking, made_if, made_from, made}
 use Rattle.cq_world.specs.declared.event.Event.{Event}
 use Rattle.cq_world.specs.declared.event.Event.TheVariants.{Arrive, Ask, Put, Take, Crash, Detect, Join}
 use Rattle.cq_world.proofs.Eaches.{Each, each-append, each-follows, each-drop, some_none}
@@ -209,3 +209,29 @@ given-made (event ∷ events) before n k w a h among = elim (among-append (k, a)
 pub given-of-run : (size : ℕ) (events : List Event) (n : ℕ) (a : Answer) → Among (n, a) (given_from 1 (first_world size) events) → Among a (made size events)
 unfolding made first_world
 given-of-run size events n a among = given-made events [] 1 n (first_world size) a (λ from. tt) among
+
+-- ---- what is given later
+
+renumbered : (given : Option Answer) (n m k : ℕ) (a : Answer) → Among (k, a) (numbered n given) → Among (m, a) (numbered m given)
+renumbered None n m k a none = absurd none
+renumbered (Some b) n m k a (inl e) = inl (ap (λ p. (m, p.1)) e)
+renumbered (Some b) n m k a (inr none) = absurd none
+
+-- what is given is the same whatever the number of the first event
+any-number : (events : List Event) (n m k : ℕ) (w : World) (a : Answer) → Among (k, a) (given_from n w events) → (j : ℕ) × Among (j, a) (given_from m w events)
+unfolding given_from
+any-number [] n m k w a none = absurd none
+any-number (event ∷ events) n m k w a among =
+    let own = given_if w event (refusal_of w event) in
+    elim (among-append (k, a) (numbered n own) (given_from (n + 1) (after w event) events) among) [
+      | inl here ↦ (m, among-left (m, a) (numbered m own) (given_from (m + 1) (after w event) events) (renumbered own n m k a here))
+      | inr later ↦ let rest = any-number events (n + 1) (m + 1) k (after w event) a later in (rest.0, among-right (rest.0, a) (numbered m own) (given_from (m + 1) (after w event) events) rest.1)
+    ]
+
+-- what is given after other events is given by the whole run
+pub given-after : (before events : List Event) (n m k : ℕ) (w : World) (a : Answer) → Among (k, a) (given_from n (world_after w before) events) → (j : ℕ) × Among (j, a) (given_from m w (before ++ events))
+unfolding given_from world_after
+given-after [] events n m k w a among = any-number events n m k w a among
+given-after (event ∷ before) events n m k w a among =
+    let rest = given-after before events n (m + 1) k (after w event) a among in
+    (rest.0, among-right (rest.0, a) (numbered m (given_if w event (refusal_of w event))) (given_from (m + 1) (after w event) (before ++ events)) rest.1)

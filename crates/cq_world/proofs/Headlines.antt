@@ -16,7 +16,7 @@ use Rattle.cq_store.proofs.Repeats.{fresh_once, repeats_answered}
 use Rattle.cq_store.proofs.Windows.{one_acceptance}
 use Rattle.cq_world.specs.Events.{refusal_of, after}
 use Rattle.cq_world.specs.Laws.{AnswersAreOfTheObject, IsOfTheObject, CommittedIsOfTheHead, CommittedIsOfFullServers, CommittedGrows, CommittedIsOfArrivals, MessagesAreOfTheHistory, HistoriesAreFronts, HistoriesFallAlongTheChain, OneActs, LengthsNeverFall, LaterArrivalsStandAbove, LaterQueriesSeeAsMuch, HeadlineHolds, Speaks, arrivals_from, AreArrivals}
-use Rattle.cq_world.specs.Runs.{world_after, made_from, made, committed, longest_at, longest_from}
+use Rattle.cq_world.specs.Runs.{world_after, given_from, made_from, made, committed, longest_at, longest_from}
 use Rattle.cq_world.specs.Worlds.{World, first_world, channel}
 use Rattle.cq_world.specs.declared.event.Event.{Event}
 use Rattle.cq_world.proofs.Answering.{all-answered, all-rising, all-within, front_length}
@@ -25,7 +25,7 @@ use Rattle.cq_world.proofs.Chains.{Before, chain-order}
 use Rattle.cq_world.proofs.Commits.{one-tail, acts-least}
 use Rattle.cq_world.proofs.CommitSteps.{head-full}
 use Rattle.cq_world.proofs.Eaches.{each-among}
-use Rattle.cq_world.proofs.Giving.{given-of-run}
+use Rattle.cq_world.proofs.Giving.{given-after, given-of-run}
 use Rattle.cq_world.proofs.Running.{Good, onward, first-good, runs-good, runs-grow}
 use Rattle.cq_world.proofs.Sights.{sight}
 use Rattle.cq_world.proofs.Stepping.{below-pred, lives-member}
@@ -161,3 +161,9 @@ headline_holds size events some = record {
   repeats = λ before rest e split. repeats_answered before e;
   idle = λ before rest e split. others_do_nothing before e;
 }
+
+-- what a run gives after other events is the queue object's, over all that is committed then
+pub given_of_one_object : (size : ℕ) (before events : List Event) (n : ℕ) (a : Answer) → 1 ≤ size → Among (n, a) (given_from 1 (world_after (first_world size) before) events) → IsOfTheObject size (before ++ events) a
+given_of_one_object size before events n a some among =
+    let given = given-after before events 1 1 n (first_world size) a among in
+    of_one_object size (before ++ events) some a (given-of-run size (before ++ events) given.0 a given.1)

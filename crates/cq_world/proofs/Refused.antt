@@ -1,5 +1,6 @@
 -- Refusals and effects of events, each as its kind has it.
-use Rattle.std.proofs.Common.{◌≡◌, ℕ, ◌∙◌, ap, sym, refl, subst, Bool, true, false, ◌&&◌, List, [], ◌∷◌, Option, Some, None, if◌then◌else◌}
+use Rattle.std.proofs.Common.{◌≡◌, ℕ, ◌∙◌, ap, sym, refl, subst, Bool, true, false, ◌&&◌, not, eqb, is_none, length, List, [], ◌∷◌, Option, Some, None, if◌then◌else◌}
+use Rattle.std.proofs.Math.Dec.{eqb-suc-zero}
 use Rattle.cq_base.specs.declared.ask.Query.{Query}
 use Rattle.cq_base.specs.declared.ask.Request.{Request}
 use Rattle.cq_base.specs.declared.party.Party.{Party}
@@ -16,6 +17,7 @@ use Rattle.cq_chain.specs.Refusals.{refusal_of_arrival, refusal_of_query}
 use Rattle.cq_chain.specs.Steps.{arrived, asked, crashed}
 use Rattle.cq_world.specs.Events.{knows, if_known, if_lives, unless_down, is_down, refusal_of, refusal_of_crash, refusal_of_detect, refusal_of_put, refusal_of_take, next, after_put, after_take, given_by, given_to, first_of, without_first, answers_in, head_of}
 use Rattle.cq_world.specs.Kept.{IsFilled, after_posting, after_drawing}
+use Rattle.cq_world.specs.Runs.{given_if}
 use Rattle.cq_world.specs.Stands.{StandsFor}
 use Rattle.cq_world.specs.declared.sim.Sim.{Sim}
 use Rattle.cq_world.specs.declared.event.Event.{Event}
@@ -218,3 +220,34 @@ IsSilent sim w event = (refusal_of w event ≡ None) × (None ≡ given_by w eve
 -- the same of an event that is that one
 pub silent-same : (sim : Sim) (w : World) (event other : Event) → event ≡ other → IsSilent sim w other → IsSilent sim w event
 silent-same sim w event other same h = subst (λ e. IsSilent sim w e) (sym same) h
+
+-- ---- what may be put, and what gives nothing
+
+-- what isn't refused for want of a message
+pub put-waits : (ms : List Message) → not (eqb (length ms) 0) ≡ is_none (refusal_of_put ms)
+put-waits [] = refl
+put-waits (m ∷ ms) = ap not (eqb-suc-zero (length ms))
+
+-- what is put to others than the clients
+pub silent-put : (w : World) (from to : Party) (refusal : Option WorldFault) → (to ≡ parties.Clients → ⊥) → given_if w (Put from to) refusal ≡ None
+unfolding given_by
+silent-put w from parties.Master None other = refl
+silent-put w from parties.Clients None other = absurd (other refl)
+silent-put w from (parties.Server id) None other = refl
+silent-put w from to (Some fault) other = refl
+
+-- what isn't put
+pub silent-event : (w : World) (event : Event) (refusal : Option WorldFault) → ((from to : Party) → event ≡ Put from to → ⊥) → given_if w event refusal ≡ None
+unfolding given_by
+silent-event w event (Some fault) other = refl
+silent-event w (Arrive at clock request) None other = refl
+silent-event w (Ask at query) None other = refl
+silent-event w (Put from to) None other = absurd (other from to refl)
+silent-event w (Take from to) None other = refl
+silent-event w (Crash id) None other = refl
+silent-event w (Detect id) None other = refl
+silent-event w (Join id) None other = refl
+
+-- what is said of one event holds of the same
+pub nothing-same : (w : World) (event other : Event) → event ≡ other → given_if w other (refusal_of w other) ≡ None → given_if w event (refusal_of w event) ≡ None
+nothing-same w event other is h = subst (λ e. given_if w e (refusal_of w e) ≡ None) (sym is) h

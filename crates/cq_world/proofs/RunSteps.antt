@@ -1,13 +1,17 @@
 -- Runs of events, one event more.
-use Rattle.std.proofs.Common.{◌≡◌, ℕ, ◌+◌, ◌∙◌, ap, sym, refl, subst, List, [], ◌∷◌, ◌++◌, length, append-nil, append_assoc, Option, Some, None, arith}
+use Rattle.std.proofs.Common.{◌≡◌, ℕ, ◌+◌, ◌<◌, ◌∙◌, inl, inr, Result, ap, sym, refl, subst, List, [], ◌∷◌, ◌++◌, length, append-nil, append_assoc, Option, Some, None, arith}
+use Rattle.std.specs.Result.{IsOk}
+use Rattle.std.specs.Vec.{vec_len, vec_capacity}
 use Rattle.std.proofs.lemmas.List.Sums.{fold-append}
+use Rattle.cq_base.specs.declared.fault.NoMemory as base
 use Rattle.cq_chain.specs.declared.fault.WorldFault.{WorldFault}
 use Rattle.cq_chain.specs.declared.fault.WorldFault.TheVariants.{NoSuchServer, ServerDown, LinkEmpty, OutboxEmpty, LastFull, JoinPending, IdUsed, ChainFull, NotDown, NotHead, HistoryFull, NotTail, NoMemory}
 use Rattle.cq_chain.specs.declared.message.Answer.{Answer}
 use Rattle.cq_chain.specs.Faults.{IsRefusal}
 use Rattle.cq_world.specs.Events.{refusal_of, next, after, unless_refused}
 use Rattle.cq_world.specs.Runs.{world_after, given_from, refused_from, given_if, numbered}
-use Rattle.cq_world.specs.Stands.{StandsFor}
+use Rattle.cq_world.specs.Stands.{StandsFor, HasRoomFor}
+use Rattle.cq_world.specs.declared.ran.Ran.{Ran}
 use Rattle.cq_world.specs.Worlds.{World}
 use Rattle.cq_world.specs.declared.event.Event.{Event}
 use Rattle.cq_world.specs.declared.sim.Sim.{Sim}
@@ -37,6 +41,11 @@ refusal-told NotHead refusal other h = h
 refusal-told HistoryFull refusal other h = h
 refusal-told NotTail refusal other h = h
 refusal-told NoMemory refusal other h = absurd (other refl)
+
+-- what finds room passes
+pub passes : (given : Option Answer) (ran : Ran) (result : Result (Unit {0}) base.NoMemory) → HasRoomFor given ran → (given ≡ None → IsOk result) → (vec_len ran.given < vec_capacity ran.given → IsOk result) → IsOk result
+passes given ran result (inl none) h k = h none
+passes given ran result (inr room) h k = k room
 
 -- ---- one more
 
@@ -133,3 +142,7 @@ one-more start now then done event number given given2 refused refused2 count h 
       ∙ ap (λ k. refused_from 1 w done ++ numbered (k + 1) (refusal_of (world_after w done) event)) count
       ∙ sym (refused-more 1 w done event);
 }
+
+-- two that are the same
+pub some_same : {A : Type 0} {x y : A} → Some x ≡ Some y → x ≡ y
+some_same h = cc

@@ -1,6 +1,6 @@
 -- What calls of a server tell of calls of the world.
-use Rattle.std.proofs.Common.{◌≡◌, sym, subst, Option, None, Result, Ok, Err, OnOk, OnErr, IfOk, IfErr, false}
-use Rattle.std.specs.Result.{IsErr, IsErrAnd, is_err}
+use Rattle.std.proofs.Common.{◌≡◌, sym, subst, Option, None, Result, Ok, Err, OnOk, OnErr, IfOk, IfErr, true, false}
+use Rattle.std.specs.Result.{IsOk, IsErr, IsErrAnd, is_err}
 use Rattle.cq_chain.specs.declared.fault.WorldFault.{WorldFault}
 use Rattle.cq_chain.specs.declared.fault.WorldFault.TheVariants.{NoMemory}
 use Rattle.cq_chain.specs.Faults.{IsRefusal}
@@ -49,3 +49,18 @@ had-ok (Err e) ok h = absurd cc
 pub if-no-ok : {A E : Type 0} (P : A → Type 0) (result : Result A E) → IsErr result → IfOk result P
 if-no-ok P (Ok x) h = absurd cc
 if-no-ok P (Err e) h = tt
+
+-- what follows of an error alone
+pub on-err : {A E P Q : Type 0} (result : Result A E) → (P → Q) → OnErr result P → OnErr result Q
+on-err (Ok x) f h = tt
+on-err (Err e) f h = f h
+
+-- a result that is an error
+pub had-err : {A E P : Type 0} (result : Result A E) → is_err result ≡ true → OnErr result P → P
+had-err (Ok x) err h = absurd cc
+had-err (Err e) err h = h
+
+-- no error
+pub no-err : {A E : Type 0} (D : Type 0) (result : Result A E) → IsOk result → OnErr result D
+no-err D (Ok x) h = tt
+no-err D (Err e) h = absurd cc

@@ -1,7 +1,10 @@
 -- What has to be kept of the world.
-use Rattle.std.specs.Prelude.{◌≡◌, ℕ, List, [], Bool, true, false, Option, None, Some}
+use Rattle.std.specs.Prelude.{◌≡◌, ◌≤◌, ◌<◌, ◌⊎◌, ℕ, List, [], Bool, true, false, Option, None, Some}
+use Rattle.std.specs.Vec.{vec_len, vec_capacity}
 use Rattle.cq_base.specs.declared.party.Party.{Party}
 use Rattle.cq_base.specs.declared.party.Party.TheVariants as parties
+use Rattle.cq_chain.specs.declared.fault.WorldFault.{WorldFault}
+use Rattle.cq_chain.specs.declared.message.Answer.{Answer}
 use Rattle.cq_chain.specs.declared.server.Server as rust_server
 use Rattle.cq_chain.specs.Messages.{Message}
 use Rattle.cq_chain.specs.Servers.{Server, joining}
@@ -9,6 +12,7 @@ use Rattle.cq_chain.specs.Stands as chain
 use Rattle.cq_chain.specs.Stands.{AllMean}
 use Rattle.cq_world.specs.Kept.{server_at, messages_at}
 use Rattle.cq_world.specs.Worlds.{World, is_in}
+use Rattle.cq_world.specs.declared.ran.Ran.{Ran}
 use Rattle.cq_world.specs.declared.sim.Sim.{Sim}
 
 -- What is kept under a number, if the server is known, stands for its state and for what waits in its
@@ -32,3 +36,12 @@ StandsFor sim w = Holds sim w
 abbrev pub IsFound : World → ℕ → Option rust_server.Server → Type 0
 IsFound w id None = is_in w.master.used id ≡ false
 IsFound w id (Some kept) = (is_in w.master.used id ≡ true) × chain.StandsFor kept (w.server id) (w.outbox (parties.Server id))
+
+-- there is room for an answer, if there is one
+abbrev pub HasRoomFor : Option Answer → Ran → Type 0
+HasRoomFor given ran = (given ≡ None) ⊎ (vec_len ran.given < vec_capacity ran.given)
+
+-- A run wants memory for an event: for what it does, since nothing refuses it, or for its refusal, since no more
+-- refusals find room.
+abbrev pub WantsMemory : Option WorldFault → Ran → Type 0
+WantsMemory refusal ran = (refusal ≡ None) ⊎ (vec_capacity ran.refused ≤ vec_len ran.refused)

@@ -1,4 +1,4 @@
-ghost use Rattle.std.specs.Prelude.{◌≡◌, ◌<◌, ◌+◌, ◌^◌, ◌++◌, [], ◌∷◌, None, OnOk};
+ghost use Rattle.std.specs.Prelude.{◌≡◌, ◌<◌, ◌≤◌, ◌+◌, ◌^◌, ◌++◌, [], ◌∷◌, None, IsOk, OnOk, OnErr};
 ghost use Rattle.std.specs.Vec.{vec_len, vec_capacity};
 ghost use Rattle.cq_world.specs.Runs.{numbered};
 
@@ -35,45 +35,52 @@ impl Ran {
         }
     }
 
-    /// Makes room for what comes of one more event.
+    /// Makes room for one more answer.
     pub(crate) fn reserve(&mut self) -> Result<(), NoMemory>
         ensures done { self.new.done ≡ self.old.done }
         ensures given { self.new.given.items ≡ self.old.given.items }
-        ensures refused { self.new.refused.items ≡ self.old.refused.items }
+        ensures refused { self.new.refused ≡ self.old.refused }
         ensures stop { self.new.stop ≡ self.old.stop }
-        ensures given_room { OnOk result (vec_len self.new.given < vec_capacity self.new.given) }
-        ensures refused_room { OnOk result (vec_len self.new.refused < vec_capacity self.new.refused) }
+        ensures room { OnOk result (vec_len self.new.given < vec_capacity self.new.given) }
     {
         self.given.reserve(1)?;
-        self.refused.reserve(1)?;
         Ok(())
     }
 
-    /// One more event, which wasn't refused, and gave that.
-    pub(crate) fn pass(&mut self, given: Option<Answer>)
-        requires room { vec_len self.old.given < vec_capacity self.old.given }
-        requires few { self.old.done < 2 ^ 63 }
-        ensures done { self.new.done ≡ self.old.done + 1 }
-        ensures given { self.new.given.items ≡ self.old.given.items ++ numbered (self.old.done + 1) given }
-        ensures refused { self.new.refused.items ≡ self.old.refused.items }
+    /// One more event, which wasn't refused, and gave that. Only an answer takes room.
+    pub(crate) fn pass(&mut self, given: Option<Answer>) -> Result<(), NoMemory>
+        requires { self.old.done < 2 ^ 63 }
+        ensures done { OnOk result (self.new.done ≡ self.old.done + 1) }
+        ensures given { OnOk result (self.new.given.items ≡ self.old.given.items ++ numbered (self.old.done + 1) given) }
+        ensures refused { self.new.refused ≡ self.old.refused }
         ensures stop { self.new.stop ≡ self.old.stop }
+        ensures same_done { OnErr result (self.new.done ≡ self.old.done) }
+        ensures same_given { OnErr result (self.new.given.items ≡ self.old.given.items) }
+        ensures none { given ≡ None → IsOk result }
+        ensures room { vec_len self.old.given < vec_capacity self.old.given → IsOk result }
     {
-        self.done += 1;
         if let Some(answer) = given {
-            self.given.push_reserved((self.done, answer));
+            self.given.reserve(1)?;
+            self.given.push_reserved((self.done + 1, answer));
         }
+        self.done += 1;
+        Ok(())
     }
 
     /// One more event, which was refused.
-    pub(crate) fn refuse(&mut self, fault: WorldFault)
-        requires room { vec_len self.old.refused < vec_capacity self.old.refused }
-        requires few { self.old.done < 2 ^ 63 }
-        ensures done { self.new.done ≡ self.old.done + 1 }
+    pub(crate) fn refuse(&mut self, fault: WorldFault) -> Result<(), NoMemory>
+        requires { self.old.done < 2 ^ 63 }
+        ensures done { OnOk result (self.new.done ≡ self.old.done + 1) }
         ensures given { self.new.given.items ≡ self.old.given.items }
-        ensures refused { self.new.refused.items ≡ self.old.refused.items ++ (self.old.done + 1, fault) ∷ [] }
+        ensures refused { OnOk result (self.new.refused.items ≡ self.old.refused.items ++ (self.old.done + 1, fault) ∷ []) }
         ensures stop { self.new.stop ≡ self.old.stop }
+        ensures same_done { OnErr result (self.new.done ≡ self.old.done) }
+        ensures same_refused { OnErr result (self.new.refused.items ≡ self.old.refused.items) }
+        ensures full { OnErr result (vec_capacity self.new.refused ≤ vec_len self.new.refused) }
     {
+        self.refused.reserve(1)?;
         self.done += 1;
         self.refused.push_reserved((self.done, fault));
+        Ok(())
     }
 }

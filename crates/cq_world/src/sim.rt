@@ -1,13 +1,17 @@
-ghost use Rattle.std.specs.Prelude.{◌≡◌, ◌&&◌, ◌≤◌, ◌<◌, ◌+◌, ◌^◌, ◌++◌, ℕ, List, true, length, take, option_map, IfOk, IfErr, IfNone, OnOk, OnErr};
+ghost use Rattle.std.specs.Prelude.{◌≡◌, ◌&&◌, ◌≤◌, ◌<◌, ◌+◌, ◌^◌, ◌++◌, ℕ, List, true, false, length, take, slice_get, option_map, Err, Some, IsSome, IfOk, IfErr, IfNone, OnOk, OnErr};
 ghost use Rattle.cq_base.specs.declared.party.Party.TheVariants as parties;
+ghost use Rattle.cq_base.specs.Relations.{Among};
 ghost use Rattle.cq_chain.specs.Faults.{IsRefusal};
 ghost use Rattle.cq_chain.specs.Stands.{IsMaster};
+ghost use Rattle.cq_chain.specs.declared.fault.WorldFault.TheVariants as faults;
+ghost use Rattle.cq_chain.specs.declared.message.Answer.{Answer};
 ghost use Rattle.cq_world.specs.Events.{knows, is_down, refusal_of, next, after, given_by};
-ghost use Rattle.cq_world.specs.Laws.{Headline};
+ghost use Rattle.cq_world.specs.Laws.{Headline, IsOfTheObject};
 ghost use Rattle.cq_world.specs.Runs.{world_after, given_from, refused_from, given_if, numbered};
-ghost use Rattle.cq_world.specs.Stands.{StandsFor, IsFound};
+ghost use Rattle.cq_world.specs.Stands.{StandsFor, IsFound, HasRoomFor, WantsMemory};
 ghost use Rattle.cq_world.specs.Worlds.{World, first_world};
 ghost use Rattle.cq_world.specs.declared.event.Event.{Event};
+ghost use Rattle.cq_world.specs.declared.event.Event.TheVariants.{Crash};
 
 mod changes;
 mod passing;
@@ -149,6 +153,7 @@ impl Sim {
             × (given ≡ given_by w event.now) × StandsFor self.new (next w event.now)) }
         ensures err { (w : World) → StandsFor self.old w → IfErr result (λ fault.
             IsRefusal fault (refusal_of w event.now) × StandsFor self.new w) }
+        ensures crash { (id : ℕ) → event.now ≡ Crash id → ¬ (result ≡ Err faults.NoMemory) }
     {
         match event {
             Event::Arrive { at, clock, request } => {
@@ -185,7 +190,43 @@ impl Sim {
         }
     }
 
-    /// One event of a run, and what came of it.
+    /// Whether the event gives what waits for the clients, which isn't refused: O(1).
+    fn gives(&self, next: &Event) -> bool
+        ensures allowed { (w : World) → StandsFor self.now w → result ≡ true → refusal_of w next.now ≡ None }
+        ensures silent { (w : World) → StandsFor self.now w → result ≡ false
+            → given_if w next.now (refusal_of w next.now) ≡ None }
+    {
+        match next {
+            Event::Put { from, to } => match to {
+                Party::Clients => self.may_put(&Pair {
+                    from: *from,
+                    to: Party::Clients,
+                }),
+                _ => false,
+            },
+            _ => false,
+        }
+    }
+
+    /// Makes room for the answer that the event gives, if it gives one.
+    fn make_room(&self, ran: &mut Ran, event: &Event) -> Result<(), NoMemory>
+        ensures done { ran.new.done ≡ ran.old.done }
+        ensures given { ran.new.given.items ≡ ran.old.given.items }
+        ensures refused { ran.new.refused ≡ ran.old.refused }
+        ensures stop { ran.new.stop ≡ ran.old.stop }
+        ensures room { (w : World) → StandsFor self.now w → OnOk result
+            (HasRoomFor (given_if w event.now (refusal_of w event.now)) ran.new) }
+        ensures err { (w : World) → StandsFor self.now w → OnErr result (refusal_of w event.now ≡ None) }
+    {
+        if self.gives(event) {
+            ran.reserve()
+        } else {
+            Ok(())
+        }
+    }
+
+    /// One event of a run, and what came of it. Room for an answer is made before the event that gives it; a refusal
+    /// is told also where there is no room for an answer.
     fn run_event(&mut self, ran: &mut Ran, event: &Event) -> Result<(), NoMemory>
         requires { ran.old.done < 2 ^ 63 }
         ensures ok { (w : World) → StandsFor self.old w → OnOk result (StandsFor self.new (after w event.now)) }
@@ -199,25 +240,21 @@ impl Sim {
         ensures same_done { OnErr result (ran.new.done ≡ ran.old.done) }
         ensures same_given { OnErr result (ran.new.given.items ≡ ran.old.given.items) }
         ensures same_refused { OnErr result (ran.new.refused.items ≡ ran.old.refused.items) }
+        ensures wants { (w : World) → StandsFor self.old w → OnErr result (WantsMemory (refusal_of w event.now) ran.new) }
     {
-        ran.reserve()?;
+        self.make_room(ran, event)?;
         match self.step(event) {
-            Ok(given) => {
-                ran.pass(given);
-                Ok(())
-            }
+            Ok(given) => ran.pass(given),
             Err(fault) => match fault {
                 WorldFault::NoMemory => Err(NoMemory),
-                _ => {
-                    ran.refuse(fault);
-                    Ok(())
-                }
+                _ => ran.refuse(fault),
             },
         }
     }
 
     /// Runs events one after another. A refused event changes nothing, and the run goes on; at NoMemory it stops, with
-    /// what the events before came to. O(events), and what the servers take for them.
+    /// what the events before came to. An event at which it stops is one that nothing else refuses, or a refused one for
+    /// whose refusal there was no room. O(events), and what the servers take for them.
     ///
     /// From the first world on, with any events before these, the headline holds: every answer is one queue object's
     /// over one growing list of requests.
@@ -227,8 +264,14 @@ impl Sim {
         ensures refused { (w : World) → StandsFor self.old w → result.refused.items ≡ refused_from 1 w (take result.done events.now) }
         ensures within { result.done ≤ length events.now }
         ensures whole { IfNone result.stop (result.done ≡ length events.now) }
+        ensures early { IsSome result.stop → result.done < length events.now }
+        ensures stop { (w : World) → StandsFor self.old w → IsSome result.stop → (event : Event) → slice_get events.now result.done ≡ Some event
+            → WantsMemory (refusal_of (world_after w (take result.done events.now)) event) result }
         ensures headline { (size : ℕ) (before : List Event) → 1 ≤ size → StandsFor self.old (world_after (first_world size) before)
             → Headline size (before ++ take result.done events.now) }
+        ensures answers { (size : ℕ) (before : List Event) → 1 ≤ size → StandsFor self.old (world_after (first_world size) before)
+            → (number : ℕ) (answer : Answer) → Among (number, answer) result.given.items
+            → IsOfTheObject size (before ++ take result.done events.now) answer }
     {
         let mut ran = Ran::new(self.alloc);
         for event in events {

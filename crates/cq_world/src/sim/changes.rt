@@ -1,10 +1,11 @@
-ghost use Rattle.std.specs.Prelude.{◌≡◌, ◌&&◌, ◌<◌, [], not, None, IfOk, IfErr, OnOk, OnErr};
+ghost use Rattle.std.specs.Prelude.{◌≡◌, ◌&&◌, ◌<◌, [], not, None, Err, IfOk, IfErr, OnOk, OnErr};
 ghost use Rattle.indexmap.specs.IndexMap.{spare};
 ghost use Rattle.cq_chain.specs.Faults.{IsRefusal};
 ghost use Rattle.cq_chain.specs.Masters.{refusal_of_join};
 ghost use Rattle.cq_chain.specs.Servers.{joining};
 ghost use Rattle.cq_chain.specs.Stands as chain;
 ghost use Rattle.cq_chain.specs.Stands.{IsRefusedBy};
+ghost use Rattle.cq_chain.specs.declared.fault.WorldFault.TheVariants as faults;
 ghost use Rattle.cq_world.specs.Events.{refusal_of, another_full, next};
 ghost use Rattle.cq_world.specs.Stands.{StandsFor};
 ghost use Rattle.cq_world.specs.Worlds.{World, is_in};
@@ -45,6 +46,7 @@ impl Sim {
             × StandsFor self.new (next w (events.Crash id))) }
         ensures err { (w : World) → StandsFor self.old w → IfErr result (λ fault.
             IsRefusal fault (refusal_of w (events.Crash id)) × StandsFor self.new w) }
+        ensures memory { ¬ (result ≡ Err faults.NoMemory) }
     {
         let is_last = !self.has_another_full(id);
         match self.servers.get_mut(&id) {

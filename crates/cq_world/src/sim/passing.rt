@@ -1,4 +1,4 @@
-ghost use Rattle.std.specs.Prelude.{◌≡◌, ◌≢◌, [], ◌∷◌, None, true, IfOk, IfErr, OnOk};
+ghost use Rattle.std.specs.Prelude.{◌≡◌, ◌≢◌, [], ◌∷◌, is_none, None, true, IfOk, IfErr, OnOk};
 ghost use Rattle.cq_base.specs.declared.party.Party.TheVariants as parties;
 ghost use Rattle.cq_chain.specs.Faults.{IsRefusal};
 ghost use Rattle.cq_chain.specs.Messages as told;
@@ -100,6 +100,21 @@ impl Sim {
             }
             None => Err(WorldFault::OutboxEmpty),
         }
+    }
+
+    /// Whether a put isn't refused, but maybe for want of memory: O(1).
+    pub(super) fn may_put(&self, pair: &Pair) -> bool
+        ensures { (w : World) → StandsFor self.now w
+            → result ≡ is_none (refusal_of w (events.Put pair.now.from pair.now.to)) }
+    {
+        if !self.knows_both(pair) {
+            return false;
+        }
+        let sender_is_down = self.is_down(&pair.from);
+        if sender_is_down {
+            return false;
+        }
+        self.outbox_count(pair) != 0
     }
 
     /// What waits is put on its link, or given.

@@ -1,10 +1,17 @@
 -- One event more.
-use Rattle.std.proofs.Common.{◌≡◌, ◌+◌, ◌<◌, ◌≤◌, ◌∙◌, ◌++◌, ◌∷◌, [], ap, sym, subst, take, length, suc, arith}
+use Rattle.std.proofs.Common.{◌≡◌, ◌+◌, ◌<◌, ◌≤◌, ◌∙◌, ◌++◌, ◌∷◌, [], ap, sym, subst, take, length, slice_get, Some, suc, arith}
 use Rattle.std.proofs.lemmas.List.{length-take-le}
+use Rattle.std.proofs.lemmas.Option.{slice_get-get_or}
 use Rattle.std.proofs.Math.Seq.{take-suc}
-use Rattle.cq_world.proofs.Headlines.{headline_holds}
-use Rattle.cq_world.proofs.RunSteps.{IsRun, none-run, one-more}
-use Rattle.cq_world.proofs.Steps.{had-ok}
+use Rattle.cq_base.specs.Relations.{Among}
+use Rattle.cq_world.specs.Events.{refusal_of}
+use Rattle.cq_world.specs.Laws.{IsOfTheObject}
+use Rattle.cq_world.specs.Runs.{world_after}
+use Rattle.cq_world.specs.Stands.{WantsMemory}
+use Rattle.cq_world.specs.Worlds.{first_world}
+use Rattle.cq_world.proofs.Headlines.{headline_holds, given_of_one_object}
+use Rattle.cq_world.proofs.RunSteps.{IsRun, none-run, one-more, some_same}
+use Rattle.cq_world.proofs.Steps.{had-ok, had-err}
 use Rattle.cq_world.proofs.sim.Sim.run.Goals as goal
 
 pub loop-event-init : goal.loop-event-init
@@ -40,3 +47,32 @@ returns-then-is_err-clause-headline c = λ size before some stands. headline_hol
 
 pub returns-clause-headline : goal.returns-clause-headline
 returns-clause-headline c = λ size before some stands. headline_holds size (before ++ take c.loop-event.ran.done c.args.events.now) some
+
+pub returns-then-is_err-clause-answers : goal.returns-then-is_err-clause-answers
+returns-then-is_err-clause-answers c = λ size before some stands number answer among.
+    let i = c.loop-event.event-index in
+    let events = c.args.events.now in
+    let err = sym c.if-is_err.ensures.value in
+    let done = had-err c.run_event.result err c.run_event.ensures.same_done ∙ c.loop-event.invariant.0 in
+    let given = had-err c.run_event.result err c.run_event.ensures.same_given ∙ c.loop-event.invariant.2.given_so (world_after (first_world size) before) stands in
+    subst (λ k. IsOfTheObject size (before ++ take k events) answer) (sym done) (given_of_one_object size before (take i events) number answer some (subst (λ xs. Among (number, answer) xs) given among))
+
+pub returns-then-is_err-clause-stop : goal.returns-then-is_err-clause-stop
+returns-then-is_err-clause-stop c = λ w h stopped event is.
+    let i = c.loop-event.event-index in
+    let events = c.args.events.now in
+    let err = sym c.if-is_err.ensures.value in
+    let inside : i < length events = omega (arith, c.loop-event-test.true, c.loop-event.auto.event-index-end) in
+    let done = had-err c.run_event.result err c.run_event.ensures.same_done ∙ c.loop-event.invariant.0 in
+    let here : slice_get events i ≡ Some c.event-item.result = slice_get-get_or events i c.event-item.result inside ∙ ap Some (sym c.event-item.is) in
+    let same : c.event-item.result ≡ event = some_same (sym here ∙ ap (λ k. slice_get events k) (sym done) ∙ is) in
+    subst (λ e. WantsMemory (refusal_of (world_after w (take c.run_event.new.ran.done events)) e) c.run_event.new.ran) same
+        (subst (λ k. WantsMemory (refusal_of (world_after w (take k events)) c.event-item.result) c.run_event.new.ran) (sym done)
+        (had-err c.run_event.result err (c.run_event.ensures.wants (world_after w (take i events)) (c.loop-event.invariant.2.world w h))))
+
+pub returns-clause-answers : goal.returns-clause-answers
+returns-clause-answers c = λ size before some stands number answer among.
+    let i = c.loop-event.event-index in
+    let events = c.args.events.now in
+    subst (λ k. IsOfTheObject size (before ++ take k events) answer) (sym c.loop-event.invariant.0) (given_of_one_object size before (take i events) number answer some
+    (subst (λ xs. Among (number, answer) xs) (c.loop-event.invariant.2.given_so (world_after (first_world size) before) stands) among))
