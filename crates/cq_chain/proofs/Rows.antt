@@ -1,18 +1,29 @@
 -- Worked steps of servers, of the master and of a client, each computed by the definitions to what the rules of the
 -- chain give. The results were worked out by hand.
-use Rattle.std.proofs.Common.{◌≡◌, ℕ, [], ◌∷◌, None, Some, true, false, codes, refl}
+use Rattle.std.proofs.Common.{◌≡◌, ℕ, [], ◌∷◌, map, None, Some, true, false, codes, refl}
 use Rattle.cq_base.specs.declared.ask.Ask.{Ask}
 use Rattle.cq_base.specs.declared.ask.Ask.TheVariants.{Remove}
 use Rattle.cq_base.specs.declared.ask.Entry.{Entry}
+use Rattle.cq_base.specs.declared.ask.Query.{Query}
+use Rattle.cq_base.specs.declared.ask.Request.{Request}
 use Rattle.cq_base.specs.declared.party.Party.TheVariants as parties
-use Rattle.cq_base.specs.History.{last_moment}
+use Rattle.cq_base.specs.declared.reply.Refusal.TheVariants.{QueueDoesNotExist}
+use Rattle.cq_base.specs.declared.reply.Reply.TheVariants.{Refused}
+use Rattle.cq_base.specs.Clients.{of_client, is_fresh}
+use Rattle.cq_base.specs.Effects.{effect_off, effect_of}
+use Rattle.cq_base.specs.Facts.{about}
+use Rattle.cq_base.specs.History.{last_moment, fresh_fact, fact_of, history, reply_to, counts_after}
+use Rattle.cq_base.specs.Lifetimes.{live}
 use Rattle.cq_chain.specs.Clients.{Client, first_client, refusal_of_ask, next_request, asked, open_request, closes, after_answer}
 use Rattle.cq_chain.specs.declared.fault.ClientFault.TheVariants.{Busy, NumbersSpent}
-use Rattle.cq_chain.specs.declared.fault.WorldFault.TheVariants.{NoSuchServer, LastFull, JoinPending, IdUsed, ChainFull}
-use Rattle.cq_chain.specs.Masters.{Master, numbers_from, first_master, no_order, detected, refusal_of_detection, joined, refusal_of_join, hears}
+use Rattle.cq_chain.specs.declared.fault.WorldFault.TheVariants.{NoSuchServer, ServerDown, LinkEmpty, OutboxEmpty, LastFull, JoinPending, IdUsed, ChainFull, NotDown, NotHead, HistoryFull, NotTail, NoMemory}
+use Rattle.cq_chain.specs.declared.fault.ClientFault.TheVariants as client
+use Rattle.cq_chain.specs.Faults.{code_of, client_code_of, client_name_of}
+use Rattle.cq_chain.specs.Masters.{Master, numbers_from, first_master, no_order, detected, refusal_of_detection, joined, refusal_of_join, hears, hears_from}
 use Rattle.cq_chain.specs.Messages.{Message, Fwd, Snap, Ack, BeHead, Report, Adopt, BeTail, Have, Adopted, Ready, Answers}
-use Rattle.cq_chain.specs.Servers.{Server, joining, acts}
-use Rattle.cq_chain.specs.Steps.{Step, silent, answer_to, forwards, takes}
+use Rattle.cq_chain.specs.Refusals.{history_limit, refusal_of_arrival, refusal_of_query}
+use Rattle.cq_chain.specs.Servers.{Server, first_member, joining}
+use Rattle.cq_chain.specs.Steps.{Step, silent, answer_to, arrived, asked as queried, crashed, forwards, takes}
 
 -- an entry of that moment
 abbrev entry : ℕ → Entry
@@ -30,6 +41,87 @@ from id m s = takes (parties.Server id) m s
 abbrev told : Message → Server → Step
 told m s = takes parties.Master m s
 
+-- ---- servers at first
+
+head_of_three : first_member 3 1 ≡ record { entries = []; acked = 0; floor = 0; pred = None; succ = Some 2; head = true; at_least = None; full = true; down = false }
+head_of_three = refl
+
+middle_of_three : first_member 3 2 ≡ record { entries = []; acked = 0; floor = 0; pred = Some 1; succ = Some 3; head = false; at_least = None; full = true; down = false }
+middle_of_three = refl
+
+tail_of_three : first_member 3 3 ≡ record { entries = []; acked = 0; floor = 0; pred = Some 2; succ = None; head = false; at_least = Some 0; full = true; down = false }
+tail_of_three = refl
+
+only_one : first_member 1 1 ≡ record { entries = []; acked = 0; floor = 0; pred = None; succ = None; head = true; at_least = Some 0; full = true; down = false }
+only_one = refl
+
+-- ---- requests and queries
+
+-- what client 7 asks under number 5
+abbrev request : Request
+request = record { client = 7; number = 5; ask = Remove (codes "q.fifo") }
+
+-- a head with two entries, the last of moment 2
+abbrev head : Server
+head = record middle { pred = None; head = true }
+
+-- a tail with the same two
+abbrev tail : Server
+tail = record middle { succ = None; at_least = Some 0; acked = 2; floor = 2 }
+
+-- an entry has the head's clock, or the moment before it where that is larger
+arrival : arrived 9 request head ≡ record { server = record head { entries = entry 1 ∷ entry 2 ∷ record { moment = 9; request = request } ∷ [] }; sent = (parties.Server 3, Fwd 3 (record { moment = 9; request = request })) ∷ [] }
+unfolding arrived last_moment
+arrival = refl
+
+arrival_behind : (arrived 1 request head).server.entries ≡ entry 1 ∷ entry 2 ∷ record { moment = 2; request = request } ∷ []
+unfolding arrived last_moment
+arrival_behind = refl
+
+first_arrival : (arrived 0 request (record head { entries = [] })).server.entries ≡ record { moment = 0; request = request } ∷ []
+unfolding arrived last_moment
+first_arrival = refl
+
+-- a head that acts answers the clients alone
+arrival_at_one : arrived 9 request (record head { succ = None; at_least = Some 0 }) ≡ record {
+  server = record head { entries = entry 1 ∷ entry 2 ∷ record { moment = 9; request = request } ∷ []; acked = 3; floor = 3; succ = None; at_least = Some 0 };
+  sent = (parties.Clients, Answers (record { client = 7; number = 5; is_query = false; length = 3; reply = Refused QueueDoesNotExist })) ∷ [];
+}
+unfolding arrived last_moment reply_to history fact_of fresh_fact is_fresh of_client about live effect_of effect_off
+arrival_at_one = refl
+
+arrival_elsewhere : refusal_of_arrival middle ≡ Some NotHead
+unfolding refusal_of_arrival
+arrival_elsewhere = refl
+
+arrival_allowed : refusal_of_arrival head ≡ None
+unfolding refusal_of_arrival
+arrival_allowed = refl
+
+most_entries : history_limit ≡ 4611686018427387904
+most_entries = refl
+
+abbrev query : Query
+query = record { client = 7; tag = 9; queue = codes "q.fifo" }
+
+query_of_a_tail : queried query tail ≡ record { server = tail; sent = (parties.Clients, Answers (record { client = 7; number = 9; is_query = true; length = 2; reply = Refused QueueDoesNotExist })) ∷ [] }
+unfolding queried counts_after history fact_of fresh_fact is_fresh of_client about live effect_of effect_off
+query_of_a_tail = refl
+
+query_elsewhere : refusal_of_query middle ≡ Some NotTail
+unfolding refusal_of_query
+query_elsewhere = refl
+
+query_too_early : refusal_of_query (record tail { at_least = Some 3 }) ≡ Some NotTail
+unfolding refusal_of_query
+query_too_early = refl
+
+query_allowed : refusal_of_query (record tail { at_least = Some 2 }) ≡ None
+unfolding refusal_of_query
+query_allowed = refl
+
+-- ---- messages
+
 be_head : told BeHead middle ≡ silent (record middle { head = true; pred = None })
 unfolding takes
 be_head = refl
@@ -37,6 +129,11 @@ be_head = refl
 report : told (Report 5) middle ≡ record { server = record middle { pred = Some 5 }; sent = (parties.Master, Have 5 2) ∷ (parties.Server 5, Ack 0) ∷ [] }
 unfolding takes
 report = refl
+
+-- it acknowledges what is acknowledged, whatever it has or need not send
+report_of_some : (told (Report 5) (record middle { acked = 1; floor = 2 })).sent ≡ (parties.Master, Have 5 2) ∷ (parties.Server 5, Ack 1) ∷ []
+unfolding takes
+report_of_some = refl
 
 -- a new successor is sent what it lacks, and no more
 adopt : told (Adopt 4 1) middle ≡ record { server = record middle { succ = Some 4 }; sent = (parties.Server 4, Fwd 2 (entry 2)) ∷ (parties.Master, Adopted 4 2) ∷ [] }
@@ -56,8 +153,16 @@ adopt_by_snapshot : (told (Adopt 4 1) (record middle { floor = 2 })).sent ≡ (p
 unfolding takes forwards
 adopt_by_snapshot = refl
 
+adopt_at_the_floor : (told (Adopt 4 1) (record middle { floor = 1 })).sent ≡ (parties.Server 4, Fwd 2 (entry 2)) ∷ (parties.Master, Adopted 4 2) ∷ []
+unfolding takes forwards
+adopt_at_the_floor = refl
+
+adopt_of_one_ahead : (told (Adopt 4 3) middle).sent ≡ (parties.Master, Adopted 4 2) ∷ []
+unfolding takes forwards
+adopt_of_one_ahead = refl
+
 -- a tail that adopts a successor acts no more
-adopt_of_a_tail : acts (told (Adopt 4 2) (record middle { succ = None; at_least = Some 0 })).server ≡ false
+adopt_of_a_tail : (told (Adopt 4 2) tail).server ≡ record tail { succ = Some 4; at_least = None }
 unfolding takes forwards
 adopt_of_a_tail = refl
 
@@ -70,6 +175,10 @@ be_tail = refl
 be_tail_later : told (BeTail 3) middle ≡ silent (record middle { succ = None; at_least = Some 3 })
 unfolding takes
 be_tail_later = refl
+
+be_tail_alone : (told (BeTail 2) head).sent ≡ (parties.Master, Ready) ∷ []
+unfolding takes
+be_tail_alone = refl
 
 -- and answers the one with which it begins to act
 abbrev waiting : Server
@@ -87,6 +196,14 @@ forward : from 1 (Fwd 3 (entry 3)) middle ≡ record { server = record middle { 
 unfolding takes last_moment
 forward = refl
 
+-- one that acts answers it and acknowledges it
+forward_to_a_tail : from 1 (Fwd 3 (entry 3)) tail ≡ record {
+  server = record tail { entries = entry 1 ∷ entry 2 ∷ entry 3 ∷ []; acked = 3; floor = 3 };
+  sent = (parties.Clients, Answers (record { client = 1; number = 3; is_query = false; length = 3; reply = Refused QueueDoesNotExist })) ∷ (parties.Server 1, Ack 3) ∷ [];
+}
+unfolding takes last_moment reply_to history fact_of fresh_fact is_fresh of_client about live effect_of effect_off
+forward_to_a_tail = refl
+
 -- what a former predecessor sends, another place, or an earlier moment is ignored
 forward_of_another : from 4 (Fwd 3 (entry 3)) middle ≡ silent middle
 unfolding takes last_moment
@@ -96,9 +213,21 @@ forward_twice : from 1 (Fwd 2 (entry 3)) middle ≡ silent middle
 unfolding takes last_moment
 forward_twice = refl
 
+forward_beyond : from 1 (Fwd 4 (entry 3)) middle ≡ silent middle
+unfolding takes last_moment
+forward_beyond = refl
+
 forward_back : from 1 (Fwd 3 (entry 1)) middle ≡ silent middle
 unfolding takes last_moment
 forward_back = refl
+
+forward_at_the_same_moment : (from 1 (Fwd 3 (entry 2)) middle).server.entries ≡ entry 1 ∷ entry 2 ∷ entry 2 ∷ []
+unfolding takes last_moment
+forward_at_the_same_moment = refl
+
+forward_to_the_head : from 1 (Fwd 3 (entry 3)) head ≡ silent head
+unfolding takes last_moment
+forward_to_the_head = refl
 
 -- a joining server takes a snapshot, and does not act
 snapshot : from 1 (Snap (entry 1 ∷ entry 2 ∷ [])) (record joining { pred = Some 1 }) ≡ silent (record joining { pred = Some 1; entries = entry 1 ∷ entry 2 ∷ []; floor = 2 })
@@ -118,6 +247,20 @@ snapshot_in_the_middle : from 1 (Snap (entry 1 ∷ entry 2 ∷ entry 3 ∷ [])) 
 unfolding takes
 snapshot_in_the_middle = refl
 
+snapshot_of_another : from 4 (Snap (entry 1 ∷ entry 2 ∷ entry 3 ∷ [])) waiting ≡ silent waiting
+unfolding takes
+snapshot_of_another = refl
+
+-- as many entries are no loss
+snapshot_of_as_many : from 1 (Snap (entry 1 ∷ entry 2 ∷ [])) waiting ≡ silent (record waiting { floor = 2 })
+unfolding takes
+snapshot_of_as_many = refl
+
+-- one that acts already doesn't tell the master
+snapshot_while_acting : (from 1 (Snap (entry 1 ∷ entry 2 ∷ entry 3 ∷ [])) tail).sent ≡ (parties.Server 1, Ack 3) ∷ []
+unfolding takes
+snapshot_while_acting = refl
+
 snapshot_too_short : from 1 (Snap (entry 1 ∷ [])) waiting ≡ silent waiting
 unfolding takes
 snapshot_too_short = refl
@@ -127,7 +270,7 @@ acknowledgement : from 3 (Ack 1) middle ≡ record { server = record middle { ac
 unfolding takes
 acknowledgement = refl
 
-acknowledgement_beyond : (from 3 (Ack 9) middle).sent ≡ (parties.Server 1, Ack 2) ∷ []
+acknowledgement_beyond : from 3 (Ack 9) middle ≡ record { server = record middle { acked = 2; floor = 2 }; sent = (parties.Server 1, Ack 2) ∷ [] }
 unfolding takes
 acknowledgement_beyond = refl
 
@@ -135,16 +278,45 @@ acknowledgement_again : from 3 (Ack 1) (record middle { acked = 1; floor = 1 }) 
 unfolding takes
 acknowledgement_again = refl
 
+acknowledgement_of_less : from 3 (Ack 1) (record middle { acked = 2; floor = 2 }) ≡ silent (record middle { acked = 2; floor = 2 })
+unfolding takes
+acknowledgement_of_less = refl
+
+-- it leaves a floor that is above it
+acknowledgement_below_the_floor : from 3 (Ack 1) (record middle { floor = 2 }) ≡ record { server = record middle { acked = 1; floor = 2 }; sent = (parties.Server 1, Ack 1) ∷ [] }
+unfolding takes
+acknowledgement_below_the_floor = refl
+
+-- whichever server sends it; the head has nobody to tell
+acknowledgement_at_the_head : from 9 (Ack 1) head ≡ silent (record head { acked = 1; floor = 1 })
+unfolding takes
+acknowledgement_at_the_head = refl
+
 -- a message that is none of these from that party is ignored
 others_are_ignored : from 1 (BeTail 0) middle ≡ silent middle
 unfolding takes
 others_are_ignored = refl
+
+master_forwards_nothing : told (Fwd 3 (entry 3)) middle ≡ silent middle
+unfolding takes
+master_forwards_nothing = refl
+
+clients_say_nothing : takes parties.Clients (Ack 1) middle ≡ silent middle
+unfolding takes
+clients_say_nothing = refl
+
+crash : crashed tail ≡ silent (record tail { down = true })
+crash = refl
 
 -- ---- the master
 
 -- of a chain of three
 abbrev of_three : Master
 of_three = first_master 3
+
+at_first : of_three ≡ record { chain = 1 ∷ 2 ∷ 3 ∷ []; told = true; ready = true; used = 1 ∷ 2 ∷ 3 ∷ [] }
+unfolding numbers_from
+at_first = refl
 
 head_lost : detected 1 of_three ≡ record { master = record of_three { chain = 2 ∷ 3 ∷ [] }; said = (parties.Server 2, BeHead) ∷ [] }
 unfolding numbers_from detected
@@ -162,6 +334,15 @@ tail_lost_while_joining : detected 4 (joined 4 of_three).master ≡ record { mas
 unfolding numbers_from detected joined
 tail_lost_while_joining = refl
 
+-- what the master knows of the last member stays where another is lost
+middle_lost_while_joining : detected 3 (joined 4 of_three).master ≡ record { master = record { chain = 1 ∷ 2 ∷ 4 ∷ []; told = false; ready = false; used = 1 ∷ 2 ∷ 3 ∷ 4 ∷ [] }; said = (parties.Server 4, Report 2) ∷ [] }
+unfolding numbers_from detected joined
+middle_lost_while_joining = refl
+
+head_lost_before_ready : (detected 1 (detected 3 of_three).master).master ≡ record { chain = 2 ∷ []; told = true; ready = false; used = 1 ∷ 2 ∷ 3 ∷ [] }
+unfolding numbers_from detected
+head_lost_before_ready = refl
+
 no_member : refusal_of_detection 4 of_three ≡ Some NoSuchServer
 unfolding numbers_from refusal_of_detection
 no_member = refl
@@ -169,6 +350,14 @@ no_member = refl
 only_member : refusal_of_detection 1 (first_master 1) ≡ Some LastFull
 unfolding numbers_from refusal_of_detection
 only_member = refl
+
+no_member_of_one : refusal_of_detection 4 (first_master 1) ≡ Some NoSuchServer
+unfolding numbers_from refusal_of_detection
+no_member_of_one = refl
+
+one_of_two : refusal_of_detection 2 (first_master 2) ≡ None
+unfolding numbers_from refusal_of_detection
+one_of_two = refl
 
 join : joined 4 of_three ≡ record { master = record { chain = 1 ∷ 2 ∷ 3 ∷ 4 ∷ []; told = false; ready = false; used = 1 ∷ 2 ∷ 3 ∷ 4 ∷ [] }; said = (parties.Server 4, Report 3) ∷ [] }
 unfolding numbers_from joined
@@ -186,10 +375,35 @@ nine_members : refusal_of_join 9 (first_master 8) ≡ Some ChainFull
 unfolding numbers_from refusal_of_join
 nine_members = refl
 
+-- refusals in their order
+nine_members_not_ready : refusal_of_join 9 (record (first_master 8) { ready = false }) ≡ Some ChainFull
+unfolding numbers_from refusal_of_join
+nine_members_not_ready = refl
+
+used_number_of_eight : refusal_of_join 8 (record (first_master 8) { ready = false }) ≡ Some IdUsed
+unfolding numbers_from refusal_of_join
+used_number_of_eight = refl
+
+eighth_member : refusal_of_join 8 (first_master 7) ≡ None
+unfolding numbers_from refusal_of_join
+eighth_member = refl
+
+number_of_a_lost_member : refusal_of_join 3 (detected 3 of_three).master ≡ Some IdUsed
+unfolding numbers_from refusal_of_join detected
+number_of_a_lost_member = refl
+
 -- it asks the predecessor to adopt only while that one stands directly before the sender
 have : (hears 3 (Have 2 5) of_three).said ≡ (parties.Server 2, Adopt 3 5) ∷ []
 unfolding numbers_from hears
 have = refl
+
+have_of_one_further : hears 3 (Have 1 5) of_three ≡ no_order of_three
+unfolding numbers_from hears
+have_of_one_further = refl
+
+have_of_one_behind : hears 2 (Have 3 5) of_three ≡ no_order of_three
+unfolding numbers_from hears
+have_of_one_behind = refl
 
 have_too_late : hears 3 (Have 2 5) (detected 2 of_three).master ≡ no_order (detected 2 of_three).master
 unfolding numbers_from hears detected
@@ -216,6 +430,22 @@ ready_of_another : (hears 1 Ready (detected 3 of_three).master).master.ready ≡
 unfolding numbers_from hears detected
 ready_of_another = refl
 
+-- it hears servers alone
+clients_are_not_heard : hears_from parties.Clients Ready (detected 3 of_three).master ≡ no_order (detected 3 of_three).master
+unfolding numbers_from detected
+clients_are_not_heard = refl
+
+-- ---- faults
+
+world_codes : map code_of (NoSuchServer ∷ ServerDown ∷ LinkEmpty ∷ OutboxEmpty ∷ LastFull ∷ JoinPending ∷ IdUsed ∷ ChainFull ∷ NotDown ∷ NotHead ∷ HistoryFull ∷ NotTail ∷ NoMemory ∷ []) ≡ 31 ∷ 32 ∷ 33 ∷ 34 ∷ 35 ∷ 36 ∷ 37 ∷ 38 ∷ 39 ∷ 40 ∷ 41 ∷ 42 ∷ 20 ∷ []
+world_codes = refl
+
+client_codes : map client_code_of (client.Busy ∷ client.NumbersSpent ∷ client.NoMemory ∷ []) ≡ 43 ∷ 44 ∷ 20 ∷ []
+client_codes = refl
+
+client_names : map client_name_of (client.Busy ∷ client.NumbersSpent ∷ client.NoMemory ∷ []) ≡ codes "Busy" ∷ codes "NumbersSpent" ∷ codes "NoMemory" ∷ []
+client_names = refl
+
 -- ---- a client
 
 -- what it asks
@@ -240,6 +470,9 @@ no_open_request = refl
 
 busy : refusal_of_ask waiting_client ≡ Some Busy
 busy = refl
+
+busy_at_the_last_number : refusal_of_ask (record waiting_client { used = 4611686018427387904 }) ≡ Some Busy
+busy_at_the_last_number = refl
 
 same_request_again : open_request waiting_client ≡ Some (next_request silent_client removal)
 same_request_again = refl

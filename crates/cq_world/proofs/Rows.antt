@@ -5,22 +5,25 @@ use Rattle.cq_base.specs.declared.ask.Ask.{Ask}
 use Rattle.cq_base.specs.declared.ask.Ask.TheVariants.{Create, Send}
 use Rattle.cq_base.specs.declared.party.Party.{Party}
 use Rattle.cq_base.specs.declared.party.Party.TheVariants.{Master, Clients, Server}
-use Rattle.cq_base.specs.declared.reply.Reply.TheVariants.{Created, Sent, Counts}
-use Rattle.cq_base.specs.Clients.{of_client, is_fresh}
+use Rattle.cq_base.specs.declared.reply.Refusal.TheVariants.{QueueDoesNotExist}
+use Rattle.cq_base.specs.declared.reply.Reply.TheVariants.{Created, Sent, Counts, Refused}
+use Rattle.cq_base.specs.Clients.{of_client, is_fresh, is_stale, kept_reply}
 use Rattle.cq_base.specs.Effects.{effect_on, effect_off, effect_of}
 use Rattle.cq_base.specs.Facts.{about, on}
-use Rattle.cq_base.specs.History.{fresh_fact, fact_of, history, reply_to, last_moment, counts_after}
+use Rattle.cq_base.specs.History.{fresh_fact, fact_of, history, reply_again, reply_to, last_moment, counts_after}
 use Rattle.cq_base.specs.Lifetimes.{live, creations, removed_lately}
 use Rattle.cq_base.specs.Messages.{messages, duplicate, hands, touches, until, is_deleted, message_of, standing}
 use Rattle.cq_chain.specs.declared.fault.WorldFault.TheVariants.{NoSuchServer, ServerDown, LinkEmpty, OutboxEmpty, LastFull, JoinPending, IdUsed, ChainFull, NotDown, NotHead, NotTail}
 use Rattle.cq_chain.specs.declared.message.Answer.{Answer}
+use Rattle.cq_chain.specs.Messages.{Message, Fwd}
 use Rattle.cq_chain.specs.Masters.{detected, joined, hears, refusal_of_detection, refusal_of_join}
 use Rattle.cq_chain.specs.Refusals.{refusal_of_arrival, refusal_of_query, refusal_of_taking}
 use Rattle.cq_chain.specs.Servers.{acts}
 use Rattle.cq_chain.specs.Steps.{arrived, asked, takes, forwards}
 use Rattle.cq_world.specs.Events.{refusal_of, next, after, given_by}
 use Rattle.cq_world.specs.Runs.{world_after, given_from, refused_from, made_from, made, longest_at, longest_from, committed}
-use Rattle.cq_world.specs.Worlds.{World, numbers_from, first_world}
+use Rattle.cq_world.specs.Laws.{arrivals_from}
+use Rattle.cq_world.specs.Worlds.{World, numbers_from, first_world, channel}
 use Rattle.cq_world.specs.declared.event.Event.{Event}
 use Rattle.cq_world.specs.declared.event.Event.TheVariants as events
 
@@ -74,6 +77,17 @@ one_acked : ((world_after (first_world 2) one).server 1).acked ≡ 1
 unfolding world_after after next refusal_of first_world numbers_from refusal_of_arrival refusal_of_taking arrived takes reply_to history fact_of fresh_fact is_fresh of_client about live removed_lately creations effect_of effect_off last_moment
 one_acked = refl
 
+-- what is given to the clients stands in no link
+one_given_away : (world_after (first_world 2) one).link (Server 2) Clients ≡ []
+unfolding world_after after next refusal_of first_world numbers_from refusal_of_arrival refusal_of_query refusal_of_taking refusal_of_detection refusal_of_join arrived asked takes forwards detected joined hears reply_to history fact_of fresh_fact is_fresh of_client about on live removed_lately creations effect_of effect_on effect_off last_moment messages duplicate standing message_of hands touches until is_deleted
+one_given_away = refl
+
+-- ---- one server that is asked for counts
+
+query_given : given_from 1 (first_world 1) (count_at 1 ∷ events.Put (Server 1) Clients ∷ []) ≡ (2, record { client = 1; number = 9; is_query = true; length = 0; reply = Refused QueueDoesNotExist }) ∷ []
+unfolding given_from after next given_by refusal_of first_world numbers_from refusal_of_query asked counts_after history about live
+query_given = refl
+
 -- ---- three servers: the middle one forwards, and a clock that goes back
 
 abbrev two : List Event
@@ -110,6 +124,21 @@ dead = arrive 1 0 1 create ∷ events.Put (Server 1) (Server 2) ∷ events.Crash
 dead_refused : refused_from 1 (first_world 3) dead ≡ (4, ServerDown) ∷ (5, ServerDown) ∷ (6, ServerDown) ∷ (7, NotDown) ∷ (9, NoSuchServer) ∷ []
 unfolding refused_from after next refusal_of first_world numbers_from refusal_of_arrival arrived last_moment detected refusal_of_detection
 dead_refused = refl
+
+-- a server that crashed is refused all that is its own, before its link or its place is looked at
+dead_first : refused_from 1 (first_world 2) (events.Crash 2 ∷ events.Take (Server 1) (Server 2) ∷ arrive 2 0 1 create ∷ count_at 2 ∷ events.Put (Server 2) Clients ∷ events.Take (Server 2) (Server 1) ∷ events.Crash 7 ∷ []) ≡ (2, ServerDown) ∷ (3, ServerDown) ∷ (4, ServerDown) ∷ (5, ServerDown) ∷ (6, LinkEmpty) ∷ (7, NoSuchServer) ∷ []
+unfolding refused_from after next refusal_of first_world numbers_from refusal_of_arrival refusal_of_query
+dead_first = refl
+
+-- a server that joins isn't full, so the only full one may not crash, and the other may
+joiner_lost : refused_from 1 (first_world 1) (events.Join 2 ∷ events.Crash 1 ∷ events.Crash 2 ∷ events.Crash 1 ∷ events.Join 3 ∷ events.Detect 2 ∷ []) ≡ (2, LastFull) ∷ (4, LastFull) ∷ (5, JoinPending) ∷ []
+unfolding refused_from after next refusal_of first_world numbers_from detected joined refusal_of_detection refusal_of_join
+joiner_lost = refl
+
+-- arrivals that are refused are none
+arrivals : arrivals_from (first_world 2) (arrive 2 9 1 create ∷ arrive 1 50 1 create ∷ count_at 2 ∷ []) ≡ record { clock = 50; request = record { client = 1; number = 1; ask = create } } ∷ []
+unfolding arrivals_from after next refusal_of first_world numbers_from refusal_of_arrival refusal_of_query arrived asked last_moment
+arrivals = refl
 
 -- ---- the server in the middle is lost
 
@@ -155,6 +184,15 @@ lost_waiting : found (world_after (first_world 3) lost) ≡ (1, 2, 0, 0)
 unfolding world_after after next refusal_of first_world numbers_from refusal_of_arrival refusal_of_query refusal_of_taking refusal_of_detection refusal_of_join arrived asked takes forwards detected joined hears reply_to history fact_of fresh_fact is_fresh of_client about on live removed_lately creations effect_of effect_on effect_off last_moment messages duplicate standing message_of hands touches until is_deleted
 lost_waiting = refl
 
+-- the place of an entry that is forwarded
+abbrev place_of : Message → ℕ
+place_of (Fwd place e) = place
+place_of m = 0
+
+lost_channel : map place_of (channel (world_after (first_world 3) lost) (Server 2) (Server 3)) ≡ 1 ∷ 2 ∷ 3 ∷ []
+unfolding world_after after next refusal_of first_world numbers_from refusal_of_arrival refusal_of_query refusal_of_taking refusal_of_detection refusal_of_join arrived asked takes forwards detected joined hears reply_to history fact_of fresh_fact is_fresh of_client about on live removed_lately creations effect_of effect_on effect_off last_moment messages duplicate standing message_of hands touches until is_deleted
+lost_channel = refl
+
 repaired_waiting : found (world_after (first_world 3) repaired) ≡ (1, 0, 2, 1)
 unfolding world_after after next refusal_of first_world numbers_from refusal_of_arrival refusal_of_query refusal_of_taking refusal_of_detection refusal_of_join arrived asked takes forwards detected joined hears reply_to history fact_of fresh_fact is_fresh of_client about on live removed_lately creations effect_of effect_on effect_off last_moment messages duplicate standing message_of hands touches until is_deleted
 repaired_waiting = refl
@@ -186,3 +224,28 @@ joined_ready = refl
 joined_answers : map (λ a. a.length) (made 2 (feeder_lost ++ (move 1 3 ++ (count_at 3 ∷ [])))) ≡ 1 ∷ 1 ∷ []
 unfolding made made_from after next refusal_of first_world numbers_from counts_after refusal_of_arrival refusal_of_query refusal_of_taking refusal_of_detection refusal_of_join arrived asked takes forwards detected joined hears reply_to history fact_of fresh_fact is_fresh of_client about on live removed_lately creations effect_of effect_on effect_off last_moment messages duplicate standing message_of hands touches until is_deleted
 joined_answers = refl
+
+-- ---- the tail is lost, and what it committed stays
+
+abbrev tail_gone : List Event
+tail_gone = arrive 1 0 1 create ∷ (move 1 2 ++ (events.Crash 2 ∷ events.Detect 2 ∷ (pass Master (Server 1) ++ (events.Put (Server 1) Clients ∷ arrive 1 0 1 create ∷ events.Put (Server 1) Clients ∷ []))))
+
+tail_gone_refused : refused_from 1 (first_world 2) tail_gone ≡ (8, OutboxEmpty) ∷ []
+unfolding refused_from world_after after next refusal_of first_world numbers_from refusal_of_arrival refusal_of_query refusal_of_taking refusal_of_detection refusal_of_join arrived asked takes forwards detected joined hears reply_to history fact_of fresh_fact is_fresh of_client about on live removed_lately creations effect_of effect_on effect_off last_moment messages duplicate standing message_of hands touches until is_deleted
+tail_gone_refused = refl
+
+tail_gone_given : map (λ g. g.0) (given_from 1 (first_world 2) tail_gone) ≡ 10 ∷ []
+unfolding given_from given_by world_after after next refusal_of first_world numbers_from refusal_of_arrival refusal_of_query refusal_of_taking refusal_of_detection refusal_of_join arrived asked takes forwards detected joined hears reply_to history fact_of fresh_fact is_fresh of_client about on live removed_lately creations effect_of effect_on effect_off last_moment messages duplicate standing message_of hands touches until is_deleted
+tail_gone_given = refl
+
+tail_gone_lengths : map (λ g. g.1.length) (given_from 1 (first_world 2) tail_gone) ≡ 2 ∷ []
+unfolding given_from given_by world_after after next refusal_of first_world numbers_from refusal_of_arrival refusal_of_query refusal_of_taking refusal_of_detection refusal_of_join arrived asked takes forwards detected joined hears reply_to history fact_of fresh_fact is_fresh of_client about on live removed_lately creations effect_of effect_on effect_off last_moment messages duplicate standing message_of hands touches until is_deleted
+tail_gone_lengths = refl
+
+tail_gone_replies : map (λ g. g.1.reply) (given_from 1 (first_world 2) tail_gone) ≡ Created 1 ∷ []
+unfolding reply_again is_stale kept_reply given_from given_by world_after after next refusal_of first_world numbers_from refusal_of_arrival refusal_of_query refusal_of_taking refusal_of_detection refusal_of_join arrived asked takes forwards detected joined hears reply_to history fact_of fresh_fact is_fresh of_client about on live removed_lately creations effect_of effect_on effect_off last_moment messages duplicate standing message_of hands touches until is_deleted
+tail_gone_replies = refl
+
+tail_gone_committed : map (λ e. e.request.number) (committed 2 tail_gone) ≡ 1 ∷ 1 ∷ []
+unfolding committed longest_from longest_at world_after after next refusal_of first_world numbers_from refusal_of_arrival refusal_of_query refusal_of_taking refusal_of_detection refusal_of_join arrived asked takes forwards detected joined hears reply_to history fact_of fresh_fact is_fresh of_client about on live removed_lately creations effect_of effect_on effect_off last_moment messages duplicate standing message_of hands touches until is_deleted
+tail_gone_committed = refl
