@@ -99,37 +99,3 @@ fn the_first_answer_closes_its_request(rt: HostRuntime) -> Result<(), Fail> {
     let mut client = Client::new(1);
     check_the_first_answer_closes_its_request(&rt, alloc, &mut client)
 }
-
-fn check_lengths_of_answers_rise(
-    rt: &impl Abort,
-    alloc: Global,
-    client: &mut Client,
-) -> Result<(), Fail> {
-    check_ask(rt, alloc, client, 1)?;
-    assert!(rt; !take(client, 1, 0) && take(client, 1, 5));
-    check_ask(rt, alloc, client, 2)?;
-    assert!(rt; !take(client, 2, 5));
-    check_again(rt, alloc, client, 2)?;
-    assert!(rt; take(client, 2, 6));
-    check_closed(rt, client)
-}
-
-#[test]
-fn lengths_of_answers_rise(rt: HostRuntime) -> Result<(), Fail> {
-    let alloc = rt.alloc();
-    let mut client = Client::new(1);
-    check_lengths_of_answers_rise(&rt, alloc, &mut client)
-}
-
-fn check_fault(rt: &impl Abort, fault: ClientFault, code: u16, name: &str) {
-    assert_eq!(rt; fault.code(), code);
-    assert_eq!(rt; fault.name(), name);
-}
-
-#[test]
-fn faults_have_their_codes_and_names(rt: HostRuntime) -> Result<(), Fail> {
-    check_fault(&rt, ClientFault::Busy, 43, "Busy");
-    check_fault(&rt, ClientFault::NumbersSpent, 44, "NumbersSpent");
-    check_fault(&rt, ClientFault::NoMemory, 20, "NoMemory");
-    Ok(())
-}

@@ -1,6 +1,6 @@
 use crate::{Answer, Master, Message, Server, WorldFault};
 use cq_base::{
-    Ask, ChainSize, Entry, Moment, Party, Query, QueueName, Reply, Request, Seconds, ServerId,
+    Ask, ChainSize, Moment, Party, Query, QueueName, Reply, Request, Seconds, ServerId,
 };
 use std::alloc::Global;
 use std::process::Abort;
@@ -44,14 +44,6 @@ pub(super) fn create(alloc: Global, number: u64) -> Result<Request, Fail> {
         number,
         ask: Ask::Create { queue, visibility },
     })
-}
-
-/// Such a request as the entry at that place.
-pub(super) fn forwarded(alloc: Global, place: u64, milliseconds: u64) -> Result<Message, Fail> {
-    let moment = moment(milliseconds)?;
-    let request = create(alloc, place)?;
-    let entry = Entry { moment, request };
-    Ok(Message::Fwd { place, entry })
 }
 
 /// Client 1 asks for the counts of `q.fifo` under the tag 9.
@@ -336,20 +328,6 @@ pub(super) fn check_take(
     take(server, from, message)?;
     check_count(rt, server, count, acked);
     Ok(())
-}
-
-/// Such a take of an entry, at that place and of that moment.
-pub(super) fn check_fwd(
-    rt: &impl Abort,
-    alloc: Global,
-    server: &mut Server,
-    from: u32,
-    fwd: (u64, u64),
-    count: u64,
-) -> Result<(), Fail> {
-    let acked = if server.is_acting() { count } else { 0 };
-    let message = forwarded(alloc, fwd.0, fwd.1)?;
-    check_take(rt, server, from, &message, count, acked)
 }
 
 /// Such a take of an acknowledgement.

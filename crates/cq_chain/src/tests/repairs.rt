@@ -1,8 +1,8 @@
 use super::common::{
-    adopt, be_tail, check_ack, check_count, check_put, check_sent, enter, member, order, party,
+    adopt, be_tail, check_ack, check_count, check_put, check_sent, enter, id, member, party,
     pass, report,
 };
-use crate::{Message, Server};
+use crate::Server;
 use cq_base::Party;
 use std::alloc::Global;
 use std::process::Abort;
@@ -59,23 +59,6 @@ fn a_successor_is_sent_what_it_lacks(rt: HostRuntime) -> Result<(), Fail> {
     check_a_successor_is_sent_what_it_lacks(&rt, alloc, &mut head)
 }
 
-fn check_a_successor_that_has_all_is_sent_nothing(
-    rt: &impl Abort,
-    alloc: Global,
-    head: &mut Server,
-) -> Result<(), Fail> {
-    adopt(head, 3, 9)?;
-    assert_eq!(rt; head.waiting(party(3)?), 0);
-    check_put(rt, alloc, head, Party::Master, "adopted 3 with 2")
-}
-
-#[test]
-fn a_successor_that_has_all_is_sent_nothing(rt: HostRuntime) -> Result<(), Fail> {
-    let alloc = rt.alloc();
-    let mut head = head_of_two(&rt, alloc)?;
-    check_a_successor_that_has_all_is_sent_nothing(&rt, alloc, &mut head)
-}
-
 fn check_a_successor_is_sent_a_snapshot_of_what_is_acknowledged(
     rt: &impl Abort,
     alloc: Global,
@@ -91,41 +74,6 @@ fn a_successor_is_sent_a_snapshot_of_what_is_acknowledged(rt: HostRuntime) -> Re
     let alloc = rt.alloc();
     let mut head = head_of_acked(&rt, alloc)?;
     check_a_successor_is_sent_a_snapshot_of_what_is_acknowledged(&rt, alloc, &mut head)
-}
-
-fn check_an_old_tail_acts_no_more(
-    rt: &impl Abort,
-    alloc: Global,
-    tail: &mut Server,
-) -> Result<(), Fail> {
-    adopt(tail, 3, 0)?;
-    assert!(rt; !tail.is_acting());
-    check_put(rt, alloc, tail, Party::Master, "adopted 3 with 0")
-}
-
-#[test]
-fn an_old_tail_acts_no_more(rt: HostRuntime) -> Result<(), Fail> {
-    let alloc = rt.alloc();
-    let mut tail = member(&rt, alloc, 2, 2)?;
-    check_an_old_tail_acts_no_more(&rt, alloc, &mut tail)
-}
-
-fn check_a_server_tells_what_it_has(
-    rt: &impl Abort,
-    alloc: Global,
-    head: &mut Server,
-) -> Result<(), Fail> {
-    check_ack(rt, head, 1, 1)?;
-    report(head, 9)?;
-    check_put(rt, alloc, head, Party::Master, "have 9 with 2")?;
-    check_sent(rt, alloc, head, 9, "ack 1")
-}
-
-#[test]
-fn a_server_tells_what_it_has(rt: HostRuntime) -> Result<(), Fail> {
-    let alloc = rt.alloc();
-    let mut head = head_of_two(&rt, alloc)?;
-    check_a_server_tells_what_it_has(&rt, alloc, &mut head)
 }
 
 fn check_a_joiner_acts_once_the_snapshot_has_come(
@@ -168,60 +116,4 @@ fn a_joiner_tells_its_neighbours(rt: HostRuntime) -> Result<(), Fail> {
     let alloc = rt.alloc();
     let mut tail = joined(alloc)?;
     check_a_joiner_tells_its_neighbours(&rt, alloc, &mut tail)
-}
-
-fn check_a_server_with_a_successor_takes_no_snapshot(
-    rt: &impl Abort,
-    middle: &mut Server,
-    head: &mut Server,
-) -> Result<(), Fail> {
-    adopt(head, 3, 0)?;
-    pass(head, 1, middle, 3)?;
-    check_count(rt, middle, 0, 0);
-    Ok(())
-}
-
-#[test]
-fn a_server_with_a_successor_takes_no_snapshot(rt: HostRuntime) -> Result<(), Fail> {
-    let alloc = rt.alloc();
-    let mut middle = member(&rt, alloc, 2, 3)?;
-    let mut head = head_of_acked(&rt, alloc)?;
-    check_a_server_with_a_successor_takes_no_snapshot(&rt, &mut middle, &mut head)
-}
-
-fn check_the_next_server_becomes_the_head(
-    rt: &impl Abort,
-    alloc: Global,
-    middle: &mut Server,
-) -> Result<(), Fail> {
-    order(middle, &Message::BeHead)?;
-    assert!(rt; middle.is_head());
-    enter(alloc, middle, 1, 5)?;
-    check_sent(rt, alloc, middle, 3, "fwd 1 at 5")
-}
-
-#[test]
-fn the_next_server_becomes_the_head(rt: HostRuntime) -> Result<(), Fail> {
-    let alloc = rt.alloc();
-    let mut middle = member(&rt, alloc, 2, 3)?;
-    check_the_next_server_becomes_the_head(&rt, alloc, &mut middle)
-}
-
-fn check_a_crash_leaves_a_server_as_it_is(
-    rt: &impl Abort,
-    alloc: Global,
-    head: &mut Server,
-) -> Result<(), Fail> {
-    assert!(rt; !head.is_down());
-    head.crash();
-    assert!(rt; head.is_down());
-    check_count(rt, head, 2, 0);
-    check_sent(rt, alloc, head, 2, "fwd 1 at 5")
-}
-
-#[test]
-fn a_crash_leaves_a_server_as_it_is(rt: HostRuntime) -> Result<(), Fail> {
-    let alloc = rt.alloc();
-    let mut head = head_of_two(&rt, alloc)?;
-    check_a_crash_leaves_a_server_as_it_is(&rt, alloc, &mut head)
 }
