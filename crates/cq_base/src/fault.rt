@@ -1,4 +1,4 @@
-ghost use Rattle.std.specs.Prelude.{◌≡◌};
+ghost use Rattle.std.specs.Prelude.{◌≡◌, Some, codes};
 ghost use Rattle.cq_base.specs.declared.fault.BaseFault.TheVariants as faults;
 ghost use Rattle.cq_base.specs.Fault.{code_of, name_of};
 
@@ -22,6 +22,8 @@ impl<T: Drop> From<AllocFailed<T>> for NoMemory {
 }
 
 impl fmt::Display for NoMemory {
+    ghost output = { λ _. Some (codes "NoMemory") };
+
     fn fmt<W: fmt::Write>(&self, f: &mut fmt::Formatter<W>) -> fmt::Result {
         f.write_str("NoMemory")
     }
@@ -83,6 +85,8 @@ impl From<AllocError> for BaseFault {
 }
 
 impl fmt::Display for BaseFault {
+    ghost output = { λ fault. Some (name_of fault) };
+
     fn fmt<W: fmt::Write>(&self, f: &mut fmt::Formatter<W>) -> fmt::Result {
         f.write_str(self.name())
     }

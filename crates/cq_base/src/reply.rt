@@ -1,4 +1,4 @@
-ghost use Rattle.std.specs.Prelude.{◌≡◌, List, IfOk};
+ghost use Rattle.std.specs.Prelude.{◌≡◌, List, Some, IfOk};
 ghost use Rattle.cq_base.specs.Refusals.{refusal_code, refusal_name};
 
 use crate::fault::NoMemory;
@@ -144,6 +144,8 @@ impl Refusal {
 }
 
 impl fmt::Display for Refusal {
+    ghost output = { λ r. Some (refusal_name r) };
+
     fn fmt<W: fmt::Write>(&self, f: &mut fmt::Formatter<W>) -> fmt::Result {
         f.write_str(self.name())
     }
