@@ -1,6 +1,6 @@
 -- What comes to an incarnation, whatever the client, the number and the name of the queue, and what is said
 -- of one more entry.
-use Rattle.std.specs.Prelude.{◌≡◌, ℕ, List, [], ◌∷◌, ◌++◌, map, Option}
+use Rattle.std.specs.Prelude.{◌≡◌, ℕ, List, [], ◌∷◌, ◌++◌, map, Option, None}
 use Rattle.cq_base.specs.declared.ask.Ask.TheVariants.{Create, Send, Receive, Delete, Change}
 use Rattle.cq_base.specs.declared.ask.Entry.{Entry}
 use Rattle.cq_base.specs.declared.reply.Delivery.{Delivery}
@@ -9,7 +9,7 @@ use Rattle.cq_base.specs.declared.reply.Reply.TheVariants.{Counts}
 use Rattle.cq_base.specs.Effects.{counts_of}
 use Rattle.cq_base.specs.Handle.{Handle}
 use Rattle.cq_base.specs.Incarnations.{Incarnation, IncarnationStands, coming, told_of}
-use Rattle.cq_base.specs.Messages.{standing}
+use Rattle.cq_base.specs.Messages.{duplicate, standing}
 use Rattle.cq_base.specs.Receiving.{to_hand, delivery_of}
 
 -- the entry is a creation of the queue, which lives, at any moment
@@ -49,6 +49,11 @@ StandsAfter IsSuch old new = (entries : List Entry) (e : Entry) → IncarnationS
 abbrev pub IsAnswered : (Entry → Type 0) → Incarnation → Reply → Type 0
 IsAnswered IsSuch kept reply = (entries : List Entry) (e : Entry) → IncarnationStands kept entries → IsSuch e
     → (coming kept.number kept.visibility (told_of kept entries) e).reply ≡ reply
+
+-- Whatever entries `kept` stands for, a send of that deduplication id at that moment repeats none of them.
+abbrev pub IsNoRepeat : List ℕ → ℕ → Incarnation → Type 0
+IsNoRepeat dedup moment kept = (entries : List Entry) → IncarnationStands kept entries
+    → duplicate dedup moment (told_of kept entries) ≡ None
 
 -- it is the same incarnation, with the same visibility timeout
 pub record IsSameQueue (old new : Incarnation) : Type 0 where

@@ -1,8 +1,8 @@
-ghost use Rattle.std.specs.Prelude.{◌≡◌, ◌+◌, ◌*◌, ◌^◌, ◌<◌, ◌≤◌, ℕ, [], IfOk, IfErr, OnOk, OnErr, Some};
+ghost use Rattle.std.specs.Prelude.{◌≡◌, ◌+◌, ◌*◌, ◌^◌, ◌<◌, ◌≤◌, ℕ, [], false, IsOk, IsErr, IfOk, IfErr, OnOk, OnErr, Some};
 ghost use Rattle.cq_base.specs.declared.reply.Reply.TheVariants.{Sent, Deleted, Changed, Refused};
 ghost use Rattle.cq_base.specs.Incarnations.{IncarnationStands, repeated};
 ghost use Rattle.cq_queue.specs.Answers.{delete_reply, is_deleting, change_reply, is_changing};
-ghost use Rattle.cq_queue.specs.Entries.{IsSend, IsReceive, IsDelete, IsChange, StandsAfter, IsAnswered, IsSameQueue};
+ghost use Rattle.cq_queue.specs.Entries.{IsSend, IsReceive, IsDelete, IsChange, StandsAfter, IsAnswered, IsNoRepeat, IsSameQueue};
 ghost use Rattle.cq_queue.specs.Kept.{used_at, with_message, handed_out, is_receipt_of, without_message, deletion, with_timeout, alteration};
 
 mod reads;
@@ -56,6 +56,7 @@ impl Queue {
     /// The queue to which nothing came. It takes no memory before the first send. O(1).
     pub fn new(alloc: Global, incarnation: u64, visibility: Seconds) -> Result<Queue, NoMemory>
         requires { 0 < incarnation }
+        ensures made { IsOk result }
         ensures stands { IfOk result (λ queue. IncarnationStands queue []) }
         ensures number { IfOk result (λ queue. queue.number ≡ incarnation) }
         ensures visibility { IfOk result (λ queue. queue.visibility ≡ visibility) }
@@ -122,8 +123,8 @@ impl Queue {
     }
 
     /// A send that comes at that moment. It is answered with the message's sequence number: a new one, or
-    /// that of the message that it repeats. After `NoMemory` the queue is as before. O(accepted sends that
-    /// are kept), and amortized O(1) for the message.
+    /// that of the message that it repeats. One that repeats takes no memory. After `NoMemory` the queue is as
+    /// before. O(accepted sends that are kept), and amortized O(1) for the message.
     pub fn send(
         &mut self,
         moment: Moment,
@@ -139,6 +140,7 @@ impl Queue {
             IsAnswered (IsSend moment group.now dedup.now body.now) self.old (Sent sequence)) }
         ensures last { OnOk result (self.new.last ≡ moment) }
         ensures used { OnOk result (self.new.used ≡ self.old.used + 1) }
+        ensures memory { IsErr result → IsNoRepeat dedup.now moment self.old }
         ensures err { OnErr result (self.new ≡ self.old) }
         ensures same { IsSameQueue self.old self.new }
     {
@@ -206,11 +208,14 @@ impl Queue {
         take_out(&mut self.messages, sequence);
     }
 
-    /// A delete with that receipt, and whether it takes effect. It takes no memory. O(messages).
+    /// A delete with that receipt, and whether it takes effect. Where it doesn't, or is refused, nothing
+    /// changes. It takes no memory. O(messages).
     pub fn delete(&mut self, receipt: &Receipt) -> Result<bool, Refusal>
         ensures stands { StandsAfter (IsDelete receipt.now) self.old self.new }
         ensures ok { IfOk result (λ deleted. IsAnswered (IsDelete receipt.now) self.old (Deleted deleted)) }
         ensures err { IfErr result (λ refusal. IsAnswered (IsDelete receipt.now) self.old (Refused refusal)) }
+        ensures idle { IfOk result (λ deleted. deleted ≡ false → self.new ≡ self.old) }
+        ensures refused { OnErr result (self.new ≡ self.old) }
         ensures last { self.new.last ≡ self.old.last }
         ensures used { self.new.used ≡ self.old.used }
         ensures same { IsSameQueue self.old self.new }
@@ -248,7 +253,8 @@ impl Queue {
         self.last = moment;
     }
 
-    /// A change of a message's visibility timeout that comes at that moment. It takes no memory. O(messages).
+    /// A change of a message's visibility timeout that comes at that moment. Where it is refused, nothing
+    /// changes. It takes no memory. O(messages).
     pub fn change(
         &mut self,
         moment: Moment,
@@ -260,6 +266,7 @@ impl Queue {
         ensures ok { OnOk result (IsAnswered (IsChange moment receipt.now visibility) self.old Changed) }
         ensures err { IfErr result (λ refusal.
             IsAnswered (IsChange moment receipt.now visibility) self.old (Refused refusal)) }
+        ensures refused { OnErr result (self.new ≡ self.old) }
         ensures last { self.new.last ≤ moment }
         ensures used { self.new.used ≡ self.old.used }
         ensures same { IsSameQueue self.old self.new }
