@@ -92,6 +92,8 @@ impl Store {
             × Stands self.new (entries ++ entry.now ∷ [])) }
         ensures err { (entries : List Entry) → Stands self.old entries → OnErr result
             (Stands self.new entries) }
+        ensures err_count { OnErr result (count_of self.new ≡ count_of self.old) }
+        ensures err_last { OnErr result (last_of self.new ≡ last_of self.old) }
     {
         self.clients.reserve()?;
         let request = &entry.request;
@@ -114,6 +116,8 @@ impl Store {
             (reply ≡ object.reply_to entries entry.now) × Stands self.new (entries ++ entry.now ∷ [])) }
         ensures err { (entries : List Entry) → Stands self.old entries → OnErr result
             (Stands self.new entries) }
+        ensures err_count { OnErr result (count_of self.new ≡ count_of self.old) }
+        ensures err_last { OnErr result (last_of self.new ≡ last_of self.old) }
     {
         let request = &entry.request;
         match self.clients.again(request.client, request.number)? {
