@@ -1,3 +1,4 @@
+pub mod Alike
 pub mod Alone
 pub mod Answering
 pub mod ClientsStand
@@ -17,6 +18,7 @@ pub mod Ranks
 pub mod Receipts
 pub mod Repeats
 pub mod Scans
+pub mod Removals
 pub mod Sorted
 pub mod StoreStands
 pub mod Windows

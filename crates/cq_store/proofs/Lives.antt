@@ -20,7 +20,7 @@ use Rattle.cq_base.specs.Relations.{Among}
 use Rattle.cq_base.proofs.Among.{among-append}
 use Rattle.cq_base.proofs.Ends.{filter-passes, filter-fails}
 use Rattle.cq_base.proofs.Histories.{told}
-use Rattle.cq_store.specs.Laws.{NoneRemoved}
+use Rattle.cq_store.specs.Laws.{NoneComes}
 use Rattle.cq_store.proofs.Incarnations.{fact-fresh}
 use Rattle.cq_store.proofs.Inductions.{by_fact}
 use Rattle.cq_store.proofs.Lasts.{last_or-more}
@@ -257,7 +257,7 @@ incarnation-fresh : (facts : List Fact) (e : Entry) → is_fresh e.request.clien
 unfolding fresh_fact
 incarnation-fresh facts e fresh = ap (λ f. f.incarnation) (fact-fresh facts e fresh)
 
--- nothing is handed out of an incarnation that was removed
-pub none_removed : NoneRemoved
-none_removed entries e removal fresh at removes same = let own = about (queue_of e.request.ask) (history entries) in
+-- no fresh entry comes to an incarnation that was removed
+pub none_comes : NoneComes
+none_comes entries e removal fresh at removes same = let own = about (queue_of e.request.ask) (history entries) in
     nothing_after own (live own) (creations own) removal (lived (queue_of e.request.ask) entries) at removes (sym (incarnation-fresh (history entries) e fresh) ∙ same)

@@ -13,7 +13,7 @@ use Rattle.cq_base.specs.Clients.{is_of_client, is_numbered_below, of_client, is
 use Rattle.cq_base.specs.Facts.{Fact, is_about, about}
 use Rattle.cq_base.specs.History.{fact_of, history, reply_to}
 use Rattle.cq_base.proofs.Histories.{told, history-more, entry-fact_of}
-use Rattle.cq_store.specs.Laws.{naming, OthersDoNothing, EachQueueAlone, EachReplyAlone}
+use Rattle.cq_store.specs.Laws.{naming, EachQueueAlone, EachReplyAlone}
 use Rattle.cq_base.proofs.Ends.{filter-passes, filter-fails}
 use Rattle.cq_base.proofs.Filters.{filter-twice, filter-swapped}
 use Rattle.cq_store.proofs.Inductions.{by_entry}
@@ -49,9 +49,9 @@ pub about-same : (queue : List ℕ) (facts : List Fact) (e : Entry) → is_about
 unfolding about
 about-same queue facts e h = filter-fails (is_about queue) facts (fact_of facts e) h
 
--- an entry that isn't fresh does nothing to any queue
-pub others_do_nothing : OthersDoNothing
-others_do_nothing entries e queue idle = let other = and_left (fact_of (history entries) e).fresh (bytes_eq (queue_of (fact_of (history entries) e).entry.request.ask) queue) (fresh-fact_of (history entries) e ∙ idle) in
+-- an entry that isn't fresh is about no queue
+pub idle-about : (entries : List Entry) (e : Entry) (queue : List ℕ) → is_fresh e.request.client e.request.number (history entries) ≡ false → about queue (history (entries ++ e ∷ [])) ≡ about queue (history entries)
+idle-about entries e queue idle = let other = and_left (fact_of (history entries) e).fresh (bytes_eq (queue_of (fact_of (history entries) e).entry.request.ask) queue) (fresh-fact_of (history entries) e ∙ idle) in
     ap (λ facts. about queue facts) (history-more entries e) ∙ about-same queue (history entries) e other
 
 -- an entry whose fact is about the queue is fresh and names it

@@ -25,7 +25,7 @@ use Rattle.cq_store.proofs.ClientsStand.{latest, client-fresh, client-other, cli
 use Rattle.cq_store.proofs.Incarnations.{fact-fresh}
 use Rattle.cq_store.proofs.NamesStand.{name-later}
 use Rattle.cq_store.proofs.Lives.{some_same}
-use Rattle.cq_store.proofs.OneQueue.{about-more, about-same, others_do_nothing}
+use Rattle.cq_store.proofs.OneQueue.{about-more, about-same, idle-about}
 use Rattle.cq_store.proofs.Receipts.{about-own}
 
 -- the last moment is that of the last entry
@@ -108,7 +108,7 @@ idle-stands old new entries e h more idle count last clients names =
           (subst (λ fs. ClientKnown client (client_at old.clients client) fs) (sym (history-more entries e)) (client_idle client (client_at old.clients client) facts e idle (h.clients client)));
       names = λ queue. subst (λ ns. NameStands new.last (or_unknown (name_at ns queue)) (about queue (history (entries ++ e ∷ [])))) (sym names)
           (subst (λ m. NameStands m (or_unknown (name_at old.names queue)) (about queue (history (entries ++ e ∷ [])))) (sym last)
-          (subst (λ fs. NameStands e.moment (or_unknown (name_at old.names queue)) fs) (sym (others_do_nothing entries e queue idle)) (name-later old.last e.moment (or_unknown (name_at old.names queue)) (about queue facts) more (h.names queue))));
+          (subst (λ fs. NameStands e.moment (or_unknown (name_at old.names queue)) fs) (sym (idle-about entries e queue idle)) (name-later old.last e.moment (or_unknown (name_at old.names queue)) (about queue facts) more (h.names queue))));
     }
 
 -- nothing isn't something

@@ -14,7 +14,7 @@ use Rattle.cq_base.specs.declared.ask.Ask.TheVariants.{Receive}
 use Rattle.cq_base.specs.declared.reply.Delivery.{Delivery}
 use Rattle.cq_base.specs.Effects.{visibility_by}
 use Rattle.cq_base.specs.Messages.{messages, hands, is_deleted, until}
-use Rattle.cq_base.specs.History.{fact_of, history, reply_to}
+use Rattle.cq_base.specs.History.{fact_of, history, reply_to, last_moment, counts_after}
 use Rattle.cq_base.specs.Relations.{Among, Pairwise, Front}
 
 -- what the fresh entries of that client and number did
@@ -44,10 +44,20 @@ RepeatsAreAnswered = (entries : List Entry) (e : Entry) → RepeatsAreAnsweredAt
 abbrev pub IsFresh : List Entry → Entry → Type 0
 IsFresh entries e = is_fresh e.request.client e.request.number (history entries) ≡ true
 
--- An entry that isn't fresh does nothing to any queue.
+-- After both lists of entries all that can be seen is the same: which numbers are fresh, and which stale,
+-- the reply to each later entry, and the counts of each queue, which are taken at the moment of the last
+-- entry.
+pub record AreAlike (xs ys : List Entry) : Type 0 where
+  pub fresh : (client number : ℕ) → is_fresh client number (history xs) ≡ is_fresh client number (history ys)
+  pub stale : (client number : ℕ) → is_stale client number (history xs) ≡ is_stale client number (history ys)
+  pub reply : (later : Entry) → reply_to xs later ≡ reply_to ys later
+  pub counts : (queue : List ℕ) → last_moment xs ≡ last_moment ys → counts_after xs queue ≡ counts_after ys queue
+
+-- An entry that isn't fresh does nothing that can be seen later: whatever comes after it, all is as if it
+-- weren't there, but for the moment of the last entry where nothing comes.
 abbrev pub OthersDoNothingAt : List Entry → Entry → Type 0
-OthersDoNothingAt entries e = (queue : List ℕ) → is_fresh e.request.client e.request.number (history entries) ≡ false
-    → about queue (history (entries ++ e ∷ [])) ≡ about queue (history entries)
+OthersDoNothingAt entries e = (after : List Entry) → is_fresh e.request.client e.request.number (history entries) ≡ false
+    → AreAlike (entries ++ e ∷ after) (entries ++ after)
 
 -- the same, after every list of entries
 abbrev pub OthersDoNothing : Type 0
@@ -133,12 +143,23 @@ NoneDeletedAt entries e = (creation : Fact) (sequence : ℕ) → IsFresh entries
 abbrev pub NoneDeleted : Type 0
 NoneDeleted = (entries : List Entry) (e : Entry) → NoneDeletedAt entries e
 
--- After a removal of a queue no fresh entry comes to the incarnation that it ended, and so none hands out a
--- message of it.
-abbrev pub NoneRemovedAt : List Entry → Entry → Type 0
-NoneRemovedAt entries e = (removal : Fact) → IsFresh entries e
+-- After a removal of a queue no fresh entry comes to the incarnation that it ended.
+abbrev pub NoneComesAt : List Entry → Entry → Type 0
+NoneComesAt entries e = (removal : Fact) → IsFresh entries e
     → Among removal (about (queue_of e.request.ask) (history entries)) → is_removal removal ≡ true
     → (fact_of (history entries) e).incarnation ≡ removal.incarnation → ⊥
+
+-- the same, after every list of entries
+abbrev pub NoneComes : Type 0
+NoneComes = (entries : List Entry) (e : Entry) → NoneComesAt entries e
+
+-- After a removal of a queue no fresh entry is answered with a message under a receipt of the incarnation
+-- that it ended.
+abbrev pub NoneRemovedAt : List Entry → Entry → Type 0
+NoneRemovedAt entries e = (removal : Fact) (deliveries : List Delivery) (d : Delivery) → IsFresh entries e
+    → Among removal (about (queue_of e.request.ask) (history entries)) → is_removal removal ≡ true
+    → reply_to entries e ≡ Received deliveries → Among d deliveries
+    → d.receipt.incarnation ≡ removal.incarnation → ⊥
 
 -- the same, after every list of entries
 abbrev pub NoneRemoved : Type 0

@@ -1,11 +1,11 @@
 //! Laws of the queue object, for every list of entries. A function here does nothing: its contract is a
 //! law, which is proved with it.
 
-ghost use Rattle.cq_store.specs.Laws.{FreshOnce, RepeatsAreAnswered, OthersDoNothing, EachQueueAlone, EachReplyAlone, EachIncarnationAlone, HandsWhatWasSent, NoneInFlight, NoneDeleted, NoneRemoved, ReceiptsCount, OneAcceptancePerWindow, OthersAreAccepted, FirstHandingsInOrder};
+ghost use Rattle.cq_store.specs.Laws.{FreshOnce, RepeatsAreAnswered, OthersDoNothing, EachQueueAlone, EachReplyAlone, EachIncarnationAlone, HandsWhatWasSent, NoneInFlight, NoneDeleted, NoneRemoved, NoneComes, ReceiptsCount, OneAcceptancePerWindow, OthersAreAccepted, FirstHandingsInOrder};
 ghost use Rattle.cq_store.specs.Ranks.{HandedByRank, OneListByRank};
 
-/// Of the entries of a client under one number at most one is fresh, and the others do nothing to any
-/// queue. An entry that is neither fresh nor stale repeats the fresh one, and has its reply.
+/// Of the entries of a client under one number at most one is fresh, and after the others all goes on as if
+/// they weren't there. An entry that is neither fresh nor stale repeats the fresh one, and has its reply.
 pub fn one_effect_per_number()
     ensures once { FreshOnce }
     ensures repeats { RepeatsAreAnswered }
@@ -27,11 +27,12 @@ pub fn no_handing_while_in_flight()
     ensures landed { NoneInFlight }
 {}
 
-/// A message that was deleted is handed out by no later entry, and after a queue's removal no fresh entry
-/// comes to the incarnation that it ended.
+/// A message that was deleted is handed out by no later entry. After a queue's removal no fresh entry comes
+/// to the incarnation that it ended, and none is answered with a message of it.
 pub fn no_handing_after_deletion()
     ensures deleted { NoneDeleted }
     ensures removed { NoneRemoved }
+    ensures ended { NoneComes }
 {}
 
 /// A receive hands out the candidates, which are the messages of open groups, that have fewer than its

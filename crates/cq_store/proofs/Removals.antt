@@ -1,0 +1,108 @@
+-- Nothing is handed out of an incarnation that was removed.
+use Rattle.std.proofs.Common.{◌≡◌, ℕ, ◌+◌, ◌∙◌, ap, sym, List, [], length, Option, Some, None, Bool, true, false, cond, nat_lt, ◌*◌, ◌==◌, not, subst}
+use Rattle.cq_base.specs.declared.ask.Ask.{Ask}
+use Rattle.cq_base.specs.declared.ask.Ask.TheVariants.{Create, Remove, Send, Receive, Delete, Change}
+use Rattle.cq_base.specs.declared.ask.Entry.{Entry}
+use Rattle.cq_base.specs.declared.reply.Delivery.{Delivery}
+use Rattle.cq_base.specs.declared.reply.Refusal.TheVariants.{QueueNameExists, QueueDeletedRecently, ReceiptHandleIsInvalid, MessageNotInflight, VisibilityBeyondLimit}
+use Rattle.cq_base.specs.declared.reply.Reply.{Reply}
+use Rattle.cq_base.specs.declared.reply.Reply.TheVariants.{Created, Received, Deleted, Changed, Refused}
+use Rattle.cq_base.specs.Asks.{queue_of}
+use Rattle.cq_base.specs.Effects.{Effect, only_replies, takes_effect, send, is_own, fits, message_at, delete_standing, delete_sent, delete, flight_limit, change_standing, change_sent, change, effect_on, effect_off, effect_by, effect_of, visibility_by}
+use Rattle.cq_base.specs.Facts.{Fact, about, on}
+use Rattle.cq_base.specs.Handle.{Handle}
+use Rattle.cq_base.specs.History.{fresh_fact, history, reply_to}
+use Rattle.cq_base.specs.Lifetimes.{removed_lately, live, creations, incarnation_of}
+use Rattle.cq_base.specs.Messages.{Message, messages, duplicate, standing}
+use Rattle.cq_base.specs.Receiving.{is_in_flight, to_hand, delivery_of}
+use Rattle.cq_base.specs.Relations.{Among}
+use Rattle.cq_base.proofs.Among.{among-map}
+use Rattle.cq_store.specs.Laws.{NoneRemoved}
+use Rattle.cq_store.proofs.Incarnations.{fact-fresh}
+use Rattle.cq_store.proofs.Lives.{none_comes}
+
+-- the messages that a reply lists
+abbrev deliveries_of : Reply → List Delivery
+deliveries_of (Received deliveries) = deliveries
+deliveries_of other = []
+
+-- the effect lists no message but of that incarnation
+abbrev IsOf : ℕ → Effect → Type 0
+IsOf incarnation effect = (d : Delivery) → Among d (deliveries_of effect.reply) → d.receipt.incarnation ≡ incarnation
+
+-- ---- what is no receive lists none
+
+chosen : (b : Bool) (n : ℕ) (x y : Effect) → IsOf n x → IsOf n y → IsOf n (cond b x y)
+chosen true n x y first second = first
+chosen false n x y first second = second
+
+sent_of : (n sequence : ℕ) (earlier : Option Fact) → IsOf n (send sequence earlier)
+sent_of n sequence None = λ d at. absurd at
+sent_of n sequence (Some earlier) = λ d at. absurd at
+
+delete_standing_of : (n : ℕ) (receipt : Handle) (x : Message) → IsOf n (delete_standing receipt x)
+delete_standing_of n receipt x = chosen (nat_lt x.handings receipt.handing) n (only_replies (Refused ReceiptHandleIsInvalid)) (cond (fits receipt x) (takes_effect x.sequence (Deleted true)) (only_replies (Deleted false))) (λ d at. absurd at)
+    (chosen (fits receipt x) n (takes_effect x.sequence (Deleted true)) (only_replies (Deleted false)) (λ d at. absurd at) (λ d at. absurd at))
+
+delete_sent_of : (n : ℕ) (receipt : Handle) (x : Option Message) → IsOf n (delete_sent receipt x)
+delete_sent_of n receipt None = λ d at. absurd at
+delete_sent_of n receipt (Some x) = delete_standing_of n receipt x
+
+deleted_of : (n : ℕ) (xs : List Fact) (ms : List Message) (receipt : Handle) → IsOf n (delete n xs ms receipt)
+deleted_of n xs ms receipt = chosen (is_own n xs receipt) n (delete_sent receipt (message_at receipt.sequence ms)) (only_replies (Refused ReceiptHandleIsInvalid)) (delete_sent_of n receipt (message_at receipt.sequence ms)) (λ d at. absurd at)
+
+change_standing_of : (n moment visibility : ℕ) (receipt : Handle) (x : Message) → IsOf n (change_standing moment visibility receipt x)
+change_standing_of n moment visibility receipt x =
+    let beyond = nat_lt (x.handed_at + flight_limit) (moment + 1000 * visibility) in
+    let last = cond beyond (only_replies (Refused VisibilityBeyondLimit)) (takes_effect x.sequence Changed) in
+    let landed = not (is_in_flight moment x) in
+    chosen (not (fits receipt x)) n (only_replies (Refused ReceiptHandleIsInvalid)) (cond landed (only_replies (Refused MessageNotInflight)) last) (λ d at. absurd at)
+    (chosen landed n (only_replies (Refused MessageNotInflight)) last (λ d at. absurd at)
+    (chosen beyond n (only_replies (Refused VisibilityBeyondLimit)) (takes_effect x.sequence Changed) (λ d at. absurd at) (λ d at. absurd at)))
+
+change_sent_of : (n moment visibility : ℕ) (receipt : Handle) (x : Option Message) → IsOf n (change_sent moment visibility receipt x)
+change_sent_of n moment visibility receipt None = λ d at. absurd at
+change_sent_of n moment visibility receipt (Some x) = change_standing_of n moment visibility receipt x
+
+changed_of : (n moment visibility : ℕ) (xs : List Fact) (ms : List Message) (receipt : Handle) → IsOf n (change n moment visibility xs ms receipt)
+changed_of n moment visibility xs ms receipt = chosen (is_own n xs receipt) n (change_sent moment visibility receipt (message_at receipt.sequence ms)) (only_replies (Refused ReceiptHandleIsInvalid)) (change_sent_of n moment visibility receipt (message_at receipt.sequence ms)) (λ d at. absurd at)
+
+-- ---- what comes to a queue
+
+-- a receive lists messages of the incarnation that it comes to
+on_of : (n own moment : ℕ) (xs : List Fact) (ask : Ask) → IsOf n (effect_on n own moment xs ask)
+unfolding effect_on
+on_of n own moment xs (Create queue visibility) = chosen (visibility == own) n (only_replies (Created n)) (only_replies (Refused QueueNameExists)) (λ d at. absurd at) (λ d at. absurd at)
+on_of n own moment xs (Remove queue) = λ d at. absurd at
+on_of n own moment xs (Send queue group dedup body) = sent_of n (length (messages xs) + 1) (duplicate dedup moment xs)
+on_of n own moment xs (Receive queue size visibility) = λ d at. ap (λ g. g.receipt.incarnation) (among-map (delivery_of n) d (to_hand size moment (standing own xs)) at).2
+on_of n own moment xs (Delete queue receipt) = deleted_of n xs (standing own xs) receipt
+on_of n own moment xs (Change queue receipt visibility) = changed_of n moment visibility xs (standing own xs) receipt
+
+-- where the queue doesn't live, nothing is listed
+off_of : (n moment : ℕ) (xs : List Fact) (ask : Ask) → IsOf n (effect_off moment xs ask)
+unfolding effect_off
+off_of n moment xs (Create queue visibility) = chosen (removed_lately moment xs) n (only_replies (Refused QueueDeletedRecently)) (takes_effect (creations xs + 1) (Created (creations xs + 1))) (λ d at. absurd at) (λ d at. absurd at)
+off_of n moment xs (Remove queue) = λ d at. absurd at
+off_of n moment xs (Send queue group dedup body) = λ d at. absurd at
+off_of n moment xs (Receive queue size visibility) = λ d at. absurd at
+off_of n moment xs (Delete queue receipt) = λ d at. absurd at
+off_of n moment xs (Change queue receipt visibility) = λ d at. absurd at
+
+by_of : (living : Option Fact) (moment : ℕ) (xs : List Fact) (ask : Ask) → IsOf (incarnation_of living) (effect_by living moment xs ask)
+by_of None moment xs ask = off_of 0 moment xs ask
+by_of (Some creation) moment xs ask = on_of creation.count (visibility_by creation) moment (on creation.count xs) ask
+
+-- what a fresh entry's reply lists is of the incarnation that it comes to
+listed : (e : Entry) (xs : List Fact) (d : Delivery) → Among d (deliveries_of (fresh_fact e xs).reply) → d.receipt.incarnation ≡ (fresh_fact e xs).incarnation
+unfolding fresh_fact effect_of
+listed e xs d at = by_of (live xs) e.moment xs e.request.ask d at
+
+-- nothing is handed out of an incarnation that was removed
+pub none_removed : NoneRemoved
+unfolding reply_to
+none_removed entries e removal deliveries d fresh at removes received inside same =
+    let own = about (queue_of e.request.ask) (history entries) in
+    let made = fact-fresh (history entries) e fresh in
+    let shown = subst (λ ds. Among d ds) (sym (ap deliveries_of received) ∙ ap (λ f. deliveries_of f.reply) made) inside in
+    none_comes entries e removal fresh at removes (ap (λ f. f.incarnation) made ∙ sym (listed e own d shown) ∙ same)
