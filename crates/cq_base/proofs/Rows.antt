@@ -1,6 +1,7 @@
 -- Worked lists of entries, each computed by the definitions to the replies that the rules of the queues
 -- give. The replies were worked out by hand.
-use Rattle.std.proofs.Common.{◌≡◌, ℕ, suc, List, [], ◌∷◌, map, take, None, Some, true, false, codes, refl}
+use Rattle.std.proofs.Common.{◌≡◌, ℕ, suc, List, [], ◌∷◌, ◌++◌, length, map, take, None, Some, true, false, codes, refl}
+use Rattle.std.specs.List.{filter, last_or}
 use Rattle.cq_base.specs.declared.ask.Ask.{Ask}
 use Rattle.cq_base.specs.declared.ask.Ask.TheVariants.{Create, Remove, Send, Receive, Delete, Change}
 use Rattle.cq_base.specs.declared.ask.Entry.{Entry}
@@ -10,11 +11,12 @@ use Rattle.cq_base.specs.declared.reply.Reply.{Reply}
 use Rattle.cq_base.specs.declared.reply.Reply.TheVariants.{Created, Removed, Sent, Received, Deleted, Changed, Counts, Refused}
 use Rattle.cq_base.specs.Clients.{of_client, is_fresh, is_stale, kept_reply}
 use Rattle.cq_base.specs.Effects.{effect_on, effect_off, effect_of}
-use Rattle.cq_base.specs.Facts.{about, on}
+use Rattle.cq_base.specs.Facts.{Fact, about, on}
 use Rattle.cq_base.specs.Handle.{Handle}
 use Rattle.cq_base.specs.History.{fresh_fact, reply_again, fact_of, history, last_moment, counts_after}
+use Rattle.cq_base.specs.Incarnations.{Accepted, lifetime, repeated, is_use, is_clocked}
 use Rattle.cq_base.specs.Lifetimes.{live, creations, removed_lately}
-use Rattle.cq_base.specs.Messages.{messages, duplicate, is_sent, hands, touches, until, is_deleted, message_of, standing}
+use Rattle.cq_base.specs.Messages.{messages, duplicate, is_sent, hands, touches, until, is_deleted, moment_of, message_of, standing}
 use Rattle.cq_base.specs.Receiving.{in_turn, to_hand}
 
 -- the entry of a client's request
@@ -43,15 +45,23 @@ remove moment = (moment, Remove name)
 abbrev send : ℕ → List ℕ → List ℕ → ℕ × Ask
 send moment group body = (moment, Send name group body body)
 
+-- a send whose body is another text than its deduplication id
+abbrev send_as : ℕ → List ℕ → List ℕ → List ℕ → ℕ × Ask
+send_as moment group dedup body = (moment, Send name group dedup body)
+
 abbrev receive : ℕ → ℕ → ℕ × Ask
 receive moment size = (moment, Receive name size None)
 
 abbrev receive_for : ℕ → ℕ → ℕ → ℕ × Ask
 receive_for moment size visibility = (moment, Receive name size (Some visibility))
 
--- the receipt of the first incarnation's message with that number, for that handing of it
+-- the receipt of that incarnation's message with that number, for that handing of it
+abbrev receipt_of : ℕ → ℕ → ℕ → Handle
+receipt_of incarnation sequence handing = record { incarnation = incarnation; sequence = sequence; handing = handing }
+
+-- the same of the first incarnation
 abbrev receipt : ℕ → ℕ → Handle
-receipt sequence handing = record { incarnation = 1; sequence = sequence; handing = handing }
+receipt sequence handing = receipt_of 1 sequence handing
 
 abbrev delete : ℕ → ℕ → ℕ → ℕ × Ask
 delete moment sequence handing = (moment, Delete name (receipt sequence handing))
@@ -63,9 +73,13 @@ change moment sequence handing visibility = (moment, Change name (receipt sequen
 abbrev replies : List Entry → List Reply
 replies entries = map (λ f. f.reply) (history entries)
 
--- one message as it is handed out
+-- one message as that incarnation hands it out
+abbrev handed_by : ℕ → List ℕ → List ℕ → ℕ → ℕ → Delivery
+handed_by incarnation group body sequence handing = record { receipt = receipt_of incarnation sequence handing; group = group; body = body }
+
+-- the same of the first incarnation
 abbrev handed : List ℕ → List ℕ → ℕ → ℕ → Delivery
-handed group body sequence handing = record { receipt = receipt sequence handing; group = group; body = body }
+handed group body sequence handing = handed_by 1 group body sequence handing
 
 abbrev nothing : Reply
 nothing = Received []
@@ -443,3 +457,507 @@ no_counts = refl
 counts_after_removal : counts_after (created (send 0 (codes "a") (codes "x") ∷ remove 1 ∷ [])) name ≡ Refused QueueDoesNotExist
 unfolding about on of_client is_fresh is_stale kept_reply live creations removed_lately messages duplicate is_sent hands touches until is_deleted message_of standing in_turn to_hand effect_on effect_off effect_of fresh_fact reply_again fact_of history last_moment counts_after
 counts_after_removal = refl
+
+-- A refused removal does not prolong the minute. The receipts of an incarnation are none of the next one's.
+abbrev refused_removal_asks : List (ℕ × Ask)
+refused_removal_asks =
+    send 0 (codes "a") (codes "x")
+    ∷ receive 1 1
+    ∷ remove 100000
+    ∷ remove 130000
+    ∷ create 160000 30
+    ∷ send 160000 (codes "a") (codes "x")
+    ∷ delete 160000 1 1
+    ∷ change 160000 1 1 0
+    ∷ receive 160001 1
+    ∷ delete 160001 1 1
+    ∷ change 160001 1 1 0
+    ∷ (160002, Delete name (receipt_of 3 1 1))
+    ∷ (160002, Change name (receipt_of 2 1 1) 0)
+    ∷ (160002, Delete name (receipt_of 2 1 1))
+    ∷ (160003, Change name (receipt_of 1 1 1) 0)
+    ∷ []
+
+abbrev refused_removal_replies : List Reply
+refused_removal_replies =
+    Created 1
+    ∷ Sent 1
+    ∷ Received (handed (codes "a") (codes "x") 1 1 ∷ [])
+    ∷ Removed
+    ∷ Refused QueueDoesNotExist
+    ∷ Created 2
+    ∷ Sent 1
+    ∷ Refused ReceiptHandleIsInvalid
+    ∷ Refused ReceiptHandleIsInvalid
+    ∷ Received (handed_by 2 (codes "a") (codes "x") 1 1 ∷ [])
+    ∷ Refused ReceiptHandleIsInvalid
+    ∷ Refused ReceiptHandleIsInvalid
+    ∷ Refused ReceiptHandleIsInvalid
+    ∷ Changed
+    ∷ Deleted true
+    ∷ Refused ReceiptHandleIsInvalid
+    ∷ []
+
+refused_removal : replies (created refused_removal_asks) ≡ refused_removal_replies
+unfolding about on of_client is_fresh is_stale kept_reply live creations removed_lately messages duplicate is_sent hands touches until is_deleted message_of standing in_turn to_hand effect_on effect_off effect_of fresh_fact reply_again fact_of history
+refused_removal = refl
+
+-- A timeout of 0 never hides a message, and isn't the queue's.
+abbrev no_timeout_asks : List (ℕ × Ask)
+no_timeout_asks =
+    send 0 (codes "a") (codes "x")
+    ∷ receive_for 1 1 0
+    ∷ receive 1 1
+    ∷ receive 1 1
+    ∷ change 1 1 2 0
+    ∷ receive_for 1 1 0
+    ∷ change 1 1 3 30
+    ∷ []
+
+abbrev no_timeout_replies : List Reply
+no_timeout_replies =
+    Created 1
+    ∷ Sent 1
+    ∷ Received (handed (codes "a") (codes "x") 1 1 ∷ [])
+    ∷ Received (handed (codes "a") (codes "x") 1 2 ∷ [])
+    ∷ nothing
+    ∷ Changed
+    ∷ Received (handed (codes "a") (codes "x") 1 3 ∷ [])
+    ∷ Refused MessageNotInflight
+    ∷ []
+
+no_timeout : replies (created no_timeout_asks) ≡ no_timeout_replies
+unfolding about on of_client is_fresh is_stale kept_reply live creations removed_lately messages duplicate is_sent hands touches until is_deleted message_of standing in_turn to_hand effect_on effect_off effect_of fresh_fact reply_again fact_of history
+no_timeout = refl
+
+-- A message that was never handed out has no receipt.
+abbrev never_handed_asks : List (ℕ × Ask)
+never_handed_asks =
+    send 0 (codes "a") (codes "x")
+    ∷ delete 0 1 1
+    ∷ change 0 1 1 0
+    ∷ change 0 1 1 43200
+    ∷ receive 1 1
+    ∷ delete 1 1 2
+    ∷ change 1 1 2 0
+    ∷ delete 1 1 1
+    ∷ []
+
+abbrev never_handed_replies : List Reply
+never_handed_replies =
+    Created 1
+    ∷ Sent 1
+    ∷ Refused ReceiptHandleIsInvalid
+    ∷ Refused ReceiptHandleIsInvalid
+    ∷ Refused ReceiptHandleIsInvalid
+    ∷ Received (handed (codes "a") (codes "x") 1 1 ∷ [])
+    ∷ Refused ReceiptHandleIsInvalid
+    ∷ Refused ReceiptHandleIsInvalid
+    ∷ Deleted true
+    ∷ []
+
+never_handed : replies (created never_handed_asks) ≡ never_handed_replies
+unfolding about on of_client is_fresh is_stale kept_reply live creations removed_lately messages duplicate is_sent hands touches until is_deleted message_of standing in_turn to_hand effect_on effect_off effect_of fresh_fact reply_again fact_of history
+never_handed = refl
+
+-- A send repeats the one of its deduplication id, whatever group and body it has, and is answered with that one's number.
+abbrev ids_and_bodies_asks : List (ℕ × Ask)
+ids_and_bodies_asks =
+    send_as 0 (codes "a") (codes "d1") (codes "x")
+    ∷ send_as 1 (codes "b") (codes "d2") (codes "y")
+    ∷ send_as 2 (codes "a") (codes "d2") (codes "z")
+    ∷ send_as 3 (codes "c") (codes "x") (codes "x")
+    ∷ send_as 3 (codes "d") (codes "d3") (codes "x")
+    ∷ send_as 4 (codes "a") (codes "x") (codes "w")
+    ∷ receive 5 10
+    ∷ []
+
+abbrev ids_and_bodies_replies : List Reply
+ids_and_bodies_replies =
+    Created 1
+    ∷ Sent 1
+    ∷ Sent 2
+    ∷ Sent 2
+    ∷ Sent 3
+    ∷ Sent 4
+    ∷ Sent 3
+    ∷ Received (handed (codes "a") (codes "x") 1 1 ∷ handed (codes "b") (codes "y") 2 1 ∷ handed (codes "c") (codes "x") 3 1 ∷ handed (codes "d") (codes "x") 4 1 ∷ [])
+    ∷ []
+
+ids_and_bodies : replies (created ids_and_bodies_asks) ≡ ids_and_bodies_replies
+unfolding about on of_client is_fresh is_stale kept_reply live creations removed_lately messages duplicate is_sent hands touches until is_deleted message_of standing in_turn to_hand effect_on effect_off effect_of fresh_fact reply_again fact_of history
+ids_and_bodies = refl
+
+-- The five minutes run from the accepted send, and each id has its own.
+abbrev window_is_not_renewed_asks : List (ℕ × Ask)
+window_is_not_renewed_asks =
+    send 0 (codes "a") (codes "x")
+    ∷ send 200000 (codes "a") (codes "x")
+    ∷ send 200000 (codes "a") (codes "y")
+    ∷ send 300000 (codes "a") (codes "x")
+    ∷ send 499999 (codes "a") (codes "y")
+    ∷ send 500000 (codes "a") (codes "y")
+    ∷ send 599999 (codes "a") (codes "x")
+    ∷ []
+
+abbrev window_is_not_renewed_replies : List Reply
+window_is_not_renewed_replies =
+    Created 1
+    ∷ Sent 1
+    ∷ Sent 1
+    ∷ Sent 2
+    ∷ Sent 3
+    ∷ Sent 2
+    ∷ Sent 4
+    ∷ Sent 3
+    ∷ []
+
+window_is_not_renewed : replies (created window_is_not_renewed_asks) ≡ window_is_not_renewed_replies
+unfolding about on of_client is_fresh is_stale kept_reply live creations removed_lately messages duplicate is_sent hands touches until is_deleted message_of standing in_turn to_hand effect_on effect_off effect_of fresh_fact reply_again fact_of history
+window_is_not_renewed = refl
+
+-- A queue has the visibility timeout of the creation by which it lives. Each creation that takes effect counts.
+abbrev visibility_of_the_creation_asks : List (ℕ × Ask)
+visibility_of_the_creation_asks =
+    create 0 29
+    ∷ remove 1
+    ∷ create 60000 40
+    ∷ create 60001 40
+    ∷ create 60002 40
+    ∷ create 60002 30
+    ∷ create 60002 41
+    ∷ send 60002 (codes "a") (codes "x")
+    ∷ receive 62000 1
+    ∷ receive 101999 1
+    ∷ receive 102000 1
+    ∷ remove 103000
+    ∷ create 163000 0
+    ∷ send 163000 (codes "a") (codes "x")
+    ∷ receive 163000 1
+    ∷ receive 163000 1
+    ∷ []
+
+abbrev visibility_of_the_creation_replies : List Reply
+visibility_of_the_creation_replies =
+    Created 1
+    ∷ Refused QueueNameExists
+    ∷ Removed
+    ∷ Refused QueueDeletedRecently
+    ∷ Created 2
+    ∷ Created 2
+    ∷ Refused QueueNameExists
+    ∷ Refused QueueNameExists
+    ∷ Sent 1
+    ∷ Received (handed_by 2 (codes "a") (codes "x") 1 1 ∷ [])
+    ∷ nothing
+    ∷ Received (handed_by 2 (codes "a") (codes "x") 1 2 ∷ [])
+    ∷ Removed
+    ∷ Created 3
+    ∷ Sent 1
+    ∷ Received (handed_by 3 (codes "a") (codes "x") 1 1 ∷ [])
+    ∷ Received (handed_by 3 (codes "a") (codes "x") 1 2 ∷ [])
+    ∷ []
+
+visibility_of_the_creation : replies (created visibility_of_the_creation_asks) ≡ visibility_of_the_creation_replies
+unfolding about on of_client is_fresh is_stale kept_reply live creations removed_lately messages duplicate is_sent hands touches until is_deleted message_of standing in_turn to_hand effect_on effect_off effect_of fresh_fact reply_again fact_of history
+visibility_of_the_creation = refl
+
+-- Which refusal a change has: the receipt is looked at first, then whether the message is in flight, then the limit. A deleted message isn't in flight, whatever the receipt.
+abbrev old_receipts_change_nothing_asks : List (ℕ × Ask)
+old_receipts_change_nothing_asks =
+    send 0 (codes "a") (codes "x")
+    ∷ receive_for 0 1 10
+    ∷ receive_for 10000 1 10
+    ∷ change 10001 1 1 43200
+    ∷ change 10001 1 3 0
+    ∷ change 19999 1 2 0
+    ∷ change 19999 1 2 10
+    ∷ change 20000 1 1 0
+    ∷ change 20000 1 2 43200
+    ∷ delete 20000 1 2
+    ∷ change 20000 1 2 0
+    ∷ change 20000 1 9 43200
+    ∷ change 20000 2 1 0
+    ∷ []
+
+abbrev old_receipts_change_nothing_replies : List Reply
+old_receipts_change_nothing_replies =
+    Created 1
+    ∷ Sent 1
+    ∷ Received (handed (codes "a") (codes "x") 1 1 ∷ [])
+    ∷ Received (handed (codes "a") (codes "x") 1 2 ∷ [])
+    ∷ Refused ReceiptHandleIsInvalid
+    ∷ Refused ReceiptHandleIsInvalid
+    ∷ Changed
+    ∷ Refused MessageNotInflight
+    ∷ Refused ReceiptHandleIsInvalid
+    ∷ Refused MessageNotInflight
+    ∷ Deleted true
+    ∷ Refused MessageNotInflight
+    ∷ Refused MessageNotInflight
+    ∷ Refused ReceiptHandleIsInvalid
+    ∷ []
+
+old_receipts_change_nothing : replies (created old_receipts_change_nothing_asks) ≡ old_receipts_change_nothing_replies
+unfolding about on of_client is_fresh is_stale kept_reply live creations removed_lately messages duplicate is_sent hands touches until is_deleted message_of standing in_turn to_hand effect_on effect_off effect_of fresh_fact reply_again fact_of history
+old_receipts_change_nothing = refl
+
+-- A message is in flight up to twelve hours after its last handing, and not longer.
+abbrev limit_of_a_flight_asks : List (ℕ × Ask)
+limit_of_a_flight_asks =
+    send 0 (codes "a") (codes "x")
+    ∷ receive 1000 1
+    ∷ change 2000 1 1 43199
+    ∷ change 2001 1 1 43199
+    ∷ change 30000 1 1 43171
+    ∷ change 30000 1 1 43172
+    ∷ receive 43200999 1
+    ∷ receive 43201000 1
+    ∷ []
+
+abbrev limit_of_a_flight_replies : List Reply
+limit_of_a_flight_replies =
+    Created 1
+    ∷ Sent 1
+    ∷ Received (handed (codes "a") (codes "x") 1 1 ∷ [])
+    ∷ Changed
+    ∷ Refused VisibilityBeyondLimit
+    ∷ Changed
+    ∷ Refused VisibilityBeyondLimit
+    ∷ nothing
+    ∷ Received (handed (codes "a") (codes "x") 1 2 ∷ [])
+    ∷ []
+
+limit_of_a_flight : replies (created limit_of_a_flight_asks) ≡ limit_of_a_flight_replies
+unfolding about on of_client is_fresh is_stale kept_reply live creations removed_lately messages duplicate is_sent hands touches until is_deleted message_of standing in_turn to_hand effect_on effect_off effect_of fresh_fact reply_again fact_of history
+limit_of_a_flight = refl
+
+-- Each queue has its own messages, ids, groups, receipts and visibility timeout, and is removed alone.
+abbrev two_queues_entries : List Entry
+two_queues_entries =
+    entry 0 1 1 (Create name 30)
+    ∷ entry 0 1 2 (Create (codes "r.fifo") 10)
+    ∷ entry 0 1 3 (Send name (codes "a") (codes "x") (codes "x"))
+    ∷ entry 0 1 4 (Send (codes "r.fifo") (codes "a") (codes "x") (codes "x"))
+    ∷ entry 1 1 5 (Receive name 1 None)
+    ∷ entry 1 1 6 (Receive (codes "r.fifo") 1 None)
+    ∷ entry 10001 1 7 (Receive name 1 None)
+    ∷ entry 10001 1 8 (Receive (codes "r.fifo") 1 None)
+    ∷ entry 10002 1 9 (Delete name (receipt 1 1))
+    ∷ entry 10003 1 10 (Remove (codes "r.fifo"))
+    ∷ entry 10004 1 11 (Send name (codes "a") (codes "y") (codes "y"))
+    ∷ entry 10004 1 12 (Receive (codes "r.fifo") 1 None)
+    ∷ entry 10004 1 13 (Create (codes "r.fifo") 10)
+    ∷ entry 10004 1 14 (Create name 30)
+    ∷ []
+
+abbrev two_queues_replies : List Reply
+two_queues_replies =
+    Created 1
+    ∷ Created 1
+    ∷ Sent 1
+    ∷ Sent 1
+    ∷ Received (handed (codes "a") (codes "x") 1 1 ∷ [])
+    ∷ Received (handed (codes "a") (codes "x") 1 1 ∷ [])
+    ∷ nothing
+    ∷ Received (handed (codes "a") (codes "x") 1 2 ∷ [])
+    ∷ Deleted true
+    ∷ Removed
+    ∷ Sent 2
+    ∷ Refused QueueDoesNotExist
+    ∷ Refused QueueDeletedRecently
+    ∷ Created 1
+    ∷ []
+
+two_queues : replies two_queues_entries ≡ two_queues_replies
+unfolding about on of_client is_fresh is_stale kept_reply live creations removed_lately messages duplicate is_sent hands touches until is_deleted message_of standing in_turn to_hand effect_on effect_off effect_of fresh_fact reply_again fact_of history
+two_queues = refl
+
+-- A repeat has the reply of its number, also a refusal, whatever it asks itself; numbers are each client's own and may be left out.
+abbrev repeats_of_other_asks_entries : List Entry
+repeats_of_other_asks_entries =
+    entry 0 1 1 (Create name 30)
+    ∷ entry 0 1 2 (Send name (codes "a") (codes "x") (codes "x"))
+    ∷ entry 1 1 2 (Remove name)
+    ∷ entry 2 1 1 (Remove name)
+    ∷ entry 3 2 5 (Create name 31)
+    ∷ entry 3 2 4 (Receive name 1 None)
+    ∷ entry 4 1 9 (Remove name)
+    ∷ entry 5 2 5 (Receive name 1 None)
+    ∷ entry 5 1 2 (Send name (codes "a") (codes "x") (codes "x"))
+    ∷ entry 6 1 9 (Create name 30)
+    ∷ entry 7 3 5 (Receive name 1 None)
+    ∷ entry 8 3 4 (Create name 30)
+    ∷ []
+
+abbrev repeats_of_other_asks_replies : List Reply
+repeats_of_other_asks_replies =
+    Created 1
+    ∷ Sent 1
+    ∷ Sent 1
+    ∷ Refused StaleNumber
+    ∷ Refused QueueNameExists
+    ∷ Refused StaleNumber
+    ∷ Removed
+    ∷ Refused QueueNameExists
+    ∷ Refused StaleNumber
+    ∷ Removed
+    ∷ Refused QueueDoesNotExist
+    ∷ Refused StaleNumber
+    ∷ []
+
+repeats_of_other_asks : replies repeats_of_other_asks_entries ≡ repeats_of_other_asks_replies
+unfolding about on of_client is_fresh is_stale kept_reply live creations removed_lately messages duplicate is_sent hands touches until is_deleted message_of standing in_turn to_hand effect_on effect_off effect_of fresh_fact reply_again fact_of history
+repeats_of_other_asks = refl
+
+-- All but a creation is refused where no queue lives, before the first creation and after a removal.
+abbrev no_queue_entries : List Entry
+no_queue_entries =
+    entry 0 1 1 (Remove name)
+    ∷ entry 0 1 2 (Send name (codes "a") (codes "x") (codes "x"))
+    ∷ entry 0 1 3 (Receive name 1 None)
+    ∷ entry 0 1 4 (Delete name (receipt 1 1))
+    ∷ entry 0 1 5 (Change name (receipt 1 1) 0)
+    ∷ entry 0 1 6 (Create name 30)
+    ∷ entry 1 1 7 (Remove name)
+    ∷ entry 2 1 8 (Remove name)
+    ∷ entry 2 1 9 (Send name (codes "a") (codes "x") (codes "x"))
+    ∷ entry 2 1 10 (Receive name 1 None)
+    ∷ entry 2 1 11 (Delete name (receipt 1 1))
+    ∷ entry 2 1 12 (Change name (receipt 1 1) 0)
+    ∷ []
+
+abbrev no_queue_replies : List Reply
+no_queue_replies =
+    Refused QueueDoesNotExist
+    ∷ Refused QueueDoesNotExist
+    ∷ Refused QueueDoesNotExist
+    ∷ Refused QueueDoesNotExist
+    ∷ Refused QueueDoesNotExist
+    ∷ Created 1
+    ∷ Removed
+    ∷ Refused QueueDoesNotExist
+    ∷ Refused QueueDoesNotExist
+    ∷ Refused QueueDoesNotExist
+    ∷ Refused QueueDoesNotExist
+    ∷ Refused QueueDoesNotExist
+    ∷ []
+
+no_queue : replies no_queue_entries ≡ no_queue_replies
+unfolding about on of_client is_fresh is_stale kept_reply live creations removed_lately messages duplicate is_sent hands touches until is_deleted message_of standing in_turn to_hand effect_on effect_off effect_of fresh_fact reply_again fact_of history
+no_queue = refl
+
+-- Counts are those at the moment of the last entry, also where it repeats one, is stale, is refused, or names
+-- another queue.
+abbrev one_in_the_air : List Entry
+one_in_the_air = created (send 0 (codes "a") (codes "x") ∷ send 0 (codes "b") (codes "y") ∷ receive 1 1 ∷ [])
+
+counts_in_flight : counts_after (one_in_the_air ++ entry 30000 1 4 (Receive name 1 None) ∷ []) name ≡ Counts 1 1
+unfolding about on of_client is_fresh is_stale kept_reply live creations removed_lately messages duplicate is_sent hands touches until is_deleted message_of standing in_turn to_hand effect_on effect_off effect_of fresh_fact reply_again fact_of history last_moment counts_after
+counts_in_flight = refl
+
+counts_after_a_repeat : counts_after (one_in_the_air ++ entry 30001 1 4 (Receive name 1 None) ∷ []) name ≡ Counts 2 0
+unfolding about on of_client is_fresh is_stale kept_reply live creations removed_lately messages duplicate is_sent hands touches until is_deleted message_of standing in_turn to_hand effect_on effect_off effect_of fresh_fact reply_again fact_of history last_moment counts_after
+counts_after_a_repeat = refl
+
+counts_after_a_stale_entry : counts_after (one_in_the_air ++ entry 30001 1 3 (Receive name 1 None) ∷ []) name ≡ Counts 2 0
+unfolding about on of_client is_fresh is_stale kept_reply live creations removed_lately messages duplicate is_sent hands touches until is_deleted message_of standing in_turn to_hand effect_on effect_off effect_of fresh_fact reply_again fact_of history last_moment counts_after
+counts_after_a_stale_entry = refl
+
+counts_after_another_queue : counts_after (one_in_the_air ++ entry 30001 2 1 (Remove (codes "r.fifo")) ∷ []) name ≡ Counts 2 0
+unfolding about on of_client is_fresh is_stale kept_reply live creations removed_lately messages duplicate is_sent hands touches until is_deleted message_of standing in_turn to_hand effect_on effect_off effect_of fresh_fact reply_again fact_of history last_moment counts_after
+counts_after_another_queue = refl
+
+-- a deleted message counts no more
+counts_after_a_delete : counts_after (one_in_the_air ++ entry 2 1 5 (Delete name (receipt 1 1)) ∷ []) name ≡ Counts 1 0
+unfolding about on of_client is_fresh is_stale kept_reply live creations removed_lately messages duplicate is_sent hands touches until is_deleted message_of standing in_turn to_hand effect_on effect_off effect_of fresh_fact reply_again fact_of history last_moment counts_after
+counts_after_a_delete = refl
+
+-- of the queue that the query names
+counts_of_another_queue : counts_after (one_in_the_air ++ entry 2 1 5 (Create (codes "r.fifo") 30) ∷ []) (codes "r.fifo") ≡ Counts 0 0
+unfolding about on of_client is_fresh is_stale kept_reply live creations removed_lately messages duplicate is_sent hands touches until is_deleted message_of standing in_turn to_hand effect_on effect_off effect_of fresh_fact reply_again fact_of history last_moment counts_after
+counts_of_another_queue = refl
+
+last_moments : map last_moment ([] ∷ one_in_the_air ∷ (one_in_the_air ++ entry 7 1 4 (Remove name) ∷ []) ∷ []) ≡ 0 ∷ 1 ∷ 7 ∷ []
+unfolding last_moment
+last_moments = refl
+
+-- What entries of each kind do, and to which incarnation they came: fresh, effective, with a count, or
+-- handing messages out.
+abbrev kinds_asks : List (ℕ × Ask)
+kinds_asks =
+    send 0 (codes "a") (codes "x")
+    ∷ send 0 (codes "a") (codes "y")
+    ∷ create 1 30
+    ∷ send 2 (codes "a") (codes "x")
+    ∷ receive 3 2
+    ∷ change 4 1 1 60
+    ∷ change 4 9 1 60
+    ∷ delete 5 2 1
+    ∷ delete 6 2 1
+    ∷ delete 6 9 1
+    ∷ remove 7
+    ∷ receive 8 1
+    ∷ create 60007 30
+    ∷ receive 60008 1
+    ∷ []
+
+-- with a stale entry and a repeat at the end
+abbrev kinds : List Entry
+kinds = created kinds_asks ++ entry 60008 1 1 (Remove name) ∷ entry 60008 1 15 (Remove name) ∷ []
+
+kinds_fresh : map (λ f. f.fresh) (history kinds) ≡ true ∷ true ∷ true ∷ true ∷ true ∷ true ∷ true ∷ true ∷ true ∷ true ∷ true ∷ true ∷ true ∷ true ∷ true ∷ false ∷ false ∷ []
+unfolding about on of_client is_fresh is_stale kept_reply live creations removed_lately messages duplicate is_sent hands touches until is_deleted message_of standing in_turn to_hand effect_on effect_off effect_of fresh_fact reply_again fact_of history
+kinds_fresh = refl
+
+kinds_incarnations : map (λ f. f.incarnation) (history kinds) ≡ 0 ∷ 1 ∷ 1 ∷ 1 ∷ 1 ∷ 1 ∷ 1 ∷ 1 ∷ 1 ∷ 1 ∷ 1 ∷ 1 ∷ 0 ∷ 0 ∷ 2 ∷ 0 ∷ 0 ∷ []
+unfolding about on of_client is_fresh is_stale kept_reply live creations removed_lately messages duplicate is_sent hands touches until is_deleted message_of standing in_turn to_hand effect_on effect_off effect_of fresh_fact reply_again fact_of history
+kinds_incarnations = refl
+
+kinds_effective : map (λ f. f.effective) (history kinds) ≡ true ∷ true ∷ true ∷ false ∷ false ∷ false ∷ true ∷ false ∷ true ∷ false ∷ false ∷ true ∷ false ∷ true ∷ false ∷ false ∷ false ∷ []
+unfolding about on of_client is_fresh is_stale kept_reply live creations removed_lately messages duplicate is_sent hands touches until is_deleted message_of standing in_turn to_hand effect_on effect_off effect_of fresh_fact reply_again fact_of history
+kinds_effective = refl
+
+kinds_counts : map (λ f. f.count) (history kinds) ≡ 1 ∷ 1 ∷ 2 ∷ 0 ∷ 0 ∷ 0 ∷ 1 ∷ 0 ∷ 2 ∷ 0 ∷ 0 ∷ 1 ∷ 0 ∷ 2 ∷ 0 ∷ 0 ∷ 0 ∷ []
+unfolding about on of_client is_fresh is_stale kept_reply live creations removed_lately messages duplicate is_sent hands touches until is_deleted message_of standing in_turn to_hand effect_on effect_off effect_of fresh_fact reply_again fact_of history
+kinds_counts = refl
+
+kinds_handed : map (λ f. f.handed) (history kinds) ≡ [] ∷ [] ∷ [] ∷ [] ∷ [] ∷ (1 ∷ 2 ∷ []) ∷ [] ∷ [] ∷ [] ∷ [] ∷ [] ∷ [] ∷ [] ∷ [] ∷ [] ∷ [] ∷ [] ∷ []
+unfolding about on of_client is_fresh is_stale kept_reply live creations removed_lately messages duplicate is_sent hands touches until is_deleted message_of standing in_turn to_hand effect_on effect_off effect_of fresh_fact reply_again fact_of history
+kinds_handed = refl
+
+kinds_entries : map (λ f. f.entry) (history kinds) ≡ kinds
+unfolding about on of_client is_fresh is_stale kept_reply live creations removed_lately messages duplicate is_sent hands touches until is_deleted message_of standing in_turn to_hand effect_on effect_off effect_of fresh_fact reply_again fact_of history
+kinds_entries = refl
+
+-- ---- one incarnation by itself
+
+-- what comes to an incarnation with a visibility timeout of 10 s
+abbrev coming_entries : List Entry
+coming_entries = numbered 1 (create 0 10 ∷ send 1 (codes "a") (codes "x") ∷ send 2 (codes "a") (codes "x") ∷ receive 3 1 ∷ delete 3 2 1 ∷ receive 3 1 ∷ [])
+
+abbrev lifetime_of : List (ℕ × Ask) → List Fact
+lifetime_of asks = lifetime 1 10 (coming_entries ++ numbered 7 asks)
+
+lifetime_replies : map (λ f. f.reply) (lifetime_of (receive 10002 1 ∷ receive 10003 1 ∷ [])) ≡ Created 1 ∷ Sent 1 ∷ Sent 1 ∷ Received (handed (codes "a") (codes "x") 1 1 ∷ []) ∷ Refused ReceiptHandleIsInvalid ∷ nothing ∷ nothing ∷ Received (handed (codes "a") (codes "x") 1 2 ∷ []) ∷ []
+unfolding messages duplicate is_sent hands touches until is_deleted message_of standing in_turn to_hand effect_on lifetime
+lifetime_replies = refl
+
+-- Sends and receives are its uses; they and effective changes give its last moment.
+lifetime_uses : map (λ asks. length (filter is_use (lifetime_of asks))) ([] ∷ (receive 4 1 ∷ []) ∷ (change 4 1 1 0 ∷ delete 5 1 1 ∷ create 6 10 ∷ []) ∷ []) ≡ 4 ∷ 5 ∷ 4 ∷ []
+unfolding messages duplicate is_sent hands touches until is_deleted message_of standing in_turn to_hand effect_on lifetime
+lifetime_uses = refl
+
+lifetime_moments : map (λ asks. moment_of (last_or None (filter is_clocked (lifetime_of asks)))) ([] ∷ (receive 4 1 ∷ []) ∷ (send 4 (codes "a") (codes "x") ∷ []) ∷ (change 4 1 1 0 ∷ []) ∷ (change 4 1 2 0 ∷ []) ∷ (delete 4 1 1 ∷ []) ∷ (create 4 10 ∷ []) ∷ []) ≡ 3 ∷ 4 ∷ 4 ∷ 4 ∷ 3 ∷ 3 ∷ 3 ∷ []
+unfolding messages duplicate is_sent hands touches until is_deleted message_of standing in_turn to_hand effect_on lifetime
+lifetime_moments = refl
+
+-- the accepted sends of x at 100 and of y at 200
+abbrev two_accepted : List Accepted
+two_accepted = record { dedup = codes "x"; moment = 100; sequence = 1 } ∷ record { dedup = codes "y"; moment = 200; sequence = 2 } ∷ []
+
+repeated_of_two : map (λ moment. repeated (codes "x") moment two_accepted) (200 ∷ 300099 ∷ 300100 ∷ []) ≡ Some 1 ∷ Some 1 ∷ None ∷ []
+repeated_of_two = refl
+
+repeated_of_the_second : map (λ id. repeated id 300199 two_accepted) (codes "x" ∷ codes "y" ∷ codes "z" ∷ []) ≡ None ∷ Some 2 ∷ None ∷ []
+repeated_of_the_second = refl
