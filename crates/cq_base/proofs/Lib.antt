@@ -10,3 +10,4 @@ pub mod Numbers
 pub mod Pairs
 pub mod Rows
 pub mod Steps
+pub mod TextRows

@@ -930,6 +930,11 @@ kinds_entries : map (λ f. f.entry) (history kinds) ≡ kinds
 unfolding about on of_client is_fresh is_stale kept_reply live creations removed_lately messages duplicate is_sent hands touches until is_deleted message_of standing in_turn to_hand effect_on effect_off effect_of fresh_fact reply_again fact_of history
 kinds_entries = refl
 
+-- of these, fresh ones that name a queue are about it
+kinds_about : map (λ queue. length (about queue (history kinds))) (name ∷ codes "r.fifo" ∷ []) ≡ 15 ∷ 0 ∷ []
+unfolding about on of_client is_fresh is_stale kept_reply live creations removed_lately messages duplicate is_sent hands touches until is_deleted message_of standing in_turn to_hand effect_on effect_off effect_of fresh_fact reply_again fact_of history
+kinds_about = refl
+
 -- ---- one incarnation by itself
 
 -- what comes to an incarnation with a visibility timeout of 10 s
