@@ -1,8 +1,10 @@
-ghost use Rattle.std.specs.Prelude.{◌≡◌, ◌<◌, ◌≤◌, ◌+◌, ◌^◌, ℕ, List, [], ◌∷◌, ◌++◌, length, true, Some, cond, ◌==◌, IfOk, OnOk, OnErr};
+ghost use Rattle.std.specs.Prelude.{◌≡◌, ◌<◌, ◌≤◌, ◌+◌, ◌^◌, ℕ, List, [], ◌∷◌, ◌++◌, true, Some, cond, ◌==◌, IfOk, OnOk, OnErr};
 ghost use Rattle.cq_base.specs.declared.ask.Entry.{Entry};
 ghost use Rattle.cq_base.specs.Clients.{is_fresh};
 ghost use Rattle.cq_base.specs.History as object;
 ghost use Rattle.cq_store.specs.Stands.{Stands, count_of, last_of};
+
+mod reads;
 
 use crate::clients::Clients;
 use crate::names::Names;
@@ -51,22 +53,6 @@ impl Store {
             clients: Clients::new(alloc),
             names: Names::new(alloc),
         })
-    }
-
-    /// How many entries it was given: O(1).
-    pub fn count(&self) -> u64
-        ensures value { result ≡ count_of self.now }
-        ensures stands { (entries : List Entry) → Stands self.now entries → result ≡ length entries }
-    {
-        self.count
-    }
-
-    /// The moment of the last entry, and 0 before the first: O(1).
-    pub fn last(&self) -> Moment
-        ensures value { result ≡ last_of self.now }
-        ensures stands { (entries : List Entry) → Stands self.now entries → result ≡ object.last_moment entries }
-    {
-        self.last
     }
 
     /// One more entry, which isn't fresh.
