@@ -19,8 +19,6 @@ type Line = (u64, u32, u64, Row, &'static str);
 enum Row {
     /// With a visibility timeout of 30 s.
     Create,
-    /// With a visibility timeout of so many seconds.
-    CreateWith(u32),
     /// Of another queue, with a visibility timeout of 30 s.
     CreateOther(&'static str),
     Remove,
@@ -29,8 +27,6 @@ enum Row {
     /// The queue, the group and the body.
     SendTo(&'static str, &'static str, &'static str),
     Receive(u8),
-    /// The size, and the visibility timeout in seconds.
-    ReceiveFor(u8, u32),
     /// A message of the first incarnation, and the handing of the receipt.
     Delete(u64, u64),
     /// The same, and the visibility timeout in seconds.
@@ -45,8 +41,8 @@ fn receipt(sequence: u64, handing: u64) -> Result<Receipt, Fail> {
     Ok(Receipt::new(1, sequence, handing).ok_or("no receipt")?)
 }
 
-fn create(queue: QueueName, visibility: u32) -> Result<Ask, Fail> {
-    let visibility = seconds(visibility)?;
+fn create(queue: QueueName) -> Result<Ask, Fail> {
+    let visibility = seconds(30)?;
     Ok(Ask::Create { queue, visibility })
 }
 
@@ -62,12 +58,12 @@ fn send(alloc: Global, queue: QueueName, group: &str, body: &str) -> Result<Ask,
     })
 }
 
-fn receive(queue: QueueName, size: u8, visibility: Option<Seconds>) -> Result<Ask, Fail> {
+fn receive(queue: QueueName, size: u8) -> Result<Ask, Fail> {
     let size = BatchSize::new(size).ok_or("no size")?;
     Ok(Ask::Receive {
         queue,
         size,
-        visibility,
+        visibility: None,
     })
 }
 
@@ -89,14 +85,12 @@ fn change(queue: QueueName, sequence: u64, handing: u64, visibility: u32) -> Res
 fn ask_of(alloc: Global, row: Row) -> Result<Ask, Fail> {
     let queue = QueueName::new(alloc, "q.fifo")?;
     match row {
-        Row::Create => create(queue, 30),
-        Row::CreateWith(visibility) => create(queue, visibility),
-        Row::CreateOther(name) => create(QueueName::new(alloc, name)?, 30),
+        Row::Create => create(queue),
+        Row::CreateOther(name) => create(QueueName::new(alloc, name)?),
         Row::Remove => Ok(Ask::Remove { queue }),
         Row::Send(group, body) => send(alloc, queue, group, body),
         Row::SendTo(name, group, body) => send(alloc, QueueName::new(alloc, name)?, group, body),
-        Row::Receive(size) => receive(queue, size, None),
-        Row::ReceiveFor(size, visibility) => receive(queue, size, Some(seconds(visibility)?)),
+        Row::Receive(size) => receive(queue, size),
         Row::Delete(sequence, handing) => delete(queue, sequence, handing),
         Row::Change(sequence, handing, visibility) => change(queue, sequence, handing, visibility),
     }
@@ -242,126 +236,6 @@ fn check_counts(
     Ok(())
 }
 
-/// A deduplication id counts for less than five minutes, and a delete of the message does not end them.
-#[test]
-fn ids_count_for_five_minutes(rt: HostRuntime) -> Result<(), Fail> {
-    let rows = [
-        (0, 1, 1, Row::Create, "created 1"),
-        (0, 1, 2, Row::Send("a", "x"), "sent 1"),
-        (1, 1, 3, Row::Receive(1), "received x 1-1-1"),
-        (2, 1, 4, Row::Delete(1, 1), "deleted true"),
-        (299_999, 1, 5, Row::Send("a", "x"), "sent 1"),
-        (299_999, 1, 6, Row::Receive(1), "received"),
-        (300_000, 1, 7, Row::Send("a", "x"), "sent 2"),
-        (300_000, 1, 8, Row::Send("b", "x"), "sent 2"),
-        (300_000, 1, 9, Row::Receive(10), "received x 1-2-1"),
-    ];
-    check(&rt, rt.alloc(), &rows)?;
-    Ok(())
-}
-
-/// A group of which a message is in flight is closed.
-#[test]
-fn a_group_in_flight_is_closed(rt: HostRuntime) -> Result<(), Fail> {
-    let rows = [
-        (0, 1, 1, Row::Create, "created 1"),
-        (0, 1, 2, Row::Send("a", "a1"), "sent 1"),
-        (0, 1, 3, Row::Send("a", "a2"), "sent 2"),
-        (0, 1, 4, Row::Send("a", "a3"), "sent 3"),
-        (0, 1, 5, Row::Send("b", "b1"), "sent 4"),
-        (1, 1, 6, Row::Receive(2), "received a1 1-1-1 a2 1-2-1"),
-        (2, 1, 7, Row::Receive(2), "received b1 1-4-1"),
-        (3, 1, 8, Row::Receive(2), "received"),
-        (4, 1, 9, Row::Delete(1, 1), "deleted true"),
-        (5, 1, 10, Row::Receive(10), "received"),
-        (6, 1, 11, Row::Delete(2, 1), "deleted true"),
-        (7, 1, 12, Row::Receive(10), "received a3 1-3-1"),
-    ];
-    check(&rt, rt.alloc(), &rows)?;
-    Ok(())
-}
-
-/// A group opens again when the timeouts of its messages end.
-#[test]
-fn a_group_opens_when_its_timeouts_end(rt: HostRuntime) -> Result<(), Fail> {
-    let rows = [
-        (0, 1, 1, Row::Create, "created 1"),
-        (0, 1, 2, Row::Send("a", "a1"), "sent 1"),
-        (0, 1, 3, Row::Send("a", "a2"), "sent 2"),
-        (0, 1, 4, Row::Send("a", "a3"), "sent 3"),
-        (1000, 1, 5, Row::Receive(2), "received a1 1-1-1 a2 1-2-1"),
-        (2000, 1, 6, Row::Delete(2, 1), "deleted true"),
-        (30_999, 1, 7, Row::Receive(10), "received"),
-        (31_000, 1, 8, Row::Receive(10), "received a1 1-1-2 a3 1-3-1"),
-    ];
-    check(&rt, rt.alloc(), &rows)?;
-    Ok(())
-}
-
-/// A delete takes effect with the receipt of the last handing alone, also after its timeout.
-#[test]
-fn old_receipts_delete_nothing(rt: HostRuntime) -> Result<(), Fail> {
-    let rows = [
-        (0, 1, 1, Row::Create, "created 1"),
-        (0, 1, 2, Row::Send("a", "x"), "sent 1"),
-        (0, 1, 3, Row::ReceiveFor(1, 10), "received x 1-1-1"),
-        (10_000, 1, 4, Row::ReceiveFor(1, 10), "received x 1-1-2"),
-        (10_000, 1, 5, Row::Delete(1, 3), "refused 4"),
-        (10_000, 1, 6, Row::Delete(1, 1), "deleted false"),
-        (20_000, 1, 7, Row::Delete(1, 2), "deleted true"),
-        (20_000, 1, 8, Row::Delete(1, 2), "deleted false"),
-        (20_000, 1, 9, Row::Delete(1, 9), "deleted false"),
-        (20_000, 1, 10, Row::Delete(2, 1), "refused 4"),
-    ];
-    check(&rt, rt.alloc(), &rows)?;
-    Ok(())
-}
-
-/// A change ends twelve hours after the last handing at the latest.
-#[test]
-fn a_change_counts_from_its_own_moment(rt: HostRuntime) -> Result<(), Fail> {
-    let rows = [
-        (0, 1, 1, Row::Create, "created 1"),
-        (0, 1, 2, Row::Send("a", "x"), "sent 1"),
-        (0, 1, 3, Row::Send("a", "y"), "sent 2"),
-        (0, 1, 4, Row::Receive(1), "received x 1-1-1"),
-        (5, 1, 5, Row::Change(1, 1, 0), "changed"),
-        (5, 1, 6, Row::ReceiveFor(1, 43_200), "received x 1-1-2"),
-        (5, 1, 7, Row::Change(1, 2, 43_200), "changed"),
-        (6, 1, 8, Row::Change(1, 2, 43_200), "refused 6"),
-        (6, 1, 9, Row::Change(1, 2, 43_199), "changed"),
-        (6, 1, 10, Row::Change(1, 1, 1), "refused 4"),
-        (6, 1, 11, Row::Change(2, 1, 1), "refused 4"),
-        (43_199_006, 1, 12, Row::Change(1, 2, 10), "refused 5"),
-        (43_199_006, 1, 13, Row::Delete(1, 2), "deleted true"),
-        (43_199_006, 1, 14, Row::Change(1, 2, 10), "refused 5"),
-    ];
-    check(&rt, rt.alloc(), &rows)?;
-    Ok(())
-}
-
-/// A removal ends the queue and its messages at once.
-#[test]
-fn a_removed_name_is_free_after_a_minute(rt: HostRuntime) -> Result<(), Fail> {
-    let rows = [
-        (0, 1, 1, Row::Create, "created 1"),
-        (0, 1, 2, Row::Send("a", "x"), "sent 1"),
-        (1, 1, 3, Row::Receive(1), "received x 1-1-1"),
-        (1, 1, 4, Row::Create, "created 1"),
-        (1, 1, 5, Row::CreateWith(31), "refused 2"),
-        (100_000, 1, 6, Row::Remove, "removed"),
-        (100_000, 1, 7, Row::Receive(1), "refused 1"),
-        (100_000, 1, 8, Row::Remove, "refused 1"),
-        (159_999, 1, 9, Row::Create, "refused 3"),
-        (160_000, 1, 10, Row::Create, "created 2"),
-        (160_000, 1, 11, Row::Delete(1, 1), "refused 4"),
-        (160_000, 1, 12, Row::Receive(10), "received"),
-        (160_000, 1, 13, Row::Send("a", "x"), "sent 1"),
-    ];
-    check(&rt, rt.alloc(), &rows)?;
-    Ok(())
-}
-
 /// Groups of several messages, of which ten are handed out.
 const GROUPS: [Line; 15] = [
     (0, 1, 1, Row::Create, "created 1"),
@@ -387,24 +261,19 @@ const GROUPS: [Line; 15] = [
     (1, 1, 15, Row::Receive(10), "received"),
 ];
 
-/// Each group hands out all it has before the next.
+/// Each ask takes effect once.
 #[test]
-fn groups_go_by_their_oldest_message(rt: HostRuntime) -> Result<(), Fail> {
-    check(&rt, rt.alloc(), &GROUPS)?;
-    Ok(())
-}
-
-/// A group whose oldest message is deleted goes by the next.
-#[test]
-fn a_group_goes_by_the_oldest_that_is_left(rt: HostRuntime) -> Result<(), Fail> {
+fn each_ask_is_answered(rt: HostRuntime) -> Result<(), Fail> {
     let rows = [
         (0, 1, 1, Row::Create, "created 1"),
-        (0, 1, 2, Row::Send("a", "a1"), "sent 1"),
-        (0, 1, 3, Row::Send("b", "b1"), "sent 2"),
-        (0, 1, 4, Row::Send("a", "a2"), "sent 3"),
-        (1, 1, 5, Row::ReceiveFor(1, 0), "received a1 1-1-1"),
-        (1, 1, 6, Row::Delete(1, 1), "deleted true"),
-        (1, 1, 7, Row::Receive(10), "received b1 1-2-1 a2 1-3-1"),
+        (0, 1, 2, Row::Send("a", "x"), "sent 1"),
+        (1, 1, 3, Row::Receive(1), "received x 1-1-1"),
+        (2, 1, 4, Row::Change(1, 1, 60), "changed"),
+        (60_001, 1, 5, Row::Receive(1), "received"),
+        (60_002, 1, 6, Row::Receive(1), "received x 1-1-2"),
+        (60_003, 1, 7, Row::Delete(1, 2), "deleted true"),
+        (60_004, 1, 8, Row::Remove, "removed"),
+        (60_005, 1, 9, Row::Receive(1), "refused 1"),
     ];
     check(&rt, rt.alloc(), &rows)?;
     Ok(())
@@ -421,30 +290,6 @@ const REPEATS: [Line; 8] = [
     (60_000, 2, 2, Row::Delete(1, 2), "deleted true"),
     (60_000, 1, 3, Row::Receive(1), "received x 1-1-1"),
 ];
-
-/// A repeat hands out nothing; a smaller number is stale.
-#[test]
-fn repeats_have_the_kept_reply(rt: HostRuntime) -> Result<(), Fail> {
-    check(&rt, rt.alloc(), &REPEATS)?;
-    Ok(())
-}
-
-/// A second creation has to agree with the first.
-#[test]
-fn a_queue_lives_from_its_creation_on(rt: HostRuntime) -> Result<(), Fail> {
-    let rows = [
-        (0, 1, 0, Row::Receive(1), "refused 1"),
-        (1, 1, 2, Row::Create, "created 1"),
-        (2, 1, 3, Row::Create, "created 1"),
-        (3, 1, 4, Row::CreateWith(31), "refused 2"),
-        (4, 1, 5, Row::SendTo("r.fifo", "a", "x"), "refused 1"),
-        (4, 1, 6, Row::Delete(1, 1), "refused 4"),
-        (4, 1, 7, Row::Change(1, 1, 0), "refused 4"),
-        (5, 1, 0, Row::Create, "refused 7"),
-    ];
-    check(&rt, rt.alloc(), &rows)?;
-    Ok(())
-}
 
 /// A copy goes on as the store does, with a receive and its repeat, sends and a creation.
 #[test]
