@@ -17,6 +17,7 @@ pub mod OneQueue
 pub mod Ranks
 pub mod Receipts
 pub mod Repeats
+mod Rows
 pub mod Scans
 pub mod Removals
 pub mod Sorted
