@@ -162,25 +162,9 @@ fn a_new_queue_has_nothing(rt: HostRuntime) -> Result<(), Fail> {
     Ok(())
 }
 
-/// A deduplication id counts for less than five minutes, and a delete of the message does not end them.
+/// Each call is answered, and changes what the next ones answer.
 #[test]
-fn ids_count_for_five_minutes(rt: HostRuntime) -> Result<(), Fail> {
-    let rows = [
-        (0, Row::Send("a", "x"), "sent 1"),
-        (1, Row::Receive(1), "received x 1-1-1"),
-        (2, Row::Delete(1, 1), "deleted true"),
-        (299_999, Row::Send("a", "x"), "sent 1"),
-        (299_999, Row::Receive(1), "received"),
-        (300_000, Row::Send("a", "x"), "sent 2"),
-        (300_000, Row::Send("b", "x"), "sent 2"),
-        (300_000, Row::Receive(10), "received x 1-2-1"),
-    ];
-    check(&rt, rt.alloc(), &rows)
-}
-
-/// A group of which a message is in flight is closed.
-#[test]
-fn a_group_in_flight_is_closed(rt: HostRuntime) -> Result<(), Fail> {
+fn each_call_is_answered(rt: HostRuntime) -> Result<(), Fail> {
     let rows = [
         (0, Row::Send("a", "a1"), "sent 1"),
         (0, Row::Send("a", "a2"), "sent 2"),
@@ -193,60 +177,12 @@ fn a_group_in_flight_is_closed(rt: HostRuntime) -> Result<(), Fail> {
         (4, Row::Delete(1, 1), "deleted true"),
         (5, Row::Receive(10), "received"),
         (6, Row::Delete(2, 1), "deleted true"),
-        (7, Row::Receive(10), "received a3 1-3-1"),
-    ];
-    check(&rt, rt.alloc(), &rows)
-}
-
-/// A group opens again when the timeouts of its messages end.
-#[test]
-fn a_group_opens_when_its_timeouts_end(rt: HostRuntime) -> Result<(), Fail> {
-    let rows = [
-        (0, Row::Send("a", "a1"), "sent 1"),
-        (0, Row::Send("a", "a2"), "sent 2"),
-        (0, Row::Send("a", "a3"), "sent 3"),
-        (1000, Row::Receive(2), "received a1 1-1-1 a2 1-2-1"),
-        (2000, Row::Delete(2, 1), "deleted true"),
-        (30_999, Row::Receive(10), "received"),
-        (31_000, Row::Receive(10), "received a1 1-1-2 a3 1-3-1"),
-    ];
-    check(&rt, rt.alloc(), &rows)
-}
-
-/// A delete takes effect with the receipt of the last handing alone, also after its timeout.
-#[test]
-fn old_receipts_delete_nothing(rt: HostRuntime) -> Result<(), Fail> {
-    let rows = [
-        (0, Row::Send("a", "x"), "sent 1"),
-        (0, Row::ReceiveFor(1, 10), "received x 1-1-1"),
-        (10_000, Row::ReceiveFor(1, 10), "received x 1-1-2"),
-        (10_000, Row::Delete(1, 3), "refused 4"),
-        (10_000, Row::Delete(1, 1), "deleted false"),
-        (20_000, Row::Delete(1, 2), "deleted true"),
-        (20_000, Row::Delete(1, 2), "deleted false"),
-        (20_000, Row::Delete(1, 9), "deleted false"),
-        (20_000, Row::Delete(2, 1), "refused 4"),
-    ];
-    check(&rt, rt.alloc(), &rows)
-}
-
-/// A change ends twelve hours after the last handing at the latest.
-#[test]
-fn a_change_counts_from_its_own_moment(rt: HostRuntime) -> Result<(), Fail> {
-    let rows = [
-        (0, Row::Send("a", "x"), "sent 1"),
-        (0, Row::Send("a", "y"), "sent 2"),
-        (0, Row::Receive(1), "received x 1-1-1"),
-        (5, Row::Change(1, 1, 0), "changed"),
-        (5, Row::ReceiveFor(1, 43_200), "received x 1-1-2"),
-        (5, Row::Change(1, 2, 43_200), "changed"),
-        (6, Row::Change(1, 2, 43_200), "refused 6"),
-        (6, Row::Change(1, 2, 43_199), "changed"),
-        (6, Row::Change(1, 1, 1), "refused 4"),
-        (6, Row::Change(2, 1, 1), "refused 4"),
-        (43_199_006, Row::Change(1, 2, 10), "refused 5"),
-        (43_199_006, Row::Delete(1, 2), "deleted true"),
-        (43_199_006, Row::Change(1, 2, 10), "refused 5"),
+        (7, Row::ReceiveFor(10, 60), "received a3 1-3-1"),
+        (8, Row::Change(3, 1, 0), "changed"),
+        (8, Row::Change(3, 1, 0), "refused 5"),
+        (8, Row::Delete(3, 2), "refused 4"),
+        (8, Row::Send("a", "a3"), "sent 3"),
+        (8, Row::Counts, "counts 1 1"),
     ];
     check(&rt, rt.alloc(), &rows)
 }
@@ -273,20 +209,6 @@ fn groups_go_by_their_oldest_message(rt: HostRuntime) -> Result<(), Fail> {
             "received x1 1-1-1 x2 1-5-1 x3 1-8-1 x4 1-11-1 w1 1-2-1 w2 1-3-1 w3 1-7-1 w4 1-10-1 y1 1-4-1 z1 1-6-1",
         ),
         (1, Row::Receive(10), "received"),
-    ];
-    check(&rt, rt.alloc(), &rows)
-}
-
-/// A group whose oldest message is deleted goes by the next.
-#[test]
-fn a_group_goes_by_the_oldest_that_is_left(rt: HostRuntime) -> Result<(), Fail> {
-    let rows = [
-        (0, Row::Send("a", "a1"), "sent 1"),
-        (0, Row::Send("b", "b1"), "sent 2"),
-        (0, Row::Send("a", "a2"), "sent 3"),
-        (1, Row::ReceiveFor(1, 0), "received a1 1-1-1"),
-        (1, Row::Delete(1, 1), "deleted true"),
-        (1, Row::Receive(10), "received b1 1-2-1 a2 1-3-1"),
     ];
     check(&rt, rt.alloc(), &rows)
 }
