@@ -81,14 +81,16 @@ impl Queue {
         accepted::repeated(&self.accepted, dedup, moment)
     }
 
-    /// Counts a send that repeats one.
-    fn count_use(&mut self, moment: Moment)
+    /// Counts a send that repeats a message, and answers with that one's sequence number.
+    fn count_repeat(&mut self, moment: Moment, sequence: u64) -> u64
         requires { self.old.used < 2 ^ 62 }
-        ensures { self.new ≡ used_at moment self.old }
+        ensures sequence { result ≡ sequence }
+        ensures used { self.new ≡ used_at moment self.old }
     {
         self.used += 1;
         // The five minutes of the send that it repeats go on as before.
         self.last = moment;
+        sequence
     }
 
     /// Adds a message, and answers with its sequence number.
@@ -145,10 +147,7 @@ impl Queue {
         ensures same { IsSameQueue self.old self.new }
     {
         match self.repeated(dedup, moment) {
-            Some(sequence) => {
-                self.count_use(moment);
-                Ok(sequence)
-            }
+            Some(sequence) => Ok(self.count_repeat(moment, sequence)),
             None => self.accept(moment, group, dedup, body),
         }
     }

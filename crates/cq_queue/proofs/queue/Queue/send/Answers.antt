@@ -8,10 +8,10 @@ use Rattle.cq_queue.proofs.Sends.{stands-accepted, reply-accepted, stands-repeat
 use Rattle.cq_queue.proofs.queue.Queue.send.Goals as goal
 
 pub returns-in-Some-clause-stands : goal.returns-in-Some-clause-stands
-returns-in-Some-clause-stands c = rw c.count_use.ensures (stands-repeated c.args.self.now c.args.moment c.args.group.now c.args.dedup.now c.args.body.now c.in-Some.sequence c.requires.order (sym c.in-Some.ensures))
+returns-in-Some-clause-stands c = rw c.count_repeat.ensures.used (stands-repeated c.args.self.now c.args.moment c.args.group.now c.args.dedup.now c.args.body.now c.in-Some.sequence c.requires.order (sym c.in-Some.ensures))
 
 pub returns-in-Some-clause-reply : goal.returns-in-Some-clause-reply
-returns-in-Some-clause-reply c = reply-repeated c.args.self.now c.args.moment c.args.group.now c.args.dedup.now c.args.body.now c.in-Some.sequence c.requires.order (sym c.in-Some.ensures)
+returns-in-Some-clause-reply c = rw c.count_repeat.ensures.sequence (reply-repeated c.args.self.now c.args.moment c.args.group.now c.args.dedup.now c.args.body.now c.in-Some.sequence c.requires.order (sym c.in-Some.ensures))
 
 pub returns-in-None-clause-stands : goal.returns-in-None-clause-stands
 returns-in-None-clause-stands c =
