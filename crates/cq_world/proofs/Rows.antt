@@ -135,6 +135,11 @@ joiner_lost : refused_from 1 (first_world 1) (events.Join 2 ∷ events.Crash 1 �
 unfolding refused_from after next refusal_of first_world numbers_from detected joined refusal_of_detection refusal_of_join
 joiner_lost = refl
 
+-- nor may the last one that lives
+last_of_two : refused_from 1 (first_world 2) (events.Crash 1 ∷ events.Crash 2 ∷ []) ≡ (2, LastFull) ∷ []
+unfolding refused_from after next refusal_of first_world numbers_from
+last_of_two = refl
+
 -- arrivals that are refused are none
 arrivals : arrivals_from (first_world 2) (arrive 2 9 1 create ∷ arrive 1 50 1 create ∷ count_at 2 ∷ []) ≡ record { clock = 50; request = record { client = 1; number = 1; ask = create } } ∷ []
 unfolding arrivals_from after next refusal_of first_world numbers_from refusal_of_arrival refusal_of_query arrived asked last_moment
