@@ -1,6 +1,6 @@
 use crate::{
     Ask, BaseFault, BatchSize, Body, ChainSize, DedupId, Deliveries, Delivery, Entry, GroupId,
-    Moment, Query, QueueName, Receipt, Refusal, Reply, Request, Seconds, ServerId,
+    Moment, NoMemory, Query, QueueName, Receipt, Refusal, Reply, Request, Seconds, ServerId,
 };
 use std::alloc::{AllocError, Global};
 use std::process::Abort;
@@ -297,18 +297,14 @@ fn deliveries_are_a_vector(rt: HostRuntime) -> Result<(), Fail> {
 }
 
 #[test]
-fn refusals_are_told_by_number_and_name(rt: HostRuntime) {
-    let told = [
-        (Refusal::QueueDoesNotExist, 1, "QueueDoesNotExist"),
-        (Refusal::QueueNameExists, 2, "QueueNameExists"),
-        (Refusal::QueueDeletedRecently, 3, "QueueDeletedRecently"),
-        (Refusal::ReceiptHandleIsInvalid, 4, "ReceiptHandleIsInvalid"),
-        (Refusal::MessageNotInflight, 5, "MessageNotInflight"),
-        (Refusal::VisibilityBeyondLimit, 6, "VisibilityBeyondLimit"),
-        (Refusal::StaleNumber, 7, "StaleNumber"),
-    ];
-    for (refusal, code, name) in told {
-        assert_eq!(rt; refusal.code(), code);
-        assert_eq!(rt; refusal.name(), name);
-    }
+fn refusals_and_faults_are_shown_by_name(rt: HostRuntime) -> Result<(), Fail> {
+    let alloc = rt.alloc();
+    let refusal = Refusal::StaleNumber;
+    let fault = BaseFault::BadGroup;
+    let no_memory = NoMemory;
+    let shown = format!(in alloc; "{refusal} {fault} {no_memory}")?;
+    assert_eq!(rt; shown.as_str(), "StaleNumber BadGroup NoMemory");
+    assert_eq!(rt; refusal.code(), 7);
+    assert_eq!(rt; fault.code(), 12);
+    Ok(())
 }
