@@ -878,6 +878,14 @@ counts_of_another_queue : counts_after (one_in_the_air ++ entry 2 1 5 (Create (c
 unfolding about on of_client is_fresh is_stale kept_reply live creations removed_lately messages duplicate is_sent hands touches until is_deleted message_of standing in_turn to_hand effect_on effect_off effect_of fresh_fact reply_again fact_of history last_moment counts_after
 counts_of_another_queue = refl
 
+-- a timeout that the receive doesn't give is the queue's own
+abbrev ten_seconds : List Entry
+ten_seconds = numbered 1 (create 0 10 ∷ send 0 (codes "a") (codes "x") ∷ receive 1 1 ∷ [])
+
+counts_by_the_queues_timeout : map (λ moment. counts_after (ten_seconds ++ entry moment 2 1 (Remove (codes "r.fifo")) ∷ []) name) (10000 ∷ 10001 ∷ []) ≡ Counts 0 1 ∷ Counts 1 0 ∷ []
+unfolding about on of_client is_fresh is_stale kept_reply live creations removed_lately messages duplicate is_sent hands touches until is_deleted message_of standing in_turn to_hand effect_on effect_off effect_of fresh_fact reply_again fact_of history last_moment counts_after
+counts_by_the_queues_timeout = refl
+
 last_moments : map last_moment ([] ∷ one_in_the_air ∷ (one_in_the_air ++ entry 7 1 4 (Remove name) ∷ []) ∷ []) ≡ 0 ∷ 1 ∷ 7 ∷ []
 unfolding last_moment
 last_moments = refl
