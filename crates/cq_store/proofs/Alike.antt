@@ -182,7 +182,7 @@ seen xs ys h = record {
 }
 
 -- an entry that isn't fresh changes nothing that is seen later
-pub others_do_nothing : OthersDoNothing
-others_do_nothing entries e after idle = let facts = history entries in
+pub idle_unseen : OthersDoNothing
+idle_unseen entries e after idle = let facts = history entries in
     let alike = alike-after (told facts e) facts after (alike-idle facts (fact_of facts e) (idle-fact_of facts e idle)) in
     seen (entries ++ e ∷ after) (entries ++ after) (rw (history-append entries (e ∷ after), history-append entries after) alike)

@@ -10,6 +10,7 @@ pub mod Groups
 pub mod Incarnations
 pub mod Inductions
 pub mod Lasts
+pub mod Listed
 pub mod Lives
 pub mod Lookups
 pub mod NamesStand
@@ -19,7 +20,6 @@ pub mod Receipts
 pub mod Repeats
 mod Rows
 pub mod Scans
-pub mod Removals
 pub mod Sorted
 pub mod StoreStands
 pub mod Windows

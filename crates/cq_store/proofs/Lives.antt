@@ -9,7 +9,7 @@ use Rattle.cq_base.specs.declared.ask.Entry.{Entry}
 use Rattle.cq_base.specs.Asks.{queue_of}
 use Rattle.cq_base.specs.Effects.{Effect, only_replies, create, create_again, send, delete, change, effect_on, effect_off, effect_by, effect_of, visibility_by}
 use Rattle.cq_base.specs.Facts.{Fact, is_about, about, on}
-use Rattle.cq_base.specs.History.{fact_with, fresh_fact, fact_of, history}
+use Rattle.cq_base.specs.History.{fact_with, fresh_fact, fact_of, history, reply_to}
 use Rattle.cq_base.specs.declared.reply.Reply.TheVariants.{Created, Refused}
 use Rattle.cq_base.specs.declared.reply.Refusal.TheVariants.{QueueNameExists}
 use Rattle.cq_base.specs.Clients.{is_fresh}
@@ -20,10 +20,11 @@ use Rattle.cq_base.specs.Relations.{Among}
 use Rattle.cq_base.proofs.Among.{among-append}
 use Rattle.cq_base.proofs.Ends.{filter-passes, filter-fails}
 use Rattle.cq_base.proofs.Histories.{told}
-use Rattle.cq_store.specs.Laws.{NoneComes}
+use Rattle.cq_store.specs.Laws.{NoneComes, NoneRemoved}
 use Rattle.cq_store.proofs.Incarnations.{fact-fresh}
 use Rattle.cq_store.proofs.Inductions.{by_fact}
 use Rattle.cq_store.proofs.Lasts.{last_or-more}
+use Rattle.cq_store.proofs.Listed.{deliveries_of, listed}
 use Rattle.cq_store.proofs.OneQueue.{about-more, about-same, names}
 
 -- the fact of an entry that is about the queue is made of the facts about it
@@ -261,3 +262,12 @@ incarnation-fresh facts e fresh = ap (λ f. f.incarnation) (fact-fresh facts e f
 pub none_comes : NoneComes
 none_comes entries e removal fresh at removes same = let own = about (queue_of e.request.ask) (history entries) in
     nothing_after own (live own) (creations own) removal (lived (queue_of e.request.ask) entries) at removes (sym (incarnation-fresh (history entries) e fresh) ∙ same)
+
+-- nothing is handed out of an incarnation that was removed
+pub none_removed : NoneRemoved
+unfolding reply_to
+none_removed entries e removal deliveries d fresh at removes received inside same =
+    let own = about (queue_of e.request.ask) (history entries) in
+    let made = fact-fresh (history entries) e fresh in
+    let shown = subst (λ ds. Among d ds) (sym (ap deliveries_of received) ∙ ap (λ f. deliveries_of f.reply) made) inside in
+    none_comes entries e removal fresh at removes (ap (λ f. f.incarnation) made ∙ sym (listed e own d shown) ∙ same)

@@ -13,9 +13,10 @@ use Rattle.cq_base.specs.Clients.{is_of_client, is_numbered_below, of_client, is
 use Rattle.cq_base.specs.Facts.{Fact, is_about, about}
 use Rattle.cq_base.specs.History.{fact_of, history, reply_to}
 use Rattle.cq_base.proofs.Histories.{told, history-more, entry-fact_of}
-use Rattle.cq_store.specs.Laws.{naming, EachQueueAlone, EachReplyAlone}
+use Rattle.cq_store.specs.Laws.{naming, OthersDoNothing, EachQueueAlone, EachReplyAlone}
 use Rattle.cq_base.proofs.Ends.{filter-passes, filter-fails}
 use Rattle.cq_base.proofs.Filters.{filter-twice, filter-swapped}
+use Rattle.cq_store.proofs.Alike.{idle_unseen}
 use Rattle.cq_store.proofs.Inductions.{by_entry}
 use Rattle.cq_store.proofs.Repeats.{fresh-fact_of}
 
@@ -48,6 +49,10 @@ about-more queue facts e h = filter-passes (is_about queue) facts (fact_of facts
 pub about-same : (queue : List ℕ) (facts : List Fact) (e : Entry) → is_about queue (fact_of facts e) ≡ false → about queue (told facts e) ≡ about queue facts
 unfolding about
 about-same queue facts e h = filter-fails (is_about queue) facts (fact_of facts e) h
+
+-- an entry that isn't fresh changes nothing that is seen later
+pub others_do_nothing : OthersDoNothing
+others_do_nothing = idle_unseen
 
 -- an entry that isn't fresh is about no queue
 pub idle-about : (entries : List Entry) (e : Entry) (queue : List ℕ) → is_fresh e.request.client e.request.number (history entries) ≡ false → about queue (history (entries ++ e ∷ [])) ≡ about queue (history entries)

@@ -1,5 +1,5 @@
--- Nothing is handed out of an incarnation that was removed.
-use Rattle.std.proofs.Common.{◌≡◌, ℕ, ◌+◌, ◌∙◌, ap, sym, List, [], length, Option, Some, None, Bool, true, false, cond, nat_lt, ◌*◌, ◌==◌, not, subst}
+-- What a reply lists is of the incarnation that its entry came to.
+use Rattle.std.proofs.Common.{◌≡◌, ℕ, ◌+◌, ap, List, [], length, Option, Some, None, Bool, true, false, cond, nat_lt, ◌*◌, ◌==◌, not}
 use Rattle.cq_base.specs.declared.ask.Ask.{Ask}
 use Rattle.cq_base.specs.declared.ask.Ask.TheVariants.{Create, Remove, Send, Receive, Delete, Change}
 use Rattle.cq_base.specs.declared.ask.Entry.{Entry}
@@ -7,22 +7,18 @@ use Rattle.cq_base.specs.declared.reply.Delivery.{Delivery}
 use Rattle.cq_base.specs.declared.reply.Refusal.TheVariants.{QueueNameExists, QueueDeletedRecently, ReceiptHandleIsInvalid, MessageNotInflight, VisibilityBeyondLimit}
 use Rattle.cq_base.specs.declared.reply.Reply.{Reply}
 use Rattle.cq_base.specs.declared.reply.Reply.TheVariants.{Created, Received, Deleted, Changed, Refused}
-use Rattle.cq_base.specs.Asks.{queue_of}
 use Rattle.cq_base.specs.Effects.{Effect, only_replies, takes_effect, send, is_own, fits, message_at, delete_standing, delete_sent, delete, flight_limit, change_standing, change_sent, change, effect_on, effect_off, effect_by, effect_of, visibility_by}
-use Rattle.cq_base.specs.Facts.{Fact, about, on}
+use Rattle.cq_base.specs.Facts.{Fact, on}
 use Rattle.cq_base.specs.Handle.{Handle}
-use Rattle.cq_base.specs.History.{fresh_fact, history, reply_to}
+use Rattle.cq_base.specs.History.{fresh_fact}
 use Rattle.cq_base.specs.Lifetimes.{removed_lately, live, creations, incarnation_of}
 use Rattle.cq_base.specs.Messages.{Message, messages, duplicate, standing}
 use Rattle.cq_base.specs.Receiving.{is_in_flight, to_hand, delivery_of}
 use Rattle.cq_base.specs.Relations.{Among}
 use Rattle.cq_base.proofs.Among.{among-map}
-use Rattle.cq_store.specs.Laws.{NoneRemoved}
-use Rattle.cq_store.proofs.Incarnations.{fact-fresh}
-use Rattle.cq_store.proofs.Lives.{none_comes}
 
 -- the messages that a reply lists
-abbrev deliveries_of : Reply → List Delivery
+abbrev pub deliveries_of : Reply → List Delivery
 deliveries_of (Received deliveries) = deliveries
 deliveries_of other = []
 
@@ -94,15 +90,6 @@ by_of None moment xs ask = off_of 0 moment xs ask
 by_of (Some creation) moment xs ask = on_of creation.count (visibility_by creation) moment (on creation.count xs) ask
 
 -- what a fresh entry's reply lists is of the incarnation that it comes to
-listed : (e : Entry) (xs : List Fact) (d : Delivery) → Among d (deliveries_of (fresh_fact e xs).reply) → d.receipt.incarnation ≡ (fresh_fact e xs).incarnation
+pub listed : (e : Entry) (xs : List Fact) (d : Delivery) → Among d (deliveries_of (fresh_fact e xs).reply) → d.receipt.incarnation ≡ (fresh_fact e xs).incarnation
 unfolding fresh_fact effect_of
 listed e xs d at = by_of (live xs) e.moment xs e.request.ask d at
-
--- nothing is handed out of an incarnation that was removed
-pub none_removed : NoneRemoved
-unfolding reply_to
-none_removed entries e removal deliveries d fresh at removes received inside same =
-    let own = about (queue_of e.request.ask) (history entries) in
-    let made = fact-fresh (history entries) e fresh in
-    let shown = subst (λ ds. Among d ds) (sym (ap deliveries_of received) ∙ ap (λ f. deliveries_of f.reply) made) inside in
-    none_comes entries e removal fresh at removes (ap (λ f. f.incarnation) made ∙ sym (listed e own d shown) ∙ same)
