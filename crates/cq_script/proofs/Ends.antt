@@ -1,18 +1,19 @@
 -- Where reading ends, what was read is the script.
-use Rattle.std.proofs.Common.{◌≡◌, ℕ, ◌+◌, ◌-◌, ◌<◌, ◌≤◌, ◌||◌, Bool, true, false, cond, List, [], ◌∷◌, ◌++◌, length, take, Option, None, Some, Result, Ok, Err, nat_eq, refl, sym, ap, ◌∙◌, subst, append-nil, arith}
+use Rattle.std.proofs.Common.{◌≡◌, ℕ, ◌+◌, ◌-◌, ◌<◌, ◌≤◌, ◌||◌, Bool, true, false, cond, List, [], ◌∷◌, ◌++◌, length, take, Option, None, Some, Result, Ok, Err, nat_eq, nat_le, refl, sym, ap, ◌∙◌, subst, append-nil, arith}
 use Rattle.std.specs.Io.KnownBytes.{Consumes, IsAtEnd}
 use Rattle.std.proofs.KnownBytes.{Consumes-trans}
-use Rattle.cq_script.specs.declared.lines.TheConstants.{LINES_LIMIT}
+use Rattle.cq_script.specs.declared.lines.TheConstants.{LINE_LIMIT, LINES_LIMIT}
 use Rattle.cq_script.specs.declared.lines.Item.{Item}
 use Rattle.cq_script.specs.declared.event_line.Line.{Line}
 use Rattle.cq_script.specs.declared.fault.ScriptFault.{ScriptFault}
 use Rattle.cq_script.specs.declared.fault.ScriptFault.TheVariants.{BadLine, LineTooLong, TooManyLines, ReadFailed, WriteFailed, NoMemory}
 use Rattle.cq_script.specs.Line.{line_of}
 use Rattle.cq_script.specs.Lines.{Script, IsOpen, lines_of, with_front, judged_before, script_from, script_of, items_of_line, has_line_feed, ended_part}
-use Rattle.cq_script.specs.Readings.{SoFar, nothing_read, Next, goes, stops, judged, line_ended, byte_of, then_next, bytes_of, end_with, end_of, Follows, HoldsScript, ReadsEnded, ReadsScript}
+use Rattle.cq_script.specs.Readings.{SoFar, nothing_read, Next, goes, stops, judged, line_ended, byte_of, then_next, bytes_of, end_with, end_of, Follows, HoldsScript, ReadsEnded, AreEnded, ReadsScript}
+use Rattle.cq_script.specs.Runs.{ends_by_memory}
 use Rattle.cq_script.proofs.Sizes.{bytes_so_far, most_bytes}
 use Rattle.cq_script.proofs.Cutting.{begun_before, script_from-judged}
-use Rattle.cq_script.proofs.ReadSoFar.{script_after, script_next, IsWithin, nothing-IsWithin, with_front-faulty, OnGoes, OnGoes-weaker, IsStep, byte_of-step, script_after-byte, IsReached, bytes_of-reached, script_after-bytes, bytes_of-append}
+use Rattle.cq_script.proofs.ReadSoFar.{script_after, script_next, IsWithin, nothing-IsWithin, with_front-faulty, OnGoes, OnGoes-weaker, IsStep, byte_of-many, byte_of-feed, byte_of-long, byte_of-more, byte_of-step, script_after-byte, IsReached, bytes_of-reached, script_after-bytes, bytes_of-append}
 
 abbrev pub script_so_far : SoFar → Script
 script_so_far s = record { items = s.items; fault = None }
@@ -183,6 +184,100 @@ reads_ended input s is =
       front = λ more. let rest = script_from (s.lines + 1) (begun_before s.begun (lines_of more)) in
           (rest.items, ap (λ (script : Script). script.items) (sym (same_from_start input more) ∙ ap (script_next (λ t. script_after t more)) is));
     }
+
+-- a fact of a script that stopped at a fault
+OnStops : (Script → Type 0) → Next → Type 0
+OnStops P (goes s) = Unit {0}
+OnStops P (stops script) = P script
+
+judged-stops : (s : SoFar) (says : Option Line) → OnStops (λ script. script.items ≡ s.items) (judged s says)
+unfolding OnStops
+judged-stops s None = refl
+judged-stops s (Some line) = tt
+
+-- a byte at which a script stops ends no line
+byte_at-stops : (s : SoFar) (b : ℕ) (many feed long : Bool) → nat_le LINES_LIMIT s.lines ≡ many → nat_eq b 10 ≡ feed
+    → nat_le LINE_LIMIT (length s.begun) ≡ long → OnStops (λ script. script.items ≡ s.items) (byte_of s b)
+unfolding OnStops
+byte_at-stops s b true feed long is_many is_feed is_long = rw (byte_of-many s b is_many) refl
+byte_at-stops s b false true long is_many is_feed is_long = rw (byte_of-feed s b is_many is_feed) (judged-stops s (line_of s.begun))
+byte_at-stops s b false false true is_many is_feed is_long = rw (byte_of-long s b is_many is_feed is_long) refl
+byte_at-stops s b false false false is_many is_feed is_long = rw (byte_of-more s b is_many is_feed is_long) tt
+
+-- the items before a fault among these bytes are the first of those of the lines that have ended
+record IsStopped (s : SoFar) (bytes : List ℕ) (script : Script) : Type 0 where
+  with_feed : has_line_feed bytes ≡ true → (rest : List Item) × ((script_after s (ended_part bytes)).items ≡ script.items ++ rest)
+  without : has_line_feed bytes ≡ false → script.items ≡ s.items
+
+stopped_later : (s t : SoFar) (b : ℕ) (bs : List ℕ) (script : Script) (later : Bool) → IsStopped t bs script
+    → script_after t (ended_part bs) ≡ script_after s (b ∷ ended_part bs) → has_line_feed bs ≡ later
+    → (rest : List Item) × ((script_after s (b ∷ ended_part bs)).items ≡ script.items ++ rest)
+stopped_later s t b bs script true stopped same is =
+    let found = stopped.with_feed is in
+    (found.0, ap (λ (x : Script). x.items) (sym same) ∙ found.1)
+stopped_later s t b bs script false stopped same is =
+    let rest = script_from (t.lines + 1) (begun_before t.begun (lines_of (ended_part bs))) in
+    (rest.items, ap (λ (x : Script). x.items) (sym same) ∙ ap (λ items. items ++ rest.items) (sym (stopped.without is)))
+
+stopped_byte : (s t : SoFar) (b : ℕ) (bs : List ℕ) (script : Script) → IsStep s b t
+    → script_after t (ended_part bs) ≡ script_after s (b ∷ ended_part bs) → IsStopped t bs script → IsStopped s (b ∷ bs) script
+stopped_byte s t b bs script step same stopped = record {
+  with_feed = λ some. rw (ended_part-byte b bs some) (stopped_later s t b bs script _ stopped same refl);
+  without = λ none. let split = none_of (nat_eq b 10) (has_line_feed bs) none in stopped.without split.1 ∙ step.kept split.0;
+}
+
+stopped_here : (s : SoFar) (bytes : List ℕ) (script : Script) → script.items ≡ s.items → IsStopped s bytes script
+stopped_here s bytes script is = record {
+  with_feed = λ some. rw is ((script_from (s.lines + 1) (begun_before s.begun (lines_of (ended_part bytes)))).items, refl);
+  without = λ none. is;
+}
+
+stopped_in : (s t : SoFar) (b : ℕ) (bs : List ℕ) (n : Next) → IsStep s b t
+    → script_after t (ended_part bs) ≡ script_after s (b ∷ ended_part bs)
+    → OnStops (IsStopped t bs) n → OnStops (IsStopped s (b ∷ bs)) n
+unfolding OnStops
+stopped_in s t b bs (goes u) step same stopped = tt
+stopped_in s t b bs (stops script) step same stopped = stopped_byte s t b bs script step same stopped
+
+stopped_after : (s : SoFar) (b : ℕ) (bs : List ℕ) (n : Next) → OnGoes (IsStep s b) n → OnStops (λ script. script.items ≡ s.items) n
+    → script_next (λ t. script_after t (ended_part bs)) n ≡ script_after s (b ∷ ended_part bs)
+    → ((t : SoFar) → IsWithin t → OnStops (IsStopped t bs) (bytes_of t bs)) → OnStops (IsStopped s (b ∷ bs)) (then_next (λ t. bytes_of t bs) n)
+unfolding OnStops
+stopped_after s b bs (goes t) step here same go = stopped_in s t b bs (bytes_of t bs) step same (go t step.within)
+stopped_after s b bs (stops script) step here same go = stopped_here s (b ∷ bs) script here
+
+bytes_of-stopped : (s : SoFar) (bytes : List ℕ) → IsWithin s → OnStops (IsStopped s bytes) (bytes_of s bytes)
+unfolding bytes_of OnStops
+bytes_of-stopped s [] within = tt
+bytes_of-stopped s (b ∷ bs) within =
+    stopped_after s b bs (byte_of s b) (byte_of-step s b within) (byte_at-stops s b _ _ _ refl refl refl)
+    (script_after-byte s b (ended_part bs) within) (λ t w. bytes_of-stopped t bs w)
+
+stopped_whole : (input : List ℕ) (script : Script) (some : Bool) → has_line_feed input ≡ some → IsStopped nothing_read input script
+    → AreEnded script.items input
+stopped_whole input script true is stopped = rw (← script_of-start (ended_part input)) (stopped.with_feed is)
+stopped_whole input script false is stopped = rw (stopped.without is) ((script_of (ended_part input)).items, refl)
+
+-- where the script stopped at a fault
+stops_ended : (input : List ℕ) (script : Script) → bytes_of nothing_read input ≡ stops script → AreEnded script.items input
+unfolding OnStops
+stops_ended input script is =
+    let reached = bytes_of-stopped nothing_read input nothing-IsWithin in
+    let stopped : OnStops (IsStopped nothing_read input) (stops script) = rw is at reached in
+    stopped_whole input script _ refl stopped
+
+pub fault_ended : (f : ScriptFault) (new : SoFar) (input : List ℕ) → ends_by_memory (Err f) ≡ false → Follows (Err f) new (bytes_of nothing_read input)
+    → AreEnded new.items input
+fault_ended (BadLine n) new input lasts is = stops_ended input _ is
+fault_ended (LineTooLong n) new input lasts is = stops_ended input _ is
+fault_ended TooManyLines new input lasts is = stops_ended input _ is
+fault_ended ReadFailed new input lasts is = absurd is
+fault_ended WriteFailed new input lasts is = absurd is
+fault_ended NoMemory new input lasts is = cc
+
+-- where it did not, all items are of lines that have ended
+pub goes_ended : (input : List ℕ) (s : SoFar) → bytes_of nothing_read input ≡ goes s → AreEnded s.items input
+goes_ended input s is = rw (reads_ended input s is).whole ([], sym (append-nil s.items))
 
 -- where a read failed, or memory ran out
 pub reads_failed : (failed : Bool) (f : ScriptFault) (input : List ℕ) (s : SoFar) (left : Option (List ℕ)) → f ≡ cond failed ReadFailed NoMemory

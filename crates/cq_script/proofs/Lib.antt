@@ -13,3 +13,5 @@ pub mod Fronts
 pub mod Replayed
 pub mod Telling
 pub mod RunTold
+-- worked lines
+pub mod Rows

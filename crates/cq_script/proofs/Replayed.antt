@@ -6,8 +6,8 @@ use Rattle.cq_script.specs.declared.fault.ScriptFault.TheVariants.{BadLine, Line
 use Rattle.cq_script.specs.Lines.{Script, script_of}
 use Rattle.cq_script.specs.Output.{text_of}
 use Rattle.cq_script.specs.Runs.{BeginsWith, WritesFront, ends_by_memory}
-use Rattle.cq_script.specs.Readings.{HoldsScript, ReadsScript}
-use Rattle.cq_script.specs.Replays.{WritesScript, Fails, IsFront, Replays}
+use Rattle.cq_script.specs.Readings.{HoldsScript, AreEnded, ReadsScript}
+use Rattle.cq_script.specs.Replays.{WritesScript, Fails, IsFront, IsEndedFront, Replays}
 use Rattle.cq_script.proofs.Fronts.{text_of-append}
 
 writes_script : (size : ℕ) (script : Script) (items : List Item) (fault : Option ScriptFault) (written : List ℕ)
@@ -70,6 +70,23 @@ replays_front size ended TooManyLines items input left written lasts read part =
 replays_front size ended ReadFailed items input left written lasts read part = absurd part
 replays_front size ended WriteFailed items input left written lasts read part = is_front size items input left written (holds_front ended items input left lasts read) part
 replays_front size ended NoMemory items input left written lasts read part = is_front size items input left written (holds_front ended items input left lasts read) part
+
+-- a front of the text of items of lines that have ended
+pub is_ended_front : (size : ℕ) (items : List Item) (input written : List ℕ) → AreEnded items input
+    → BeginsWith (text_of size items) written → IsEndedFront size input written
+is_ended_front size items input written ended part =
+    rw ended.1 (BeginsWith-trans (text_of size (items ++ ended.0)) (text_of size items) written (text_of-append size items ended.0) part)
+
+pub front_of_part : (f : ScriptFault) (text written : List ℕ) → WritesFront (Err f) text written → BeginsWith text written
+front_of_part (BadLine n) text written part = absurd part
+front_of_part (LineTooLong n) text written part = absurd part
+front_of_part TooManyLines text written part = absurd part
+front_of_part ReadFailed text written part = absurd part
+front_of_part WriteFailed text written part = part
+front_of_part NoMemory text written part = part
+
+pub front_of_all : (text written : List ℕ) → written ≡ text → BeginsWith text written
+front_of_all text written all = ([], sym all ∙ sym (append-nil written))
 
 nothing_written : (size : ℕ) (input : List ℕ) (left : Option (List ℕ)) → IsFront size input left []
 nothing_written size input None = tt

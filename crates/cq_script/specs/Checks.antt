@@ -10,6 +10,10 @@ inner_of checked = checked.inner
 abbrev pub is_failed : {T : Type 0} → Checked T → Bool
 is_failed checked = checked.failed
 
+-- whether it was flushed since the last write
+abbrev pub is_flushed : {T : Type 0} → Checked T → Bool
+is_flushed checked = checked.flushed
+
 -- a write fails by its answer, or by taking nothing of bytes that are not empty
 abbrev pub is_failed_write : {E : Type 0} → Result ℕ E → List ℕ → Bool
 is_failed_write (Ok count) buf = (count == 0) && not (length buf == 0)

@@ -85,6 +85,10 @@ pub record ReadsEnded (items : List Item) (input : List ℕ) : Type 0 where
   pub ends_open : IsOpen (script_of input).fault
   pub front : (more : List ℕ) → (rest : List Item) × ((script_of (input ++ more)).items ≡ items ++ rest)
 
+-- the items are the first of those of the lines that have ended
+abbrev pub AreEnded : List Item → List ℕ → Type 0
+AreEnded items input = (rest : List Item) × ((script_of (ended_part input)).items ≡ items ++ rest)
+
 -- the items that were read, by the answer of the reading
 abbrev pub ReadsScript : Result (Unit {0}) ScriptFault → List Item → List ℕ → Option (List ℕ) → Type 0
 ReadsScript (Ok _) items input left = IsAtEnd left × (script_of input ≡ record { items = items; fault = None })

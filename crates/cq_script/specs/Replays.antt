@@ -20,6 +20,10 @@ Fails size f input left output = IfSome left (λ more. WritesScript size (script
 abbrev pub IsFront : ℕ → List ℕ → Option (List ℕ) → List ℕ → Type 0
 IsFront size input left output = IfSome left (λ more. BeginsWith (text_of size (script_of (input ++ more)).items) output)
 
+-- the output is a front of the text of the lines of the input that have ended
+abbrev pub IsEndedFront : ℕ → List ℕ → List ℕ → Type 0
+IsEndedFront size input output = BeginsWith (text_of size (script_of (ended_part input)).items) output
+
 -- On so many servers: `input` was read, `left` is what the reader has left, if that is known, and `output` was
 -- written.
 abbrev pub Replays : ℕ → Result (Unit {0}) ScriptFault → List ℕ → Option (List ℕ) → List ℕ → Type 0

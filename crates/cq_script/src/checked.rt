@@ -1,21 +1,24 @@
 //! A reader or a writer that remembers whether a call of it has failed.
-ghost use Rattle.std.specs.Prelude.{◌≡◌, ◌||◌, false};
-ghost use Rattle.std.specs.Result.{is_err};
+ghost use Rattle.std.specs.Prelude.{◌≡◌, ◌≢◌, ◌||◌, false, true, IfErr, IfSome};
+ghost use Rattle.std.specs.Result.{is_err, is_ok};
 ghost use Rattle.std.specs.Io.{ReadsAtMost, WritesAtMost};
-ghost use Rattle.std.specs.Io.KnownBytes.{ReadConsumes, WriteAppends, Keeps};
-ghost use Rattle.cq_script.specs.Checks.{inner_of, is_failed, is_failed_write};
+ghost use Rattle.std.specs.Io.KnownBytes.{ReadConsumes, WriteAppends, Appends, Keeps};
+ghost use Rattle.std.specs.IoError.{error_kind};
+ghost use Rattle.cq_script.specs.Checks.{inner_of, is_failed, is_flushed, is_failed_write};
 
 use super::sink::Sink;
 use super::source::Source;
+use std::fmt::Display;
 use std::io;
 use std::io::{ErrorKind, Read, Write};
 
 /// Any reader or writer, with a note of whether a call of it has failed. An interrupted call is
-/// made again, and is no failure.
+/// made again, and is no failure. Of a writer it also knows whether it was flushed since the last write.
 #[derive(Drop)]
 pub struct Checked<T> {
     inner: T,
     failed: bool,
+    flushed: bool,
 }
 
 impl<T> Checked<T> {
@@ -23,16 +26,20 @@ impl<T> Checked<T> {
     pub fn new(inner: T) -> Checked<T>
         ensures inner { inner_of result ≡ inner }
         ensures unfailed { is_failed result ≡ false }
+        ensures unflushed { is_flushed result ≡ false }
     {
         Checked {
             inner,
             failed: false,
+            flushed: false,
         }
     }
 }
 
 /// What is left to say after so many interrupted calls.
-fn interrupted_throughout() -> io::Error {
+fn interrupted_throughout() -> io::Error
+    ensures { error_kind result ≢ ErrorKind.Interrupted }
+{
     io::Error::other("interrupted too many times")
 }
 
@@ -44,6 +51,7 @@ impl<R: Read> Read for Checked<R> {
         ensures bytes { ReadConsumes (R.remaining (inner_of self.old)) (R.remaining (inner_of self.new))
             result buf.new }
         ensures failed { is_failed self.new ≡ (is_failed self.old || is_err result) }
+        ensures again { IfErr result (λ error. error_kind error ≢ ErrorKind.Interrupted) }
     {
         for _ in 0..u64::MAX {
             match self.inner.read(buf) {
@@ -77,7 +85,10 @@ impl<W: Write> Write for Checked<W> {
         ensures bytes { WriteAppends (W.contents (inner_of self.old)) (W.contents (inner_of self.new))
             result buf.now }
         ensures failed { is_failed self.new ≡ (is_failed self.old || is_failed_write result buf.now) }
+        ensures flushed { is_flushed self.new ≡ false }
+        ensures again { IfErr result (λ error. error_kind error ≢ ErrorKind.Interrupted) }
     {
+        self.flushed = false;
         for _ in 0..u64::MAX {
             match self.inner.write(buf) {
                 Ok(count) => {
@@ -99,10 +110,15 @@ impl<W: Write> Write for Checked<W> {
     fn flush(&mut self) -> io::Result<()>
         ensures bytes { Keeps (W.contents (inner_of self.old)) (W.contents (inner_of self.new)) }
         ensures failed { is_failed self.new ≡ (is_failed self.old || is_err result) }
+        ensures flushed { is_flushed self.new ≡ (is_flushed self.old || is_ok result) }
+        ensures again { IfErr result (λ error. error_kind error ≢ ErrorKind.Interrupted) }
     {
         for _ in 0..u64::MAX {
             match self.inner.flush() {
-                Ok(()) => return Ok(()),
+                Ok(()) => {
+                    self.flushed = true;
+                    return Ok(());
+                }
                 Err(error) => {
                     if error.kind() != ErrorKind::Interrupted {
                         self.failed = true;
@@ -116,10 +132,29 @@ impl<W: Write> Write for Checked<W> {
     }
 }
 
+impl<W: Write> Checked<W> {
+    /// Writes this text. Where it can't all be written, that is a failure.
+    pub fn tell<D: Display + Drop>(&mut self, text: D)
+        ensures bytes { IfSome (D.output text) (λ bytes. is_failed self.new ≡ false
+            → Appends (W.contents (inner_of self.old)) (W.contents (inner_of self.new)) bytes) }
+        ensures failed { is_failed self.old ≡ true → is_failed self.new ≡ true }
+    {
+        let had_failed = self.failed;
+        let told = self.write_fmt(text);
+        self.failed |= had_failed || told.is_err();
+    }
+}
+
 impl<W: Write> Sink for Checked<W> {
     ghost has_failed = { is_failed };
 
+    ghost has_flushed = { is_flushed };
+
     fn failed(&self) -> bool {
         self.failed
+    }
+
+    fn pass_on(&mut self) -> io::Result<()> {
+        self.flush()
     }
 }

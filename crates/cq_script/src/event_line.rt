@@ -1,9 +1,10 @@
-ghost use Rattle.std.specs.Prelude.{◌≡◌, Ok, Err};
+ghost use Rattle.std.specs.Prelude.{◌≡◌, Ok, Err, true};
 ghost use Rattle.std.specs.List.{list_all};
 ghost use Rattle.serde_json.specs.View.{view};
 ghost use Rattle.cq_script.specs.Line.{is_blank_byte, json_of, event_from, line_of, Reads};
 ghost use Rattle.cq_script.specs.Fields.{or_bad};
 ghost use Rattle.cq_script.specs.Readers.{Gives, same};
+ghost use Rattle.cq_script.specs.declared.event_line.Line.TheVariants as lines;
 
 use crate::event::read_event;
 use crate::fields::Stop;
@@ -67,10 +68,12 @@ fn read_object(alloc: Global, bytes: &[u8]) -> Result<Event, Stop>
 }
 
 /// What the line with these bytes, its line feed left out, says. A line that says nothing that a script can have is
-/// Bad; one that is good but for a text that breaks its rule is read as Refused with that fault. O(bytes).
+/// Bad; one that is good but for a text that breaks its rule is read as Refused with that fault. A blank line takes no
+/// memory. O(bytes).
 #[tactic(auto, unfolding(crate::specs::Line::line_of))]
 pub fn event_of(alloc: Global, bytes: &[u8]) -> Result<Line, LineFault>
-    ensures { Reads result (line_of bytes.now) }
+    ensures says { Reads result (line_of bytes.now) }
+    ensures blank { list_all is_blank_byte bytes.now ≡ true → result ≡ Ok lines.Blank }
 {
     if is_blank(bytes) {
         return Ok(Line::Blank);

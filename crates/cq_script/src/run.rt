@@ -1,8 +1,8 @@
 //! Running a script: from a reader of its bytes to a writer of what its items say.
 ghost use Rattle.std.specs.Prelude.{◌≡◌, ℕ, List, map, true, false, if◌then◌else◌, OnOk};
 ghost use Rattle.std.specs.Io.KnownBytes.{Consumes, Appends, Keeps};
-ghost use Rattle.cq_script.specs.Replays.{Replays};
-ghost use Rattle.cq_script.specs.Readings.{nothing_read, ReadsScript};
+ghost use Rattle.cq_script.specs.Replays.{IsEndedFront, Replays};
+ghost use Rattle.cq_script.specs.Readings.{nothing_read, AreEnded, ReadsScript};
 ghost use Rattle.cq_script.specs.declared.fault.ScriptFault.TheVariants.{ReadFailed, WriteFailed, NoMemory};
 ghost use Rattle.cq_script.specs.Runs.{Takes, EndsWriting, OnWritten, ends_by_memory};
 ghost use Rattle.cq_script.specs.Output.{text_of, text_from};
@@ -27,7 +27,9 @@ const CHUNK_SIZE: usize = 8192;
 /// Reads a script, to its end or to its first fault, runs the events before that on so many servers, and writes what
 /// comes of each line, in order of the lines. A fault of the writing, or want of memory, is answered in place of one
 /// of the script. Where memory runs out while the script is read, nothing is written; where it runs out in the run,
-/// what came of the events before is written. O(bytes of the script), and what the servers take for its events.
+/// what came of the events before is written. Where a read has failed, nothing is told of a line that had begun.
+/// What was written is flushed, unless the writing was cut short. O(bytes of the script), and what the servers take
+/// for its events.
 pub fn replay<R: Source, W: Sink>(
     alloc: Global,
     size: ChainSize,
@@ -39,9 +41,11 @@ pub fn replay<R: Source, W: Sink>(
     ensures replays { (input : List ℕ) × (output : List ℕ)
         × Consumes (R.remaining reader.old) (R.remaining reader.new) input
         × Appends (W.contents writer.old) (W.contents writer.new) output
-        × Replays size result input (R.remaining reader.new) output }
+        × Replays size result input (R.remaining reader.new) output
+        × (R.has_failed reader.new ≡ true → IsEndedFront size input output) }
     ensures reader_sound { OnOk result (R.has_failed reader.new ≡ false) }
     ensures writer_sound { OnWritten result (W.has_failed writer.new ≡ false) }
+    ensures flushed { OnWritten result (W.has_flushed writer.new ≡ true) }
     ensures read_failed { result ≡ Err ReadFailed → R.has_failed reader.new ≡ true }
     ensures write_failed { result ≡ Err WriteFailed → W.has_failed writer.new ≡ true }
 {
@@ -66,7 +70,8 @@ fn read_script<R: Source>(reading: &mut Reading, reader: &mut R) -> Result<(), S
     requires { reading.old ≡ nothing_read }
     ensures reads { (input : List ℕ)
         × Consumes (R.remaining reader.old) (R.remaining reader.new) input
-        × ReadsScript result reading.new.items input (R.remaining reader.new) }
+        × ReadsScript result reading.new.items input (R.remaining reader.new)
+        × (ends_by_memory result ≡ false → R.has_failed reader.new ≡ true → AreEnded reading.new.items input) }
     ensures sound { OnOk result (R.has_failed reader.new ≡ false) }
     ensures failed { result ≡ Err ReadFailed → R.has_failed reader.new ≡ true }
 {
@@ -105,6 +110,7 @@ fn run_items<W: Sink>(
 ) -> Result<(), ScriptFault>
     ensures runs { Takes result (text_of size items.items) (W.contents writer.old) (W.contents writer.new) }
     ensures sound { OnOk result (W.has_failed writer.new ≡ false) }
+    ensures flushed { OnOk result (W.has_flushed writer.new ≡ true) }
     ensures failed { result ≡ Err WriteFailed → W.has_failed writer.new ≡ true }
 {
     let steps = steps_of(alloc, items)?;
@@ -124,6 +130,7 @@ fn write_outcomes<W: Sink>(
         → IsAt ran.now nothing_told w (events_of items)
         → Takes result (text_from w items) (W.contents writer.old) (W.contents writer.new) }
     ensures sound { OnOk result (W.has_failed writer.new ≡ false) }
+    ensures flushed { OnOk result (W.has_flushed writer.new ≡ true) }
     ensures failed { result ≡ Err WriteFailed → W.has_failed writer.new ≡ true }
 {
     let mut told = Told::new();
@@ -138,8 +145,9 @@ fn write_outcomes<W: Sink>(
 fn finish_writing<W: Sink>(writer: &mut W) -> Result<(), ScriptFault>
     ensures kept { Keeps (W.contents writer.old) (W.contents writer.new) }
     ensures answer { EndsWriting result (W.has_failed writer.new) }
+    ensures flushed { OnOk result (W.has_flushed writer.new ≡ true) }
 {
-    if writer.flush().is_err() {
+    if writer.pass_on().is_err() {
         return Err(write_fault(writer));
     }
     if writer.failed() {

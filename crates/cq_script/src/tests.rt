@@ -54,17 +54,45 @@ impl Read for Pieces<'_> {
 }
 
 /// Takes at most `step` bytes at a time, and no more than `room`. A full one fails, or takes
-/// nothing if it is `silent`.
+/// nothing if it is `silent`. It is interrupted before each write and each flush, and counts in `passed` the bytes
+/// that were taken by its last flush. Where it is `stuck`, a flush fails.
 #[derive(Drop)]
 struct Room<'a> {
     taken: &'a mut Vec<u8>,
+    passed: &'a mut usize,
     step: usize,
     room: usize,
     silent: bool,
+    stuck: bool,
+    interrupted: bool,
+}
+
+impl<'a> Room<'a> {
+    fn new(taken: &'a mut Vec<u8>, passed: &'a mut usize, room: usize) -> Room<'a> {
+        Room {
+            taken,
+            passed,
+            step: 2,
+            room,
+            silent: false,
+            stuck: false,
+            interrupted: false,
+        }
+    }
+
+    /// Every other call is interrupted.
+    fn interrupt(&mut self) -> io::Result<()> {
+        self.interrupted = !self.interrupted;
+        if self.interrupted {
+            return Err(io::Error::new(ErrorKind::Interrupted, "not yet"));
+        }
+        Ok(())
+    }
 }
 
 impl Write for Room<'_> {
     fn write(&mut self, buf: &[u8]) -> io::Result<usize> {
+        self.interrupt()?;
         if self.room == 0 && !self.silent {
             return Err(io::Error::other("full"));
         }
@@ -75,6 +103,11 @@ impl Write for Room<'_> {
     }
 
     fn flush(&mut self) -> io::Result<()> {
+        self.interrupt()?;
+        if self.stuck {
+            return Err(io::Error::other("stuck"));
+        }
+        *self.passed = self.taken.len();
         Ok(())
     }
 }
@@ -98,13 +131,11 @@ fn replayed_on(
     silent: bool,
 ) -> (Result<(), ScriptFault>, Vec<u8>) {
     let mut taken = Vec::new(alloc);
+    let mut passed = 0;
     let mut source = Checked::new(reader);
-    let mut sink = Checked::new(Room {
-        taken: &mut taken,
-        step: 2,
-        room,
-        silent,
-    });
+    let mut writer = Room::new(&mut taken, &mut passed, room);
+    writer.silent = silent;
+    let mut sink = Checked::new(writer);
     let answer = replay(alloc, size, &mut source, &mut sink);
     (answer, taken)
 }
@@ -252,29 +283,6 @@ fn runs_two_servers(rt: HostRuntime) -> Result<(), Fail> {
     Ok(())
 }
 
-/// Each of these lines alone is bad.
-#[test]
-fn ends_at_a_bad_line(rt: HostRuntime) -> Result<(), Fail> {
-    let lines = [
-        b"\xff".as_slice(),
-        br#"{"op":"crash","server":-1}"#.as_slice(),
-        br#"{"op":"crash","server":1.0}"#.as_slice(),
-        br#"{"op":"crash","server":0}"#.as_slice(),
-        br#"{"op":"crash","server":4294967296}"#.as_slice(),
-        br#"{"op":"crash","server":1,"x":0}"#.as_slice(),
-        b"[]".as_slice(),
-    ];
-    for line in lines {
-        let (answer, taken) = replayed(rt.alloc(), Pieces::new(line, 65536), usize::MAX, false);
-        assert_eq!(rt; answer, Err(ScriptFault::BadLine(1)), "at {line:?}");
-        assert_eq!(rt; taken.len(), 0);
-    }
-    let nested = vec![in rt.alloc(); b'['; 200]?;
-    let (answer, _) = replayed(rt.alloc(), Pieces::new(nested.as_slice(), 65536), 0, false);
-    assert_eq!(rt; answer, Err(ScriptFault::BadLine(1)));
-    Ok(())
-}
-
 /// Three lines of 37 bytes with their line feeds, each refused in 45 bytes.
 const PUTS: &str = r#"{"op":"put","from":1,"to":"clients"}
 {"op":"put","from":1,"to":"clients"}
@@ -368,56 +376,73 @@ fn remembers_failures(rt: HostRuntime) {
     assert!(rt; source.failed());
 
     let mut taken = Vec::new(rt.alloc());
-    let mut sink = Checked::new(Room {
-        taken: &mut taken,
-        step: 2,
-        room: 0,
-        silent: true,
-    });
+    let mut passed = 0;
+    let mut writer = Room::new(&mut taken, &mut passed, 0);
+    writer.silent = true;
+    let mut sink = Checked::new(writer);
     assert_eq!(rt; sink.write(&[]).ok(), Some(0));
     assert!(rt; !sink.failed(), "no bytes are all taken");
     assert_eq!(rt; sink.write(b"1").ok(), Some(0));
     assert!(rt; sink.failed());
 }
 
+/// A read, a write and a flush that are interrupted are made again, and a flush reaches the writer within.
 #[test]
-fn faults_have_numbers_and_names(rt: HostRuntime) -> Result<(), Fail> {
+fn makes_interrupted_calls_again(rt: HostRuntime) {
+    let mut source = Checked::new(Pieces::new(b"12", 1));
+    let mut byte = [0];
+    assert_eq!(rt; source.read(&mut byte).ok(), Some(1));
+    assert_eq!(rt; byte, *b"1");
+    let mut taken = Vec::new(rt.alloc());
+    let mut passed = 0;
+    let mut sink = Checked::new(Room::new(&mut taken, &mut passed, 9));
+    assert_eq!(rt; sink.write(b"123").ok(), Some(2));
+    assert!(rt; sink.flush().is_ok());
+    assert!(rt; !sink.failed());
+    drop(sink);
+    assert_eq!(rt; taken.as_slice(), b"12");
+    assert_eq!(rt; passed, 2);
+}
+
+#[test]
+fn flushes_what_it_wrote(rt: HostRuntime) {
     let cases = [
-        (
-            ScriptFault::BadLine(3),
-            61,
-            "BadLine",
-            "line 3 is not a line of a script",
-        ),
-        (
-            ScriptFault::LineTooLong(4),
-            62,
-            "LineTooLong",
-            "line 4 is too long",
-        ),
-        (
-            ScriptFault::TooManyLines,
-            63,
-            "TooManyLines",
-            "the script has too many lines",
-        ),
-        (
-            ScriptFault::ReadFailed,
-            64,
-            "ReadFailed",
-            "the script could not be read",
-        ),
-        (
-            ScriptFault::WriteFailed,
-            65,
-            "WriteFailed",
-            "the output could not be written",
-        ),
-        (ScriptFault::NoMemory, 20, "NoMemory", "out of memory"),
+        (FIRST_PATH, Ok(()), FIRST_PATH_TEXT),
+        (CUT_LINE, Err(ScriptFault::BadLine(3)), CUT_LINE_TEXT),
     ];
-    for (fault, code, name, text) in cases {
-        assert_eq!(rt; fault.code(), code);
-        assert_eq!(rt; fault.name(), name);
+    for (script, want, text) in cases {
+        for stuck in [false, true] {
+            let mut taken = Vec::new(rt.alloc());
+            let mut passed = 0;
+            let mut source = Checked::new(Pieces::new(script.as_bytes(), 65536));
+            let mut writer = Room::new(&mut taken, &mut passed, usize::MAX);
+            writer.stuck = stuck;
+            let mut sink = Checked::new(writer);
+            let answer = replay(rt.alloc(), ChainSize::one(), &mut source, &mut sink);
+            let (wanted, count) = if stuck {
+                (Err(ScriptFault::WriteFailed), 0)
+            } else {
+                (want, text.len())
+            };
+            assert_eq!(rt; answer, wanted);
+            drop(sink);
+            assert_eq!(rt; taken.as_slice(), text.as_bytes());
+            assert_eq!(rt; passed, count);
+        }
+    }
+}
+
+#[test]
+fn faults_have_texts(rt: HostRuntime) -> Result<(), Fail> {
+    let cases = [
+        (ScriptFault::BadLine(3), "line 3 is not a line of a script"),
+        (ScriptFault::LineTooLong(4), "line 4 is too long"),
+        (ScriptFault::TooManyLines, "the script has too many lines"),
+        (ScriptFault::ReadFailed, "the script could not be read"),
+        (ScriptFault::WriteFailed, "the output could not be written"),
+        (ScriptFault::NoMemory, "out of memory"),
+    ];
+    for (fault, text) in cases {
         assert_eq!(rt; fault.to_string(rt.alloc())?.as_str(), text);
     }
     Ok(())

@@ -3,7 +3,7 @@ use Rattle.std.proofs.Common.{◌<◌, [], ◌++◌, length, take, refl, arith}
 use Rattle.std.proofs.lemmas.Result.{err_from_is_err_and}
 use Rattle.std.proofs.KnownBytes.{Consumes-nil, Consumes-trans, Consumes-kept}
 use Rattle.cq_script.specs.Readings.{bytes_of}
-use Rattle.cq_script.proofs.Ends.{bytes_of-more, nearer_most, reads_fault, reads_end, reads_ended, reads_failed, Consumes-none}
+use Rattle.cq_script.proofs.Ends.{bytes_of-more, nearer_most, reads_fault, reads_end, reads_ended, reads_failed, fault_ended, goes_ended, Consumes-none}
 use Rattle.cq_script.proofs.run.read_script.Goals as goal
 
 pub loop-count-init : goal.loop-count-init
@@ -32,6 +32,8 @@ returns-in_err-feed-in-Ok-clause-reads g c =
       read.0 ++ piece,
       Consumes-trans _ _ _ read.0 piece read.1 c.in-Ok.ensures.bytes.0,
       reads_fault c.in_err-feed-in-Ok.field-0.0 c.feed.new.self (read.0 ++ piece) _ (rw (bytes_of-more read.0 piece c.loop-count.reading read.2) c.in_err-feed-in-Ok.ensures),
+      λ lasts failed. fault_ended c.in_err-feed-in-Ok.field-0.0 c.feed.new.self (read.0 ++ piece) lasts
+          (rw (bytes_of-more read.0 piece c.loop-count.reading read.2) c.in_err-feed-in-Ok.ensures),
     )
 
 pub returns-in-Err-clause-reads : goal.returns-in-Err-clause-reads
@@ -40,12 +42,14 @@ returns-in-Err-clause-reads g c =
       read.0,
       Consumes-kept _ _ _ read.0 read.1 c.in-Err.ensures.bytes,
       reads_failed _ c.read_fault.result read.0 c.loop-count.reading _ c.read_fault.ensures read.2,
+      λ lasts failed. goes_ended read.0 c.loop-count.reading read.2,
     )
 
 pub returns-then-failed-clause-reads : goal.returns-then-failed-clause-reads
 returns-then-failed-clause-reads g c =
     let read = c.loop-count.invariant in
-    (read.0, Consumes-none _ _ _ read.0 c.read.new.buf _ c.in-Ok-eq0.field-0-test read.1 c.in-Ok-eq0.ensures.bytes.0, reads_ended read.0 c.loop-count.reading read.2)
+    let input = Consumes-none _ _ _ read.0 c.read.new.buf _ c.in-Ok-eq0.field-0-test read.1 c.in-Ok-eq0.ensures.bytes.0 in
+    (read.0, input, reads_ended read.0 c.loop-count.reading read.2, λ lasts failed. goes_ended read.0 c.loop-count.reading read.2)
 
 pub returns-clause-reads : goal.returns-clause-reads
 returns-clause-reads g c =
@@ -53,4 +57,5 @@ returns-clause-reads g c =
       read.0,
       Consumes-none _ _ _ read.0 c.read.new.buf _ c.in-Ok-eq0.field-0-test read.1 c.in-Ok-eq0.ensures.bytes.0,
       reads_end c.finish.result c.loop-count.reading c.finish.new.self read.0 _ read.2 (c.in-Ok-eq0.ensures.bytes.1 c.in-Ok-eq0.field-0-test (omega arith)) c.finish.ensures,
+      λ lasts failed. cc,
     )

@@ -1,0 +1,461 @@
+-- Worked lines and texts, each computed by the definitions to what the rules of the scripts give. The results were
+-- worked out by hand.
+use Rattle.std.proofs.Common.{◌≡◌, ℕ, List, [], ◌∷◌, ◌++◌, map, Option, None, Some, Ok, Err, true, false, cond, nat_eq, codes, refl}
+use Rattle.std.specs.Prelude.{⊤}
+use Rattle.std.specs.Fmt.{digits}
+use Rattle.std.specs.Str.{chars, is_utf8}
+use Rattle.serde_json.proofs.OnLiterals.{serde_json_on_literals}
+use Rattle.cq_base.specs.Handle.{Handle}
+use Rattle.cq_base.specs.History.{history, reply_to, last_moment, counts_after}
+use Rattle.cq_base.specs.Facts.{about}
+use Rattle.cq_base.specs.Effects.{effect_of}
+use Rattle.cq_base.specs.Lifetimes.{live, creations}
+use Rattle.cq_base.specs.declared.ask.Ask.{Ask}
+use Rattle.cq_base.specs.declared.ask.Ask.TheVariants.{Create, Remove, Send, Receive, Delete, Change}
+use Rattle.cq_base.specs.declared.fault.BaseFault.{BaseFault}
+use Rattle.cq_base.specs.declared.fault.BaseFault.TheVariants.{BadQueueName, BadGroup, BadDedup, InvalidMessageContents, BodyLength}
+use Rattle.cq_base.specs.declared.party.Party.TheVariants.{Master, Clients, Server}
+use Rattle.cq_base.specs.declared.reply.Refusal.TheVariants.{QueueDoesNotExist}
+use Rattle.cq_base.specs.declared.reply.Reply.{Reply}
+use Rattle.cq_base.specs.declared.reply.Reply.TheVariants.{Created, Removed, Sent, Received, Deleted, Changed, Counts, Refused as Denied}
+use Rattle.cq_chain.specs.declared.message.Answer.{Answer}
+use Rattle.cq_chain.specs.Refusals.{refusal_of_query}
+use Rattle.cq_chain.specs.Steps.{asked}
+use Rattle.cq_world.specs.declared.event.Event.{Event as WorldEvent}
+use Rattle.cq_world.specs.declared.event.Event.TheVariants as events
+use Rattle.cq_world.specs.Events.{refusal_of, next, after, given_by}
+use Rattle.cq_world.specs.Worlds.{first_world, numbers_from}
+use Rattle.cq_script.specs.Answers.{answer_data, answer_text, refused_data, refused_text}
+use Rattle.cq_script.specs.Events.{create_in, remove_in, send_in, receive_in, delete_in, change_in, ask_in, arrive_in, query_in, ends_in, server_in, event_in}
+use Rattle.cq_script.specs.Faults.{code_of, name_of}
+use Rattle.cq_script.specs.Fields.{bad}
+use Rattle.cq_script.specs.Line.{line_of}
+use Rattle.cq_script.specs.Lines.{Script, lines_of, script_from, script_of, ended_part}
+use Rattle.cq_script.specs.Output.{output, text_from, text_of}
+use Rattle.cq_script.specs.Receipts.{handle_in, receipt_handle}
+use Rattle.cq_script.specs.declared.event_line.Line.{Line}
+use Rattle.cq_script.specs.declared.event_line.Line.TheVariants.{Blank, Event, Refused}
+use Rattle.cq_script.specs.declared.fault.ScriptFault.{ScriptFault}
+use Rattle.cq_script.specs.declared.fault.ScriptFault.TheVariants.{BadLine, LineTooLong, TooManyLines, ReadFailed, WriteFailed, NoMemory}
+use Rattle.cq_script.specs.declared.lines.Item.{Item}
+
+-- what a row unfolds to compute a line
+unfoldable lines_on_literals : ⊤
+unfolding line_of event_in arrive_in query_in ends_in server_in ask_in create_in remove_in send_in receive_in delete_in change_in receipt_handle handle_in is_utf8 chars digits serde_json_on_literals
+lines_on_literals = tt
+
+-- the bytes of a line, which is written here with ' for "
+abbrev json : List ℕ → List ℕ
+json text = map (λ b. cond (nat_eq b 39) 34 b) text
+
+-- what the line says
+abbrev says : List ℕ → Option Line
+says text = line_of (json text)
+
+abbrev says_event : WorldEvent → Option Line
+says_event event = Some (Event event)
+
+-- each of the lines is a bad one
+abbrev AreBad : List (List ℕ) → Type 0
+AreBad lines = map says lines ≡ map (λ _. None) lines
+
+-- ---- lines
+
+blank_lines : map line_of ([] ∷ (32 ∷ 9 ∷ 13 ∷ []) ∷ []) ≡ Some Blank ∷ Some Blank ∷ []
+unfolding lines_on_literals
+blank_lines = refl
+
+-- no other byte is blank, and what is no JSON, no object or no event is bad
+bad_lines : AreBad ((11 ∷ []) ∷ (12 ∷ []) ∷ codes "x" ∷ codes "[]" ∷ codes "1" ∷ codes "{}" ∷ codes "{'op':'purge'}" ∷ codes "{'op':1}" ∷ [])
+unfolding lines_on_literals
+bad_lines = refl
+
+-- ---- operations
+
+operations :
+    map says (
+    codes "{'op':'put','from':1,'to':'clients'}" ∷ codes "{'op':'take','from':'master','to':4294967295}"
+    ∷ codes "{'op':'crash','server':1}" ∷ codes "{'op':'detect','server':2}" ∷ codes "{'server':3,'op':'join'}"
+    ∷ codes "{'op':'ask','at':2,'client':7,'tag':9,'queue':'q.fifo'}" ∷ []
+    )
+    ≡ says_event (events.Put (Server 1) Clients) ∷ says_event (events.Take Master (Server 4294967295))
+    ∷ says_event (events.Crash 1) ∷ says_event (events.Detect 2) ∷ says_event (events.Join 3)
+    ∷ says_event (events.Ask 2 (record { client = 7; tag = 9; queue = codes "q.fifo" })) ∷ []
+unfolding lines_on_literals
+operations = refl
+
+-- a server is a whole number from 1 to 2 ^ 32 - 1, written in digits alone
+servers :
+    AreBad (
+    codes "{'op':'crash','server':0}" ∷ codes "{'op':'crash','server':4294967296}" ∷ codes "{'op':'crash','server':1.0}"
+    ∷ codes "{'op':'crash','server':1e0}" ∷ codes "{'op':'crash','server':-1}" ∷ codes "{'op':'crash','server':'1'}"
+    ∷ codes "{'op':'crash'}" ∷ codes "{'op':'crash','server':1,'x':0}" ∷ []
+    )
+unfolding lines_on_literals
+servers = refl
+
+-- an end of a link is a server's number, or one of two names
+ends :
+    AreBad (
+    codes "{'op':'put','from':0,'to':1}" ∷ codes "{'op':'put','from':'server','to':1}" ∷ codes "{'op':'put','from':'1','to':1}"
+    ∷ codes "{'op':'put','from':1,'to':4294967296}" ∷ codes "{'op':'put','from':1}" ∷ codes "{'op':'put','to':1}"
+    ∷ codes "{'op':'put','from':1,'to':2,'server':1}" ∷ []
+    )
+unfolding lines_on_literals
+ends = refl
+
+-- of a key that stands twice the last value counts
+twice : says (codes "{'op':'crash','server':1,'server':2}") ≡ says_event (events.Crash 2)
+unfolding lines_on_literals
+twice = refl
+
+-- ---- queries
+
+most_of_a_query :
+    says (codes "{'op':'ask','at':4294967295,'client':4294967295,'tag':18446744073709551615,'queue':'q.fifo'}")
+    ≡ says_event (events.Ask 4294967295 (record { client = 4294967295; tag = 18446744073709551615; queue = codes "q.fifo" }))
+unfolding lines_on_literals
+most_of_a_query = refl
+
+least_of_a_query : says (codes "{'op':'ask','at':1,'client':0,'tag':0,'queue':'q.fifo'}") ≡ says_event (events.Ask 1 (record { client = 0; tag = 0; queue = codes "q.fifo" }))
+unfolding lines_on_literals
+least_of_a_query = refl
+
+-- a bad text is told only where nothing else is wrong
+bad_queries :
+    AreBad (
+    codes "{'op':'ask','at':0,'client':7,'tag':9,'queue':'q'}" ∷ codes "{'op':'ask','at':4294967296,'client':7,'tag':9,'queue':'q.fifo'}"
+    ∷ codes "{'op':'ask','at':1,'client':4294967296,'tag':9,'queue':'q.fifo'}"
+    ∷ codes "{'op':'ask','at':1,'client':7,'tag':18446744073709551616,'queue':'q.fifo'}"
+    ∷ codes "{'op':'ask','client':7,'tag':9,'queue':'q.fifo'}" ∷ codes "{'op':'ask','at':1,'tag':9,'queue':'q.fifo'}"
+    ∷ codes "{'op':'ask','at':1,'client':7,'queue':'q.fifo'}" ∷ codes "{'op':'ask','at':1,'client':7,'tag':9}"
+    ∷ codes "{'op':'ask','at':1,'client':7,'tag':9,'queue':null}" ∷ codes "{'op':'ask','at':1,'client':7,'tag':9,'queue':'q','clock':5}" ∷ []
+    )
+unfolding lines_on_literals
+bad_queries = refl
+
+query_of_a_bad_name : says (codes "{'op':'ask','at':1,'client':7,'tag':9,'queue':'q'}") ≡ Some (Refused BadQueueName)
+unfolding lines_on_literals
+query_of_a_bad_name = refl
+
+-- ---- requests
+
+-- a request at that moment
+abbrev says_clock : List ℕ → Option Line
+says_clock clock = says (codes "{'op':'arrive','at':1,'client':2,'number':3,'ask':{'kind':'remove','queue':'q.fifo'},'clock':" ++ (clock ++ codes "}"))
+
+clocks :
+    map says_clock (codes "0" ∷ codes "1152921504606846976" ∷ codes "1152921504606846977" ∷ codes "-1" ∷ codes "-0" ∷ [])
+    ≡ says_event (events.Arrive 1 0 (record { client = 2; number = 3; ask = Remove (codes "q.fifo") }))
+    ∷ says_event (events.Arrive 1 1152921504606846976 (record { client = 2; number = 3; ask = Remove (codes "q.fifo") })) ∷ None ∷ None ∷ None ∷ []
+unfolding lines_on_literals
+clocks = refl
+
+most_of_a_request :
+    says (codes "{'op':'arrive','at':4294967295,'clock':0,'client':4294967295,'number':18446744073709551615,'ask':{'kind':'remove','queue':'q.fifo'}}")
+    ≡ says_event (events.Arrive 4294967295 0 (record { client = 4294967295; number = 18446744073709551615; ask = Remove (codes "q.fifo") }))
+unfolding lines_on_literals
+most_of_a_request = refl
+
+bad_requests :
+    AreBad (
+    codes "{'op':'arrive','at':0,'clock':0,'client':0,'number':0,'ask':{'kind':'remove','queue':'q.fifo'}}"
+    ∷ codes "{'op':'arrive','at':4294967296,'clock':0,'client':0,'number':0,'ask':{'kind':'remove','queue':'q.fifo'}}"
+    ∷ codes "{'op':'arrive','at':1,'clock':0,'client':4294967296,'number':0,'ask':{'kind':'remove','queue':'q.fifo'}}"
+    ∷ codes "{'op':'arrive','at':1,'clock':0,'client':0,'number':18446744073709551616,'ask':{'kind':'remove','queue':'q.fifo'}}"
+    ∷ codes "{'op':'arrive','at':1,'clock':0,'client':0,'number':0}"
+    ∷ codes "{'op':'arrive','at':1,'clock':0,'client':0,'number':0,'ask':[]}"
+    ∷ codes "{'op':'arrive','at':1,'clock':0,'client':0,'number':0,'tag':0,'ask':{'kind':'remove','queue':'q.fifo'}}" ∷ []
+    )
+unfolding lines_on_literals
+bad_requests = refl
+
+-- ---- asks
+
+-- the request of client 2 under number 3, at server 1 and moment 5, with the ask that is written so
+abbrev says_ask : List ℕ → Option Line
+says_ask ask = says (codes "{'op':'arrive','at':1,'clock':5,'client':2,'number':3,'ask':" ++ (ask ++ codes "}"))
+
+abbrev says_request : Ask → Option Line
+says_request ask = says_event (events.Arrive 1 5 (record { client = 2; number = 3; ask = ask }))
+
+abbrev AreBadAsks : List (List ℕ) → Type 0
+AreBadAsks asks = map says_ask asks ≡ map (λ _. None) asks
+
+create_asks :
+    map says_ask (
+    codes "{'kind':'create','queue':'q.fifo'}" ∷ codes "{'kind':'create','queue':'q.fifo','visibility':0}"
+    ∷ codes "{'kind':'create','queue':'q.fifo','visibility':43200}" ∷ codes "{'kind':'create','queue':'q'}" ∷ []
+    )
+    ≡ says_request (Create (codes "q.fifo") 30) ∷ says_request (Create (codes "q.fifo") 0) ∷ says_request (Create (codes "q.fifo") 43200) ∷ Some (Refused BadQueueName) ∷ []
+unfolding lines_on_literals
+create_asks = refl
+
+bad_create_asks :
+    AreBadAsks (
+    codes "{'kind':'create','queue':'q','visibility':43201}" ∷ codes "{'kind':'create','queue':'q.fifo','visibility':null}"
+    ∷ codes "{'kind':'create','queue':'q.fifo','size':1}" ∷ codes "{'kind':'create'}" ∷ codes "{'queue':'q.fifo'}"
+    ∷ codes "{'kind':'purge','queue':'q.fifo'}" ∷ []
+    )
+unfolding lines_on_literals
+bad_create_asks = refl
+
+removals : map says_ask (codes "{'kind':'remove','queue':'q.fifo'}" ∷ codes "{'kind':'remove','queue':'q'}" ∷ []) ≡ says_request (Remove (codes "q.fifo")) ∷ Some (Refused BadQueueName) ∷ []
+unfolding lines_on_literals
+removals = refl
+
+bad_removals : AreBadAsks (codes "{'kind':'remove'}" ∷ codes "{'kind':'remove','queue':1}" ∷ codes "{'kind':'remove','queue':'q','visibility':30}" ∷ [])
+unfolding lines_on_literals
+bad_removals = refl
+
+receives :
+    map says_ask (
+    codes "{'kind':'receive','queue':'q.fifo'}" ∷ codes "{'kind':'receive','queue':'q.fifo','size':1,'visibility':0}"
+    ∷ codes "{'kind':'receive','queue':'q.fifo','size':10,'visibility':43200}" ∷ codes "{'kind':'receive','queue':'q'}" ∷ []
+    )
+    ≡ says_request (Receive (codes "q.fifo") 1 None) ∷ says_request (Receive (codes "q.fifo") 1 (Some 0)) ∷ says_request (Receive (codes "q.fifo") 10 (Some 43200)) ∷ Some (Refused BadQueueName) ∷ []
+unfolding lines_on_literals
+receives = refl
+
+bad_receives :
+    AreBadAsks (
+    codes "{'kind':'receive','queue':'q','size':0}" ∷ codes "{'kind':'receive','queue':'q','size':11}"
+    ∷ codes "{'kind':'receive','queue':'q','visibility':43201}" ∷ codes "{'kind':'receive'}" ∷ codes "{'kind':'receive','queue':'q','body':'x'}" ∷ []
+    )
+unfolding lines_on_literals
+bad_receives = refl
+
+abbrev receipt : Handle
+receipt = record { incarnation = 1; sequence = 2; handing = 3 }
+
+deletes :
+    map says_ask (codes "{'receipt':'1-2-3','queue':'q.fifo','kind':'delete'}" ∷ codes "{'kind':'delete','queue':'q','receipt':'1-2-3'}" ∷ [])
+    ≡ says_request (Delete (codes "q.fifo") receipt) ∷ Some (Refused BadQueueName) ∷ []
+unfolding lines_on_literals
+deletes = refl
+
+bad_deletes :
+    AreBadAsks (
+    codes "{'kind':'delete','queue':'q','receipt':'1-2'}" ∷ codes "{'kind':'delete','queue':'q'}" ∷ codes "{'kind':'delete','receipt':'1-2-3'}"
+    ∷ codes "{'kind':'delete','queue':'q','receipt':123}" ∷ codes "{'kind':'delete','queue':'q','receipt':'1-2-3','visibility':0}" ∷ []
+    )
+unfolding lines_on_literals
+bad_deletes = refl
+
+changes :
+    map says_ask (
+    codes "{'kind':'change','queue':'q.fifo','receipt':'1-2-3','visibility':0}" ∷ codes "{'kind':'change','queue':'q.fifo','receipt':'1-2-3','visibility':43200}"
+    ∷ codes "{'kind':'change','queue':'q','receipt':'1-2-3','visibility':0}" ∷ []
+    )
+    ≡ says_request (Change (codes "q.fifo") receipt 0) ∷ says_request (Change (codes "q.fifo") receipt 43200) ∷ Some (Refused BadQueueName) ∷ []
+unfolding lines_on_literals
+changes = refl
+
+bad_changes :
+    AreBadAsks (
+    codes "{'kind':'change','queue':'q','receipt':'1-2-3'}" ∷ codes "{'kind':'change','queue':'q','receipt':'1-2-3','visibility':43201}"
+    ∷ codes "{'kind':'change','queue':'q','receipt':'1-2-3','visibility':null}" ∷ codes "{'kind':'change','queue':'q','visibility':0}"
+    ∷ codes "{'kind':'change','receipt':'1-2-3','visibility':0}" ∷ codes "{'kind':'change','queue':'q','receipt':'0-2-3','visibility':0}"
+    ∷ codes "{'kind':'change','queue':'q','receipt':'1-2-3','visibility':0,'size':1}" ∷ []
+    )
+unfolding lines_on_literals
+bad_changes = refl
+
+-- ---- sends, and the order in which the faults of their texts are told
+
+abbrev says_send : List ℕ → List ℕ → List ℕ → List ℕ → Option Line
+says_send queue group dedup body =
+    says_ask (codes "{'kind':'send','queue':'" ++ (queue ++ (codes "','group':'" ++ (group ++ (codes "','dedup':'" ++ (dedup ++ (codes "','body':'" ++ (body ++ codes "'}"))))))))
+
+send : says_send (codes "q.fifo") (codes "a") (codes "d") (codes "hello") ≡ says_request (Send (codes "q.fifo") (codes "a") (codes "d") (codes "hello"))
+unfolding lines_on_literals
+send = refl
+
+abbrev zero : List ℕ
+zero = 92 ∷ codes "u0000"
+
+queue_before_group : says_send (codes "q") (codes "a b") (codes "d") (codes "x") ≡ Some (Refused BadQueueName)
+unfolding lines_on_literals
+queue_before_group = refl
+
+queue_before_dedup : says_send (codes "q") (codes "a") [] (codes "x") ≡ Some (Refused BadQueueName)
+unfolding lines_on_literals
+queue_before_dedup = refl
+
+queue_before_body : says_send (codes "q") (codes "a") (codes "d") zero ≡ Some (Refused BadQueueName)
+unfolding lines_on_literals
+queue_before_body = refl
+
+group_before_dedup : says_send (codes "q.fifo") (codes "a b") [] (codes "x") ≡ Some (Refused BadGroup)
+unfolding lines_on_literals
+group_before_dedup = refl
+
+group_before_body : says_send (codes "q.fifo") (codes "a b") (codes "d") zero ≡ Some (Refused BadGroup)
+unfolding lines_on_literals
+group_before_body = refl
+
+dedup_before_body : says_send (codes "q.fifo") (codes "a") [] zero ≡ Some (Refused BadDedup)
+unfolding lines_on_literals
+dedup_before_body = refl
+
+character_of_a_body : says_send (codes "q.fifo") (codes "a") (codes "d") zero ≡ Some (Refused InvalidMessageContents)
+unfolding lines_on_literals
+character_of_a_body = refl
+
+empty_body : says_send (codes "q.fifo") (codes "a") (codes "d") [] ≡ Some (Refused BodyLength)
+unfolding lines_on_literals
+empty_body = refl
+
+-- bytes that are no UTF-8 are no JSON
+no_utf8 : says_send (codes "q.fifo") (codes "a") (codes "d") (255 ∷ []) ≡ None
+unfolding lines_on_literals
+no_utf8 = refl
+
+bad_sends :
+    AreBadAsks (
+    codes "{'kind':'send','queue':'q','group':'a b','dedup':'d','body':'x','size':1}" ∷ codes "{'kind':'send','queue':'q','group':'a b','dedup':'d'}"
+    ∷ codes "{'kind':'send','queue':'q','group':'a','body':'x'}" ∷ codes "{'kind':'send','queue':'q','dedup':'d','body':'x'}"
+    ∷ codes "{'kind':'send','group':'a','dedup':'d','body':'x'}" ∷ []
+    )
+unfolding lines_on_literals
+bad_sends = refl
+
+-- ---- receipts
+
+abbrev most : ℕ
+most = 18446744073709551615
+
+receipt_of_most : receipt_handle (codes "18446744073709551615-1-18446744073709551615") ≡ Ok (record { incarnation = most; sequence = 1; handing = most })
+unfolding receipt_handle handle_in digits
+receipt_of_most = refl
+
+abbrev bad_receipts : List (List ℕ)
+bad_receipts =
+    [] ∷ codes "--" ∷ codes "1-2" ∷ codes "1-2-" ∷ codes "-2-3" ∷ codes "1--3" ∷ codes "1-2-3-4" ∷ codes "1-2-3 " ∷ codes " 1-2-3" ∷ codes "0-2-3" ∷ codes "1-0-3"
+    ∷ codes "1-2-0" ∷ codes "01-2-3" ∷ codes "1-02-3" ∷ codes "1-2-03" ∷ codes "+1-2-3" ∷ codes "1_2_3" ∷ codes "18446744073709551616-1-1"
+    ∷ codes "1-18446744073709551616-1" ∷ codes "1-1-18446744073709551616" ∷ []
+
+are_bad_receipts : map receipt_handle bad_receipts ≡ map (λ _. Err bad) bad_receipts
+unfolding receipt_handle handle_in digits
+are_bad_receipts = refl
+
+-- ---- scripts
+
+cut_lines : lines_of (codes "a" ++ (10 ∷ 10 ∷ codes "bc")) ≡ codes "a" ∷ [] ∷ codes "bc" ∷ []
+unfolding lines_of
+cut_lines = refl
+
+ended_lines : lines_of (codes "a" ++ (10 ∷ [])) ≡ codes "a" ∷ []
+unfolding lines_of
+ended_lines = refl
+
+ended_parts : map ended_part ([] ∷ codes "ab" ∷ (97 ∷ 10 ∷ 98 ∷ []) ∷ (97 ∷ 10 ∷ 98 ∷ 10 ∷ []) ∷ []) ≡ [] ∷ [] ∷ (97 ∷ 10 ∷ []) ∷ (97 ∷ 10 ∷ 98 ∷ 10 ∷ []) ∷ []
+unfolding ended_part
+ended_parts = refl
+
+-- lines are counted from 1, blank ones too, and the script ends at its first fault
+numbers_of_lines :
+    script_of (10 ∷ (json (codes "{'op':'crash','server':1}") ++ (10 ∷ (json (codes "{'op':'ask','at':1,'client':7,'tag':9,'queue':'q'}") ++ (10 ∷ (codes "x" ++ (10 ∷ json (codes "{'op':'crash','server':2}"))))))))
+    ≡ record { items = record { number = 2; said = Ok (events.Crash 1) } ∷ record { number = 3; said = Err BadQueueName } ∷ []; fault = Some (BadLine 4) }
+unfolding script_of script_from lines_of lines_on_literals
+numbers_of_lines = refl
+
+last_line : script_from 1000000 ([] ∷ []) ≡ record { items = []; fault = None }
+unfolding script_from lines_on_literals
+last_line = refl
+
+line_too_many : script_from 1000001 ([] ∷ []) ≡ record { items = []; fault = Some TooManyLines }
+unfolding script_from lines_on_literals
+line_too_many = refl
+
+-- ---- answers
+
+-- a request's answer, at line 9
+abbrev told : Reply → List ℕ
+told reply = answer_text 9 (record { client = 7; number = 10; is_query = false; length = 8; reply = reply })
+
+-- the line that says so, with ' for "
+abbrev line : List ℕ → List ℕ
+line text = json text ++ (10 ∷ [])
+
+abbrev request_line : List ℕ → List ℕ
+request_line reply = line (codes "{'client':7,'length':8,'line':9,'number':10,'reply':" ++ (reply ++ codes "}"))
+
+created : told (Created 1) ≡ request_line (codes "{'incarnation':1,'kind':'created'}")
+unfolding answer_data digits serde_json_on_literals
+created = refl
+
+removed : told Removed ≡ request_line (codes "{'kind':'removed'}")
+unfolding answer_data digits serde_json_on_literals
+removed = refl
+
+sent : told (Sent 5) ≡ request_line (codes "{'kind':'sent','sequence':5}")
+unfolding answer_data digits serde_json_on_literals
+sent = refl
+
+received_none : told (Received []) ≡ request_line (codes "{'kind':'received','messages':[]}")
+unfolding answer_data digits serde_json_on_literals
+received_none = refl
+
+received :
+    told (Received (record { receipt = receipt; group = codes "a"; body = codes "hello" } ∷ record { receipt = receipt; group = codes "b"; body = codes "ho" } ∷ []))
+    ≡ request_line (codes "{'kind':'received','messages':[{'body':'hello','group':'a','receipt':'1-2-3'},{'body':'ho','group':'b','receipt':'1-2-3'}]}")
+unfolding answer_data digits serde_json_on_literals
+received = refl
+
+deleted : told (Deleted true) ≡ request_line (codes "{'kind':'deleted','removed':true}")
+unfolding answer_data digits serde_json_on_literals
+deleted = refl
+
+deleted_nothing : told (Deleted false) ≡ request_line (codes "{'kind':'deleted','removed':false}")
+unfolding answer_data digits serde_json_on_literals
+deleted_nothing = refl
+
+changed : told Changed ≡ request_line (codes "{'kind':'changed'}")
+unfolding answer_data digits serde_json_on_literals
+changed = refl
+
+denied : told (Denied QueueDoesNotExist) ≡ request_line (codes "{'code':1,'kind':'refused','name':'QueueDoesNotExist'}")
+unfolding answer_data digits serde_json_on_literals
+denied = refl
+
+-- an answer to a query has a tag, and no number
+counted :
+    answer_text 9 (record { client = 7; number = 10; is_query = true; length = 8; reply = Counts 1 3 })
+    ≡ line (codes "{'client':7,'length':8,'line':9,'reply':{'in_flight':3,'kind':'counts','visible':1},'tag':10}")
+unfolding answer_data digits serde_json_on_literals
+counted = refl
+
+refused_event : refused_text 1 31 (codes "NoSuchServer") ≡ line (codes "{'line':1,'name':'NoSuchServer','refused':31}")
+unfolding refused_data digits serde_json_on_literals
+refused_event = refl
+
+-- ---- what a script writes
+
+abbrev item : ℕ → WorldEvent → Item
+item number event = record { number = number; said = Ok event }
+
+-- A text that breaks its rule does nothing, and a crash is for good; neither gives a line but of its refusal.
+refusals :
+    text_of 2 (record { number = 2; said = Err BadGroup } ∷ item 3 (events.Crash 2) ∷ item 5 (events.Crash 2) ∷ item 6 (events.Crash 3) ∷ [])
+    ≡ line (codes "{'line':2,'name':'BadGroup','refused':12}") ++ (line (codes "{'line':5,'name':'ServerDown','refused':32}") ++ line (codes "{'line':6,'name':'NoSuchServer','refused':31}"))
+unfolding text_of text_from output first_world numbers_from refusal_of after next given_by refused_data digits serde_json_on_literals
+refusals = refl
+
+-- a put to the clients gives what waits for them, once
+given :
+    text_of 1 (item 1 (events.Ask 1 (record { client = 7; tag = 10; queue = codes "q.fifo" })) ∷ item 2 (events.Put (Server 1) Clients) ∷ item 3 (events.Put (Server 1) Clients) ∷ [])
+    ≡ line (codes "{'client':7,'length':0,'line':2,'reply':{'code':1,'kind':'refused','name':'QueueDoesNotExist'},'tag':10}") ++ line (codes "{'line':3,'name':'OutboxEmpty','refused':34}")
+unfolding text_of text_from output first_world numbers_from refusal_of refusal_of_query after next given_by asked history live creations last_moment counts_after about reply_to effect_of answer_data refused_data digits serde_json_on_literals
+given = refl
+
+-- ---- faults
+
+abbrev faults : List ScriptFault
+faults = BadLine 3 ∷ LineTooLong 3 ∷ TooManyLines ∷ ReadFailed ∷ WriteFailed ∷ NoMemory ∷ []
+
+numbers_of_faults : map code_of faults ≡ 61 ∷ 62 ∷ 63 ∷ 64 ∷ 65 ∷ 20 ∷ []
+numbers_of_faults = refl
+
+names_of_faults : map name_of faults ≡ codes "BadLine" ∷ codes "LineTooLong" ∷ codes "TooManyLines" ∷ codes "ReadFailed" ∷ codes "WriteFailed" ∷ codes "NoMemory" ∷ []
+names_of_faults = refl
