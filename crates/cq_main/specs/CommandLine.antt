@@ -1,5 +1,6 @@
 -- The command line of the program, in the words of clap's own specification.
-use Rattle.std.specs.Prelude.{◌≡◌, ℕ, List, Option, Some, None, true, [], ◌∷◌, codes, pos}
+use Rattle.std.specs.Prelude.{◌≡◌, ℕ, ◌-◌, ◌&&◌, nat_le, if◌then◌else◌, List, Option, Some, None, true, [], ◌∷◌, codes, pos}
+use Rattle.std.specs.Str.{bytes_eq}
 use Rattle.std.specs.Str.Parse.{digits_value, without_leading_plus}
 use Rattle.clap.specs.Words.{App, Row, Rule, Text, new_app, new_rule, one_of, with_rule, with_subcommand}
 use Rattle.clap.specs.Simple.{on_top}
@@ -41,3 +42,18 @@ text_in (Some found) = one_of (codes "servers") found.1
 abbrev pub IsAsked : Option (Text × List Row) → ℕ → Type 0
 IsAsked found servers =
     (text : Text) × (text_in found ≡ Some text) × (servers ≡ digits_value 10 (without_leading_plus text))
+
+-- ---- good words
+
+-- the number that a text of one digit from 1 to 8 is
+abbrev pub digit_of : Text → Option ℕ
+digit_of (byte ∷ []) = if nat_le 49 byte && nat_le byte 56 then Some (byte - 48) else None
+digit_of _ = None
+
+-- how many servers good words ask for: none; `replay`; `replay --servers N`
+abbrev pub asked_servers : List Text → Option ℕ
+asked_servers [] = Some 1
+asked_servers (word ∷ []) = if bytes_eq word (codes "replay") then Some 1 else None
+asked_servers (word ∷ option ∷ number ∷ []) =
+    if bytes_eq word (codes "replay") && bytes_eq option (codes "--servers") then digit_of number else None
+asked_servers _ = None

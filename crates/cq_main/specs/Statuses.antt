@@ -1,7 +1,6 @@
--- The status with which the program ends.
-use Rattle.std.specs.Prelude.{ℕ}
-use Rattle.clap.specs.declared.error.kind.ErrorKind.{ErrorKind}
-use Rattle.clap.specs.declared.error.kind.ErrorKind.TheVariants.{DisplayHelp, DisplayVersion, OutOfMemory}
+-- The line of a fault, and the status with which the program ends.
+use Rattle.std.specs.Prelude.{ℕ, List, [], ◌∷◌, ◌++◌, codes, decimal, Option, Some, None}
+use Rattle.cq_script.specs.Faults.{code_of, name_of}
 use Rattle.cq_script.specs.declared.fault.ScriptFault.{ScriptFault}
 use Rattle.cq_script.specs.declared.fault.ScriptFault.TheVariants.{BadLine, LineTooLong, TooManyLines, ReadFailed, WriteFailed, NoMemory}
 
@@ -14,9 +13,20 @@ status_of ReadFailed = 3
 status_of WriteFailed = 3
 status_of NoMemory = 3
 
--- after an error of the command line: 0 where help was asked for, 3 where memory ran out, and else 2
-abbrev pub status_after : ErrorKind → ℕ
-status_after DisplayHelp = 0
-status_after DisplayVersion = 0
-status_after OutOfMemory = 3
-status_after _ = 2
+-- at which line the fault is, if it is at one
+abbrev pub fault_line : ScriptFault → Option ℕ
+fault_line (BadLine n) = Some n
+fault_line (LineTooLong n) = Some n
+fault_line TooManyLines = None
+fault_line ReadFailed = None
+fault_line WriteFailed = None
+fault_line NoMemory = None
+
+-- it, as it is told
+abbrev pub line_text : Option ℕ → List ℕ
+line_text (Some n) = codes " line " ++ decimal n
+line_text None = []
+
+-- the line of a fault
+abbrev pub fault_text : ScriptFault → List ℕ
+fault_text fault = codes "cq: " ++ (decimal (code_of fault) ++ (codes " " ++ (name_of fault ++ (line_text (fault_line fault) ++ 10 ∷ []))))

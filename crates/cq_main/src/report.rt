@@ -1,12 +1,15 @@
 ghost use Rattle.std.specs.Prelude.{◌≡◌};
-ghost use Rattle.cq_main.specs.Statuses.{status_of};
+ghost use Rattle.cq_script.specs.Checks.{inner_of, is_failed};
+ghost use Rattle.cq_main.specs.Outcomes.{EndsAt};
+ghost use Rattle.cq_main.specs.Statuses.{fault_line, status_of};
 
-use cq_script::ScriptFault;
-use std::io;
+use cq_script::{Checked, ScriptFault};
 use std::io::Write;
 
 /// The line of the script at which the fault is, if it is at one.
-fn line_of(fault: &ScriptFault) -> Option<u64> {
+fn line_of(fault: &ScriptFault) -> Option<u64>
+    ensures { result ≡ fault_line fault.now }
+{
     match fault {
         ScriptFault::BadLine(line) | ScriptFault::LineTooLong(line) => Some(*line),
         ScriptFault::TooManyLines
@@ -16,21 +19,25 @@ fn line_of(fault: &ScriptFault) -> Option<u64> {
     }
 }
 
-fn write_fault<W: Write>(fault: &ScriptFault, writer: &mut W) -> io::Result<()> {
+/// Writes the line of a fault, such as `cq: 61 BadLine line 3`, and gives the status with which the program
+/// ends: 2 where the script is at fault, and else 3. That the line can't be written changes nothing.
+pub fn report<E: Write>(fault: &ScriptFault, errors: &mut Checked<E>) -> u8
+    ensures { EndsAt fault.now result (is_failed errors.new) (E.contents (inner_of errors.old))
+        (E.contents (inner_of errors.new)) }
+{
     let code = fault.code();
     let name = fault.name();
     match line_of(fault) {
-        Some(line) => writeln!(writer, "cq: {code} {name} line {line}"),
-        None => writeln!(writer, "cq: {code} {name}"),
+        Some(line) => errors.tell(format_args!("cq: {code} {name} line {line}\n")),
+        None => errors.tell(format_args!("cq: {code} {name}\n")),
     }
+    status_of(fault)
 }
 
-/// Writes the line of a fault, such as `cq: 61 BadLine line 3`, and gives the status with which the program
-/// ends: 2 where the script is at fault, and else 3. That the line can't be written changes nothing.
-pub fn report<W: Write>(fault: &ScriptFault, writer: &mut W) -> u8
+/// The status with which a fault ends the program.
+fn status_of(fault: &ScriptFault) -> u8
     ensures { result ≡ status_of fault.now }
 {
-    let _ = write_fault(fault, writer);
     match fault {
         ScriptFault::BadLine(_) | ScriptFault::LineTooLong(_) | ScriptFault::TooManyLines => 2,
         ScriptFault::ReadFailed | ScriptFault::WriteFailed | ScriptFault::NoMemory => 3,
@@ -58,7 +65,8 @@ mod tests {
         ];
         for (fault, status, text) in cases {
             let mut written = Vec::new(rt.alloc());
-            assert_eq!(rt; report(&fault, &mut written), status);
+            let mut errors = Checked::new(&mut written);
+            assert_eq!(rt; report(&fault, &mut errors), status);
             assert_eq!(rt; written.as_slice(), text.as_bytes());
         }
         Ok(())

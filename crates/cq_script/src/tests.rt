@@ -400,7 +400,7 @@ fn makes_interrupted_calls_again(rt: HostRuntime) {
     assert!(rt; sink.flush().is_ok());
     assert!(rt; !sink.failed());
     drop(sink);
-    assert_eq!(rt; taken.as_slice(), b"12");
+    assert_eq!(rt; taken.as_slice(), b"12".as_slice());
     assert_eq!(rt; passed, 2);
 }
 

@@ -1,4 +1,4 @@
-use super::{Choice, choice_of, status_after};
+use super::{Choice, choice_of};
 use clap::error::ErrorKind;
 use cq_base::ChainSize;
 use std::test::Fail;
@@ -73,44 +73,7 @@ fn names_the_word_at_fault(rt: HostRuntime) -> Result<(), Fail> {
         };
         let text = format!(in rt.alloc(); "{error}")?;
         assert_eq!(rt; error.kind(), kind, "{words:?}");
-        assert_eq!(rt; error.exit_code(), 2, "{words:?}");
-        assert_eq!(rt; status_after(&error), 2, "{words:?}");
-        assert!(rt; error.use_stderr(), "{words:?}");
         assert!(rt; text.as_str().contains(word), "{text}");
-    }
-    Ok(())
-}
-
-#[test]
-fn helps(rt: HostRuntime) -> Result<(), Fail> {
-    let rows: [&[&str]; 6] = [
-        &["--help"],
-        &["-h"],
-        &["help"],
-        &["replay", "--help"],
-        &["replay", "-h"],
-        &["help", "replay"],
-    ];
-    let pieces = [
-        "--servers",
-        r#"{"op":"arrive","at":1,"clock":1000,"client":1,"number":1,"ask":{"kind":"create","queue":"q.fifo","visibility":30}}"#,
-        r#"{"op":"put","from":1,"to":"clients"}"#,
-        r#"{"client":1,"length":1,"line":2,"number":1,"reply":{"incarnation":1,"kind":"created"}}"#,
-        "cq replay --servers 3 < SCRIPT",
-        "Exit statuses",
-    ];
-    for words in rows {
-        let Err(error) = choice_of(rt.alloc(), words) else {
-            return Err(Fail::from("the words were taken"));
-        };
-        let text = format!(in rt.alloc(); "{error}")?;
-        assert_eq!(rt; error.kind(), ErrorKind::DisplayHelp, "{words:?}");
-        assert_eq!(rt; error.exit_code(), 0, "{words:?}");
-        assert_eq!(rt; status_after(&error), 0, "{words:?}");
-        assert!(rt; !error.use_stderr(), "{words:?}");
-        for piece in pieces {
-            assert!(rt; text.as_str().contains(piece), "{words:?} {piece}");
-        }
     }
     Ok(())
 }

@@ -1,14 +1,56 @@
-use Rattle.std.proofs.Common.{rules, ap, ap₂, refl, true, map, [], ◌≡◌, ◌∙◌}
-use Rattle.clap.specs.Words.{takes}
-use Rattle.clap.proofs.OnLiterals.{clap_on_literals}
-use Rattle.cq_main.specs.CommandLine.{program_app}
+-- What a parse of the words gives is what they ask for, and where it fails it says why.
+use Rattle.std.proofs.Common.{rules, ◌≡◌, ◌∙◌, ℕ, Some, ap, map, sym, arith}
+use Rattle.std.proofs.lemmas.Result.{err_from_is_err_and}
+use Rattle.clap.specs.Words.{fault_of, is_simple, is_simple_and_free, subcommand_of, takes}
+use Rattle.cq_main.specs.CommandLine.{text_in}
+use Rattle.cq_main.proofs.Asked.{is_good, kinds_at, program_is_free, program_is_simple}
 use Rattle.cq_main.proofs.words.choice_of.Goals as goal
+use Rattle.cq_main.proofs.words.choice_of.Goals.{in-Some+in_default-new, in_default}
 
-takes_no_words : takes program_app [] ≡ true
-unfolding clap_on_literals
-takes_no_words = refl
+pub returns-in_err-matches-clause-good : goal.returns-in_err-matches-clause-good
+returns-in_err-matches-clause-good g c = λ servers asked.
+    let words = map g.S.AsStr.text c.args.words.now in
+    let good = is_good words servers asked in
+    let fault = err_from_is_err_and c.from_residual-in_err-matches.result c.from_residual-in_err-matches.ensures.1 in
+    rw (fault.1, fault.2) (c.in_err-matches.ensures.passes (ap (λ app. takes app words) c.in_ok-program.ensures ∙ good.taken))
 
-pub returns-in_err-matches-clause-bare : goal.returns-in_err-matches-clause-bare
-returns-in_err-matches-clause-bare g c = λ none.
-    let memory = c.in_err-matches.ensures.passes (ap₂ takes c.in_ok-program.ensures (ap (map _) none) ∙ takes_no_words) in
-    search rules
+pub returns-in_err-matches-clause-faults : goal.returns-in_err-matches-clause-faults
+returns-in_err-matches-clause-faults g c = λ some.
+    let words = map g.S.AsStr.text c.args.words.now in
+    let told = c.in_err-matches.ensures.kinds (ap is_simple_and_free c.in_ok-program.ensures ∙ program_is_free) in
+    let fault = err_from_is_err_and c.from_residual-in_err-matches.result c.from_residual-in_err-matches.ensures.1 in
+    rw (fault.1, fault.2) (kinds_at _ words c.in_err-matches.field-0.0 c.in_ok-program.ensures told)
+
+pub returns-in-Some-new-clause-good : goal.returns-in-Some-new-clause-good
+returns-in-Some-new-clause-good g c = λ servers asked.
+    let words = map g.S.AsStr.text c.args.words.now in
+    let good = is_good words servers asked in
+    let rows = (c.in_ok-matches.ensures.ok.2 (ap is_simple c.in_ok-program.ensures ∙ program_is_simple)).1 ∙ ap (λ app. subcommand_of app words) c.in_ok-program.ensures in
+    let found : c.servers_in.result ≡ Some servers = c.servers_in.ensures.digit servers (omega (arith, good.high)) (ap text_in rows ∙ good.text) in
+    let is = c.in-Some.is in
+    let value = c.in-Some-new.ensures.value in
+    cc
+
+pub returns-in-Some-new-clause-faults : goal.returns-in-Some-new-clause-faults
+returns-in-Some-new-clause-faults g c = λ some.
+    let words = map g.S.AsStr.text c.args.words.now in
+    some (ap (λ app. fault_of app words) (sym c.in_ok-program.ensures) ∙ c.in_ok-matches.ensures.kinds (ap is_simple_and_free c.in_ok-program.ensures ∙ program_is_free))
+
+pub returns-clause-good : goal.returns-clause-good
+returns-clause-good g c = λ servers asked.
+    let words = map g.S.AsStr.text c.args.words.now in
+    let good = is_good words servers asked in
+    let low = good.low in
+    let high = good.high in
+    let rows = (c.in_ok-matches.ensures.ok.2 (ap is_simple c.in_ok-program.ensures ∙ program_is_simple)).1 ∙ ap (λ app. subcommand_of app words) c.in_ok-program.ensures in
+    let found : c.servers_in.result ≡ Some servers = c.servers_in.ensures.digit servers (omega (arith, high)) (ap text_in rows ∙ good.text) in
+    elim c.match-servers_in.branch [
+      | in-Some+in_default-new w ↦
+          let is = w.in-Some.is in
+          let valid = w.new.ensures.valid in
+          let none = w.in_default-new.is in
+          search rules
+      | in_default w ↦
+          let none = w.in_default.is in
+          cc
+    ]

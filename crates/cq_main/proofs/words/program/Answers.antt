@@ -6,6 +6,6 @@ use Rattle.cq_main.proofs.words.program.Goals as goal
 
 pub returns : goal.returns
 returns c =
-    let bare_is : app_of c.after_help.result ≡ bare_app = search rules in
+    let bare_is : app_of c.about.result ≡ bare_app = search rules in
     IfOk-weaker c.subcommand.result _ _ (λ command adds. adds.shape c.in_ok-replay_command.ensures.local
     ∙ ap₂ with_subcommand bare_is (ap (λ (a : App). a.top) c.in_ok-replay_command.ensures.app)) c.subcommand.ensures

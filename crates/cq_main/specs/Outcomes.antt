@@ -1,0 +1,68 @@
+-- What the program has done when it ends. A reader or a writer is seen by the bytes that are known of it, before and
+-- after.
+use Rattle.std.specs.Prelude.{◌≡◌, ◌⊎◌, ℕ, Bool, true, false, List, [], ◌∷◌, ◌++◌, codes, Option, Result, Ok, Err}
+use Rattle.std.specs.Io.KnownBytes.{Appends, Consumes}
+use Rattle.std.specs.List.{list_all}
+use Rattle.clap.specs.Kinds.{Kinds}
+use Rattle.clap.specs.declared.error.kind.ErrorKind.{ErrorKind}
+use Rattle.clap.specs.declared.error.kind.ErrorKind.TheVariants.{DisplayHelp, DisplayVersion, OutOfMemory}
+use Rattle.cq_script.specs.Replays.{Replays}
+use Rattle.cq_script.specs.declared.fault.ScriptFault.{ScriptFault}
+use Rattle.cq_script.specs.declared.fault.ScriptFault.TheVariants.{WriteFailed, NoMemory}
+use Rattle.cq_main.specs.Statuses.{fault_text, status_of}
+
+-- ---- faults of the words
+
+-- help was asked for, and not what the words may else be taken for
+abbrev pub is_help : ErrorKind → Bool
+is_help DisplayHelp = true
+is_help DisplayVersion = true
+is_help _ = false
+
+-- the words are at fault
+abbrev pub is_usage : ErrorKind → Bool
+is_usage DisplayHelp = false
+is_usage DisplayVersion = false
+is_usage OutOfMemory = false
+is_usage _ = true
+
+-- there is a fault, and each that may be told is such a one
+abbrev pub all_are : (ErrorKind → Bool) → Kinds → Bool
+all_are is_such [] = false
+all_are is_such (kind ∷ kinds) = list_all is_such (kind ∷ kinds)
+
+-- ---- what was done
+
+-- the line of a fault was written, unless the writer failed
+abbrev pub Tells : ScriptFault → Bool → Option (List ℕ) → Option (List ℕ) → Type 0
+Tells fault failed old new = failed ≡ false → Appends old new (fault_text fault)
+
+-- a fault ended the program: its status, and its line on the writer of errors
+abbrev pub EndsAt : ScriptFault → ℕ → Bool → Option (List ℕ) → Option (List ℕ) → Type 0
+EndsAt fault status failed old new = (status ≡ status_of fault) × Tells fault failed old new
+
+-- the answer of a replay ended the program
+abbrev pub Ends : Result (Unit {0}) ScriptFault → ℕ → Bool → Option (List ℕ) → Option (List ℕ) → Type 0
+Ends (Ok _) status failed old new = (status ≡ 0) × (new ≡ old)
+Ends (Err fault) status failed old new = EndsAt fault status failed old new
+
+-- a script was replayed on so many servers
+abbrev pub Runs : ℕ → ℕ → Option (List ℕ) → Option (List ℕ) → Option (List ℕ) → Option (List ℕ) → Bool → Option (List ℕ) → Option (List ℕ) → Type 0
+Runs servers status unread left written output failed old new =
+    (answer : Result (Unit {0}) ScriptFault) × (input : List ℕ) × (text : List ℕ)
+    × Consumes unread left input × Appends written output text
+    × Replays servers answer input left text × Ends answer status failed old new
+
+-- help was written, with the guide at its end; or the writer failed, which is a fault
+abbrev pub Helps : List ℕ → ℕ → Bool → Option (List ℕ) → Option (List ℕ) → Bool → Option (List ℕ) → Option (List ℕ) → Type 0
+Helps guide status output_failed written output failed old new =
+    ((output_failed ≡ false) × (status ≡ 0) × (new ≡ old) × ((text : List ℕ) × Appends written output (text ++ 10 ∷ (guide ++ 10 ∷ []))))
+    ⊎ ((output_failed ≡ true) × EndsAt WriteFailed status failed old new)
+
+-- the words were refused: a text says why, unless the writer failed
+abbrev pub Refuses : ℕ → Bool → Option (List ℕ) → Option (List ℕ) → Type 0
+Refuses status failed old new = (status ≡ 2) × ((text : List ℕ) × (failed ≡ false → Appends old new text))
+
+-- what is told where the words of the command line are no text
+abbrev pub unread_text : List ℕ
+unread_text = codes "error: a word of the command line is not UTF-8" ++ 10 ∷ []
