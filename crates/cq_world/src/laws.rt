@@ -65,8 +65,8 @@ pub fn a_quiet_chain_agrees()
     ensures tail { QuietTailActs }
 {}
 
-/// On the committed list, of the entries of a client under one number at most one is fresh, the others do nothing
-/// to any queue, and a repeat has the reply of the fresh one.
+/// On the committed list, of the entries of a client under one number at most one is fresh, a repeat has the reply of
+/// the fresh one, and after the others all goes on as if they weren't there.
 pub fn one_effect_per_number()
     ensures once { OfCommitted FreshOnceIn }
     ensures repeats { OfCommitted (AtEachPlace RepeatsAreAnsweredAt) }
