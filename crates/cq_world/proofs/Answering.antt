@@ -156,16 +156,22 @@ arrived_tells clock request s P h = told_entry P s (stamped s.entries clock requ
 
 asked_tells : (w : World) (k : ℕ) (query : Query) (list : List Entry) → refusal_of w (Ask k query) ≡ None → list ≡ (w.server k).entries → AllTell (IsRight list w (Ask k query ∷ [])) (asked query (w.server k)).sent
 unfolding asked world_after
-asked_tells w k query list free is = ((inr (record {
-  earlier = [];
-  later = [];
-  at = k;
-  query = query;
-  asked = refl;
-  free = free;
-  front = ([], is ∙ sym (append-nil (w.server k).entries));
-  answer = refl;
-}), sym (ap length is)), tt)
+asked_tells w k query list free is = (
+  (
+    inr (record {
+      earlier = [];
+      later = [];
+      at = k;
+      query = query;
+      asked = refl;
+      free = free;
+      front = ([], is ∙ sym (append-nil (w.server k).entries));
+      answer = refl;
+    }),
+    sym (ap length is),
+  ),
+  tt,
+)
 
 query_own : (query : Query) (s : Server) (c : List Entry) → s.down ≡ false → acts s ≡ true → (acts (asked query s).server ≡ true → (asked query s).server.down ≡ false → longer c (acting_history (asked query s).server) ≡ (asked query s).server.entries) → longer c (acting_history (asked query s).server) ≡ s.entries
 unfolding asked

@@ -1,7 +1,5 @@
 use crate::{Answer, Master, Message, Server, WorldFault};
-use cq_base::{
-    Ask, ChainSize, Moment, Party, Query, QueueName, Reply, Request, Seconds, ServerId,
-};
+use cq_base::{Ask, ChainSize, Moment, Party, Query, QueueName, Reply, Request, Seconds, ServerId};
 use std::alloc::Global;
 use std::process::Abort;
 use std::test::Fail;

@@ -1,6 +1,6 @@
 use super::common::{
-    adopt, be_tail, check_ack, check_count, check_put, check_sent, enter, id, member, party,
-    pass, report,
+    adopt, be_tail, check_ack, check_count, check_put, check_sent, enter, id, member, party, pass,
+    report,
 };
 use crate::Server;
 use cq_base::Party;

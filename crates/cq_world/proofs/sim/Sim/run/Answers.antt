@@ -67,8 +67,8 @@ returns-then-is_err-clause-stop c = λ w h stopped event is.
     let here : slice_get events i ≡ Some c.event-item.result = slice_get-get_or events i c.event-item.result inside ∙ ap Some (sym c.event-item.is) in
     let same : c.event-item.result ≡ event = some_same (sym here ∙ ap (λ k. slice_get events k) (sym done) ∙ is) in
     subst (λ e. WantsMemory (refusal_of (world_after w (take c.run_event.new.ran.done events)) e) c.run_event.new.ran) same
-        (subst (λ k. WantsMemory (refusal_of (world_after w (take k events)) c.event-item.result) c.run_event.new.ran) (sym done)
-        (had-err c.run_event.result err (c.run_event.ensures.wants (world_after w (take i events)) (c.loop-event.invariant.2.world w h))))
+    (subst (λ k. WantsMemory (refusal_of (world_after w (take k events)) c.event-item.result) c.run_event.new.ran) (sym done)
+    (had-err c.run_event.result err (c.run_event.ensures.wants (world_after w (take i events)) (c.loop-event.invariant.2.world w h))))
 
 pub returns-clause-answers : goal.returns-clause-answers
 returns-clause-answers c = λ size before some stands number answer among.

@@ -16,8 +16,8 @@ returns-in-Ok c =
     let given = c.in-Ok.given in
     let room = c.in_ok-make_room.ensures in
     let passed : (w : World) → StandsFor c.args.self.now w → IsOk c.pass.result = λ w h.
-        let done = c.in-Ok.ensures.ok w h in
-        passes given c.make_room.new.ran c.pass.result (subst (λ g. HasRoomFor g c.make_room.new.ran) (ap (λ r. given_if w event r) done.0 ∙ sym done.1) (room.room w h)) c.pass.ensures.none c.pass.ensures.room in
+    let done = c.in-Ok.ensures.ok w h in
+    passes given c.make_room.new.ran c.pass.result (subst (λ g. HasRoomFor g c.make_room.new.ran) (ap (λ r. given_if w event r) done.0 ∙ sym done.1) (room.room w h)) c.pass.ensures.none c.pass.ensures.room in
     record {
       ok = λ w h. let done = c.in-Ok.ensures.ok w h in
           on-ok c.pass.result (λ e. subst (λ v. StandsFor c.step.new.self v) (sym (after-done w event done.0)) done.2) c.pass.ensures.done;
