@@ -8,7 +8,7 @@ use Rattle.clap.specs.declared.error.kind.ErrorKind.{ErrorKind}
 use Rattle.clap.specs.declared.error.kind.ErrorKind.TheVariants.{DisplayHelp, DisplayVersion, OutOfMemory}
 use Rattle.cq_script.specs.Replays.{Replays}
 use Rattle.cq_script.specs.declared.fault.ScriptFault.{ScriptFault}
-use Rattle.cq_script.specs.declared.fault.ScriptFault.TheVariants.{WriteFailed, NoMemory}
+use Rattle.cq_script.specs.declared.fault.ScriptFault.TheVariants.{WriteFailed}
 use Rattle.cq_main.specs.Statuses.{fault_text, status_of}
 
 -- ---- faults of the words

@@ -117,7 +117,7 @@ fn carry_out<R: Read, W: Write, E: Write>(
         (W.contents (inner_of output.old)) (W.contents (inner_of output.new)) (is_failed errors.new)
         (E.contents (inner_of errors.old)) (E.contents (inner_of errors.new)) }
 {
-    let Choice::Replay { size } = choice;
+    let size = choice.size();
     match replay(alloc, size, reader, output) {
         Ok(()) => 0,
         Err(fault) => report(&fault, errors),

@@ -18,6 +18,17 @@ pub enum Choice {
     Replay { size: ChainSize },
 }
 
+impl Choice {
+    /// How many servers the chain begins with.
+    pub fn size(self) -> ChainSize
+        ensures { result ≡ size_of self }
+    {
+        match self {
+            Choice::Replay { size } => size,
+        }
+    }
+}
+
 const REPLAY: &str = "replay";
 
 const SERVERS: &str = "servers";

@@ -1,5 +1,5 @@
 -- What the words could not be taken for is told by the kind of the error.
-use Rattle.std.proofs.Common.{◌≡◌, inl, inr, map}
+use Rattle.std.proofs.Common.{inl, inr, map}
 use Rattle.std.specs.Prelude.{string_bytes}
 use Rattle.clap.specs.Words.{fault_of}
 use Rattle.cq_main.specs.CommandLine.{program_app}

@@ -1,5 +1,5 @@
 -- What a parse of the words gives is what they ask for, and where it fails it says why.
-use Rattle.std.proofs.Common.{rules, ◌≡◌, ◌∙◌, ℕ, Some, ap, map, sym, arith}
+use Rattle.std.proofs.Common.{rules, ◌≡◌, ◌∙◌, Some, ap, map, sym, arith}
 use Rattle.std.proofs.lemmas.Result.{err_from_is_err_and}
 use Rattle.clap.specs.Words.{fault_of, is_simple, is_simple_and_free, subcommand_of, takes}
 use Rattle.cq_main.specs.CommandLine.{text_in}
