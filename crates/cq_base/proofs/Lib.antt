@@ -1,6 +1,7 @@
 pub mod Among
 pub mod Deletes
 pub mod Ends
+pub mod FactRows
 pub mod Filters
 pub mod Finds
 pub mod HandleTexts
