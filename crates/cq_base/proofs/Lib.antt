@@ -10,5 +10,5 @@ pub mod Lists
 pub mod Numbers
 pub mod Pairs
 pub mod Rows
-pub mod Steps
+pub mod OneMoreFact
 pub mod TextRows

@@ -7,7 +7,7 @@ use Rattle.cq_base.specs.Relations.{Among, Pairwise}
 use Rattle.cq_base.proofs.Among.{among-append}
 use Rattle.cq_base.proofs.Ends.{filter-passes, filter-fails}
 use Rattle.cq_base.proofs.Pairs.{pairwise-push}
-use Rattle.cq_base.proofs.Steps.{IsStep}
+use Rattle.cq_base.proofs.OneMoreFact.{IsStep}
 
 -- the numbers rise, and none is above the count of the sends
 pub record IsNumbered (sends : List Fact) : Type 0 where

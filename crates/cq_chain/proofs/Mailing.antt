@@ -7,11 +7,11 @@ use Rattle.cq_base.specs.contracts.party.PartyPartialEq.TheImpl.{eq-value as der
 use Rattle.cq_base.specs.declared.party.Party.{Party}
 use Rattle.cq_base.specs.declared.party.Party.TheVariants.{Master, Clients, Server}
 use Rattle.cq_chain.specs.declared.message.Message as rust
-use Rattle.cq_chain.specs.Boxes.{Row, messages_of, room_of, row_for, messages_for}
+use Rattle.cq_chain.specs.within.Boxes.{Row, messages_of, room_of, row_for, messages_for}
 use Rattle.cq_chain.specs.Messages.{Message}
 use Rattle.cq_chain.specs.Parties.{same, addressed}
 use Rattle.cq_chain.specs.Stands.{Means, AllMean, IsFirst, posted, drained}
-use Rattle.cq_chain.specs.Waiting.{Waits, Posts, AllFor, KeepsAll, TakesOne}
+use Rattle.cq_chain.specs.within.Waiting.{Waits, Posts, AllFor, KeepsAll, TakesOne}
 
 -- messages that stand for messages, one after the other
 pub means-append : (xs ys : List rust.Message) (ms ns : List Message) → AllMean xs ms → AllMean ys ns → AllMean (xs ++ ys) (ms ++ ns)

@@ -7,12 +7,12 @@ use Rattle.cq_chain.specs.declared.fault.WorldFault.TheVariants.{NoSuchServer, L
 use Rattle.cq_chain.specs.declared.master.Master as kept
 use Rattle.cq_chain.specs.declared.message.Message as rust
 use Rattle.cq_chain.specs.declared.message.Message.TheVariants as sent
-use Rattle.cq_chain.specs.Boxes.{Row, messages_for}
+use Rattle.cq_chain.specs.within.Boxes.{Row, messages_for}
 use Rattle.cq_chain.specs.Masters.{Master, Order, no_order, is_in, is_last, stands_before, without, detected, joined, hears, said_of_loss, said_of_join, refusal_of_detection, refusal_of_join}
 use Rattle.cq_chain.specs.Messages.{Message, Have, Adopted, Ready, Adopt, BeTail}
 use Rattle.cq_chain.specs.Parties.{addressed}
 use Rattle.cq_chain.specs.Stands.{Means, AllMean, HoldsMaster, IsMaster, posted}
-use Rattle.cq_chain.specs.Waiting.{Waits, Posts, KeepsAll, AllFor}
+use Rattle.cq_chain.specs.within.Waiting.{Waits, Posts, KeepsAll, AllFor}
 use Rattle.cq_chain.proofs.Mailing.{waits-kept}
 
 pub master-stands : (kept : kept.Master) (m : Master) (outbox : Party → List Message) → HoldsMaster kept m outbox → IsMaster kept m outbox

@@ -7,7 +7,7 @@ use Rattle.std.proofs.lemmas.List.{drop_more}
 use Rattle.cq_chain.specs.declared.message.Message.TheVariants as kept
 use Rattle.cq_chain.specs.Masters.{numbers_from, is_in, is_last, stands_before, closing, said_of_loss, said_of_join}
 use Rattle.cq_chain.specs.Messages.{Report}
-use Rattle.cq_chain.specs.Waiting.{IsSaid}
+use Rattle.cq_chain.specs.within.Waiting.{IsSaid}
 use Rattle.cq_chain.proofs.Mailing.{eqb-turned}
 
 none_some : {X : Type 0} (x : X) → Some x ≡ None → ⊥

@@ -4,12 +4,12 @@ use Rattle.cq_base.specs.declared.ask.Entry.{Entry}
 use Rattle.cq_base.specs.declared.party.Party.{Party}
 use Rattle.cq_base.specs.declared.party.Party.TheVariants as parties
 use Rattle.cq_chain.specs.declared.server.Server as kept
-use Rattle.cq_chain.specs.Boxes.{Row}
+use Rattle.cq_chain.specs.within.Boxes.{Row}
 use Rattle.cq_chain.specs.Messages.{Message, Snap, Ack, Have, Adopted, Ready}
 use Rattle.cq_chain.specs.Servers.{Server, acts, is_that}
 use Rattle.cq_chain.specs.Stands.{StandsFor, Does, posted}
 use Rattle.cq_chain.specs.Steps.{Step, silent, when, to_server, tail_news, with_history, restored, reported, repair, adopting, as_tail, tailed, is_restoring, takes}
-use Rattle.cq_chain.specs.Waiting.{Posts, KeepsAll, Waits}
+use Rattle.cq_chain.specs.within.Waiting.{Posts, KeepsAll, Waits}
 use Rattle.cq_chain.proofs.ServerStands.{stands, stands-by, parts, nothing-sent}
 
 -- room is made twice

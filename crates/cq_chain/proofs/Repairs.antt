@@ -6,12 +6,12 @@ use Rattle.cq_base.specs.declared.party.Party.{Party}
 use Rattle.cq_base.specs.declared.party.Party.TheVariants as parties
 use Rattle.cq_chain.specs.declared.message.Message as rust
 use Rattle.cq_chain.specs.declared.message.Message.TheVariants as kept
-use Rattle.cq_chain.specs.Boxes.{Row}
+use Rattle.cq_chain.specs.within.Boxes.{Row}
 use Rattle.cq_chain.specs.Messages.{Message, Fwd, Snap}
 use Rattle.cq_chain.specs.Servers.{Server}
 use Rattle.cq_chain.specs.Stands.{Means}
 use Rattle.cq_chain.specs.Steps.{forwards, repair}
-use Rattle.cq_chain.specs.Waiting.{AllFor}
+use Rattle.cq_chain.specs.within.Waiting.{AllFor}
 
 -- one more message
 pub for-append : (to : Party) (ys : List rust.Message) (y : rust.Message) (xs : List (Party × Message)) (m : Message) → AllFor to ys xs → Means y m → AllFor to (ys ++ y ∷ []) (xs ++ (to, m) ∷ [])

@@ -7,12 +7,12 @@ use Rattle.cq_base.specs.declared.party.Party.{Party}
 use Rattle.cq_base.specs.declared.party.Party.TheVariants as parties
 use Rattle.cq_chain.specs.declared.message.Answer.{Answer}
 use Rattle.cq_chain.specs.declared.server.Server as kept
-use Rattle.cq_chain.specs.Boxes.{Row, messages_for}
+use Rattle.cq_chain.specs.within.Boxes.{Row, messages_for}
 use Rattle.cq_chain.specs.Messages.{Message, Fwd, Ack, Ready, Answers}
 use Rattle.cq_chain.specs.Servers.{Server, acts, reaches}
 use Rattle.cq_chain.specs.Stands.{AllMean, Holds, StandsFor, posted}
 use Rattle.cq_chain.specs.Steps.{Step, settled, appended, passed_on, tail_news, to_server, answer_to, answer_to_query, stamped, arrived, asked, acknowledged}
-use Rattle.cq_chain.specs.Waiting.{Waits, Posts, KeepsAll}
+use Rattle.cq_chain.specs.within.Waiting.{Waits, Posts, KeepsAll}
 use Rattle.cq_chain.proofs.Mailing.{means-length, waits-kept, posts-after, posted-append}
 
 -- ---- the parts

@@ -5,7 +5,6 @@ pub mod Servers
 pub mod Steps
 pub mod Refusals
 pub mod Masters
-pub mod Boxes
 pub mod Stands
-pub mod Waiting
 pub mod Clients
+pub mod within

@@ -1,11 +1,11 @@
 ghost use Rattle.std.specs.Prelude.{◌≡◌, ◌<◌, ◌≤◌, List, [], ◌∷◌, length, false, None, OnOk};
 ghost use Rattle.cq_base.specs.declared.party.Party as rust_party;
-ghost use Rattle.cq_chain.specs.Boxes.{messages_for, room_for, row_for};
+ghost use Rattle.cq_chain.specs.within.Boxes.{messages_for, room_for, row_for};
 ghost use Rattle.cq_chain.specs.Messages as sent;
 ghost use Rattle.cq_chain.specs.Parties.{same};
 ghost use Rattle.cq_chain.specs.Stands.{Means, IsFirst, drained};
 ghost use Rattle.cq_chain.specs.Steps.{to_server};
-ghost use Rattle.cq_chain.specs.Waiting.{Waits, Posts, AllFor, KeepsAll, TakesOne, HasRoom, HasRoomAt};
+ghost use Rattle.cq_chain.specs.within.Waiting.{Waits, Posts, AllFor, KeepsAll, TakesOne, HasRoom, HasRoomAt};
 
 use crate::message::Message;
 use crate::row::Row;
@@ -26,7 +26,7 @@ pub struct Outboxes {
 impl Model for Outboxes {
     ghost use Rattle.std.specs.Prelude.{List};
     ghost use Rattle.cq_base.specs.declared.party.Party as rust_party;
-    ghost use Rattle.cq_chain.specs.Boxes as boxes;
+    ghost use Rattle.cq_chain.specs.within.Boxes as boxes;
 
     ghost Value = { List (rust_party.Party × boxes.Row) };
 

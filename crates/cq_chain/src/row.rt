@@ -13,7 +13,7 @@ pub struct Row {
 }
 
 impl Model for Row {
-    ghost use Rattle.cq_chain.specs.Boxes as boxes;
+    ghost use Rattle.cq_chain.specs.within.Boxes as boxes;
     ghost use Rattle.std.specs.Prelude.{◌-◌};
     ghost use Rattle.std.specs.VecDeque.{deque_capacity, deque_len};
 

@@ -15,8 +15,8 @@ use Rattle.cq_base.specs.Incarnations.{Incarnation, IncarnationStands, coming, t
 use Rattle.cq_base.specs.Messages.{Message, end_of, standing}
 use Rattle.cq_base.specs.Receiving.{is_in_flight}
 use Rattle.cq_base.proofs.Among.{found-among}
-use Rattle.cq_base.proofs.Steps.{not_both, chosen_handed}
-use Rattle.cq_queue.specs.Kept.{is_receipt_of, hidden_until, with_timeout, alteration, after_change}
+use Rattle.cq_base.proofs.OneMoreFact.{not_both, chosen_handed}
+use Rattle.cq_queue.specs.within.Kept.{is_receipt_of, hidden_until, with_timeout, alteration, after_change}
 use Rattle.cq_queue.specs.Entries.{IsChange, StandsAfter, IsAnswered}
 use Rattle.cq_queue.proofs.Deletes.{own-receipt, eqb-swapped}
 use Rattle.cq_queue.proofs.Maps.{map-agrees, filter-same}

@@ -8,7 +8,7 @@ use Rattle.cq_base.specs.Effects.{Effect, only_replies, create_again, effect_on}
 use Rattle.cq_base.specs.Facts.{Fact}
 use Rattle.cq_base.specs.History.{fact_with}
 use Rattle.cq_base.specs.Incarnations.{Incarnation, coming, told_of}
-use Rattle.cq_base.proofs.Steps.{not_both, chosen_handed}
+use Rattle.cq_base.proofs.OneMoreFact.{not_both, chosen_handed}
 use Rattle.cq_queue.specs.Entries.{IsCreate, StandsAfter, IsAnswered}
 use Rattle.cq_queue.proofs.Spoken.{no_change}
 use Rattle.cq_queue.proofs.Standing.{standing-quiet}

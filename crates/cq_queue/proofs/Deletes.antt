@@ -17,8 +17,8 @@ use Rattle.cq_base.specs.History.{fact_with}
 use Rattle.cq_base.specs.Incarnations.{Incarnation, IncarnationStands, coming, told_of}
 use Rattle.cq_base.specs.Messages.{Message, standing}
 use Rattle.cq_base.proofs.Deletes.{deleting}
-use Rattle.cq_base.proofs.Steps.{not_both, chosen_handed}
-use Rattle.cq_queue.specs.Kept.{is_receipt_of, is_other, without_message, deletion, after_delete}
+use Rattle.cq_base.proofs.OneMoreFact.{not_both, chosen_handed}
+use Rattle.cq_queue.specs.within.Kept.{is_receipt_of, is_other, without_message, deletion, after_delete}
 use Rattle.cq_queue.specs.Entries.{IsDelete, StandsAfter, IsAnswered}
 use Rattle.cq_queue.proofs.Maps.{map-same}
 use Rattle.cq_queue.proofs.Spoken.{no_change}

@@ -16,7 +16,7 @@ use Rattle.cq_base.specs.History.{fact_with}
 use Rattle.cq_base.specs.Incarnations.{Accepted, Incarnation, coming, told_of, repeated, counts_for}
 use Rattle.cq_base.specs.Messages.{messages, duplicate, is_duplicated_by, window}
 use Rattle.cq_base.proofs.Numbers.{messages-next}
-use Rattle.cq_queue.specs.Kept.{used_at, is_recent, new_message, with_message}
+use Rattle.cq_queue.specs.within.Kept.{used_at, is_recent, new_message, with_message}
 use Rattle.cq_queue.specs.Entries.{IsSend, StandsAfter, IsAnswered}
 use Rattle.cq_queue.proofs.Maps.{option_map-or, find-kept}
 use Rattle.cq_queue.proofs.Standing.{standing-quiet, standing-next}

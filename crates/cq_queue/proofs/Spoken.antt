@@ -15,7 +15,7 @@ use Rattle.cq_base.specs.Receiving.{is_in_flight, in_turn, to_hand, leads, group
 use Rattle.cq_base.specs.Relations.{Among}
 use Rattle.cq_base.proofs.Among.{among-map, among-filter, among-flat_map, among-take, found-among}
 use Rattle.cq_base.proofs.Numbers.{IsNumbered}
-use Rattle.cq_base.proofs.Steps.{IsHanding, not_both}
+use Rattle.cq_base.proofs.OneMoreFact.{IsHanding, not_both}
 
 -- the number of a message that isn't deleted is among those of the sends
 pub standing-within : (own : ℕ) (xs : List Fact) (m : Message) → IsNumbered (messages xs) → Among m (standing own xs) → m.sequence ≤ length (messages xs)

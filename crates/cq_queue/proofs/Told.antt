@@ -11,7 +11,7 @@ use Rattle.cq_base.specs.Incarnations.{coming, lifetime}
 use Rattle.cq_base.specs.Messages.{messages, is_accepted, is_numbered, is_sent, hands, hands_it, changes_it, touches, touches_it, deletes_it, is_deleted}
 use Rattle.cq_base.proofs.Ends.{filter-fails, any-fails}
 use Rattle.cq_base.proofs.Numbers.{IsNumbered, messages-next, messages-same, numbered-more, numbered-none}
-use Rattle.cq_base.proofs.Steps.{IsStep, hands-on, step-on}
+use Rattle.cq_base.proofs.OneMoreFact.{IsStep, hands-on, step-on}
 use Rattle.cq_queue.proofs.Lifetimes.{by_lifetime}
 use Rattle.cq_queue.proofs.Spoken.{none-handed, changes-on}
 

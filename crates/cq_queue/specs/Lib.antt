@@ -1,4 +1,2 @@
-pub mod Answers
 pub mod Entries
-pub mod Kept
-pub mod Sound
+pub mod within

@@ -1,7 +1,7 @@
 ghost use Rattle.std.specs.Prelude.{◌≡◌, ◌+◌, ◌≤◌, ◌<◌, ◌++◌, [], ◌∷◌, filter, find, option_map, vec_len, vec_capacity, IfOk};
 ghost use Rattle.cq_base.specs.Messages.{window};
 ghost use Rattle.cq_base.specs.Incarnations.{counts_for, repeated};
-ghost use Rattle.cq_queue.specs.Kept.{is_recent};
+ghost use Rattle.cq_queue.specs.within.Kept.{is_recent};
 
 use cq_base::{DedupId, Moment, NoMemory};
 use std::alloc::Global;

@@ -1,7 +1,7 @@
 ghost use Rattle.std.specs.Prelude.{◌≡◌, ◌+◌, ◌*◌, map, nat_lt};
 ghost use Rattle.cq_base.specs.Effects.{message_at, flight_limit, change_standing, change_sent};
-ghost use Rattle.cq_queue.specs.Answers.{change_reply, is_changing};
-ghost use Rattle.cq_queue.specs.Kept.{hidden_until};
+ghost use Rattle.cq_queue.specs.within.Answers.{change_reply, is_changing};
+ghost use Rattle.cq_queue.specs.within.Kept.{hidden_until};
 
 use crate::delete::{fits, message_at};
 use crate::message::Message;

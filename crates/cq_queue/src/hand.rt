@@ -2,7 +2,7 @@ ghost use Rattle.std.specs.List.{All, list_any};
 ghost use Rattle.std.specs.Prelude.{◌≡◌, ℕ, ◌+◌, ◌^◌, ◌<◌, ◌≤◌, ◌==◌, ◌++◌, [], ◌∷◌, map, take, length};
 ghost use Rattle.arrayvec.specs.ArrayVec.{array_vec_len};
 ghost use Rattle.cq_base.specs.Receiving.{is_same_group, group_with, in_turn};
-ghost use Rattle.cq_queue.specs.Kept.{is_numbered_in, marked, numbers_of, numbers_to_hand};
+ghost use Rattle.cq_queue.specs.within.Kept.{is_numbered_in, marked, numbers_of, numbers_to_hand};
 
 use crate::message::Message;
 use crate::receive::leads;

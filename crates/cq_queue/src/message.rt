@@ -1,6 +1,6 @@
 ghost use Rattle.std.specs.Prelude.{◌≡◌, ◌^◌, ◌<◌, not, filter, length, IfOk};
 ghost use Rattle.cq_base.specs.Receiving.{is_same_group, is_in_flight, is_blocked_by, is_preceded_by, delivery_of};
-ghost use Rattle.cq_queue.specs.Kept.{new_message, handed_at_until, hidden_until};
+ghost use Rattle.cq_queue.specs.within.Kept.{new_message, handed_at_until, hidden_until};
 
 use cq_base::{Body, Delivery, GroupId, Moment, NoMemory, Receipt};
 use std::alloc::Global;

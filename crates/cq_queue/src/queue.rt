@@ -1,9 +1,9 @@
 ghost use Rattle.std.specs.Prelude.{◌≡◌, ◌+◌, ◌*◌, ◌^◌, ◌<◌, ◌≤◌, ℕ, [], false, IsOk, IsErr, IfOk, IfErr, OnOk, OnErr, Some};
 ghost use Rattle.cq_base.specs.declared.reply.Reply.TheVariants.{Sent, Deleted, Changed, Refused};
 ghost use Rattle.cq_base.specs.Incarnations.{IncarnationStands, repeated};
-ghost use Rattle.cq_queue.specs.Answers.{delete_reply, is_deleting, change_reply, is_changing};
+ghost use Rattle.cq_queue.specs.within.Answers.{delete_reply, is_deleting, change_reply, is_changing};
 ghost use Rattle.cq_queue.specs.Entries.{IsSend, IsReceive, IsDelete, IsChange, StandsAfter, IsAnswered, IsNoRepeat, IsSameQueue};
-ghost use Rattle.cq_queue.specs.Kept.{used_at, with_message, handed_out, is_receipt_of, without_message, deletion, with_timeout, alteration};
+ghost use Rattle.cq_queue.specs.within.Kept.{used_at, with_message, handed_out, is_receipt_of, without_message, deletion, with_timeout, alteration};
 
 mod reads;
 
@@ -37,7 +37,7 @@ impl Model for Queue {
 
     ghost Value = { object.Incarnation };
 
-    ghost use Rattle.cq_queue.specs.Sound.{IsSound};
+    ghost use Rattle.cq_queue.specs.within.Sound.{IsSound};
 
     ghost view = { λ q. record {
       number = q.number;

@@ -9,7 +9,7 @@ use Rattle.cq_script.specs.declared.fault.ScriptFault.{ScriptFault}
 use Rattle.cq_script.specs.declared.fault.ScriptFault.TheVariants.{BadLine, LineTooLong, TooManyLines, ReadFailed, WriteFailed, NoMemory}
 use Rattle.cq_script.specs.Line.{line_of}
 use Rattle.cq_script.specs.Lines.{Script, IsOpen, lines_of, with_front, judged_before, script_from, script_of, items_of_line, has_line_feed, ended_part}
-use Rattle.cq_script.specs.Readings.{SoFar, nothing_read, Next, goes, stops, judged, line_ended, byte_of, then_next, bytes_of, end_with, end_of, Follows, HoldsScript, ReadsEnded, AreEnded, ReadsScript}
+use Rattle.cq_script.specs.within.Readings.{SoFar, nothing_read, Next, goes, stops, judged, line_ended, byte_of, then_next, bytes_of, end_with, end_of, Follows, HoldsScript, ReadsEnded, AreEnded, ReadsScript}
 use Rattle.cq_script.specs.Runs.{ends_by_memory}
 use Rattle.cq_script.proofs.Sizes.{bytes_so_far, most_bytes}
 use Rattle.cq_script.proofs.Cutting.{begun_before, script_from-judged}

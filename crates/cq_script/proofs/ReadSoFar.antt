@@ -8,7 +8,7 @@ use Rattle.cq_script.specs.declared.fault.ScriptFault.{ScriptFault}
 use Rattle.cq_script.specs.declared.fault.ScriptFault.TheVariants.{BadLine, LineTooLong, TooManyLines}
 use Rattle.cq_script.specs.Line.{line_of}
 use Rattle.cq_script.specs.Lines.{Script, lines_of, faulty, with_front, judged_before, script_from, items_of_line}
-use Rattle.cq_script.specs.Readings.{SoFar, nothing_read, Next, goes, stops, stopped, judged, line_ended, byte_of, then_next, bytes_of}
+use Rattle.cq_script.specs.within.Readings.{SoFar, nothing_read, Next, goes, stops, stopped, judged, line_ended, byte_of, then_next, bytes_of}
 use Rattle.cq_script.proofs.Sizes.{bytes_so_far}
 use Rattle.cq_script.proofs.Cutting.{begun_before, lines_of-feed, lines_of-byte, HasFirst, begun_before-HasFirst, script_from-many, script_from-long, script_from-judged}
 

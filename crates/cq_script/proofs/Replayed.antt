@@ -6,7 +6,7 @@ use Rattle.cq_script.specs.declared.fault.ScriptFault.TheVariants.{BadLine, Line
 use Rattle.cq_script.specs.Lines.{Script, script_of}
 use Rattle.cq_script.specs.Output.{text_of}
 use Rattle.cq_script.specs.Runs.{BeginsWith, WritesFront, ends_by_memory}
-use Rattle.cq_script.specs.Readings.{HoldsScript, AreEnded, ReadsScript}
+use Rattle.cq_script.specs.within.Readings.{HoldsScript, AreEnded, ReadsScript}
 use Rattle.cq_script.specs.Replays.{WritesScript, Fails, IsFront, IsEndedFront, Replays}
 use Rattle.cq_script.proofs.Fronts.{text_of-append}
 

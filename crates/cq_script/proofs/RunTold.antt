@@ -10,7 +10,7 @@ use Rattle.cq_world.specs.Worlds.{World, first_world}
 use Rattle.cq_world.specs.declared.event.Event.{Event}
 use Rattle.cq_script.specs.Laws.{of_number, outcome_text, said_by_run, number_after, told_by_run, TextIsOfTheRun}
 use Rattle.cq_script.specs.Output.{event_text, said_text, after_said, output, text_from, text_of}
-use Rattle.cq_script.specs.Steps.{events_in, events_of}
+use Rattle.cq_script.specs.Marks.{events_in, events_of}
 use Rattle.cq_script.specs.declared.lines.Item.{Item}
 
 -- ---- numbers

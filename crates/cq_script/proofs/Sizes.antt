@@ -1,6 +1,6 @@
 -- How much of a script has been read, counted so that each byte adds to it.
 use Rattle.std.proofs.Common.{ℕ, ◌+◌, ◌*◌, length}
-use Rattle.cq_script.specs.Readings.{SoFar}
+use Rattle.cq_script.specs.within.Readings.{SoFar}
 
 -- as if each line that has ended had as many bytes as a line may have, with its line feed
 abbrev pub bytes_so_far : SoFar → ℕ

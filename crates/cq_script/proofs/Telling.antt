@@ -12,12 +12,12 @@ use Rattle.cq_world.specs.Worlds.{World}
 use Rattle.cq_world.specs.declared.event.Event.{Event}
 use Rattle.cq_world.specs.declared.ran.Ran.{Ran}
 use Rattle.cq_script.specs.Answers.{answer_text, refused_text}
-use Rattle.cq_script.specs.Outcomes.{IsAfter, IsAt, nothing_told}
+use Rattle.cq_script.specs.within.Outcomes.{IsAfter, IsAt, nothing_told}
 use Rattle.cq_script.specs.Output.{event_text, given_text, after_said, output}
-use Rattle.cq_script.specs.Steps.{events_in, events_of, refused_in, mark_of}
+use Rattle.cq_script.specs.Marks.{events_in, events_of, refused_in, mark_of}
 use Rattle.cq_script.specs.declared.lines.Item.{Item}
 use Rattle.cq_script.specs.declared.outcomes.Told.{Told}
-use Rattle.cq_script.specs.declared.steps.Mark.{Mark}
+use Rattle.cq_script.specs.declared.marks.Mark.{Mark}
 
 -- ---- numbers
 

@@ -10,7 +10,7 @@ use Rattle.cq_world.specs.Worlds.{first_world}
 use Rattle.cq_world.specs.declared.event.Event.{Event}
 use Rattle.cq_script.specs.Answers.{refused_text}
 use Rattle.cq_script.specs.Output.{given_text, text_of}
-use Rattle.cq_script.specs.Steps.{events_of}
+use Rattle.cq_script.specs.Marks.{events_of}
 use Rattle.cq_script.specs.declared.lines.Item.{Item}
 
 -- what has that number, if anything has

@@ -1,6 +1,6 @@
 ghost use Rattle.serde_json.specs.View.{view};
 ghost use Rattle.cq_script.specs.Events as spec;
-ghost use Rattle.cq_script.specs.Readers.{Gives, same};
+ghost use Rattle.cq_script.specs.within.Readers.{Gives, same};
 
 use crate::fields::{Stop, batch_size_if_at, has_only, seconds_at, seconds_if_at, text_at};
 use crate::texts::{dedup_id, group_id, message_body, queue_name, receipt};

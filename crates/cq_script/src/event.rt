@@ -1,6 +1,6 @@
 ghost use Rattle.serde_json.specs.View.{view};
 ghost use Rattle.cq_script.specs.Events as spec;
-ghost use Rattle.cq_script.specs.Readers.{Gives, same};
+ghost use Rattle.cq_script.specs.within.Readers.{Gives, same};
 
 use crate::ask::read_ask;
 use crate::fields::{

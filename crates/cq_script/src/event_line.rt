@@ -3,7 +3,7 @@ ghost use Rattle.std.specs.List.{list_all};
 ghost use Rattle.serde_json.specs.View.{view};
 ghost use Rattle.cq_script.specs.Line.{is_blank_byte, json_of, event_from, line_of, Reads};
 ghost use Rattle.cq_script.specs.Fields.{or_bad};
-ghost use Rattle.cq_script.specs.Readers.{Gives, same};
+ghost use Rattle.cq_script.specs.within.Readers.{Gives, same};
 ghost use Rattle.cq_script.specs.declared.event_line.Line.TheVariants as lines;
 
 use crate::event::read_event;

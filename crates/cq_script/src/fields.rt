@@ -4,7 +4,7 @@ ghost use Rattle.std.specs.List.{list_any, list_all};
 ghost use Rattle.std.specs.Str.{bytes_eq};
 ghost use Rattle.serde_json.specs.View.{view};
 ghost use Rattle.cq_script.specs.Fields as spec;
-ghost use Rattle.cq_script.specs.Readers.{Gives, same};
+ghost use Rattle.cq_script.specs.within.Readers.{Gives, same};
 
 use cq_base::{
     BATCH_LIMIT, BaseFault, BatchSize, MOMENT_LIMIT, Moment, Party, SECONDS_LIMIT, Seconds,
@@ -24,7 +24,7 @@ pub(crate) enum Stop {
 
 impl From<BaseFault> for Stop {
     ghost use Rattle.std.specs.Prelude.{◌≡◌};
-    ghost use Rattle.cq_script.specs.Readers.{stop_of};
+    ghost use Rattle.cq_script.specs.within.Readers.{stop_of};
 
     ghost from_gives = { λ fault stop. stop ≡ stop_of fault };
 

@@ -11,12 +11,12 @@ mod fault;
 mod fields;
 pub mod laws;
 mod lines;
+mod marks;
 mod outcomes;
 mod output_line;
 mod run;
 mod sink;
 mod source;
-mod steps;
 #[cfg(test)]
 mod tests;
 mod texts;

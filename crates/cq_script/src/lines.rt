@@ -1,7 +1,7 @@
 //! A script's bytes, cut into lines, and the items that its lines make.
 ghost use Rattle.std.specs.Prelude.{◌≡◌, ◌<◌, ◌++◌, OnOk, OnErr};
 ghost use Rattle.cq_script.specs.Lines.{items_of_line};
-ghost use Rattle.cq_script.specs.Readings.{nothing_read, line_ended, byte_of, bytes_of, end_of, Follows};
+ghost use Rattle.cq_script.specs.within.Readings.{nothing_read, line_ended, byte_of, bytes_of, end_of, Follows};
 
 use crate::event_line::{Line, LineFault, event_of};
 use crate::fault::ScriptFault;
@@ -35,7 +35,7 @@ pub struct Reading {
 
 impl Model for Reading {
     ghost use Rattle.std.specs.Prelude.{◌≤◌, ◌+◌, min, vec_len};
-    ghost use Rattle.cq_script.specs.Readings.{SoFar};
+    ghost use Rattle.cq_script.specs.within.Readings.{SoFar};
     ghost use Rattle.cq_script.specs.declared.lines.TheConstants.{LINES_LIMIT};
 
     ghost Value = { SoFar };
@@ -67,7 +67,7 @@ impl Reading {
     }
 
     /// Reads on through these bytes, up to a fault in them.
-    #[tactic(auto, unfolding(crate::specs::Readings::bytes_of))]
+    #[tactic(auto, unfolding(crate::specs::within::Readings::bytes_of))]
     pub fn feed(&mut self, piece: &[u8]) -> Result<(), ScriptFault>
         ensures { Follows result self.new (bytes_of self.old piece.now) }
     {
@@ -78,7 +78,7 @@ impl Reading {
     }
 
     /// Ends the script here: a line that has begun is the last one.
-    #[tactic(auto, unfolding(crate::specs::Readings::end_of))]
+    #[tactic(auto, unfolding(crate::specs::within::Readings::end_of))]
     pub fn finish(&mut self) -> Result<(), ScriptFault>
         ensures { Follows result self.new (end_of self.old) }
     {
@@ -88,7 +88,7 @@ impl Reading {
         self.end_line()
     }
 
-    #[tactic(auto, unfolding(crate::specs::Readings::byte_of))]
+    #[tactic(auto, unfolding(crate::specs::within::Readings::byte_of))]
     fn byte(&mut self, byte: u8) -> Result<(), ScriptFault>
         ensures { Follows result self.new (byte_of self.old byte) }
     {
@@ -105,7 +105,7 @@ impl Reading {
         Ok(())
     }
 
-    #[tactic(auto, unfolding(crate::specs::Readings::line_ended))]
+    #[tactic(auto, unfolding(crate::specs::within::Readings::line_ended))]
     fn end_line(&mut self) -> Result<(), ScriptFault>
         requires { self.old.lines < LINES_LIMIT }
         ensures { Follows result self.new (line_ended self.old) }

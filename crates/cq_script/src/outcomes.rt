@@ -1,16 +1,16 @@
 //! What came of a run, told line by line.
 ghost use Rattle.std.specs.Prelude.{◌≡◌, ◌<◌, ◌++◌, ◌∷◌, ℕ, List, length, drop, Option, option_map, IfOk, IfSome};
-ghost use Rattle.cq_script.specs.Outcomes.{IsAfter, IsAt, nothing_told};
+ghost use Rattle.cq_script.specs.within.Outcomes.{IsAfter, IsAt, nothing_told};
 ghost use Rattle.cq_script.specs.Output.{event_text, output, after_said};
-ghost use Rattle.cq_script.specs.Steps.{mark_of, events_of};
+ghost use Rattle.cq_script.specs.Marks.{mark_of, events_of};
 ghost use Rattle.cq_script.specs.declared.lines.Item.{Item};
 ghost use Rattle.cq_world.specs.Events.{refusal_of, after};
 ghost use Rattle.cq_world.specs.Runs.{numbered};
 ghost use Rattle.cq_world.specs.Worlds.{World};
 ghost use Rattle.cq_world.specs.declared.event.Event.{Event};
 
+use crate::marks::Mark;
 use crate::output_line::{answer_line, refused_line};
-use crate::steps::Mark;
 use cq_base::NoMemory;
 use cq_world::Ran;
 use std::alloc::Global;

@@ -2,21 +2,21 @@
 ghost use Rattle.std.specs.Prelude.{◌≡◌, ℕ, List, map, true, false, if◌then◌else◌, OnOk};
 ghost use Rattle.std.specs.Io.KnownBytes.{Consumes, Appends, Keeps};
 ghost use Rattle.cq_script.specs.Replays.{IsEndedFront, Replays};
-ghost use Rattle.cq_script.specs.Readings.{nothing_read, AreEnded, ReadsScript};
+ghost use Rattle.cq_script.specs.within.Readings.{nothing_read, AreEnded, ReadsScript};
 ghost use Rattle.cq_script.specs.declared.fault.ScriptFault.TheVariants.{ReadFailed, WriteFailed, NoMemory};
 ghost use Rattle.cq_script.specs.Runs.{Takes, EndsWriting, OnWritten, ends_by_memory};
 ghost use Rattle.cq_script.specs.Output.{text_of, text_from};
-ghost use Rattle.cq_script.specs.Outcomes.{IsAt, nothing_told};
-ghost use Rattle.cq_script.specs.Steps.{events_of, mark_of};
+ghost use Rattle.cq_script.specs.within.Outcomes.{IsAt, nothing_told};
+ghost use Rattle.cq_script.specs.Marks.{events_of, mark_of};
 ghost use Rattle.cq_script.specs.declared.lines.Item.{Item};
 ghost use Rattle.cq_world.specs.Worlds.{World};
 
 use crate::fault::ScriptFault;
 use crate::lines::{Item, Reading};
+use crate::marks::{Mark, parts_of};
 use crate::outcomes::Told;
 use crate::sink::Sink;
 use crate::source::Source;
-use crate::steps::{Mark, steps_of};
 use cq_base::ChainSize;
 use cq_world::{Ran, Sim};
 use std::alloc::Global;
@@ -113,10 +113,10 @@ fn run_items<W: Sink>(
     ensures flushed { OnOk result (W.has_flushed writer.new ≡ true) }
     ensures failed { result ≡ Err WriteFailed → W.has_failed writer.new ≡ true }
 {
-    let steps = steps_of(alloc, items)?;
+    let parts = parts_of(alloc, items)?;
     let mut sim = Sim::new(alloc, size)?;
-    let ran = sim.run(steps.events.as_slice());
-    write_outcomes(alloc, &ran, steps.marks.as_slice(), writer)
+    let ran = sim.run(parts.events.as_slice());
+    write_outcomes(alloc, &ran, parts.marks.as_slice(), writer)
 }
 
 /// Writes what came of a run, line by line.

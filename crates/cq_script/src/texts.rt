@@ -1,7 +1,7 @@
 ghost use Rattle.std.specs.Prelude.{◌≡◌, ◌↔◌, Ok};
 ghost use Rattle.cq_base.specs.Handle.{Handle, IsHandle, handle_text};
 ghost use Rattle.cq_script.specs.Fields as spec;
-ghost use Rattle.cq_script.specs.Readers.{Gives, same};
+ghost use Rattle.cq_script.specs.within.Readers.{Gives, same};
 ghost use Rattle.cq_script.specs.Receipts.{receipt_handle};
 
 use crate::fields::Stop;

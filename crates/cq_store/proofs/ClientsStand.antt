@@ -15,7 +15,7 @@ use Rattle.cq_base.proofs.Ends.{filter-passes, filter-fails}
 use Rattle.cq_base.proofs.Finds.{find-one}
 use Rattle.cq_base.proofs.Histories.{told, entry-fact_of}
 use Rattle.cq_store.specs.Stands.{ClientKept, ClientStands, ClientKnown}
-use Rattle.cq_store.proofs.Repeats.{fresh-fact_of, none_with}
+use Rattle.cq_store.proofs.OfLaws.Repeats.{fresh-fact_of, none_with}
 
 -- what is known of a client follows from the facts of its entries
 same_known : (client : ℕ) (kept : Option ClientKept) (xs ys : List Fact) → of_client client ys ≡ of_client client xs → ClientKnown client kept xs → ClientKnown client kept ys

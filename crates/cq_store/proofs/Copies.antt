@@ -5,7 +5,7 @@ use Rattle.std.proofs.lemmas.Bool.{cases_Bool, eqb-true}
 use Rattle.std.proofs.lemmas.Slice.Eq.{bytes_eq-Decides}
 use Rattle.std.specs.Map.{lookup}
 use Rattle.std.specs.Str.{bytes_eq}
-use Rattle.cq_store.proofs.Lives.{some_same}
+use Rattle.cq_store.proofs.OfLaws.Lives.{some_same}
 
 -- where one of two is found
 either_found : {X : Type 0} (b c : Bool) (x : X) (rest : Option X) → is_some rest ≡ c → is_some (cond b (Some x) rest) ≡ (b || c)

@@ -3,8 +3,8 @@ use Rattle.std.proofs.Common.{◌≡◌, ℕ, ◌∙◌, ap, sym, subst, List, O
 use Rattle.std.specs.Prelude.{Result, Ok, Err, IfOk}
 use Rattle.cq_base.specs.declared.ask.Ask.{Ask}
 use Rattle.cq_base.specs.declared.reply.Reply.{Reply}
-use Rattle.cq_store.specs.Answering.{IsAnswer}
-use Rattle.cq_store.specs.Rooms.{IsWithin}
+use Rattle.cq_store.specs.within.Asked.{IsAnswer}
+use Rattle.cq_store.specs.within.Rooms.{IsWithin}
 use Rattle.cq_store.specs.Stands.{NameKept, name_at, or_unknown}
 
 -- what is found in a map is found under the name

@@ -15,10 +15,10 @@ use Rattle.cq_base.proofs.Among.{among-filter}
 use Rattle.cq_base.proofs.Ends.{any-fails}
 use Rattle.cq_store.specs.Stands.{NameKept, NameStands, LivesAs, IsLiving, IsPast, is_resting}
 use Rattle.cq_store.proofs.ClientsStand.{or_alone}
-use Rattle.cq_store.proofs.Incarnations.{on-more, on-same}
-use Rattle.cq_store.proofs.Alone.{IsAlone, live-among, none-before}
-use Rattle.cq_store.proofs.Lives.{turn, live-created, live-removed, live-same, creations-more, creations-same, some_none}
-use Rattle.cq_store.proofs.Scans.{fresh-live}
+use Rattle.cq_store.proofs.OfLaws.Incarnations.{on-more, on-same}
+use Rattle.cq_store.proofs.OfLaws.Alone.{IsAlone, live-among, none-before}
+use Rattle.cq_store.proofs.OfLaws.Lives.{turn, live-created, live-removed, live-same, creations-more, creations-same, some_none}
+use Rattle.cq_store.proofs.FreshFacts.{fresh-live}
 
 -- a removal in the past stays so
 past-later : (removed : Option ℕ) (last later : ℕ) → last ≤ later → IsPast removed last → IsPast removed later

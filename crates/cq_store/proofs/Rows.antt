@@ -15,7 +15,7 @@ use Rattle.cq_base.specs.Messages.{Message, messages, duplicate, is_sent, hands,
 use Rattle.cq_base.specs.Receiving.{in_turn, to_hand}
 use Rattle.cq_store.specs.Laws.{fresh_facts, naming, handed_by, is_hidden, counts_at, is_in, first_handings, numbers_of}
 use Rattle.cq_store.specs.Ranks.{group_place, stands_before, candidates, rank}
-use Rattle.cq_store.specs.Rooms.{again_of}
+use Rattle.cq_store.specs.within.Rooms.{again_of}
 use Rattle.cq_store.specs.Stands.{ClientKept, NameKept, is_resting, unknown, or_unknown, client_at, name_at}
 
 -- ---- a history

@@ -14,19 +14,19 @@ use Rattle.cq_base.specs.Clients.{is_fresh, of_client}
 use Rattle.cq_base.specs.Facts.{Fact, is_about, about}
 use Rattle.cq_base.specs.History.{fact_of, fresh_fact, history, last_moment, reply_to, counts_after}
 use Rattle.cq_base.proofs.Histories.{told, history-more, entry-fact_of}
-use Rattle.cq_store.specs.Answering.{IsAnswer, IsCount}
+use Rattle.cq_store.specs.within.Asked.{IsAnswer, IsCount}
 use Rattle.cq_base.specs.Effects.{counts_by}
 use Rattle.cq_base.specs.Incarnations.{Incarnation}
 use Rattle.cq_base.specs.Lifetimes.{live, creations, removed_lately}
-use Rattle.cq_store.specs.Rooms.{again_of, CameBy, IsWithin, IsQueueWithin}
-use Rattle.cq_store.proofs.Answering.{within-later}
+use Rattle.cq_store.specs.within.Rooms.{again_of, CameBy, IsWithin, IsQueueWithin}
+use Rattle.cq_store.proofs.AsksStand.{within-later}
 use Rattle.cq_store.specs.Stands.{ClientKept, ClientKnown, ClientStands, NameKept, NameStands, StoreKept, Stands, client_at, name_at, or_unknown, unknown}
 use Rattle.cq_store.proofs.ClientsStand.{latest, client-fresh, client-other, client-idle, none_fresh, stale-reply, repeat-reply, idle-reply}
-use Rattle.cq_store.proofs.Incarnations.{fact-fresh}
+use Rattle.cq_store.proofs.OfLaws.Incarnations.{fact-fresh}
 use Rattle.cq_store.proofs.NamesStand.{name-later}
-use Rattle.cq_store.proofs.Lives.{some_same}
-use Rattle.cq_store.proofs.OneQueue.{about-more, about-same, idle-about}
-use Rattle.cq_store.proofs.Receipts.{about-own}
+use Rattle.cq_store.proofs.OfLaws.Lives.{some_same}
+use Rattle.cq_store.proofs.OfLaws.OneQueue.{about-more, about-same, idle-about}
+use Rattle.cq_store.proofs.OfLaws.Receipts.{about-own}
 
 -- the last moment is that of the last entry
 last-more : (entries : List Entry) (e : Entry) → last_moment (entries ++ e ∷ []) ≡ e.moment

@@ -1,6 +1,4 @@
-pub mod Scans
 pub mod Stands
 pub mod Laws
 pub mod Ranks
-pub mod Rooms
-pub mod Answering
+pub mod within

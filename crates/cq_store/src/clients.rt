@@ -1,6 +1,6 @@
 ghost use Rattle.std.specs.Prelude.{◌≡◌, ◌<◌, ◌==◌, None, Some, ℕ, option_map, cond, IfOk, OnOk, OnErr};
 ghost use Rattle.indexmap.specs.IndexMap.{get};
-ghost use Rattle.cq_store.specs.Rooms.{again_of};
+ghost use Rattle.cq_store.specs.within.Rooms.{again_of};
 ghost use Rattle.cq_store.specs.Stands.{client_at};
 
 use cq_base::{NoMemory, Refusal, Reply};
@@ -57,7 +57,7 @@ pub struct Clients {
 
 impl Model for Clients {
     ghost use Rattle.indexmap.specs.IndexMap.{spare};
-    ghost use Rattle.cq_store.specs.Rooms as rooms;
+    ghost use Rattle.cq_store.specs.within.Rooms as rooms;
 
     ghost Value = { rooms.Clients };
 

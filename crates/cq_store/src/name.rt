@@ -1,8 +1,8 @@
 ghost use Rattle.std.specs.Prelude.{◌≡◌, ◌<◌, ◌≤◌, ◌+◌, ◌-◌, ◌^◌, ℕ, List, None, Some, IfOk, OnErr};
 ghost use Rattle.cq_base.specs.declared.ask.Ask.TheVariants as asks;
 ghost use Rattle.cq_base.specs.Effects.{create_again};
-ghost use Rattle.cq_store.specs.Answering.{IsAnswer, IsCount};
-ghost use Rattle.cq_store.specs.Rooms.{IsWithin, CameBy};
+ghost use Rattle.cq_store.specs.within.Asked.{IsAnswer, IsCount};
+ghost use Rattle.cq_store.specs.within.Rooms.{IsWithin, CameBy};
 ghost use Rattle.cq_store.specs.Stands.{is_resting, unknown};
 
 use crate::answered::Answered;

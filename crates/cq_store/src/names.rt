@@ -1,8 +1,8 @@
 ghost use Rattle.std.specs.Prelude.{◌≡◌, ◌+◌, ◌-◌, ◌^◌, ℕ, List, None, false, IfOk, OnErr};
 ghost use Rattle.std.specs.Str.{bytes_eq};
 ghost use Rattle.cq_base.specs.Asks.{queue_of};
-ghost use Rattle.cq_store.specs.Answering.{IsAnswer, IsCount};
-ghost use Rattle.cq_store.specs.Rooms.{IsWithin, CameBy};
+ghost use Rattle.cq_store.specs.within.Asked.{IsAnswer, IsCount};
+ghost use Rattle.cq_store.specs.within.Rooms.{IsWithin, CameBy};
 ghost use Rattle.cq_store.specs.Stands.{name_at, or_unknown};
 
 use crate::answered::Answered;

@@ -25,7 +25,7 @@ pub struct Store {
 
 impl Model for Store {
     ghost use Rattle.std.specs.Prelude.{ℕ, List};
-    ghost use Rattle.cq_store.specs.Rooms.{IsWithin};
+    ghost use Rattle.cq_store.specs.within.Rooms.{IsWithin};
     ghost use Rattle.cq_store.specs.Stands as spec;
     ghost use Rattle.cq_store.specs.Stands.{name_at, or_unknown};
 

@@ -3,7 +3,7 @@ use Rattle.std.proofs.Common.{◌≡◌, ℕ, ◌∙◌, ap, sym, List, [], ◌�
 use Rattle.std.proofs.lemmas.Bool.{eqb-true, eq-eqb, false≢true, both_ways, and_from, and_parts, or_cases, or_left, or_right, cases_Bool}
 use Rattle.cq_base.specs.Relations.{Among, Front, Pairwise}
 use Rattle.cq_chain.specs.Masters.{is_in, is_last, without, stands_before}
-use Rattle.cq_world.proofs.Climbing.{climbs-top, ups}
+use Rattle.cq_world.proofs.Prefixes.Climbing.{climbs-top, ups}
 use Rattle.cq_world.proofs.Eaches.{front-trans}
 use Rattle.cq_world.proofs.Prefixes.{Prefixes, Linked, LinkedChain}
 use Rattle.cq_world.proofs.Sights.{Sight}

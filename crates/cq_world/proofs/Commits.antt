@@ -1,4 +1,8 @@
 -- Who may act, and what is committed: the sentences that carry the laws of the committed list across changes.
+pub mod Turns
+pub mod Steps
+pub mod Orders
+pub mod Changes
 use Rattle.std.proofs.Common.{◌≡◌, ℕ, suc, ◌+◌, ◌≤◌, ◌∙◌, ap, sym, List, [], ◌∷◌, ◌++◌, length, ◌&&◌, not, Option, Some, None, is_some, Bool, true, false, cond, eqb, arith, subst, refl, inl, inr, nat_lt, append-nil, length-append}
 use Rattle.std.proofs.lemmas.Bool.{eqb-true, eq-eqb, false≢true, both_ways, or_cases, ltb-true, ltb-false, le-ltb, cases_Bool}
 use Rattle.std.specs.List.{fold}

@@ -6,7 +6,7 @@ use Rattle.cq_chain.specs.Masters.{is_in, is_last, numbers_from}
 use Rattle.cq_chain.specs.Servers.{Server, acts, reaches, first_member, joining}
 use Rattle.cq_world.specs.Worlds.{first_world}
 use Rattle.cq_world.proofs.Chains.{last-one}
-use Rattle.cq_world.proofs.Climbing.{one, ups, Climbs}
+use Rattle.cq_world.proofs.Prefixes.Climbing.{one, ups, Climbs}
 use Rattle.cq_world.proofs.Commits.{Commits, bit, waits}
 use Rattle.cq_world.proofs.Eaches.{front-none, some_none}
 use Rattle.cq_world.proofs.Prefixes.{Prefixes, Linked, LinkedChain}

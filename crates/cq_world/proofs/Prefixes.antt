@@ -1,5 +1,8 @@
 -- Histories are fronts of each other along the chain, whatever changes: the sentences that carry this, and that each
 -- step of a server keeps them.
+pub mod Climbing
+pub mod Steps
+pub mod Orders
 use Rattle.std.proofs.Common.{◌≡◌, ℕ, ◌∙◌, ap, sym, List, [], ◌∷◌, ◌++◌, ◌&&◌, Bool, true, false, cond, eqb, subst, refl, inl, inr, append_assoc}
 use Rattle.std.proofs.lemmas.Bool.{eqb-true, eq-eqb, both_ways, and_parts}
 use Rattle.cq_base.specs.declared.ask.Entry.{Entry}
@@ -14,7 +17,7 @@ use Rattle.cq_world.specs.Laws.{Speaks}
 use Rattle.cq_world.specs.Worlds.{set_at, set_pair}
 use Rattle.cq_world.proofs.Eaches.{Each, each-append, each-follows, each-addressed, front-trans}
 use Rattle.cq_world.proofs.Parties.{same-true}
-use Rattle.cq_world.proofs.Climbing.{reports, one, ups, Climbs, Grows, climbs-other}
+use Rattle.cq_world.proofs.Prefixes.Climbing.{reports, one, ups, Climbs, Grows, climbs-other}
 use Rattle.cq_world.proofs.Sights.{Sight, turn}
 
 -- ---- the sentences

@@ -20,19 +20,19 @@ use Rattle.cq_world.specs.Runs.{world_after, longer, acting_history, longest_at,
 use Rattle.cq_world.specs.Worlds.{World, first_world, channel, stepped, ordered}
 use Rattle.cq_world.specs.declared.event.Event.{Event}
 use Rattle.cq_world.specs.declared.event.Event.TheVariants.{Arrive, Ask, Put, Take, Crash, Detect, Join}
-use Rattle.cq_world.proofs.Climbing.{reports, one, Climbs}
-use Rattle.cq_world.proofs.CommitChanges.{detected-commits, joined-commits}
-use Rattle.cq_world.proofs.CommitOrders.{heard-commits, said_nothing}
-use Rattle.cq_world.proofs.CommitSteps.{take-acting, arrive-acting, ask-acting, crash-acting}
-use Rattle.cq_world.proofs.CommitTurns.{Acting, turn-commits, turn-grows}
+use Rattle.cq_world.proofs.Prefixes.Climbing.{reports, one, Climbs}
+use Rattle.cq_world.proofs.Commits.Changes.{detected-commits, joined-commits}
+use Rattle.cq_world.proofs.Commits.Orders.{heard-commits, said_nothing}
+use Rattle.cq_world.proofs.Commits.Steps.{take-acting, arrive-acting, ask-acting, crash-acting}
+use Rattle.cq_world.proofs.Commits.Turns.{Acting, turn-commits, turn-grows}
 use Rattle.cq_world.proofs.Commits.{Commits, Names, Pairs, Retires, HandsOver, Enough, Zero, Free, tails, readies, bit, waits, longest-same, longest-turn}
 use Rattle.cq_world.proofs.Eaches.{Each, each-append, each-drop, front-refl, front-trans, some_none}
 use Rattle.cq_world.proofs.First.{prefixes-first, commits-first}
-use Rattle.cq_world.proofs.Ordering.{said-keeps, detected-said, joined-said, heard-said}
+use Rattle.cq_world.proofs.Prefixes.Orders.{said-keeps, detected-said, joined-said, heard-said}
 use Rattle.cq_world.proofs.Parties.{same-true}
 use Rattle.cq_world.proofs.Prefixes.{Prefixes, Linked, LinkedChain, Heads, Turn, turn-keeps}
 use Rattle.cq_world.proofs.Sights.{Sight, sight, turn, said, drained, same_channels, sight-put, sight-given, sight-step, sight-taken, sight-without}
-use Rattle.cq_world.proofs.Stepping.{lives-member, take-turn, arrive-turn, ask-turn, crash-turn}
+use Rattle.cq_world.proofs.Prefixes.Steps.{lives-member, take-turn, arrive-turn, ask-turn, crash-turn}
 use Rattle.cq_world.proofs.Unrefused.{known-parts, lives-parts, server-parts, at-head}
 
 -- ---- channels that end neither at a server nor begin at the master

@@ -1,5 +1,15 @@
 -- Nothing is lost on the way: the sentences by which each server gets all that its predecessor has, once the chain is
 -- quiet.
+pub mod Turns
+pub mod Steps
+pub mod Growth
+pub mod Entries
+pub mod Messages
+pub mod Orders
+pub mod Changes
+pub mod Joins
+pub mod Runs
+pub mod Feeds
 use Rattle.std.proofs.Common.{◌≡◌, ℕ, suc, ◌+◌, ◌≤◌, ◌<◌, ◌∙◌, ap, sym, List, [], ◌∷◌, ◌++◌, length, ◌&&◌, Option, Some, None, Bool, true, false, cond, eqb, arith, subst, refl, inl, inr}
 use Rattle.std.proofs.lemmas.Bool.{eqb-true, eq-eqb, false≢true, both_ways, and_parts, or_cases}
 use Rattle.cq_base.specs.declared.ask.Entry.{Entry}
@@ -8,10 +18,10 @@ use Rattle.cq_chain.specs.Masters.{is_in, is_last, stands_before}
 use Rattle.cq_chain.specs.Messages.{Message, Ack, Report, Adopt, BeTail, Have}
 use Rattle.cq_chain.specs.Servers.{is_that}
 use Rattle.cq_world.proofs.Chains.{Apart}
-use Rattle.cq_world.proofs.Climbing.{reports, one, ups}
+use Rattle.cq_world.proofs.Prefixes.Climbing.{reports, one, ups}
 use Rattle.cq_world.proofs.Commits.{bit}
 use Rattle.cq_world.proofs.Eaches.{Each}
-use Rattle.cq_world.proofs.Feeds.{NoData, OfSnap, Feeds}
+use Rattle.cq_world.proofs.Wholes.Feeds.{NoData, OfSnap, Feeds}
 use Rattle.cq_world.proofs.Prefixes.{Prefixes, Linked, LinkedChain}
 use Rattle.cq_world.proofs.Sights.{Sight}
 

@@ -1,6 +1,6 @@
 ghost use Rattle.std.specs.Prelude.{◌≡◌, ◌<◌, ◌++◌, ◌∷◌, [], drop, length, slice_get, option_map, OnOk};
 ghost use Rattle.cq_base.specs.declared.party.Party as rust_party;
-ghost use Rattle.cq_world.specs.Kept.{messages_at, room_at};
+ghost use Rattle.cq_world.specs.within.Kept.{messages_at, room_at};
 ghost use Rattle.cq_world.specs.Worlds.{set_pair};
 
 use crate::row::Row;
@@ -25,7 +25,7 @@ pub struct Links {
 
 impl Model for Links {
     ghost use Rattle.std.specs.Prelude.{List};
-    ghost use Rattle.cq_chain.specs.Boxes as boxes;
+    ghost use Rattle.cq_chain.specs.within.Boxes as boxes;
     ghost use Rattle.cq_world.specs.declared.links.Pair as rust_pair;
 
     ghost Value = { List (rust_pair.Pair × boxes.Row) };

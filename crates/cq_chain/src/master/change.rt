@@ -4,7 +4,7 @@ ghost use Rattle.cq_chain.specs.Masters as masters;
 ghost use Rattle.cq_chain.specs.Masters.{is_in, detected, joined};
 ghost use Rattle.cq_chain.specs.Messages as sent;
 ghost use Rattle.cq_chain.specs.Stands.{IsMaster, Orders, KeepsMaster, posted};
-ghost use Rattle.cq_chain.specs.Waiting.{IsSaid, HasRoomToSay};
+ghost use Rattle.cq_chain.specs.within.Waiting.{IsSaid, HasRoomToSay};
 
 use super::Master;
 use super::neighbours::{is_last, said_of_join, said_of_loss};

@@ -1,6 +1,6 @@
 ghost use Rattle.std.specs.Prelude.{◌≡◌, ◌<◌, ◌+◌, ◌==◌, ◌&&◌, ℕ, List, ◌∷◌, length, drop, Some};
 ghost use Rattle.cq_chain.specs.Masters.{is_last, stands_before, closing, said_of_loss, said_of_join};
-ghost use Rattle.cq_chain.specs.Waiting.{IsSaid};
+ghost use Rattle.cq_chain.specs.within.Waiting.{IsSaid};
 
 use crate::message::Message;
 use cq_base::ServerId;

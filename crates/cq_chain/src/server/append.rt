@@ -6,7 +6,7 @@ ghost use Rattle.cq_chain.specs.Servers as states;
 ghost use Rattle.cq_chain.specs.Servers.{acts};
 ghost use Rattle.cq_chain.specs.Stands.{StandsFor, Does, Keeps, posted};
 ghost use Rattle.cq_chain.specs.Steps.{appended, passed_on, settled, tail_news};
-ghost use Rattle.cq_chain.specs.Waiting.{HasRoom};
+ghost use Rattle.cq_chain.specs.within.Waiting.{HasRoom};
 
 use super::Server;
 use crate::message::{Answer, Message};

@@ -5,7 +5,7 @@ ghost use Rattle.cq_chain.specs.Messages as sent;
 ghost use Rattle.cq_chain.specs.Servers as states;
 ghost use Rattle.cq_chain.specs.Stands.{StandsFor};
 ghost use Rattle.cq_chain.specs.Steps.{forwards, repair};
-ghost use Rattle.cq_chain.specs.Waiting.{AllFor};
+ghost use Rattle.cq_chain.specs.within.Waiting.{AllFor};
 
 use super::Server;
 use crate::history::History;

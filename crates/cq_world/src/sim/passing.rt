@@ -5,7 +5,7 @@ ghost use Rattle.cq_chain.specs.Messages as told;
 ghost use Rattle.cq_chain.specs.declared.fault.WorldFault.TheVariants as faults;
 ghost use Rattle.cq_chain.specs.Stands.{IsFirst, Means};
 ghost use Rattle.cq_world.specs.Events.{refusal_of, refusal_of_put, refusal_of_take, next, without_first, answers_in, head_of, given_by};
-ghost use Rattle.cq_world.specs.Kept.{IsFilled, after_drawing};
+ghost use Rattle.cq_world.specs.within.Kept.{IsFilled, after_drawing};
 ghost use Rattle.cq_world.specs.Stands.{StandsFor};
 ghost use Rattle.cq_world.specs.Worlds.{World, is_in};
 ghost use Rattle.cq_world.specs.declared.event.Event.TheVariants as events;

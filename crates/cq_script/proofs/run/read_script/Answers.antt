@@ -2,7 +2,7 @@
 use Rattle.std.proofs.Common.{◌<◌, [], ◌++◌, length, take, refl, arith}
 use Rattle.std.proofs.lemmas.Result.{err_from_is_err_and}
 use Rattle.std.proofs.KnownBytes.{Consumes-nil, Consumes-trans, Consumes-kept}
-use Rattle.cq_script.specs.Readings.{bytes_of}
+use Rattle.cq_script.specs.within.Readings.{bytes_of}
 use Rattle.cq_script.proofs.Ends.{bytes_of-more, nearer_most, reads_fault, reads_end, reads_ended, reads_failed, fault_ended, goes_ended, Consumes-none}
 use Rattle.cq_script.proofs.run.read_script.Goals as goal
 

@@ -1,7 +1,7 @@
 -- What was read stands in the reading. Each byte brings it nearer to the most that a script can have.
 use Rattle.std.proofs.Common.{◌≡◌, ◌-◌, List, ℕ}
 use Rattle.std.specs.Io.KnownBytes.{Consumes}
-use Rattle.cq_script.specs.Readings.{bytes_of, nothing_read, goes}
+use Rattle.cq_script.specs.within.Readings.{bytes_of, nothing_read, goes}
 use Rattle.cq_script.proofs.Sizes.{most_bytes, bytes_so_far}
 use Rattle.cq_script.proofs.run.read_script.Given as goal
 

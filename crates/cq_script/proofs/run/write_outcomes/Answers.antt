@@ -2,9 +2,9 @@
 use Rattle.std.proofs.Common.{None, [], ◌∷◌, ◌++◌, refl, ◌∙◌}
 use Rattle.std.proofs.lemmas.Result.{err_from_is_err_and}
 use Rattle.std.proofs.KnownBytes.{Appends-nil, Appends-trans, Appends-kept}
-use Rattle.cq_script.specs.Outcomes.{IsAt}
+use Rattle.cq_script.specs.within.Outcomes.{IsAt}
 use Rattle.cq_script.specs.Output.{text_from, after_said}
-use Rattle.cq_script.specs.Steps.{events_of}
+use Rattle.cq_script.specs.Marks.{events_of}
 use Rattle.cq_script.proofs.Fronts.{text_at_item, text_at_end, text_written, fault_written, all_written, front_so_far}
 use Rattle.cq_script.proofs.Telling.{item_at, no_item}
 use Rattle.cq_script.proofs.run.write_outcomes.Goals as goal

@@ -3,9 +3,9 @@ use Rattle.std.proofs.Common.{◌≡◌, ◌++◌, List, ℕ, drop, map}
 use Rattle.std.specs.Io.KnownBytes.{Appends}
 use Rattle.cq_world.specs.Worlds.{World}
 use Rattle.cq_script.specs.declared.lines.Item.{Item}
-use Rattle.cq_script.specs.Outcomes.{IsAt, nothing_told}
+use Rattle.cq_script.specs.within.Outcomes.{IsAt, nothing_told}
 use Rattle.cq_script.specs.Output.{text_from}
-use Rattle.cq_script.specs.Steps.{events_of, mark_of}
+use Rattle.cq_script.specs.Marks.{events_of, mark_of}
 use Rattle.cq_script.proofs.run.write_outcomes.Given as goal
 
 abbrev pub invariant-loop-mark : goal.invariant-loop-mark

@@ -1,5 +1,5 @@
 -- Messages go out by rank.
-use Rattle.cq_store.proofs.Ranks.{handed_by_rank, one_list}
+use Rattle.cq_store.proofs.OfLaws.Ranks.{handed_by_rank, one_list}
 use Rattle.cq_store.proofs.laws.handed_by_rank.Goals as goal
 
 pub returns : goal.returns

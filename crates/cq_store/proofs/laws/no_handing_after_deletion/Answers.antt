@@ -1,6 +1,6 @@
 -- What is deleted stays away.
-use Rattle.cq_store.proofs.Flights.{none_deleted}
-use Rattle.cq_store.proofs.Lives.{none_comes, none_removed}
+use Rattle.cq_store.proofs.OfLaws.Flights.{none_deleted}
+use Rattle.cq_store.proofs.OfLaws.Lives.{none_comes, none_removed}
 use Rattle.cq_store.proofs.laws.no_handing_after_deletion.Goals as goal
 
 pub returns : goal.returns

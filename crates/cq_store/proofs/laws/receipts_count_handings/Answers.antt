@@ -1,5 +1,5 @@
 -- Receipts count handings.
-use Rattle.cq_store.proofs.Receipts.{receipts_count}
+use Rattle.cq_store.proofs.OfLaws.Receipts.{receipts_count}
 use Rattle.cq_store.proofs.laws.receipts_count_handings.Goals as goal
 
 pub returns : goal.returns

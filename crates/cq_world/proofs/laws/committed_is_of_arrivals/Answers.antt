@@ -1,5 +1,5 @@
 -- What is committed arrived.
-use Rattle.cq_world.proofs.Headlines.{of_arrivals}
+use Rattle.cq_world.proofs.OfLaws.Headlines.{of_arrivals}
 use Rattle.cq_world.proofs.laws.committed_is_of_arrivals.Goals as goal
 
 pub returns : goal.returns

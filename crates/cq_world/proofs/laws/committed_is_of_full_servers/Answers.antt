@@ -1,5 +1,5 @@
 -- What is committed is at each full server.
-use Rattle.cq_world.proofs.Headlines.{of_full, of_the_head}
+use Rattle.cq_world.proofs.OfLaws.Headlines.{of_full, of_the_head}
 use Rattle.cq_world.proofs.laws.committed_is_of_full_servers.Goals as goal
 
 pub returns : goal.returns

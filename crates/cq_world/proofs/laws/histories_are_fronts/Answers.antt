@@ -1,5 +1,5 @@
 -- Histories are fronts of each other.
-use Rattle.cq_world.proofs.Headlines.{along_the_chain, of_predecessors, of_messages}
+use Rattle.cq_world.proofs.OfLaws.Headlines.{along_the_chain, of_predecessors, of_messages}
 use Rattle.cq_world.proofs.laws.histories_are_fronts.Goals as goal
 
 pub returns : goal.returns

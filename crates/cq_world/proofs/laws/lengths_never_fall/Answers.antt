@@ -1,5 +1,5 @@
 -- Lengths rise.
-use Rattle.cq_world.proofs.Headlines.{never_fall}
+use Rattle.cq_world.proofs.OfLaws.Headlines.{never_fall}
 use Rattle.cq_world.proofs.laws.lengths_never_fall.Goals as goal
 
 pub returns : goal.returns

@@ -1,5 +1,5 @@
 -- Groups with a message in flight are closed.
-use Rattle.cq_store.proofs.Flights.{hands_sent, none_in_flight}
+use Rattle.cq_store.proofs.OfLaws.Flights.{hands_sent, none_in_flight}
 use Rattle.cq_world.proofs.laws.no_handing_while_in_flight.Goals as goal
 
 pub returns : goal.returns

@@ -1,5 +1,5 @@
 -- A deduplication id counts for its time.
-use Rattle.cq_store.proofs.Windows.{one_acceptance}
+use Rattle.cq_store.proofs.OfLaws.Windows.{one_acceptance}
 use Rattle.cq_world.proofs.laws.one_acceptance_per_window.Goals as goal
 
 pub returns : goal.returns

@@ -1,5 +1,5 @@
 -- One acts.
-use Rattle.cq_world.proofs.Headlines.{one_acts}
+use Rattle.cq_world.proofs.OfLaws.Headlines.{one_acts}
 use Rattle.cq_world.proofs.laws.one_server_acts.Goals as goal
 
 pub returns : goal.returns

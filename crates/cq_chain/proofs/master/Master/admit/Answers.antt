@@ -3,7 +3,7 @@ use Rattle.std.proofs.Common.{◌≡◌, ◌∙◌, ◌++◌, ◌∷◌, [], ◌
 use Rattle.std.specs.List.{list_any}
 use Rattle.cq_chain.specs.Masters.{is_in, joined, said_of_join}
 use Rattle.cq_chain.specs.Stands.{IsMaster, posted}
-use Rattle.cq_chain.specs.Waiting.{IsSaid}
+use Rattle.cq_chain.specs.within.Waiting.{IsSaid}
 use Rattle.cq_chain.proofs.MasterStands.{master-parts, same-stands, joined-stands, joined-said}
 use Rattle.cq_chain.proofs.Neighbours.{any-turned}
 use Rattle.cq_chain.proofs.ServerStands.{on_err}

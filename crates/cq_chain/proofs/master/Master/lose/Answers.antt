@@ -2,7 +2,7 @@
 use Rattle.std.proofs.Common.{◌∙◌, subst}
 use Rattle.cq_chain.specs.Masters.{detected, said_of_loss}
 use Rattle.cq_chain.specs.Stands.{IsMaster, posted}
-use Rattle.cq_chain.specs.Waiting.{IsSaid}
+use Rattle.cq_chain.specs.within.Waiting.{IsSaid}
 use Rattle.cq_chain.proofs.MasterStands.{master-parts, detected-said}
 use Rattle.cq_chain.proofs.master.Master.lose.Goals as goal
 

@@ -1,6 +1,6 @@
 -- By whether anything is said.
 use Rattle.std.proofs.Common.{subst}
-use Rattle.cq_chain.specs.Waiting.{IsSaid}
+use Rattle.cq_chain.specs.within.Waiting.{IsSaid}
 use Rattle.cq_chain.proofs.master.Master.say.Goals as goal
 
 pub returns-in-Some : goal.returns-in-Some

@@ -3,7 +3,7 @@ use Rattle.std.proofs.Common.{◌≡◌, ◌<◌, ◌≤◌, ◌+◌, ◌∙◌,
 use Rattle.std.proofs.lemmas.Bool.{ne_eqb}
 use Rattle.std.proofs.lemmas.List.{drop_more, drop_all}
 use Rattle.cq_chain.specs.Masters.{closing}
-use Rattle.cq_chain.specs.Waiting.{IsSaid}
+use Rattle.cq_chain.specs.within.Waiting.{IsSaid}
 use Rattle.cq_chain.proofs.Neighbours.{two-dropped, place-is, closing-step, closing-of}
 use Rattle.cq_chain.proofs.master.neighbours.closing.Goals as goal
 

@@ -2,7 +2,7 @@
 use Rattle.std.proofs.Common.{◌≡◌, ◌<◌, ◌+◌, ◌∙◌, ◌∷◌, ◌==◌, ap, sym, subst, length, drop, get_or, false, arith}
 use Rattle.std.proofs.lemmas.Bool.{ne_eqb}
 use Rattle.cq_chain.specs.Masters.{said_of_loss}
-use Rattle.cq_chain.specs.Waiting.{IsSaid}
+use Rattle.cq_chain.specs.within.Waiting.{IsSaid}
 use Rattle.cq_chain.proofs.Neighbours.{two-dropped, place-is, loss-later}
 use Rattle.cq_chain.proofs.master.neighbours.said_of_loss.Goals as goal
 

@@ -1,9 +1,9 @@
 -- The row of the party loses its first message, if it has one.
 use Rattle.std.proofs.Common.{ap, sym, subst, None, Some, refl}
 use Rattle.std.specs.Option.{is_some}
-use Rattle.cq_chain.specs.Boxes.{messages_of, messages_for}
+use Rattle.cq_chain.specs.within.Boxes.{messages_of, messages_for}
 use Rattle.cq_chain.specs.Stands.{AllMean, drained}
-use Rattle.cq_chain.specs.Waiting.{Waits}
+use Rattle.cq_chain.specs.within.Waiting.{Waits}
 use Rattle.cq_base.specs.declared.party.Party as party
 use Rattle.cq_chain.proofs.Mailing.{none-mean, found, written, unwritten, popped-first, row-drained}
 use Rattle.cq_chain.proofs.outboxes.Outboxes.pop.Goals.{in-Some, in-None}

@@ -1,7 +1,7 @@
 -- The row of the party is written in its place.
 use Rattle.std.proofs.Common.{ap, sym, subst, Some, ◌<◌}
 use Rattle.std.specs.Option.{is_some}
-use Rattle.cq_chain.specs.Boxes.{room_of}
+use Rattle.cq_chain.specs.within.Boxes.{room_of}
 use Rattle.cq_chain.proofs.Mailing.{found, written, row-posts, row-takes_one}
 use Rattle.cq_chain.proofs.outboxes.Outboxes.push.Goals as goal
 

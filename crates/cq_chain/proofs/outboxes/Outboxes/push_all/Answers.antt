@@ -2,9 +2,9 @@
 use Rattle.std.proofs.Common.{ap, sym, subst, Some, None, refl, length, ◌≤◌, arith}
 use Rattle.std.specs.Option.{is_some}
 use Rattle.cq_base.specs.declared.party.Party as party
-use Rattle.cq_chain.specs.Boxes.{room_of, room_for, messages_for}
+use Rattle.cq_chain.specs.within.Boxes.{room_of, room_for, messages_for}
 use Rattle.cq_chain.specs.Stands.{AllMean, posted}
-use Rattle.cq_chain.specs.Waiting.{Waits}
+use Rattle.cq_chain.specs.within.Waiting.{Waits}
 use Rattle.cq_chain.proofs.Mailing.{found, written, rows-post, none-post, rows-others}
 use Rattle.cq_chain.proofs.outboxes.Outboxes.push_all.Goals.{in-Some, in-None}
 use Rattle.cq_chain.proofs.outboxes.Outboxes.push_all.Goals as goal

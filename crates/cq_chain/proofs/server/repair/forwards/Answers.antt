@@ -4,7 +4,7 @@ use Rattle.std.proofs.lemmas.List.{take_all}
 use Rattle.cq_base.specs.declared.party.Party.TheVariants as parties
 use Rattle.cq_chain.specs.declared.message.Message.TheVariants as kept
 use Rattle.cq_chain.specs.Steps.{forwards}
-use Rattle.cq_chain.specs.Waiting.{AllFor}
+use Rattle.cq_chain.specs.within.Waiting.{AllFor}
 use Rattle.cq_chain.proofs.Repairs.{sent-none, sent-more}
 use Rattle.cq_chain.proofs.server.repair.forwards.Goals as goal
 

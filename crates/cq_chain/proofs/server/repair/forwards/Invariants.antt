@@ -2,7 +2,7 @@
 use Rattle.std.proofs.Common.{◌≡◌, ℕ, ◌+◌, take}
 use Rattle.cq_base.specs.declared.party.Party.TheVariants as parties
 use Rattle.cq_chain.specs.Steps.{forwards}
-use Rattle.cq_chain.specs.Waiting.{AllFor}
+use Rattle.cq_chain.specs.within.Waiting.{AllFor}
 use Rattle.cq_chain.proofs.server.repair.forwards.Given as goal
 
 abbrev pub invariant-loop-entry : goal.invariant-loop-entry

@@ -3,7 +3,7 @@ use Rattle.std.proofs.Common.{◌≡◌, ◌+◌, ◌∙◌, sym, subst}
 use Rattle.std.proofs.lemmas.Result.{on_ok_weaker, IfOk-weaker}
 use Rattle.cq_base.specs.declared.reply.Reply.TheVariants.{Sent}
 use Rattle.cq_queue.specs.Entries.{IsSend, IsAnswered}
-use Rattle.cq_queue.specs.Kept.{with_message}
+use Rattle.cq_queue.specs.within.Kept.{with_message}
 use Rattle.cq_queue.proofs.Sends.{stands-accepted, reply-accepted, stands-repeated, reply-repeated}
 use Rattle.cq_queue.proofs.queue.Queue.send.Goals as goal
 

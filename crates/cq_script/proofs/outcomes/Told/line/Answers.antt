@@ -1,7 +1,7 @@
 -- By what the line says: an event, or a text that breaks its rule.
 use Rattle.std.proofs.Common.{◌∙◌}
 use Rattle.std.proofs.lemmas.Result.{IfOk-weaker}
-use Rattle.cq_script.specs.Steps.{events_of}
+use Rattle.cq_script.specs.Marks.{events_of}
 use Rattle.cq_script.proofs.Telling.{line_refused, line_event}
 use Rattle.cq_script.proofs.outcomes.Told.line.Goals as goal
 

@@ -1,8 +1,8 @@
 -- A creation gives the name its next incarnation, unless it rests.
 use Rattle.std.proofs.Common.{◌+◌, ◌∙◌, sym, ap, subst}
 use Rattle.cq_base.specs.declared.ask.Ask.TheVariants as asks
-use Rattle.cq_store.specs.Answering.{IsAnswer}
-use Rattle.cq_store.proofs.Answering.{resting, created}
+use Rattle.cq_store.specs.within.Asked.{IsAnswer}
+use Rattle.cq_store.proofs.AsksStand.{resting, created}
 use Rattle.cq_base.specs.declared.reply.Reply.TheVariants.{Created}
 use Rattle.cq_store.proofs.NamesStand.{with_creation}
 use Rattle.cq_store.proofs.name.NameKept.begin.Goals as goal

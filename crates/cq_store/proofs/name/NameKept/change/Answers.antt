@@ -4,7 +4,7 @@ use Rattle.cq_base.specs.declared.ask.Ask.TheVariants.{Change}
 use Rattle.cq_base.specs.declared.reply.Reply.TheVariants.{Changed, Refused}
 use Rattle.cq_queue.specs.Entries.{IsChange}
 use Rattle.cq_store.specs.Stands.{NameKept}
-use Rattle.cq_store.proofs.Answering.{came_seen, refused_seen}
+use Rattle.cq_store.proofs.AsksStand.{came_seen, refused_seen}
 use Rattle.cq_store.proofs.name.NameKept.change.Goals.{in-Some+in-Ok, in-Some+in-Err, in-None}
 use Rattle.cq_store.proofs.name.NameKept.change.Goals as goal
 

@@ -1,9 +1,9 @@
 -- The counts are those of the queue that lives.
 use Rattle.std.proofs.Common.{subst}
 use Rattle.cq_base.specs.declared.reply.Reply.TheVariants.{Counts}
-use Rattle.cq_store.specs.Answering.{IsCount}
+use Rattle.cq_store.specs.within.Asked.{IsCount}
 use Rattle.cq_store.specs.Stands.{NameKept}
-use Rattle.cq_store.proofs.Answering.{counted}
+use Rattle.cq_store.proofs.AsksStand.{counted}
 use Rattle.cq_store.proofs.name.NameKept.counts.Goals as goal
 
 pub returns-in-Some : goal.returns-in-Some

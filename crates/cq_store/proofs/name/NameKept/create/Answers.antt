@@ -1,6 +1,6 @@
 -- A queue that lives isn't created anew.
 use Rattle.cq_store.specs.Stands.{NameKept}
-use Rattle.cq_store.proofs.Answering.{again_seen}
+use Rattle.cq_store.proofs.AsksStand.{again_seen}
 use Rattle.cq_store.proofs.name.NameKept.create.Goals as goal
 
 pub returns-in-Some-clause-ok : goal.returns-in-Some-clause-ok

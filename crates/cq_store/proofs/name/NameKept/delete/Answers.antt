@@ -4,7 +4,7 @@ use Rattle.cq_base.specs.declared.ask.Ask.TheVariants.{Delete}
 use Rattle.cq_base.specs.declared.reply.Reply.TheVariants.{Deleted, Refused}
 use Rattle.cq_queue.specs.Entries.{IsDelete}
 use Rattle.cq_store.specs.Stands.{NameKept}
-use Rattle.cq_store.proofs.Answering.{came_seen, refused_seen}
+use Rattle.cq_store.proofs.AsksStand.{came_seen, refused_seen}
 use Rattle.cq_store.proofs.name.NameKept.delete.Goals.{in-Some+in-Ok, in-Some+in-Err, in-None}
 use Rattle.cq_store.proofs.name.NameKept.delete.Goals as goal
 

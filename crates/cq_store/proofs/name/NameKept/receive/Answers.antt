@@ -4,7 +4,7 @@ use Rattle.cq_base.specs.declared.ask.Ask.TheVariants.{Receive}
 use Rattle.cq_base.specs.declared.reply.Reply.TheVariants.{Received}
 use Rattle.cq_queue.specs.Entries.{IsReceive}
 use Rattle.cq_store.specs.Stands.{NameKept}
-use Rattle.cq_store.proofs.Answering.{came_seen, refused_seen, offered}
+use Rattle.cq_store.proofs.AsksStand.{came_seen, refused_seen, offered}
 use Rattle.cq_store.proofs.name.NameKept.receive.Goals.{in-Some+in_ok-offered-in-Some+in_ok-answered-in-Some, in-None}
 use Rattle.cq_store.proofs.name.NameKept.receive.Goals as goal
 

@@ -2,7 +2,7 @@
 use Rattle.std.proofs.Common.{refl}
 use Rattle.cq_base.specs.declared.ask.Ask.TheVariants.{Remove}
 use Rattle.cq_store.specs.Stands.{NameKept}
-use Rattle.cq_store.proofs.Answering.{refused_seen, removed_seen, no_living, some_living}
+use Rattle.cq_store.proofs.AsksStand.{refused_seen, removed_seen, no_living, some_living}
 use Rattle.cq_store.proofs.name.NameKept.remove.Goals as goal
 
 pub returns-then-is_none-clause-ok : goal.returns-then-is_none-clause-ok

@@ -4,7 +4,7 @@ use Rattle.cq_base.specs.declared.ask.Ask.TheVariants.{Send}
 use Rattle.cq_base.specs.declared.reply.Reply.TheVariants.{Sent}
 use Rattle.cq_queue.specs.Entries.{IsSend}
 use Rattle.cq_store.specs.Stands.{NameKept}
-use Rattle.cq_store.proofs.Answering.{came_seen, refused_seen}
+use Rattle.cq_store.proofs.AsksStand.{came_seen, refused_seen}
 use Rattle.cq_store.proofs.name.NameKept.send.Goals.{in-Some+in_ok-send-in-Some, in-None}
 use Rattle.cq_store.proofs.name.NameKept.send.Goals as goal
 

@@ -3,8 +3,8 @@ use Rattle.std.proofs.Common.{◌≡◌, ◌+◌, ◌∙◌, ap, sym, subst, Som
 use Rattle.std.specs.Option.{is_some}
 use Rattle.std.specs.Str.{bytes_eq}
 use Rattle.cq_base.specs.Asks.{queue_of}
-use Rattle.cq_store.specs.Answering.{IsAnswer}
-use Rattle.cq_store.specs.Rooms.{IsWithin}
+use Rattle.cq_store.specs.within.Asked.{IsAnswer}
+use Rattle.cq_store.specs.within.Rooms.{IsWithin}
 use Rattle.cq_store.specs.Stands.{name_at, or_unknown}
 use Rattle.cq_store.proofs.Lookups.{found, written, bounded, if_ok}
 use Rattle.cq_store.proofs.names.Names.apply.Goals as goal

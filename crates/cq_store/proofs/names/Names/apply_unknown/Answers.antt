@@ -3,7 +3,7 @@ use Rattle.std.proofs.Common.{◌≡◌, ◌∙◌, ap, sym, subst, Some, arith,
 use Rattle.std.specs.Str.{bytes_eq}
 use Rattle.cq_base.specs.Asks.{queue_of}
 use Rattle.cq_store.specs.Stands.{name_at, or_unknown}
-use Rattle.cq_store.proofs.Answering.{first_kept, unknown_refused, not_create, within-later}
+use Rattle.cq_store.proofs.AsksStand.{first_kept, unknown_refused, not_create, within-later}
 use Rattle.cq_store.proofs.names.Names.apply_unknown.Goals as goal
 
 pub returns-in_ok-insert-in-Create-clause-ok : goal.returns-in_ok-insert-in-Create-clause-ok

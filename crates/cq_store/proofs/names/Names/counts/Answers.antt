@@ -2,10 +2,10 @@
 use Rattle.std.proofs.Common.{◌∙◌, ap, sym, subst, refl}
 use Rattle.cq_base.specs.declared.reply.Reply.TheVariants.{Refused}
 use Rattle.cq_base.specs.declared.reply.Refusal.TheVariants.{QueueDoesNotExist}
-use Rattle.cq_store.specs.Answering.{IsCount}
-use Rattle.cq_store.specs.Rooms.{CameBy}
+use Rattle.cq_store.specs.within.Asked.{IsCount}
+use Rattle.cq_store.specs.within.Rooms.{CameBy}
 use Rattle.cq_store.specs.Stands.{name_at, or_unknown, unknown}
-use Rattle.cq_store.proofs.Answering.{uncounted}
+use Rattle.cq_store.proofs.AsksStand.{uncounted}
 use Rattle.cq_store.proofs.Lookups.{found}
 use Rattle.cq_store.proofs.names.Names.counts.Goals as goal
 

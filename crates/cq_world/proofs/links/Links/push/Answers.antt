@@ -1,11 +1,11 @@
 -- The row is found in its place.
 use Rattle.std.proofs.Common.{◌<◌, ◌∙◌, ◌++◌, ◌∷◌, [], ap, sym, subst}
 use Rattle.std.specs.Option.{is_some}
-use Rattle.cq_chain.specs.Boxes.{messages_of, room_of}
-use Rattle.cq_world.specs.Kept.{messages_at, room_at}
+use Rattle.cq_chain.specs.within.Boxes.{messages_of, room_of}
+use Rattle.cq_world.specs.within.Kept.{messages_at, room_at}
 use Rattle.cq_world.specs.Worlds.{set_pair}
-use Rattle.cq_world.proofs.LinksKept.{written, no-room}
-use Rattle.cq_world.proofs.PairKeys.{update-written, found-row}
+use Rattle.cq_world.proofs.OfSim.LinksKept.{written, no-room}
+use Rattle.cq_world.proofs.OfSim.PairKeys.{update-written, found-row}
 use Rattle.cq_world.proofs.links.Links.push.Goals as goal
 
 pub push-requires : goal.push-requires

@@ -1,10 +1,10 @@
 -- The row is found in its place.
 use Rattle.std.proofs.Common.{◌∙◌, ap, sym}
 use Rattle.std.specs.Option.{is_some}
-use Rattle.cq_chain.specs.Boxes.{messages_of}
-use Rattle.cq_world.specs.Kept.{messages_at}
-use Rattle.cq_world.proofs.LinksKept.{kept}
-use Rattle.cq_world.proofs.PairKeys.{update-written, found-row}
+use Rattle.cq_chain.specs.within.Boxes.{messages_of}
+use Rattle.cq_world.specs.within.Kept.{messages_at}
+use Rattle.cq_world.proofs.OfSim.LinksKept.{kept}
+use Rattle.cq_world.proofs.OfSim.PairKeys.{update-written, found-row}
 use Rattle.cq_world.proofs.links.Links.reserve.Goals as goal
 
 pub returns-in-Some-clause-messages : goal.returns-in-Some-clause-messages

@@ -1,8 +1,8 @@
 -- The row that is added has no messages.
 use Rattle.std.proofs.Common.{◌∙◌, ap, sym}
-use Rattle.cq_world.specs.Kept.{messages_at}
-use Rattle.cq_world.proofs.LinksKept.{kept}
-use Rattle.cq_world.proofs.PairKeys.{update-written}
+use Rattle.cq_world.specs.within.Kept.{messages_at}
+use Rattle.cq_world.proofs.OfSim.LinksKept.{kept}
+use Rattle.cq_world.proofs.OfSim.PairKeys.{update-written}
 use Rattle.cq_world.proofs.links.Links.reserve_new.Goals as goal
 
 pub returns-clause-messages : goal.returns-clause-messages

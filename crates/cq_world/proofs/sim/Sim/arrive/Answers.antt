@@ -4,13 +4,13 @@ use Rattle.std.specs.Option.{is_some}
 use Rattle.cq_base.specs.declared.party.Party.TheVariants as parties
 use Rattle.cq_chain.specs.Refusals.{refusal_of_arrival}
 use Rattle.cq_chain.specs.Steps.{arrived}
-use Rattle.cq_world.specs.Kept.{server_at}
+use Rattle.cq_world.specs.within.Kept.{server_at}
 use Rattle.cq_world.specs.Stands.{StandsFor}
 use Rattle.cq_world.specs.Worlds.{stepped, is_in}
 use Rattle.cq_world.specs.declared.sim.Sim.{Sim}
-use Rattle.cq_world.proofs.Refused.{at-living, at-dead, at-none, refused-arrive, next-arrive}
-use Rattle.cq_world.proofs.SimStands.{IsAt, holds, stands, known, unknown, stepped-stands, restands}
-use Rattle.cq_world.proofs.Steps.{ok-step, err-step}
+use Rattle.cq_world.proofs.OfSim.Refused.{at-living, at-dead, at-none, refused-arrive, next-arrive}
+use Rattle.cq_world.proofs.OfSim.Stands.{IsAt, holds, stands, known, unknown, stepped-stands, restands}
+use Rattle.cq_world.proofs.OfSim.Calls.{ok-step, err-step}
 use Rattle.cq_world.proofs.sim.Sim.arrive.Goals as goal
 
 pub returns-then-is_down-clause-err : goal.returns-then-is_down-clause-err

@@ -2,10 +2,10 @@
 use Rattle.std.proofs.Common.{◌<◌, ◌≤◌, ◌∙◌, ap, sym, length, arith}
 use Rattle.std.proofs.lemmas.Bool.{le-ltb, lt-ltb}
 use Rattle.cq_base.specs.declared.party.Party.TheVariants as parties
-use Rattle.cq_world.specs.Kept.{server_at}
+use Rattle.cq_world.specs.within.Kept.{server_at}
 use Rattle.cq_world.specs.Worlds.{is_in}
-use Rattle.cq_world.proofs.Joining.{refused-used, refused-full, refused-pending, allowed}
-use Rattle.cq_world.proofs.SimStands.{holds, kept-known}
+use Rattle.cq_world.proofs.OfSim.Joining.{refused-used, refused-full, refused-pending, allowed}
+use Rattle.cq_world.proofs.OfSim.Stands.{holds, kept-known}
 use Rattle.cq_world.proofs.sim.Sim.check_join.Goals as goal
 
 pub returns-then-contains_key : goal.returns-then-contains_key

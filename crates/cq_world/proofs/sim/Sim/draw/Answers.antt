@@ -1,7 +1,7 @@
 -- By whose outbox it is. The clients have none.
 use Rattle.std.proofs.Common.{◌≡◌, [], ◌∙◌, ap, sym, subst}
 use Rattle.cq_world.specs.Stands.{StandsFor}
-use Rattle.cq_world.proofs.SimStands.{holds, drawn-nothing}
+use Rattle.cq_world.proofs.OfSim.Stands.{holds, drawn-nothing}
 use Rattle.cq_world.proofs.sim.Sim.draw.Goals as goal
 
 pub returns-in-Clients-clause-first : goal.returns-in-Clients-clause-first

@@ -2,10 +2,10 @@
 use Rattle.std.proofs.Common.{sym, refl, subst}
 use Rattle.cq_base.specs.declared.party.Party.TheVariants as parties
 use Rattle.cq_chain.specs.Stands.{IsFirst}
-use Rattle.cq_world.specs.Kept.{after_drawing}
+use Rattle.cq_world.specs.within.Kept.{after_drawing}
 use Rattle.cq_world.specs.Stands.{StandsFor}
 use Rattle.cq_world.specs.declared.sim.Sim.{Sim}
-use Rattle.cq_world.proofs.SimStands.{holds, stands, nothing-for, drawn-master, drawn-nothing}
+use Rattle.cq_world.proofs.OfSim.Stands.{holds, stands, nothing-for, drawn-master, drawn-nothing}
 use Rattle.cq_world.proofs.sim.Sim.draw_of_master.Goals as goal
 
 pub returns-in-Server-clause-first : goal.returns-in-Server-clause-first

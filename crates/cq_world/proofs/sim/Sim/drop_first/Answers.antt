@@ -1,10 +1,10 @@
 -- The first message leaves the link.
 use Rattle.std.proofs.Common.{◌∙◌, sym, refl}
 use Rattle.cq_world.specs.Events.{without_first}
-use Rattle.cq_world.specs.Kept.{messages_at}
+use Rattle.cq_world.specs.within.Kept.{messages_at}
 use Rattle.cq_world.specs.declared.sim.Sim.{Sim}
-use Rattle.cq_world.proofs.Meanings.{all-length, none-of, filled-of}
-use Rattle.cq_world.proofs.SimStands.{holds, stands, without-stands}
+use Rattle.cq_world.proofs.OfSim.Meanings.{all-length, none-of, filled-of}
+use Rattle.cq_world.proofs.OfSim.Stands.{holds, stands, without-stands}
 use Rattle.cq_world.proofs.sim.Sim.drop_first.Goals as goal
 
 pub returns-then-waiting-eq0-clause-err : goal.returns-then-waiting-eq0-clause-err

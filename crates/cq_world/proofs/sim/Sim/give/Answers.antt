@@ -2,9 +2,9 @@
 use Rattle.std.proofs.Common.{◌∙◌, ap, sym, subst}
 use Rattle.cq_world.specs.Events.{refusal_of_put}
 use Rattle.cq_world.specs.Stands.{StandsFor}
-use Rattle.cq_world.proofs.Meanings.{put-first}
-use Rattle.cq_world.proofs.Refused.{next-put, given-put, put-drawn, put-given}
-use Rattle.cq_world.proofs.SimStands.{drawn-nothing}
+use Rattle.cq_world.proofs.OfSim.Meanings.{put-first}
+use Rattle.cq_world.proofs.OfSim.Refused.{next-put, given-put, put-drawn, put-given}
+use Rattle.cq_world.proofs.OfSim.Stands.{drawn-nothing}
 use Rattle.cq_world.proofs.sim.Sim.give.Goals as goal
 
 pub returns-in-Some-clause-ok : goal.returns-in-Some-clause-ok

@@ -2,7 +2,7 @@
 use Rattle.std.proofs.lemmas.Bool.{false≢true}
 use Rattle.cq_world.specs.Events.{refusal_of}
 use Rattle.cq_world.specs.declared.event.Event.TheVariants.{Put}
-use Rattle.cq_world.proofs.Refused.{silent-put, silent-event, nothing-same}
+use Rattle.cq_world.proofs.OfSim.Refused.{silent-put, silent-event, nothing-same}
 use Rattle.cq_world.proofs.sim.Sim.gives.Goals as goal
 
 pub returns-in_default-to : goal.returns-in_default-to

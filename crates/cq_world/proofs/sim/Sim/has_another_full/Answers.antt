@@ -4,8 +4,8 @@ use Rattle.std.specs.Map.{keys_of}
 use Rattle.std.proofs.Math.Seq.{take-suc}
 use Rattle.std.proofs.lemmas.List.{take_all}
 use Rattle.std.proofs.lemmas.Option.{slice_get_read}
-use Rattle.cq_world.proofs.Remaining.{NoneRemains, none-at-first, none-more, none-remains, one-remains, key-there, same-number, serves-not}
-use Rattle.cq_world.proofs.SimStands.{holds}
+use Rattle.cq_world.proofs.OfSim.Remaining.{NoneRemains, none-at-first, none-more, none-remains, one-remains, key-there, same-number, serves-not}
+use Rattle.cq_world.proofs.OfSim.Stands.{holds}
 use Rattle.cq_world.proofs.sim.Sim.has_another_full.Goals as goal
 use Rattle.cq_world.proofs.sim.Sim.has_another_full.Goals.{else-ne-via-then-ne+else-serves, else-ne-via-else-ne}
 

@@ -1,6 +1,6 @@
 -- None so far remains.
 use Rattle.std.proofs.Common.{take}
-use Rattle.cq_world.proofs.Remaining.{NoneRemains}
+use Rattle.cq_world.proofs.OfSim.Remaining.{NoneRemains}
 use Rattle.cq_world.proofs.sim.Sim.has_another_full.Given as goal
 
 abbrev pub invariant-loop-other : goal.invariant-loop-other

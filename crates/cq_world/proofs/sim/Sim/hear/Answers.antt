@@ -2,14 +2,14 @@
 use Rattle.std.proofs.Common.{ap, sym, refl, subst}
 use Rattle.cq_base.specs.declared.party.Party.TheVariants as parties
 use Rattle.cq_world.specs.Events.{refusal_of_take}
-use Rattle.cq_world.specs.Kept.{messages_at}
+use Rattle.cq_world.specs.within.Kept.{messages_at}
 use Rattle.cq_world.specs.Stands.{StandsFor}
 use Rattle.cq_world.specs.declared.sim.Sim.{Sim}
-use Rattle.cq_world.proofs.Meanings.{first-mean, first-none}
-use Rattle.cq_world.proofs.Refused.{next-take}
-use Rattle.cq_world.proofs.SimStands.{holds, stands, remains-master}
-use Rattle.cq_world.proofs.Steps.{err-none}
-use Rattle.cq_world.proofs.Taking.{heard-stands, heard-none}
+use Rattle.cq_world.proofs.OfSim.Meanings.{first-mean, first-none}
+use Rattle.cq_world.proofs.OfSim.Refused.{next-take}
+use Rattle.cq_world.proofs.OfSim.Stands.{holds, stands, remains-master}
+use Rattle.cq_world.proofs.OfSim.Calls.{err-none}
+use Rattle.cq_world.proofs.OfSim.Taking.{heard-stands, heard-none}
 use Rattle.cq_world.proofs.sim.Sim.hear.Goals as goal
 
 pub returns-in_err-take-in-Some-clause-err : goal.returns-in_err-take-in-Some-clause-err

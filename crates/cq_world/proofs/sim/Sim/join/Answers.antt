@@ -8,10 +8,10 @@ use Rattle.cq_world.specs.Stands.{StandsFor}
 use Rattle.cq_world.specs.Worlds.{ordered}
 use Rattle.cq_world.specs.declared.event.Event.TheVariants as events
 use Rattle.cq_world.specs.declared.sim.Sim.{Sim}
-use Rattle.cq_world.proofs.Joining.{new-number, joined-stands}
-use Rattle.cq_world.proofs.Refused.{refused-join, next-join}
-use Rattle.cq_world.proofs.SimStands.{holds, stands, remains-master}
-use Rattle.cq_world.proofs.Steps.{err-none, err-same}
+use Rattle.cq_world.proofs.OfSim.Joining.{new-number, joined-stands}
+use Rattle.cq_world.proofs.OfSim.Refused.{refused-join, next-join}
+use Rattle.cq_world.proofs.OfSim.Stands.{holds, stands, remains-master}
+use Rattle.cq_world.proofs.OfSim.Calls.{err-none, err-same}
 use Rattle.cq_world.proofs.sim.Sim.join.Goals as goal
 
 pub returns-in_err-check_join-clause-err : goal.returns-in_err-check_join-clause-err

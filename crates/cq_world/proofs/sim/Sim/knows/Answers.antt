@@ -2,9 +2,9 @@
 use Rattle.std.proofs.Common.{◌∙◌, ap, sym}
 use Rattle.cq_base.specs.declared.party.Party.TheVariants as parties
 use Rattle.cq_world.specs.Events.{knows}
-use Rattle.cq_world.specs.Kept.{server_at}
+use Rattle.cq_world.specs.within.Kept.{server_at}
 use Rattle.cq_world.specs.Worlds.{is_in}
-use Rattle.cq_world.proofs.SimStands.{holds, kept-known}
+use Rattle.cq_world.proofs.OfSim.Stands.{holds, kept-known}
 use Rattle.cq_world.proofs.sim.Sim.knows.Goals as goal
 
 pub returns-in-Server : goal.returns-in-Server

@@ -2,7 +2,7 @@
 use Rattle.std.proofs.Common.{ap, refl, ◌==◌}
 use Rattle.std.specs.Map.{lookup}
 use Rattle.cq_world.specs.declared.sim.Sim.{Sim}
-use Rattle.cq_world.proofs.SimStands.{holds, stands, same-servers}
+use Rattle.cq_world.proofs.OfSim.Stands.{holds, stands, same-servers}
 use Rattle.cq_world.proofs.sim.Sim.make_joining.Goals as goal
 
 pub returns-in_err-reserve-clause-same : goal.returns-in_err-reserve-clause-same

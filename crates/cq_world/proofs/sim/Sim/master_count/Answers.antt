@@ -1,7 +1,7 @@
 -- The master speaks to servers alone.
 use Rattle.std.proofs.Common.{◌∙◌, ap, sym, length}
 use Rattle.cq_base.specs.declared.party.Party.TheVariants as parties
-use Rattle.cq_world.proofs.SimStands.{holds, nothing-for}
+use Rattle.cq_world.proofs.OfSim.Stands.{holds, nothing-for}
 use Rattle.cq_world.proofs.sim.Sim.master_count.Goals as goal
 
 pub returns-in-Server : goal.returns-in-Server

@@ -2,7 +2,7 @@
 use Rattle.std.proofs.Common.{◌∙◌, ◌==◌, ap, sym, is_none, not}
 use Rattle.cq_world.specs.Events.{knows}
 use Rattle.cq_world.proofs.Parties.{both}
-use Rattle.cq_world.proofs.Refused.{put-known, put-dead, put-unknown, put-waits}
+use Rattle.cq_world.proofs.OfSim.Refused.{put-known, put-dead, put-unknown, put-waits}
 use Rattle.cq_world.proofs.sim.Sim.may_put.Goals as goal
 
 pub returns-then-not-knows_both : goal.returns-then-not-knows_both

@@ -1,10 +1,10 @@
 -- The servers stand in a line, one after the other.
 use Rattle.std.proofs.Common.{◌≡◌, ◌+◌, ◌==◌, ◌∙◌, ap, subst, arith}
 use Rattle.std.specs.Map.{lookup}
-use Rattle.cq_world.specs.Kept.{server_at}
+use Rattle.cq_world.specs.within.Kept.{server_at}
 use Rattle.cq_world.specs.declared.sim.Sim.{Sim}
-use Rattle.cq_world.proofs.FirstWorld.{IsLine, no-line, more-line, first-stands}
-use Rattle.cq_world.proofs.Steps.{if-no-ok}
+use Rattle.cq_world.proofs.OfSim.FirstWorld.{IsLine, no-line, more-line, first-stands}
+use Rattle.cq_world.proofs.OfSim.Calls.{if-no-ok}
 use Rattle.cq_world.proofs.sim.Sim.new.Goals as goal
 
 pub loop-before-init : goal.loop-before-init

@@ -1,6 +1,6 @@
 -- So far the servers before this one stand in the line.
-use Rattle.cq_world.specs.Kept.{server_at}
-use Rattle.cq_world.proofs.FirstWorld.{IsLine}
+use Rattle.cq_world.specs.within.Kept.{server_at}
+use Rattle.cq_world.proofs.OfSim.FirstWorld.{IsLine}
 use Rattle.cq_world.proofs.sim.Sim.new.Given as goal
 
 abbrev pub invariant-loop-before : goal.invariant-loop-before

@@ -1,6 +1,6 @@
 -- By whose outbox it is. The clients have none.
 use Rattle.std.proofs.Common.{◌∙◌, ap, sym, length}
-use Rattle.cq_world.proofs.SimStands.{holds}
+use Rattle.cq_world.proofs.OfSim.Stands.{holds}
 use Rattle.cq_world.proofs.sim.Sim.outbox_count.Goals as goal
 
 pub returns-in-Clients : goal.returns-in-Clients

@@ -1,13 +1,13 @@
 -- What is drawn from the outbox is pushed onto the link.
 use Rattle.std.proofs.Common.{◌∙◌, ap, sym, subst, length}
 use Rattle.cq_world.specs.Events.{first_of, refusal_of_put}
-use Rattle.cq_world.specs.Kept.{after_drawing, after_posting}
+use Rattle.cq_world.specs.within.Kept.{after_drawing, after_posting}
 use Rattle.cq_world.specs.Stands.{StandsFor}
 use Rattle.cq_world.specs.declared.sim.Sim.{Sim}
-use Rattle.cq_world.proofs.Meanings.{put-filled, put-first}
-use Rattle.cq_world.proofs.Refused.{next-put, given-put, put-posted, put-gives}
-use Rattle.cq_world.proofs.SimStands.{holds, stands, reserved-stands, posted-stands}
-use Rattle.cq_world.proofs.Steps.{err-none}
+use Rattle.cq_world.proofs.OfSim.Meanings.{put-filled, put-first}
+use Rattle.cq_world.proofs.OfSim.Refused.{next-put, given-put, put-posted, put-gives}
+use Rattle.cq_world.proofs.OfSim.Stands.{holds, stands, reserved-stands, posted-stands}
+use Rattle.cq_world.proofs.OfSim.Calls.{err-none}
 use Rattle.cq_world.proofs.sim.Sim.post.Goals as goal
 
 pub returns-in_err-reserve-clause-err : goal.returns-in_err-reserve-clause-err

@@ -5,7 +5,7 @@ use Rattle.cq_world.specs.Events.{knows, given_by, next}
 use Rattle.cq_world.specs.Stands.{StandsFor}
 use Rattle.cq_world.specs.declared.event.Event.TheVariants as events
 use Rattle.cq_world.proofs.Parties.{both}
-use Rattle.cq_world.proofs.Refused.{put-known, put-dead, put-unknown}
+use Rattle.cq_world.proofs.OfSim.Refused.{put-known, put-dead, put-unknown}
 use Rattle.cq_world.proofs.sim.Sim.put.Goals as goal
 
 pub returns-then-not-knows_both-clause-err : goal.returns-then-not-knows_both-clause-err

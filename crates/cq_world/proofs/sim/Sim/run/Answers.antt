@@ -9,9 +9,9 @@ use Rattle.cq_world.specs.Laws.{IsOfTheObject}
 use Rattle.cq_world.specs.Runs.{world_after}
 use Rattle.cq_world.specs.Stands.{WantsMemory}
 use Rattle.cq_world.specs.Worlds.{first_world}
-use Rattle.cq_world.proofs.Headlines.{headline_holds, given_of_one_object}
-use Rattle.cq_world.proofs.RunSteps.{IsRun, none-run, one-more, some_same}
-use Rattle.cq_world.proofs.Steps.{had-ok, had-err}
+use Rattle.cq_world.proofs.OfLaws.Headlines.{headline_holds, given_of_one_object}
+use Rattle.cq_world.proofs.OfSim.RunSteps.{IsRun, none-run, one-more, some_same}
+use Rattle.cq_world.proofs.OfSim.Calls.{had-ok, had-err}
 use Rattle.cq_world.proofs.sim.Sim.run.Goals as goal
 
 pub loop-event-init : goal.loop-event-init

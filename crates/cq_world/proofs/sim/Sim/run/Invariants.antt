@@ -1,6 +1,6 @@
 -- So far the events before this one were run.
 use Rattle.std.proofs.Common.{◌≡◌, take, None}
-use Rattle.cq_world.proofs.RunSteps.{IsRun}
+use Rattle.cq_world.proofs.OfSim.RunSteps.{IsRun}
 use Rattle.cq_world.proofs.sim.Sim.run.Given as goal
 
 abbrev pub invariant-loop-event : goal.invariant-loop-event

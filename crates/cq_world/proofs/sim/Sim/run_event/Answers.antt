@@ -5,8 +5,8 @@ use Rattle.cq_world.specs.Events.{refusal_of}
 use Rattle.cq_world.specs.Runs.{given_if, numbered}
 use Rattle.cq_world.specs.Stands.{StandsFor, HasRoomFor}
 use Rattle.cq_world.specs.Worlds.{World}
-use Rattle.cq_world.proofs.RunSteps.{after-done, after-refused, refusal-told, passes}
-use Rattle.cq_world.proofs.Steps.{on-ok, on-err, no-err}
+use Rattle.cq_world.proofs.OfSim.RunSteps.{after-done, after-refused, refusal-told, passes}
+use Rattle.cq_world.proofs.OfSim.Calls.{on-ok, on-err, no-err}
 use Rattle.cq_world.proofs.sim.Sim.run_event.Goals as goal
 
 pub returns-in-Ok : goal.returns-in-Ok

@@ -1,7 +1,7 @@
 -- What is found stands for the server.
 use Rattle.std.proofs.Common.{option_map}
-use Rattle.cq_world.specs.Kept.{server_at}
-use Rattle.cq_world.proofs.SimStands.{holds, found}
+use Rattle.cq_world.specs.within.Kept.{server_at}
+use Rattle.cq_world.proofs.OfSim.Stands.{holds, found}
 use Rattle.cq_world.proofs.sim.Sim.server.Goals as goal
 
 pub returns : goal.returns

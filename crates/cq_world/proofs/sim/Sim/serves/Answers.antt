@@ -1,9 +1,9 @@
 -- A server that is kept says it.
 use Rattle.std.proofs.Common.{◌≡◌, ◌&&◌, ◌∙◌, ap, sym, refl, not, true, false, Bool}
 use Rattle.cq_base.specs.declared.party.Party.TheVariants as parties
-use Rattle.cq_world.specs.Kept.{server_at}
+use Rattle.cq_world.specs.within.Kept.{server_at}
 use Rattle.cq_world.specs.Worlds.{is_in}
-use Rattle.cq_world.proofs.SimStands.{holds, known, unknown}
+use Rattle.cq_world.proofs.OfSim.Stands.{holds, known, unknown}
 use Rattle.cq_world.proofs.sim.Sim.serves.Goals as goal
 
 three : (a b c : Bool) → a ≡ true → b ≡ true → c ≡ (a && b && c)

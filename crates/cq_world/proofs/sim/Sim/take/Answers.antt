@@ -5,8 +5,8 @@ use Rattle.cq_world.specs.Events.{knows, next, refusal_of}
 use Rattle.cq_world.specs.Stands.{StandsFor}
 use Rattle.cq_world.specs.declared.event.Event.TheVariants as events
 use Rattle.cq_world.proofs.Parties.{both}
-use Rattle.cq_world.proofs.Refused.{IsDropped, next-take, take-known, take-dead, take-unknown, take-filled, take-dropped, take-nothing}
-use Rattle.cq_world.proofs.Steps.{on-ok, if-err}
+use Rattle.cq_world.proofs.OfSim.Refused.{IsDropped, next-take, take-known, take-dead, take-unknown, take-filled, take-dropped, take-nothing}
+use Rattle.cq_world.proofs.OfSim.Calls.{on-ok, if-err}
 use Rattle.cq_world.proofs.sim.Sim.take.Goals as goal
 
 pub returns-then-not-knows_both-clause-err : goal.returns-then-not-knows_both-clause-err

@@ -3,15 +3,15 @@ use Rattle.std.proofs.Common.{◌∙◌, ap, sym, refl, subst}
 use Rattle.std.specs.Option.{is_some}
 use Rattle.cq_base.specs.declared.party.Party.TheVariants as parties
 use Rattle.cq_world.specs.Events.{refusal_of_take}
-use Rattle.cq_world.specs.Kept.{server_at, messages_at}
+use Rattle.cq_world.specs.within.Kept.{server_at, messages_at}
 use Rattle.cq_world.specs.Stands.{StandsFor}
 use Rattle.cq_world.specs.Worlds.{is_in}
 use Rattle.cq_world.specs.declared.sim.Sim.{Sim}
-use Rattle.cq_world.proofs.Meanings.{first-mean, first-none}
-use Rattle.cq_world.proofs.Refused.{next-take}
-use Rattle.cq_world.proofs.SimStands.{IsAt, holds, stands, known, unknown}
-use Rattle.cq_world.proofs.Steps.{no-ok, err-same}
-use Rattle.cq_world.proofs.Taking.{Took, refused-by, took-stands, kept-stands, true_false}
+use Rattle.cq_world.proofs.OfSim.Meanings.{first-mean, first-none}
+use Rattle.cq_world.proofs.OfSim.Refused.{next-take}
+use Rattle.cq_world.proofs.OfSim.Stands.{IsAt, holds, stands, known, unknown}
+use Rattle.cq_world.proofs.OfSim.Calls.{no-ok, err-same}
+use Rattle.cq_world.proofs.OfSim.Taking.{Took, refused-by, took-stands, kept-stands, true_false}
 use Rattle.cq_world.proofs.sim.Sim.take_at.Goals as goal
 
 pub returns-in_err-take-in-Some-get_mut-clause-ok : goal.returns-in_err-take-in-Some-get_mut-clause-ok

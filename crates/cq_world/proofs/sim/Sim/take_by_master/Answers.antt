@@ -3,8 +3,8 @@ use Rattle.std.proofs.Common.{◌∙◌, sym, subst}
 use Rattle.cq_chain.specs.Faults.{IsRefusal}
 use Rattle.cq_world.specs.Events.{refusal_of_take}
 use Rattle.cq_world.specs.Stands.{StandsFor}
-use Rattle.cq_world.proofs.Refused.{next-take, take-filled, take-dropped, take-nothing, dropped-of-others}
-use Rattle.cq_world.proofs.Steps.{on-ok, if-err}
+use Rattle.cq_world.proofs.OfSim.Refused.{next-take, take-filled, take-dropped, take-nothing, dropped-of-others}
+use Rattle.cq_world.proofs.OfSim.Calls.{on-ok, if-err}
 use Rattle.cq_world.proofs.sim.Sim.take_by_master.Goals as goal
 
 pub returns-in_default : goal.returns-in_default

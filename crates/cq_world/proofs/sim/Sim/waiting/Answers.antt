@@ -1,8 +1,8 @@
 -- Links keep what stands in them.
 use Rattle.std.proofs.Common.{◌∙◌}
-use Rattle.cq_world.specs.Kept.{messages_at}
-use Rattle.cq_world.proofs.Meanings.{all-length}
-use Rattle.cq_world.proofs.SimStands.{holds}
+use Rattle.cq_world.specs.within.Kept.{messages_at}
+use Rattle.cq_world.proofs.OfSim.Meanings.{all-length}
+use Rattle.cq_world.proofs.OfSim.Stands.{holds}
 use Rattle.cq_world.proofs.sim.Sim.waiting.Goals as goal
 
 pub returns : goal.returns

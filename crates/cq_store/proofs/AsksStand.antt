@@ -1,0 +1,234 @@
+-- Asks about a name, and how they are answered.
+use Rattle.std.proofs.Common.{◌≡◌, ℕ, ◌+◌, ◌≤◌, ◌∙◌, ◌&&◌, ap, sym, List, [], ◌∷◌, ◌++◌, map, Option, Some, None, true, false, arith, subst, refl}
+use Rattle.std.proofs.lemmas.Bool.{both_ways, false≢true}
+use Rattle.cq_base.specs.declared.ask.Ask.{Ask}
+use Rattle.cq_base.specs.declared.ask.Ask.TheVariants.{Create, Remove, Send, Receive, Delete, Change}
+use Rattle.cq_base.specs.declared.ask.Entry.{Entry}
+use Rattle.cq_base.specs.declared.reply.Reply.{Reply}
+use Rattle.cq_base.specs.declared.reply.Reply.TheVariants.{Created, Removed, Refused}
+use Rattle.cq_base.specs.declared.reply.Refusal.TheVariants.{QueueDoesNotExist, QueueDeletedRecently}
+use Rattle.cq_base.specs.Asks.{queue_of, is_create, is_remove, visibility_of}
+use Rattle.cq_base.specs.Effects.{counts_of, counts_by, takes_effect, create_again, create, effect_on, effect_off, visibility_by}
+use Rattle.cq_base.specs.Facts.{Fact, about, on}
+use Rattle.cq_base.specs.History.{fact_with, fresh_fact, history}
+use Rattle.cq_base.specs.Incarnations.{Incarnation, IncarnationStands, told_of}
+use Rattle.cq_base.specs.Lifetimes.{is_creation, is_removal, live, creations, removed_lately}
+use Rattle.cq_base.proofs.OneMoreFact.{not_both}
+use Rattle.cq_base.specs.declared.reply.Delivery.{Delivery}
+use Rattle.cq_base.specs.declared.reply.Reply.TheVariants.{Received, Counts}
+use Rattle.cq_base.specs.Messages.{standing}
+use Rattle.cq_base.specs.Receiving.{to_hand, delivery_of}
+use Rattle.cq_queue.specs.Entries.{StandsAfter, IsAnswered, IsSameQueue, IsReceive, AreOffered, AreCounted, IsCreate}
+use Rattle.cq_queue.proofs.Creates.{stands-created, reply-created}
+use Rattle.cq_store.specs.within.Asked.{own_facts, IsAnswer, IsCount}
+use Rattle.cq_store.specs.within.Rooms.{IsWithin, IsQueueWithin}
+use Rattle.cq_store.specs.Stands.{unknown, or_unknown, NameKept, NameStands, LivesAs, IsLiving, is_resting}
+use Rattle.cq_store.proofs.OfLaws.Alone.{alone, IsAlone}
+use Rattle.cq_store.proofs.NamesStand.{entry-fresh, name-dead, with_creation, name-created, with_removal, name-removed, with_incarnation, told-on, comes-to, name-living}
+use Rattle.cq_store.proofs.FreshFacts.{fresh-live, fresh-dead}
+use Rattle.std.specs.Option.{is_some}
+
+-- an ask that is no removal removes nothing
+no_removal : (e : Entry) (own : List Fact) (ask : Ask) → e.request.ask ≡ ask → is_remove ask ≡ false → is_removal (fresh_fact e own) ≡ false
+no_removal e own ask asks other = ap (λ b. (fresh_fact e own).effective && b) (ap (λ d. is_remove d.request.ask) (entry-fresh e own) ∙ ap is_remove asks ∙ other) ∙ not_both (fresh_fact e own).effective
+
+-- an ask that is no creation creates nothing
+no_creation : (e : Entry) (own : List Fact) (ask : Ask) → e.request.ask ≡ ask → is_create ask ≡ false → is_creation (fresh_fact e own) ≡ false
+no_creation e own ask asks other = ap (λ b. (fresh_fact e own).effective && b) (ap (λ d. is_create d.request.ask) (entry-fresh e own) ∙ ap is_create asks ∙ other) ∙ not_both (fresh_fact e own).effective
+
+-- what is said of one more entry about a name, after these facts about it
+abbrev IsAnswered-after : NameKept → List Fact → Entry → Reply → Type 0
+IsAnswered-after new own e reply = ((fresh_fact e own).reply ≡ reply) × NameStands e.moment new (own ++ fresh_fact e own ∷ [])
+
+-- an entry that comes to the incarnation, by the creation by which the queue lives
+came_by : (IsSuch : Entry → Type 0) (old : NameKept) (p q : Incarnation) (last : ℕ) (own : List Fact) (e : Entry) (reply : Reply) (living : Option Fact) → old.living ≡ Some p → q.number ≡ p.number → q.visibility ≡ p.visibility
+    → StandsAfter IsSuch p q → IsAnswered IsSuch p reply → IsSuch e → is_removal (fresh_fact e own) ≡ false → IsAlone own → last ≤ e.moment → NameStands last old own → live own ≡ living
+    → IsAnswered-after (with_incarnation old q) own e reply
+came_by IsSuch old p q last own e reply None is_p number visibility after answered such stays alone more h dead = absurd (subst (λ k. IsLiving k None own) is_p (subst (λ o. IsLiving old.living o own) dead h.living))
+came_by IsSuch old p q last own e reply (Some creation) is_p number visibility after answered such stays alone more h lives =
+    let as_p : LivesAs p creation own = subst (λ k. IsLiving k (Some creation) own) is_p (subst (λ o. IsLiving old.living o own) lives h.living) in
+    let es = map (λ f. f.entry) (on creation.count own) in (
+      ap (λ f. f.reply) (comes-to own creation p e alone lives as_p) ∙ answered es e as_p.stands such,
+      name-living last old own creation e p q more lives is_p stays number visibility (after es e as_p.stands such) h,
+    )
+
+-- An ask that comes to the incarnation as which the queue lives, where that answers it.
+pub came : (IsSuch : Entry → Type 0) (old : NameKept) (p q : Incarnation) (moment : ℕ) (ask : Ask) (reply : Reply) → old.living ≡ Some p → q.number ≡ p.number → q.visibility ≡ p.visibility
+    → StandsAfter IsSuch p q → IsAnswered IsSuch p reply → ((e : Entry) → e.moment ≡ moment → e.request.ask ≡ ask → IsSuch e) → is_remove ask ≡ false
+    → IsAnswer old (with_incarnation old q) moment ask reply
+came IsSuch old p q moment ask reply is_p number visibility after answered such other entries last e more at asks h = let own = own_facts entries ask in
+    let made = came_by IsSuch old p q last own e reply (live own) is_p number visibility after answered (such e at asks) (no_removal e own ask asks other) (alone (queue_of ask) entries) (omega (arith, more, at)) h refl in
+    (made.0, subst (λ m. NameStands m (with_incarnation old q) (own ++ fresh_fact e own ∷ [])) at made.1)
+
+-- nothing lives where nothing is kept as living
+dead_own : (old : NameKept) (last : ℕ) (own : List Fact) (living : Option Fact) → old.living ≡ None → NameStands last old own → live own ≡ living → live own ≡ None
+dead_own old last own None none h dead = dead
+dead_own old last own (Some creation) none h lives = absurd (subst (λ k. IsLiving k (Some creation) own) none (subst (λ o. IsLiving old.living o own) lives h.living))
+
+-- what a fresh entry does to a queue that doesn't live
+fact-dead : (own : List Fact) (e : Entry) → live own ≡ None → fresh_fact e own ≡ fact_with e 0 (effect_off e.moment own e.request.ask)
+fact-dead own e dead = sym (fresh-dead e own dead)
+
+-- an ask that is no creation is refused there
+off_refused : (moment : ℕ) (own : List Fact) (ask : Ask) → is_create ask ≡ false → (effect_off moment own ask).reply ≡ Refused QueueDoesNotExist
+unfolding effect_off
+off_refused moment own (Create queue visibility) other = absurd (both_ways _ other refl)
+off_refused moment own (Remove queue) other = refl
+off_refused moment own (Send queue group dedup body) other = refl
+off_refused moment own (Receive queue size visibility) other = refl
+off_refused moment own (Delete queue receipt) other = refl
+off_refused moment own (Change queue receipt visibility) other = refl
+
+-- An ask that is no creation, about a queue that doesn't live.
+pub refused : (old : NameKept) (moment : ℕ) (ask : Ask) → old.living ≡ None → is_create ask ≡ false → IsAnswer old old moment ask (Refused QueueDoesNotExist)
+refused old moment ask none other entries last e more at asks h = let own = own_facts entries ask in
+    let dead = dead_own old last own (live own) none h refl in (
+      ap (λ f. f.reply) (fact-dead own e dead) ∙ ap (λ a. (effect_off e.moment own a).reply) asks ∙ off_refused e.moment own ask other,
+      subst (λ m. NameStands m old (own ++ fresh_fact e own ∷ [])) at (name-dead last old own e (omega (arith, more, at)) dead (no_creation e own ask asks other) h),
+    )
+
+-- a creation of a queue that doesn't live
+fact-created : (own : List Fact) (e : Entry) (queue : List ℕ) (visibility : ℕ) → live own ≡ None → e.request.ask ≡ Create queue visibility → fresh_fact e own ≡ fact_with e 0 (create (removed_lately e.moment own) (creations own + 1))
+unfolding effect_off
+fact-created own e queue visibility dead asks = fact-dead own e dead ∙ ap (λ a. fact_with e 0 (effect_off e.moment own a)) asks
+
+-- A creation while the name rests.
+pub resting : (old : NameKept) (moment : ℕ) (queue : List ℕ) (visibility : ℕ) → old.living ≡ None → is_resting old.removed moment ≡ true → IsAnswer old old moment (Create queue visibility) (Refused QueueDeletedRecently)
+resting old moment queue visibility none rests entries last e more at asks h = let own = own_facts entries (Create queue visibility) in
+    let dead = dead_own old last own (live own) none h refl in
+    let lately : removed_lately e.moment own ≡ true = ap (λ m. removed_lately m own) at ∙ sym (h.removed moment more) ∙ rests in
+    let made = fact-created own e queue visibility dead asks ∙ ap (λ b. fact_with e 0 (create b (creations own + 1))) lately in (
+      ap (λ f. f.reply) made,
+      subst (λ m. NameStands m old (own ++ fresh_fact e own ∷ [])) at (name-dead last old own e (omega (arith, more, at)) dead (ap (λ f. is_creation f) made) h),
+    )
+
+-- A creation that takes effect.
+pub created : (old : NameKept) (moment : ℕ) (queue : List ℕ) (visibility : ℕ) (q : Incarnation) → old.living ≡ None → is_resting old.removed moment ≡ false
+    → q.number ≡ old.creations + 1 → q.visibility ≡ visibility → IncarnationStands q [] → IsAnswer old (with_creation old q) moment (Create queue visibility) (Created (old.creations + 1))
+created old moment queue visibility q none awake number timeout stands entries last e more at asks h = let own = own_facts entries (Create queue visibility) in
+    let dead = dead_own old last own (live own) none h refl in
+    let free : removed_lately e.moment own ≡ false = ap (λ m. removed_lately m own) at ∙ sym (h.removed moment more) ∙ awake in
+    let made = fact-created own e queue visibility dead asks ∙ ap (λ b. fact_with e 0 (create b (creations own + 1))) free in
+    let count : (fresh_fact e own).count ≡ creations own + 1 = ap (λ f. f.count) made in
+    let creates : is_creation (fresh_fact e own) ≡ true = ap (λ f. is_creation f) made ∙ ap (λ a. true && is_create a) asks in
+    let asked = ap (λ a. visibility_of a) (ap (λ d. d.request.ask) (entry-fresh e own) ∙ asks) in (
+      ap (λ f. f.reply) made ∙ ap (λ n. Created (n + 1)) (sym h.creations),
+      subst (λ m. NameStands m (with_creation old q) (own ++ fresh_fact e own ∷ [])) at
+          (name-created last old own e q (alone queue entries) (omega (arith, more, at)) creates (no_removal e own (Create queue visibility) asks refl) (number ∙ ap (λ n. n + 1) h.creations ∙ sym count) (timeout ∙ sym asked) stands h),
+    )
+
+-- a removal of a queue that lives
+fact-removed : (own : List Fact) (e : Entry) (queue : List ℕ) (creation : Fact) → live own ≡ Some creation → e.request.ask ≡ Remove queue → fresh_fact e own ≡ fact_with e creation.count (takes_effect creation.count Removed)
+unfolding effect_on
+fact-removed own e queue creation lives asks = sym (fresh-live e own creation lives) ∙ ap (λ a. fact_with e creation.count (effect_on creation.count (visibility_by creation) e.moment (on creation.count own) a)) asks
+
+-- what it does, by the creation by which the queue lives
+removed_by : (old : NameKept) (p : Incarnation) (last : ℕ) (own : List Fact) (e : Entry) (queue : List ℕ) (living : Option Fact) → old.living ≡ Some p → e.request.ask ≡ Remove queue → last ≤ e.moment → NameStands last old own → live own ≡ living
+    → IsAnswered-after (with_removal old e.moment) own e Removed
+removed_by old p last own e queue None is_p asks more h dead = absurd (subst (λ k. IsLiving k None own) is_p (subst (λ o. IsLiving old.living o own) dead h.living))
+removed_by old p last own e queue (Some creation) is_p asks more h lives =
+    let made = fact-removed own e queue creation lives asks in
+    let removes : is_removal (fresh_fact e own) ≡ true = ap (λ f. is_removal f) made ∙ ap (λ a. true && is_remove a) asks in
+    (ap (λ f. f.reply) made, name-removed last old own e more (no_creation e own (Remove queue) asks refl) removes h)
+
+-- A removal of a queue that lives.
+pub removed : (old : NameKept) (p : Incarnation) (moment : ℕ) (queue : List ℕ) → old.living ≡ Some p → IsAnswer old (with_removal old moment) moment (Remove queue) Removed
+removed old p moment queue is_p entries last e more at asks h = let own = own_facts entries (Remove queue) in
+    let made = removed_by old p last own e queue (live own) is_p asks (omega (arith, more, at)) h refl in
+    (made.0, subst (λ m. NameStands m (with_removal old m) (own ++ fresh_fact e own ∷ [])) at made.1)
+
+-- what is kept of a name, with what lives in its place
+whole : (kept : NameKept) (p : Incarnation) → kept.living ≡ Some p → with_incarnation kept p ≡ kept
+whole kept p is_p = ap (λ o. record { creations = kept.creations; removed = kept.removed; living = o }) (sym is_p)
+
+-- The same where the value is seen as what is inside it, and the reply by its equation: an ask that comes to
+-- the incarnation.
+pub came_seen : (IsSuch : Entry → Type 0) (inside now : NameKept) (p q : Incarnation) (moment : ℕ) (ask : Ask) (given reply : Reply) → inside ≡ now → given ≡ reply → inside.living ≡ Some p → IsSameQueue p q
+    → StandsAfter IsSuch p q → IsAnswered IsSuch p reply → ((e : Entry) → e.moment ≡ moment → e.request.ask ≡ ask → IsSuch e) → is_remove ask ≡ false
+    → IsAnswer now (with_incarnation inside q) moment ask given
+came_seen IsSuch inside now p q moment ask given reply view same_reply is_p same after answered such other =
+    subst (λ k. IsAnswer k (with_incarnation inside q) moment ask given) view
+    (subst (λ r. IsAnswer inside (with_incarnation inside q) moment ask r) (sym same_reply)
+    (came IsSuch inside p q moment ask reply is_p same.number same.visibility after answered such other))
+
+-- the same of an ask about a queue that doesn't live
+pub refused_seen : (inside now : NameKept) (moment : ℕ) (ask : Ask) (given : Reply) → inside ≡ now → given ≡ Refused QueueDoesNotExist → inside.living ≡ None → is_create ask ≡ false → IsAnswer now inside moment ask given
+refused_seen inside now moment ask given view same_reply none other =
+    subst (λ k. IsAnswer k inside moment ask given) view
+    (subst (λ r. IsAnswer inside inside moment ask r) (sym same_reply) (refused inside moment ask none other))
+
+-- what a receive is answered with, by what is offered
+pub offered : (kept : Incarnation) (moment size : ℕ) (visibility : Option ℕ) (deliveries : List Delivery) → AreOffered kept moment size deliveries → IsAnswered (IsReceive moment size visibility) kept (Received deliveries)
+unfolding effect_on
+offered kept moment size visibility deliveries are entries e stands is =
+    ap (λ a. (effect_on kept.number kept.visibility e.moment (told_of kept entries) a).reply) is.asks
+    ∙ ap (λ m. Received (map (delivery_of kept.number) (to_hand size m (standing kept.visibility (told_of kept entries))))) is.at_moment
+    ∙ ap Received (sym (are entries stands))
+
+-- the same of a creation of a queue that lives
+pub again_seen : (inside now : NameKept) (p : Incarnation) (moment : ℕ) (queue : List ℕ) (visibility : ℕ) (given : Reply) → inside ≡ now → given ≡ (create_again p.number p.visibility visibility).reply → inside.living ≡ Some p
+    → IsAnswer now now moment (Create queue visibility) given
+again_seen inside now p moment queue visibility given view same_reply is_p =
+    subst (λ k. IsAnswer k k moment (Create queue visibility) given) (whole inside p is_p ∙ view)
+    (came_seen (IsCreate visibility) inside (with_incarnation inside p) p p moment (Create queue visibility) given (create_again p.number p.visibility visibility).reply (sym (whole inside p is_p)) same_reply is_p (record { number = refl; visibility = refl })
+    (stands-created p visibility) (reply-created p visibility) (λ e at asks. record { queue = queue; asks = asks }) refl)
+
+-- whether a queue lives
+pub no_living : (living : Option Incarnation) → is_some living ≡ false → living ≡ None
+no_living None h = refl
+no_living (Some p) h = absurd (false≢true (sym h))
+
+pub some_living : (living : Option Incarnation) → is_some living ≡ true → (p : Incarnation) × (living ≡ Some p)
+some_living None h = absurd (false≢true h)
+some_living (Some p) h = (p, refl)
+
+-- the same of a removal
+pub removed_seen : (inside now : NameKept) (moment : ℕ) (queue : List ℕ) (given : Reply) → inside ≡ now → given ≡ Removed → ((p : Incarnation) × (inside.living ≡ Some p)) → IsAnswer now (with_removal inside moment) moment (Remove queue) given
+removed_seen inside now moment queue given view same_reply living =
+    subst (λ k. IsAnswer k (with_removal inside moment) moment (Remove queue) given) view
+    (subst (λ r. IsAnswer inside (with_removal inside moment) moment (Remove queue) r) (sym same_reply) (removed inside living.0 moment queue living.1))
+
+-- the counts, by the creation by which the queue lives
+counted_by : (kept : NameKept) (p : Incarnation) (moment visible in_flight last : ℕ) (own : List Fact) (living : Option Fact) → kept.living ≡ Some p → AreCounted p moment visible in_flight → IsAlone own → NameStands last kept own → live own ≡ living → counts_by living moment own ≡ Counts visible in_flight
+counted_by kept p moment visible in_flight last own None is_p counted alone h dead = absurd (subst (λ k. IsLiving k None own) is_p (subst (λ o. IsLiving kept.living o own) dead h.living))
+counted_by kept p moment visible in_flight last own (Some creation) is_p counted alone h lives =
+    let as_p : LivesAs p creation own = subst (λ k. IsLiving k (Some creation) own) is_p (subst (λ o. IsLiving kept.living o own) lives h.living) in
+    ap (λ v. counts_of moment (standing v (on creation.count own))) (sym as_p.visibility)
+    ∙ ap (λ fs. counts_of moment (standing p.visibility fs)) (sym (told-on own creation p alone lives as_p))
+    ∙ counted (map (λ f. f.entry) (on creation.count own)) as_p.stands
+
+-- The counts of a queue that lives.
+pub counted : (kept : NameKept) (p : Incarnation) (moment visible in_flight : ℕ) → kept.living ≡ Some p → AreCounted p moment visible in_flight → IsCount kept moment (Counts visible in_flight)
+counted kept p moment visible in_flight is_p are entries queue last h = counted_by kept p moment visible in_flight last (about queue (history entries)) (live (about queue (history entries))) is_p are (alone queue entries) h refl
+
+-- The counts of one that doesn't.
+pub uncounted : (kept : NameKept) (moment : ℕ) → kept.living ≡ None → IsCount kept moment (Refused QueueDoesNotExist)
+uncounted kept moment none entries queue last h = ap (λ o. counts_by o moment (about queue (history entries))) (dead_own kept last (about queue (history entries)) (live (about queue (history entries))) none h refl)
+
+-- an answer about a name that is kept from now on
+pub first_kept : (before after : Option NameKept) (old new : NameKept) (moment : ℕ) (ask : Ask) (reply : Reply) → before ≡ None → old ≡ unknown → after ≡ Some new → IsAnswer old new moment ask reply → IsAnswer (or_unknown before) (or_unknown after) moment ask reply
+first_kept before after old new moment ask reply none is_unknown some h =
+    subst (λ o. IsAnswer (or_unknown o) (or_unknown after) moment ask reply) (sym none)
+    (subst (λ o. IsAnswer unknown (or_unknown o) moment ask reply) (sym some)
+    (subst (λ k. IsAnswer k new moment ask reply) is_unknown h))
+
+-- an ask about an unknown name that creates none
+pub unknown_refused : (before : Option NameKept) (moment : ℕ) (ask : Ask) (given : Reply) → before ≡ None → given ≡ Refused QueueDoesNotExist → is_create ask ≡ false → IsAnswer (or_unknown before) (or_unknown before) moment ask given
+unknown_refused before moment ask given none same_reply other = subst (λ o. IsAnswer (or_unknown o) (or_unknown o) moment ask given) (sym none) (refused_seen unknown unknown moment ask given refl same_reply refl other)
+
+-- an ask of which no case is a creation is none
+pub not_create : (ask : Ask) → ((queue : List ℕ) (visibility : ℕ) → ask ≡ Create queue visibility → ⊥) → is_create ask ≡ false
+not_create (Create queue visibility) other = absurd (other queue visibility refl)
+not_create (Remove queue) other = refl
+not_create (Send queue group dedup body) other = refl
+not_create (Receive queue size visibility) other = refl
+not_create (Delete queue receipt) other = refl
+not_create (Change queue receipt visibility) other = refl
+
+-- what is within bounds is within later ones
+within_later : (count last later : ℕ) (living : Option Incarnation) → last ≤ later → IsQueueWithin count last living → IsQueueWithin (count + 1) later living
+within_later count last later None more h = tt
+within_later count last later (Some q) more h = (omega (arith, h.0), omega (arith, h.1, more))
+
+pub within-later : (count last later : ℕ) (kept : NameKept) → last ≤ later → IsWithin count last kept → IsWithin (count + 1) later kept
+within-later count last later kept more h = record { creations = omega (arith, h.creations); living = within_later count last later kept.living more h.living }
