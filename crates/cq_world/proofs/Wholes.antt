@@ -9,7 +9,7 @@ pub mod Orders
 pub mod Changes
 pub mod Joins
 pub mod Runs
-pub mod Feeds
+pub mod Feeding
 use Rattle.std.proofs.Common.{◌≡◌, ℕ, suc, ◌+◌, ◌≤◌, ◌<◌, ◌∙◌, ap, sym, List, [], ◌∷◌, ◌++◌, length, ◌&&◌, Option, Some, None, Bool, true, false, cond, eqb, arith, subst, refl, inl, inr}
 use Rattle.std.proofs.lemmas.Bool.{eqb-true, eq-eqb, false≢true, both_ways, and_parts, or_cases}
 use Rattle.cq_base.specs.declared.ask.Entry.{Entry}
@@ -21,7 +21,7 @@ use Rattle.cq_world.proofs.Chains.{Apart}
 use Rattle.cq_world.proofs.Prefixes.Climbing.{reports, one, ups}
 use Rattle.cq_world.proofs.Commits.{bit}
 use Rattle.cq_world.proofs.Eaches.{Each}
-use Rattle.cq_world.proofs.Wholes.Feeds.{NoData, OfSnap, Feeds}
+use Rattle.cq_world.proofs.Wholes.Feeding.{NoData, OfSnap, Feeds}
 use Rattle.cq_world.proofs.Prefixes.{Prefixes, Linked, LinkedChain}
 use Rattle.cq_world.proofs.Sights.{Sight}
 

@@ -13,7 +13,7 @@ use Rattle.cq_world.specs.Runs.{longer, acting_history}
 use Rattle.cq_world.proofs.Commits.{Commits, longer-length}
 use Rattle.cq_world.proofs.Commits.Steps.{addressed-append}
 use Rattle.cq_world.proofs.Eaches.{Each, each-append}
-use Rattle.cq_world.proofs.Wholes.Feeds.{NoData, NoSnap, Feeds, all-data-snap}
+use Rattle.cq_world.proofs.Wholes.Feeding.{NoData, NoSnap, Feeds, all-data-snap}
 use Rattle.cq_world.proofs.Prefixes.{Prefixes}
 use Rattle.cq_world.proofs.Settled.{is_settled}
 use Rattle.cq_world.proofs.Sights.{Sight}

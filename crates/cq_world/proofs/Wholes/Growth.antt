@@ -13,7 +13,7 @@ use Rattle.cq_world.specs.Runs.{longer, acting_history}
 use Rattle.cq_world.proofs.Commits.{longer-length}
 use Rattle.cq_world.proofs.Commits.Steps.{addressed-append}
 use Rattle.cq_world.proofs.Eaches.{Each, each-append, each-follows}
-use Rattle.cq_world.proofs.Wholes.Feeds.{NoData, NoSnap, OfSnap, Feeds, all-data-snap, feeds-append, no-snap}
+use Rattle.cq_world.proofs.Wholes.Feeding.{NoData, NoSnap, OfSnap, Feeds, all-data-snap, feeds-append, no-snap}
 use Rattle.cq_world.proofs.Prefixes.{Prefixes, master_after}
 use Rattle.cq_world.proofs.Settled.{IsSettled, is_settled}
 use Rattle.cq_world.proofs.Sights.{Sight}

@@ -10,7 +10,7 @@ use Rattle.cq_world.proofs.Chains.{last-in, last-one, before-in}
 use Rattle.cq_world.proofs.Commits.Orders.{each_one, one_more}
 use Rattle.cq_world.proofs.Commits.{Commits, bit}
 use Rattle.cq_world.proofs.Eaches.{Each, each-follows, some_none}
-use Rattle.cq_world.proofs.Wholes.Feeds.{NoData}
+use Rattle.cq_world.proofs.Wholes.Feeding.{NoData}
 use Rattle.cq_world.proofs.Prefixes.Orders.{told_to, one_told, in_more, in_left, out_more, join_told, last_of, eqb_turned}
 use Rattle.cq_world.proofs.Prefixes.{Prefixes}
 use Rattle.cq_world.proofs.Settled.{that_some}

@@ -17,7 +17,7 @@ use Rattle.cq_world.proofs.Chains.{before-last}
 use Rattle.cq_world.proofs.Commits.{Pairs, Enough, bit, longer-length}
 use Rattle.cq_world.proofs.Commits.Steps.{addressed-append, repair_news}
 use Rattle.cq_world.proofs.Eaches.{Each, each-append, each-follows, some_none}
-use Rattle.cq_world.proofs.Wholes.Feeds.{NoData, OfSnap, Feeds, data-snap, all-data-snap, feeds-none, feeds-append, no-snap, repair-feeds, repair-other, repair-snaps}
+use Rattle.cq_world.proofs.Wholes.Feeding.{NoData, OfSnap, Feeds, data-snap, all-data-snap, feeds-none, feeds-append, no-snap, repair-feeds, repair-other, repair-snaps}
 use Rattle.cq_world.proofs.Settled.{IsSettled, is_settled, that_some}
 use Rattle.cq_world.proofs.Sights.{Sight}
 use Rattle.cq_world.proofs.Prefixes.Steps.{below-pred}

@@ -11,7 +11,7 @@ use Rattle.cq_world.proofs.Commits.Orders.{left_row, one_more, each_one, said_no
 use Rattle.cq_world.proofs.Commits.{Commits, bit}
 use Rattle.cq_world.proofs.Commits.Turns.{if_true, if_false}
 use Rattle.cq_world.proofs.Eaches.{Each}
-use Rattle.cq_world.proofs.Wholes.Feeds.{NoData, OfSnap, Feeds}
+use Rattle.cq_world.proofs.Wholes.Feeding.{NoData, OfSnap, Feeds}
 use Rattle.cq_world.proofs.Prefixes.Orders.{told_to, one_told, eqb_turned}
 use Rattle.cq_world.proofs.Prefixes.{Prefixes}
 use Rattle.cq_world.proofs.Sights.{Sight, said, drained}

@@ -24,7 +24,7 @@ use Rattle.cq_world.proofs.Commits.Orders.{said_nothing}
 use Rattle.cq_world.proofs.Commits.Steps.{take-acting, arrive-acting}
 use Rattle.cq_world.proofs.Commits.{bit, longest-same}
 use Rattle.cq_world.proofs.Eaches.{Each, some_none}
-use Rattle.cq_world.proofs.Wholes.Feeds.{NoData, OfSnap, Feeds}
+use Rattle.cq_world.proofs.Wholes.Feeding.{NoData, OfSnap, Feeds}
 use Rattle.cq_world.proofs.First.{commits-first, in-numbers, numbers_apart, at_first, at_first_full, first_entries, last_size}
 use Rattle.cq_world.proofs.Prefixes.{Turn}
 use Rattle.cq_world.proofs.Running.{Good, onward, list-turned, drained_keeps, sight_ordered, first_speaks, detect_parts, join_parts, chain_some}

@@ -21,7 +21,7 @@ use Rattle.cq_world.proofs.Chains.{before-in}
 use Rattle.cq_world.proofs.Prefixes.Climbing.{reports, one}
 use Rattle.cq_world.proofs.Commits.{Commits, bit, longer-length}
 use Rattle.cq_world.proofs.Eaches.{Each, each-append, each-follows, cons_nil}
-use Rattle.cq_world.proofs.Wholes.Feeds.{NoData, OfSnap, Feeds, data-snap, all-data-snap, feeds-append, no-snap}
+use Rattle.cq_world.proofs.Wholes.Feeding.{NoData, OfSnap, Feeds, data-snap, all-data-snap, feeds-append, no-snap}
 use Rattle.cq_world.proofs.Prefixes.{Prefixes, master_after}
 use Rattle.cq_world.proofs.Sights.{Sight}
 use Rattle.cq_world.proofs.Prefixes.Steps.{below-pred}

@@ -14,7 +14,7 @@ use Rattle.cq_world.proofs.Chains.{before-in}
 use Rattle.cq_world.proofs.Commits.{longer-length}
 use Rattle.cq_world.proofs.Commits.Turns.{if_true, if_false, report_row, rest_of, by_server, by_told, by_report}
 use Rattle.cq_world.proofs.Eaches.{Each, each-append, each-follows}
-use Rattle.cq_world.proofs.Wholes.Feeds.{NoData, OfSnap, Feeds, data-snap, no-snap}
+use Rattle.cq_world.proofs.Wholes.Feeding.{NoData, OfSnap, Feeds, data-snap, no-snap}
 use Rattle.cq_world.proofs.Parties.{same-true}
 use Rattle.cq_world.proofs.Prefixes.{Prefixes, Turn, master_after, row_after, each-end}
 use Rattle.cq_world.proofs.Settled.{that_some}
