@@ -5,16 +5,17 @@ use Rattle.cq_script.specs.declared.fault.ScriptFault.TheVariants.{BadLine, Line
 use Rattle.cq_script.specs.declared.lines.Item.{Item}
 use Rattle.cq_script.specs.Output.{after_said, output, text_from, text_of}
 use Rattle.cq_world.specs.Worlds.{World, first_world}
-use Rattle.cq_script.specs.Runs.{BeginsWith, WritesFront, EndsWriting}
+use Rattle.cq_base.specs.Relations.{Front}
+use Rattle.cq_script.specs.Runs.{WritesFront, EndsWriting}
 
-text_from-append : (w : World) (xs ys : List Item) → BeginsWith (text_from w (xs ++ ys)) (text_from w xs)
+text_from-append : (w : World) (xs ys : List Item) → Front (text_from w xs) (text_from w (xs ++ ys))
 unfolding text_from
 text_from-append w [] ys = (text_from w ys, refl)
 text_from-append w (x ∷ xs) ys =
     let later = text_from-append (after_said w x.said) xs ys in
     (later.0, ap (λ text. output w x ++ text) later.1 ∙ sym (append_assoc (output w x) (text_from (after_said w x.said) xs) later.0))
 
-pub text_of-append : (size : ℕ) (xs ys : List Item) → BeginsWith (text_of size (xs ++ ys)) (text_of size xs)
+pub text_of-append : (size : ℕ) (xs ys : List Item) → Front (text_of size xs) (text_of size (xs ++ ys))
 unfolding text_of
 text_of-append size xs ys = text_from-append (first_world size) xs ys
 
@@ -44,7 +45,7 @@ pub text_written : (whole written text front later : List ℕ) → whole ≡ wri
 text_written whole written text front later is all =
     is ∙ ap (λ t. written ++ (t ++ later)) (sym all) ∙ sym (append_assoc written front later)
 
-front_written : (whole written text front later : List ℕ) → whole ≡ written ++ (text ++ later) → BeginsWith text front → BeginsWith whole (written ++ front)
+front_written : (whole written text front later : List ℕ) → whole ≡ written ++ (text ++ later) → Front front text → Front (written ++ front) whole
 front_written whole written text front later is part =
     (part.0 ++ later, is ∙ ap (λ t. written ++ (t ++ later)) part.1 ∙ ap (λ t. written ++ t) (append_assoc front part.0 later) ∙ sym (append_assoc written front (part.0 ++ later)))
 

@@ -5,7 +5,8 @@ use Rattle.cq_script.specs.declared.fault.ScriptFault.{ScriptFault}
 use Rattle.cq_script.specs.declared.fault.ScriptFault.TheVariants.{BadLine, LineTooLong, TooManyLines, ReadFailed, WriteFailed, NoMemory}
 use Rattle.cq_script.specs.Lines.{Script, script_of}
 use Rattle.cq_script.specs.Output.{text_of}
-use Rattle.cq_script.specs.Runs.{BeginsWith, WritesFront, ends_by_memory}
+use Rattle.cq_base.specs.Relations.{Front}
+use Rattle.cq_script.specs.Runs.{WritesFront, ends_by_memory}
 use Rattle.cq_script.specs.within.Readings.{HoldsScript, AreEnded, ReadsScript}
 use Rattle.cq_script.specs.Replays.{WritesScript, Fails, IsFront, IsEndedFront, Replays}
 use Rattle.cq_script.proofs.Fronts.{text_of-append}
@@ -50,16 +51,16 @@ holds_front (Err ReadFailed) items input (Some more) lasts read = read.front mor
 holds_front (Err WriteFailed) items input (Some more) lasts read = absurd read
 holds_front (Err NoMemory) items input (Some more) lasts read = cc
 
-BeginsWith-trans : (whole text front : List ℕ) → BeginsWith whole text → BeginsWith text front → BeginsWith whole front
-BeginsWith-trans whole text front first second =
+front-trans : (whole text front : List ℕ) → Front text whole → Front front text → Front front whole
+front-trans whole text front first second =
     (second.0 ++ first.0, first.1 ∙ ap (λ t. t ++ first.0) second.1 ∙ append_assoc front second.0 first.0)
 
 is_front : (size : ℕ) (items : List Item) (input : List ℕ) (left : Option (List ℕ)) (written : List ℕ) → HoldsFront items input left
-    → BeginsWith (text_of size items) written → IsFront size input left written
+    → Front written (text_of size items) → IsFront size input left written
 unfolding HoldsFront
 is_front size items input None written holds part = tt
 is_front size items input (Some more) written holds part =
-    rw holds.1 (BeginsWith-trans (text_of size (items ++ holds.0)) (text_of size items) written (text_of-append size items holds.0) part)
+    rw holds.1 (front-trans (text_of size (items ++ holds.0)) (text_of size items) written (text_of-append size items holds.0) part)
 
 -- a front of the text was written
 pub replays_front : (size : ℕ) (ended : Result (Unit {0}) ScriptFault) (f : ScriptFault) (items : List Item) (input : List ℕ) (left : Option (List ℕ)) (written : List ℕ)
@@ -73,11 +74,11 @@ replays_front size ended NoMemory items input left written lasts read part = is_
 
 -- a front of the text of items of lines that have ended
 pub is_ended_front : (size : ℕ) (items : List Item) (input written : List ℕ) → AreEnded items input
-    → BeginsWith (text_of size items) written → IsEndedFront size input written
+    → Front written (text_of size items) → IsEndedFront size input written
 is_ended_front size items input written ended part =
-    rw ended.1 (BeginsWith-trans (text_of size (items ++ ended.0)) (text_of size items) written (text_of-append size items ended.0) part)
+    rw ended.1 (front-trans (text_of size (items ++ ended.0)) (text_of size items) written (text_of-append size items ended.0) part)
 
-pub front_of_part : (f : ScriptFault) (text written : List ℕ) → WritesFront (Err f) text written → BeginsWith text written
+pub front_of_part : (f : ScriptFault) (text written : List ℕ) → WritesFront (Err f) text written → Front written text
 front_of_part (BadLine n) text written part = absurd part
 front_of_part (LineTooLong n) text written part = absurd part
 front_of_part TooManyLines text written part = absurd part
@@ -85,7 +86,7 @@ front_of_part ReadFailed text written part = absurd part
 front_of_part WriteFailed text written part = part
 front_of_part NoMemory text written part = part
 
-pub front_of_all : (text written : List ℕ) → written ≡ text → BeginsWith text written
+pub front_of_all : (text written : List ℕ) → written ≡ text → Front written text
 front_of_all text written all = ([], sym all ∙ sym (append-nil written))
 
 nothing_written : (size : ℕ) (input : List ℕ) (left : Option (List ℕ)) → IsFront size input left []

@@ -5,7 +5,7 @@ use Rattle.cq_script.specs.declared.fault.ScriptFault.{ScriptFault}
 use Rattle.cq_script.specs.declared.fault.ScriptFault.TheVariants.{BadLine, LineTooLong, TooManyLines, ReadFailed, WriteFailed, NoMemory}
 use Rattle.cq_script.specs.Lines.{Script, IsOpen, script_of, ended_part}
 use Rattle.cq_script.specs.Output.{text_of}
-use Rattle.cq_script.specs.Runs.{BeginsWith}
+use Rattle.cq_base.specs.Relations.{Front}
 
 -- the script has this fault first, if any, and exactly the text of its items on so many servers was written
 pub record WritesScript (size : ℕ) (script : Script) (fault : Option ScriptFault) (output : List ℕ) : Type 0 where
@@ -18,11 +18,11 @@ Fails size f input left output = IfSome left (λ more. WritesScript size (script
 
 -- the reader held a script of whose text this is a front
 abbrev pub IsFront : ℕ → List ℕ → Option (List ℕ) → List ℕ → Type 0
-IsFront size input left output = IfSome left (λ more. BeginsWith (text_of size (script_of (input ++ more)).items) output)
+IsFront size input left output = IfSome left (λ more. Front output (text_of size (script_of (input ++ more)).items))
 
 -- the output is a front of the text of the lines of the input that have ended
 abbrev pub IsEndedFront : ℕ → List ℕ → List ℕ → Type 0
-IsEndedFront size input output = BeginsWith (text_of size (script_of (ended_part input)).items) output
+IsEndedFront size input output = Front output (text_of size (script_of (ended_part input)).items)
 
 -- On so many servers: `input` was read, `left` is what the reader has left, if that is known, and `output` was
 -- written.

@@ -1,12 +1,9 @@
 -- What a run of items has written.
 use Rattle.std.specs.Prelude.{◌≡◌, ℕ, List, ◌++◌, Option, Result, Ok, Err, Bool, true, false}
 use Rattle.std.specs.Io.KnownBytes.{Appends}
+use Rattle.cq_base.specs.Relations.{Front}
 use Rattle.cq_script.specs.declared.fault.ScriptFault.{ScriptFault}
 use Rattle.cq_script.specs.declared.fault.ScriptFault.TheVariants.{BadLine, LineTooLong, TooManyLines, ReadFailed, WriteFailed, NoMemory}
-
--- the text goes on after these bytes, or ends with them
-abbrev pub BeginsWith : List ℕ → List ℕ → Type 0
-BeginsWith text front = (rest : List ℕ) × (text ≡ front ++ rest)
 
 -- all of the text was written, or a front of it where the writing failed or memory ran out
 abbrev pub WritesFront : Result (Unit {0}) ScriptFault → List ℕ → List ℕ → Type 0
@@ -15,8 +12,8 @@ WritesFront (Err (BadLine n)) text output = ⊥
 WritesFront (Err (LineTooLong n)) text output = ⊥
 WritesFront (Err TooManyLines) text output = ⊥
 WritesFront (Err ReadFailed) text output = ⊥
-WritesFront (Err WriteFailed) text output = BeginsWith text output
-WritesFront (Err NoMemory) text output = BeginsWith text output
+WritesFront (Err WriteFailed) text output = Front output text
+WritesFront (Err NoMemory) text output = Front output text
 
 -- a writer took all of the text, or a front of it
 abbrev pub Takes : Result (Unit {0}) ScriptFault → List ℕ → Option (List ℕ) → Option (List ℕ) → Type 0
