@@ -5,10 +5,11 @@ use Rattle.std.proofs.lemmas.Bool.{and_parts, both_ways, false≢true}
 use Rattle.cq_base.specs.declared.ask.Ask.{Ask}
 use Rattle.cq_base.specs.declared.ask.Ask.TheVariants.{Create, Remove, Send, Receive, Delete, Change}
 use Rattle.cq_base.specs.declared.ask.Entry.{Entry}
+use Rattle.cq_base.specs.declared.limits.TheConstants.{SECOND, FLIGHT_LIMIT}
 use Rattle.cq_base.specs.declared.reply.Reply.TheVariants.{Created, Deleted, Changed, Refused}
 use Rattle.cq_base.specs.declared.reply.Refusal.TheVariants.{QueueNameExists, QueueDeletedRecently, ReceiptHandleIsInvalid, MessageNotInflight, VisibilityBeyondLimit}
 use Rattle.cq_base.specs.Asks.{dedup_of}
-use Rattle.cq_base.specs.Effects.{Effect, only_replies, takes_effect, create_again, send, message_at, is_own, fits, delete_sent, delete, flight_limit, change_sent, change, create, effect_on, effect_off}
+use Rattle.cq_base.specs.Effects.{Effect, only_replies, takes_effect, create_again, send, message_at, is_own, fits, delete_sent, delete, change_sent, change, create, effect_on, effect_off}
 use Rattle.cq_base.specs.Facts.{Fact}
 use Rattle.cq_base.specs.Handle.{Handle}
 use Rattle.cq_base.specs.History.{fact_with}
@@ -75,7 +76,7 @@ deleted_handed receipt (Some x) = chosen_handed (nat_lt x.handings receipt.handi
 changed_handed : (moment visibility : ℕ) (receipt : Handle) (found : Option Message) → (change_sent moment visibility receipt found).handed ≡ []
 changed_handed moment visibility receipt None = refl
 changed_handed moment visibility receipt (Some x) =
-    let beyond = nat_lt (x.handed_at + flight_limit) (moment + 1000 * visibility) in
+    let beyond = nat_lt (x.handed_at + FLIGHT_LIMIT) (moment + SECOND * visibility) in
     let last = cond beyond (only_replies (Refused VisibilityBeyondLimit)) (takes_effect x.sequence Changed) in
     let landed = cond (not (is_in_flight moment x)) (only_replies (Refused MessageNotInflight)) last in
     chosen_handed (not (fits receipt x)) (only_replies (Refused ReceiptHandleIsInvalid)) landed refl

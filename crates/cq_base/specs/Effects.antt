@@ -3,6 +3,7 @@ use Rattle.std.specs.Prelude.{ℕ, ◌+◌, ◌*◌, ◌==◌, ◌&&◌, List, [
 use Rattle.std.specs.List.{filter, find}
 use Rattle.cq_base.specs.declared.ask.Ask.{Ask}
 use Rattle.cq_base.specs.declared.ask.Ask.TheVariants.{Create, Remove, Send, Receive, Delete, Change}
+use Rattle.cq_base.specs.declared.limits.TheConstants.{SECOND, FLIGHT_LIMIT}
 use Rattle.cq_base.specs.declared.reply.Refusal.TheVariants.{QueueDoesNotExist, QueueNameExists, QueueDeletedRecently, ReceiptHandleIsInvalid, MessageNotInflight, VisibilityBeyondLimit}
 use Rattle.cq_base.specs.declared.reply.Reply.{Reply}
 use Rattle.cq_base.specs.declared.reply.Reply.TheVariants.{Created, Removed, Sent, Received, Deleted, Changed, Counts, Refused}
@@ -78,16 +79,12 @@ delete_sent receipt (Some x) = delete_standing receipt x
 abbrev pub delete : ℕ → List Fact → List Message → Handle → Effect
 delete incarnation facts messages receipt = if is_own incarnation facts receipt then delete_sent receipt (message_at receipt.sequence messages) else only_replies (Refused ReceiptHandleIsInvalid)
 
--- the twelve hours, from its last handing on, for which a message can be kept in flight, in milliseconds
-abbrev pub flight_limit : ℕ
-flight_limit = 43200000
-
 -- A change of the timeout of a message that isn't deleted, to so many seconds from this moment. It takes
 -- effect only with the receipt of its last handing, while the message is in flight, and not beyond the
 -- limit (SQS API Reference, "ChangeMessageVisibility", `MessageNotInflight`, `ReceiptHandleIsInvalid`;
 -- which refusal answers which case, and the limit's, are choices of this project).
 abbrev pub change_standing : ℕ → ℕ → Handle → Message → Effect
-change_standing moment visibility receipt x = if not (fits receipt x) then only_replies (Refused ReceiptHandleIsInvalid) else if not (is_in_flight moment x) then only_replies (Refused MessageNotInflight) else if nat_lt (x.handed_at + flight_limit) (moment + 1000 * visibility) then only_replies (Refused VisibilityBeyondLimit) else takes_effect x.sequence Changed
+change_standing moment visibility receipt x = if not (fits receipt x) then only_replies (Refused ReceiptHandleIsInvalid) else if not (is_in_flight moment x) then only_replies (Refused MessageNotInflight) else if nat_lt (x.handed_at + FLIGHT_LIMIT) (moment + SECOND * visibility) then only_replies (Refused VisibilityBeyondLimit) else takes_effect x.sequence Changed
 
 -- a change with a receipt of a message that was sent: one that is deleted isn't in flight
 abbrev pub change_sent : ℕ → ℕ → Handle → Option Message → Effect

@@ -2,12 +2,13 @@
 use Rattle.std.specs.Prelude.{◌≡◌, ℕ, ◌+◌, ◌≤◌, ◌&&◌, ◌||◌, List, [], ◌∷◌, ◌++◌, length, Bool, nat_lt, Option, None, option_map}
 use Rattle.std.specs.List.{filter, find, fold, last_or}
 use Rattle.std.specs.Str.{bytes_eq}
+use Rattle.cq_base.specs.declared.limits.TheConstants.{DEDUPLICATION_WINDOW}
 use Rattle.cq_base.specs.declared.ask.Entry.{Entry}
 use Rattle.cq_base.specs.Asks.{is_send, is_receive, is_change}
 use Rattle.cq_base.specs.Effects.{effect_on}
 use Rattle.cq_base.specs.Facts.{Fact}
 use Rattle.cq_base.specs.History.{fact_with}
-use Rattle.cq_base.specs.Messages.{Message, messages, duplicate, standing, moment_of, window}
+use Rattle.cq_base.specs.Messages.{Message, messages, duplicate, standing, moment_of}
 
 -- what an entry does that comes to an incarnation, by what those before it did
 abbrev pub coming : ℕ → ℕ → List Fact → Entry → Fact
@@ -27,7 +28,7 @@ pub record Accepted : Type 0 where
 
 -- it has that deduplication id, and at that moment its five minutes aren't over
 abbrev pub counts_for : List ℕ → ℕ → Accepted → Bool
-counts_for id moment a = bytes_eq a.dedup id && nat_lt moment (a.moment + window)
+counts_for id moment a = bytes_eq a.dedup id && nat_lt moment (a.moment + DEDUPLICATION_WINDOW)
 
 -- the sequence number with which a send of that deduplication id is answered at that moment, if it
 -- repeats one of these

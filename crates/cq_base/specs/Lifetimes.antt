@@ -1,6 +1,7 @@
 -- When a queue lives. All facts here are those about one queue.
 use Rattle.std.specs.Prelude.{ℕ, ◌+◌, ◌&&◌, ◌||◌, List, length, Bool, nat_lt, if◌then◌else◌, Option, None, Some}
 use Rattle.std.specs.List.{filter, last_or, list_any}
+use Rattle.cq_base.specs.declared.limits.TheConstants.{REMOVAL_DELAY}
 use Rattle.cq_base.specs.Asks.{is_create, is_remove}
 use Rattle.cq_base.specs.Facts.{Fact}
 
@@ -36,13 +37,9 @@ abbrev pub incarnation_of : Option Fact → ℕ
 incarnation_of None = 0
 incarnation_of (Some creation) = creation.count
 
--- the minute after a removal in which the name can't be used again, in milliseconds
-abbrev pub removal_delay : ℕ
-removal_delay = 60000
-
 -- the entry removed the queue, and at that moment its minute isn't over
 abbrev pub is_recent_removal : ℕ → Fact → Bool
-is_recent_removal moment f = is_removal f && nat_lt moment (f.entry.moment + removal_delay)
+is_recent_removal moment f = is_removal f && nat_lt moment (f.entry.moment + REMOVAL_DELAY)
 
 -- The queue was removed less than a minute before that moment (SQS API Reference, "DeleteQueue", on a
 -- queue of the same name, and "CreateQueue", `QueueDeletedRecently`).

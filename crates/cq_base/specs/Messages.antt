@@ -2,6 +2,7 @@
 use Rattle.std.specs.Prelude.{ℕ, ◌+◌, ◌*◌, ◌==◌, ◌&&◌, ◌||◌, List, length, map, Bool, not, nat_lt, Option, None, Some}
 use Rattle.std.specs.List.{filter, find, list_any, last_or}
 use Rattle.std.specs.Str.{bytes_eq}
+use Rattle.cq_base.specs.declared.limits.TheConstants.{SECOND, DEDUPLICATION_WINDOW}
 use Rattle.cq_base.specs.Asks.{is_send, is_delete, is_change, dedup_of, group_of, body_of, timeout_of}
 use Rattle.cq_base.specs.Facts.{Fact}
 
@@ -14,13 +15,9 @@ is_accepted f = f.effective && is_send f.entry.request.ask
 unfoldable pub messages : List Fact → List Fact
 messages facts = filter is_accepted facts
 
--- the five minutes in which a deduplication id counts, in milliseconds
-abbrev pub window : ℕ
-window = 300000
-
 -- the send has that deduplication id, and at that moment its five minutes aren't over
 abbrev pub is_duplicated_by : List ℕ → ℕ → Fact → Bool
-is_duplicated_by id moment f = bytes_eq (dedup_of f.entry.request.ask) id && nat_lt moment (f.entry.moment + window)
+is_duplicated_by id moment f = bytes_eq (dedup_of f.entry.request.ask) id && nat_lt moment (f.entry.moment + DEDUPLICATION_WINDOW)
 
 -- The accepted send of the same deduplication id less than five minutes before, whatever its group and
 -- its body, and whether or not its message is deleted (SQS API Reference, "SendMessage",
@@ -63,7 +60,7 @@ touches sequence facts = filter (touches_it sequence) facts
 
 -- the moment at which the timeout that an entry gave a message ends
 abbrev pub end_of : ℕ → Fact → ℕ
-end_of default f = f.entry.moment + 1000 * timeout_of default f.entry.request.ask
+end_of default f = f.entry.moment + SECOND * timeout_of default f.entry.request.ask
 
 -- the same of the last of the entries that gave it one; 0 if there is none
 abbrev pub last_end : ℕ → Option Fact → ℕ

@@ -2,6 +2,7 @@
 use Rattle.std.specs.Prelude.{ℕ, ◌-◌, ◌&&◌, ◌||◌, ◌==◌, Bool, List, length, take, codes, nat_le, nat_lt, nat_eq}
 use Rattle.std.specs.List.{list_all, ends_with}
 use Rattle.std.specs.Str.{chars}
+use Rattle.cq_base.specs.declared.limits.TheConstants.{NAME_LIMIT, ID_LIMIT, FIRST_ID_BYTE, LAST_ID_BYTE, BODY_LIMIT}
 
 -- n is from low to high
 abbrev pub is_within : ℕ → ℕ → ℕ → Bool
@@ -15,19 +16,23 @@ is_name_byte b = is_within 97 122 b || is_within 65 90 b || is_within 48 57 b ||
 -- hyphens and underscores (SQS API Reference, "CreateQueue", `QueueName`; that something stands
 -- before the suffix is a choice of this project).
 abbrev pub is_queue_name : List ℕ → Bool
-is_queue_name bytes = nat_le (length bytes) 80 && nat_lt 5 (length bytes) && ends_with nat_eq bytes (codes ".fifo") && list_all is_name_byte (take (length bytes - 5) bytes)
+is_queue_name bytes = nat_le (length bytes) NAME_LIMIT && nat_lt 5 (length bytes) && ends_with nat_eq bytes (codes ".fifo") && list_all is_name_byte (take (length bytes - 5) bytes)
+
+-- a letter, a digit or a punctuation mark of ASCII, without the space
+abbrev pub is_id_byte : ℕ → Bool
+is_id_byte b = is_within FIRST_ID_BYTE LAST_ID_BYTE b
 
 -- A message group id or a message deduplication id: 1 to 128 letters, digits and punctuation marks of
 -- ASCII, without the space (SQS API Reference, "SendMessage", `MessageGroupId` and
 -- `MessageDeduplicationId`).
 abbrev pub is_id : List ℕ → Bool
-is_id bytes = nat_le 1 (length bytes) && nat_le (length bytes) 128 && list_all (is_within 33 126) bytes
+is_id bytes = nat_le 1 (length bytes) && nat_le (length bytes) ID_LIMIT && list_all is_id_byte bytes
 
 -- A character that a message may have: tab, line feed, carriage return, and the Unicode characters
 -- U+0020 to U+D7FF, U+E000 to U+FFFD and U+10000 to U+10FFFF (SQS API Reference, "SendMessage",
 -- `MessageBody`).
 abbrev pub is_body_character : ℕ → Bool
-is_body_character c = c == 9 || c == 10 || c == 13 || is_within 32 55295 c || is_within 57344 65533 c || is_within 65536 1114111 c
+is_body_character c = c == 9 || c == 10 || c == 13 || is_within 0x20 0xD7FF c || is_within 0xE000 0xFFFD c || is_within 0x1_0000 0x10_FFFF c
 
 -- each character of the text is one that a message may have
 abbrev pub has_body_characters : List ℕ → Bool
@@ -35,7 +40,7 @@ has_body_characters bytes = list_all is_body_character (chars bytes)
 
 -- from 1 to 262,144 bytes (256 KiB; the limit is a choice of this project)
 abbrev pub has_body_length : List ℕ → Bool
-has_body_length bytes = is_within 1 262144 (length bytes)
+has_body_length bytes = is_within 1 BODY_LIMIT (length bytes)
 
 -- a message body
 abbrev pub is_body : List ℕ → Bool

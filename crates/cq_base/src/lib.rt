@@ -4,6 +4,7 @@
 
 mod ask;
 mod fault;
+mod limits;
 mod number;
 mod party;
 mod receipt;
@@ -14,10 +15,12 @@ mod text;
 
 pub use ask::{Ask, Entry, Query, Request};
 pub use fault::{BaseFault, NoMemory};
-pub use number::{
-    BATCH_LIMIT, BatchSize, CHAIN_LIMIT, ChainSize, MOMENT_LIMIT, Moment, SECONDS_LIMIT, Seconds,
-    ServerId,
+pub use limits::{
+    BATCH_LIMIT, BODY_LIMIT, CHAIN_LIMIT, DEDUPLICATION_WINDOW, FIRST_ID_BYTE, FLIGHT_LIMIT,
+    HISTORY_LIMIT, ID_LIMIT, LAST_ID_BYTE, MOMENT_LIMIT, NAME_LIMIT, NUMBER_LIMIT, PARTY_LIMIT,
+    REMOVAL_DELAY, REQUESTS_LIMIT, SECOND, SECONDS_LIMIT, SLICE_LIMIT,
 };
+pub use number::{BatchSize, ChainSize, Moment, Seconds, ServerId};
 pub use party::Party;
 pub use receipt::Receipt;
 pub use reply::{Deliveries, Delivery, Refusal, Reply};

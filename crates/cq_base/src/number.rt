@@ -1,18 +1,9 @@
-ghost use Rattle.std.specs.Prelude.{◌≡◌, ℕ, ◌^◌, ◌<◌, ◌≤◌, ◌↔◌, IsSome, IfSome};
+//! Moments, timeouts, sizes and the numbers of servers, each within its limits.
+ghost use Rattle.std.specs.Prelude.{◌≡◌, ℕ, ◌<◌, ◌≤◌, ◌↔◌, IsSome, IfSome};
+ghost use Rattle.cq_base.specs.declared.limits.TheConstants.{MOMENT_LIMIT, SECONDS_LIMIT, BATCH_LIMIT, CHAIN_LIMIT, PARTY_LIMIT};
 
+use crate::limits::{BATCH_LIMIT, CHAIN_LIMIT, MOMENT_LIMIT, SECONDS_LIMIT};
 use std::marker::Model;
-
-/// The largest moment, in milliseconds.
-pub const MOMENT_LIMIT: u64 = 1_152_921_504_606_846_976;
-
-/// The longest visibility timeout, in seconds: twelve hours.
-pub const SECONDS_LIMIT: u32 = 43_200;
-
-/// The most messages that one receive may ask for.
-pub const BATCH_LIMIT: u8 = 10;
-
-/// The most servers that a chain may have.
-pub const CHAIN_LIMIT: u8 = 8;
 
 /// A moment in milliseconds, at most 2^60.
 #[derive(Clone, Copy, Debug, PartialEq, Eq, PartialOrd, Ord)]
@@ -25,7 +16,7 @@ impl Model for Moment {
 
     ghost view = { λ m. m.milliseconds };
 
-    ghost invariant = { λ m. m.milliseconds ≤ 2 ^ 60 };
+    ghost invariant = { λ m. m.milliseconds ≤ MOMENT_LIMIT };
 
     ghost inverse = { λ n. record { milliseconds = n } };
 }
@@ -33,7 +24,7 @@ impl Model for Moment {
 impl Moment {
     /// The moment so many milliseconds after the first; none above 2^60.
     pub fn new(milliseconds: u64) -> Option<Moment>
-        ensures valid { IsSome result ↔ (milliseconds ≤ 2 ^ 60) }
+        ensures valid { IsSome result ↔ (milliseconds ≤ MOMENT_LIMIT) }
         ensures value { IfSome result (λ moment. moment ≡ milliseconds) }
     {
         if milliseconds <= MOMENT_LIMIT {
@@ -53,7 +44,7 @@ impl Moment {
     /// In milliseconds.
     pub fn get(self) -> u64
         ensures value { result ≡ self }
-        ensures limit { result ≤ 2 ^ 60 }
+        ensures limit { result ≤ MOMENT_LIMIT }
     {
         self.milliseconds
     }
@@ -71,7 +62,7 @@ impl Model for Seconds {
 
     ghost view = { λ s. s.seconds };
 
-    ghost invariant = { λ s. s.seconds ≤ 43200 };
+    ghost invariant = { λ s. s.seconds ≤ SECONDS_LIMIT };
 
     ghost inverse = { λ n. record { seconds = n } };
 }
@@ -79,7 +70,7 @@ impl Model for Seconds {
 impl Seconds {
     /// So many seconds; none above 43,200.
     pub fn new(seconds: u32) -> Option<Seconds>
-        ensures valid { IsSome result ↔ (seconds ≤ 43200) }
+        ensures valid { IsSome result ↔ (seconds ≤ SECONDS_LIMIT) }
         ensures value { IfSome result (λ timeout. timeout ≡ seconds) }
     {
         if seconds <= SECONDS_LIMIT {
@@ -99,7 +90,7 @@ impl Seconds {
     /// In seconds.
     pub fn get(self) -> u32
         ensures value { result ≡ self }
-        ensures limit { result ≤ 43200 }
+        ensures limit { result ≤ SECONDS_LIMIT }
     {
         self.seconds
     }
@@ -117,7 +108,7 @@ impl Model for BatchSize {
 
     ghost view = { λ s. s.messages };
 
-    ghost invariant = { λ s. (1 ≤ s.messages) × (s.messages ≤ 10) };
+    ghost invariant = { λ s. (1 ≤ s.messages) × (s.messages ≤ BATCH_LIMIT) };
 
     ghost inverse = { λ n. record { messages = n } };
 }
@@ -125,7 +116,7 @@ impl Model for BatchSize {
 impl BatchSize {
     /// So many messages; none for 0 and above 10.
     pub fn new(messages: u8) -> Option<BatchSize>
-        ensures valid { IsSome result ↔ ((1 ≤ messages) × (messages ≤ 10)) }
+        ensures valid { IsSome result ↔ ((1 ≤ messages) × (messages ≤ BATCH_LIMIT)) }
         ensures value { IfSome result (λ size. size ≡ messages) }
     {
         if 1 <= messages && messages <= BATCH_LIMIT {
@@ -138,7 +129,7 @@ impl BatchSize {
     pub fn get(self) -> u8
         ensures value { result ≡ self }
         ensures positive { 1 ≤ result }
-        ensures limit { result ≤ 10 }
+        ensures limit { result ≤ BATCH_LIMIT }
     {
         self.messages
     }
@@ -155,7 +146,7 @@ impl Model for ChainSize {
 
     ghost view = { λ s. s.servers };
 
-    ghost invariant = { λ s. (1 ≤ s.servers) × (s.servers ≤ 8) };
+    ghost invariant = { λ s. (1 ≤ s.servers) × (s.servers ≤ CHAIN_LIMIT) };
 
     ghost inverse = { λ n. record { servers = n } };
 }
@@ -163,7 +154,7 @@ impl Model for ChainSize {
 impl ChainSize {
     /// So many servers; none for 0 and above 8.
     pub fn new(servers: u8) -> Option<ChainSize>
-        ensures valid { IsSome result ↔ ((1 ≤ servers) × (servers ≤ 8)) }
+        ensures valid { IsSome result ↔ ((1 ≤ servers) × (servers ≤ CHAIN_LIMIT)) }
         ensures value { IfSome result (λ size. size ≡ servers) }
     {
         if 1 <= servers && servers <= CHAIN_LIMIT {
@@ -183,7 +174,7 @@ impl ChainSize {
     pub fn get(self) -> u8
         ensures value { result ≡ self }
         ensures positive { 1 ≤ result }
-        ensures limit { result ≤ 8 }
+        ensures limit { result ≤ CHAIN_LIMIT }
     {
         self.servers
     }
@@ -200,7 +191,7 @@ impl Model for ServerId {
 
     ghost view = { λ id. id.number };
 
-    ghost invariant = { λ id. (1 ≤ id.number) × (id.number < 2 ^ 32) };
+    ghost invariant = { λ id. (1 ≤ id.number) × (id.number ≤ PARTY_LIMIT) };
 
     ghost inverse = { λ n. record { number = n } };
 }

@@ -5,23 +5,15 @@ ghost use Rattle.std.specs.Str.{bytes_eq};
 ghost use Rattle.std.specs.Hash as fed;
 ghost use Rattle.std.specs.Cmp.Rules.{comparing, hashing};
 ghost use Rattle.std.proofs.Common.{rules};
-ghost use Rattle.cq_base.specs.Texts.{is_within, is_name_byte, is_queue_name, is_id, is_body_character, has_body_characters, has_body_length, is_body};
+ghost use Rattle.cq_base.specs.Texts.{is_name_byte, is_queue_name, is_id_byte, is_id, is_body_character, has_body_characters, has_body_length, is_body};
 
 use crate::fault::{BaseFault, NoMemory};
+use crate::limits::{BODY_LIMIT, FIRST_ID_BYTE, ID_LIMIT, LAST_ID_BYTE, NAME_LIMIT};
 use std::alloc::Global;
 use std::fmt;
 use std::hash::{Hash, Hasher};
 use std::marker::Model;
 use std::sync::ArcStr;
-
-/// The most bytes of a queue name, its suffix among them.
-const NAME_LIMIT: usize = 80;
-
-/// The most bytes of a message group id or a message deduplication id.
-const ID_LIMIT: usize = 128;
-
-/// The most bytes of a message body.
-const BODY_LIMIT: usize = 262_144;
 
 fn is_name_byte(byte: u8) -> bool
     ensures { result ≡ is_name_byte byte }
@@ -43,9 +35,11 @@ fn is_queue_name(bytes: &[u8]) -> bool
 }
 
 fn are_id_bytes(bytes: &[u8]) -> bool
-    ensures { result ≡ list_all (is_within 33 126) bytes.now }
+    ensures { result ≡ list_all is_id_byte bytes.now }
 {
-    bytes.iter().all(|byte| 33 <= *byte && *byte <= 126)
+    bytes
+        .iter()
+        .all(|byte| FIRST_ID_BYTE <= *byte && *byte <= LAST_ID_BYTE)
 }
 
 fn is_id(bytes: &[u8]) -> bool

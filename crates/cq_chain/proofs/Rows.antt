@@ -1,6 +1,7 @@
 -- Worked steps of servers, of the master and of a client, each computed by the definitions to what the rules of the
 -- chain give. The results were worked out by hand.
 use Rattle.std.proofs.Common.{◌≡◌, ℕ, [], ◌∷◌, map, None, Some, true, false, codes, refl}
+use Rattle.cq_base.specs.declared.limits.TheConstants.{HISTORY_LIMIT}
 use Rattle.cq_base.specs.declared.ask.Ask.{Ask}
 use Rattle.cq_base.specs.declared.ask.Ask.TheVariants.{Remove}
 use Rattle.cq_base.specs.declared.ask.Entry.{Entry}
@@ -21,7 +22,7 @@ use Rattle.cq_chain.specs.declared.fault.ClientFault.TheVariants as client
 use Rattle.cq_chain.specs.Faults.{code_of, client_code_of, client_name_of}
 use Rattle.cq_chain.specs.Masters.{Master, numbers_from, first_master, no_order, detected, refusal_of_detection, joined, refusal_of_join, hears, hears_from}
 use Rattle.cq_chain.specs.Messages.{Message, Fwd, Snap, Ack, BeHead, Report, Adopt, BeTail, Have, Adopted, Ready, Answers}
-use Rattle.cq_chain.specs.Refusals.{history_limit, refusal_of_arrival, refusal_of_query}
+use Rattle.cq_chain.specs.Refusals.{refusal_of_arrival, refusal_of_query}
 use Rattle.cq_chain.specs.Servers.{Server, first_member, joining}
 use Rattle.cq_chain.specs.Steps.{Step, silent, answer_to, arrived, asked as queried, crashed, forwards, takes}
 
@@ -98,7 +99,7 @@ arrival_allowed : refusal_of_arrival head ≡ None
 unfolding refusal_of_arrival
 arrival_allowed = refl
 
-most_entries : history_limit ≡ 4611686018427387904
+most_entries : HISTORY_LIMIT ≡ 4611686018427387904
 most_entries = refl
 
 abbrev query : Query

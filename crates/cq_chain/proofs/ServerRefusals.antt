@@ -1,9 +1,10 @@
 -- When a server refuses what comes to it, and when a message is no news.
-use Rattle.std.proofs.Common.{◌≡◌, ℕ, ◌^◌, ◌≤◌, ◌<◌, ◌∙◌, ap, sym, List, length, Option, Some, None, true, false, nat_lt, nat_le, subst, refl, min, ◌&&◌, ◌==◌, ◌+◌, Result, Ok, Err}
+use Rattle.std.proofs.Common.{◌≡◌, ℕ, ◌≤◌, ◌<◌, ◌∙◌, ap, sym, List, length, Option, Some, None, true, false, nat_lt, nat_le, subst, refl, min, ◌&&◌, ◌==◌, ◌+◌, Result, Ok, Err}
 use Rattle.std.specs.Result.{IsErrAnd}
 use Rattle.std.proofs.lemmas.Bool.{leb-true, leb-false, lt-ltb, le-ltb}
 use Rattle.cq_base.specs.declared.ask.Entry.{Entry}
 use Rattle.cq_base.specs.History.{last_moment}
+use Rattle.cq_base.specs.declared.limits.TheConstants.{HISTORY_LIMIT}
 use Rattle.cq_base.specs.declared.party.Party.TheVariants as parties
 use Rattle.cq_chain.specs.declared.fault.WorldFault.{WorldFault}
 use Rattle.cq_chain.specs.declared.fault.WorldFault.TheVariants.{NotHead, HistoryFull, NotTail, NoMemory}
@@ -20,11 +21,11 @@ pub no_memory : (result : Result (Unit {0}) WorldFault) (refusal : Option WorldF
 no_memory (Ok x) refusal h none = none
 no_memory (Err fault) refusal h none = subst (λ f. IsRefusedBy refusal (Err f)) (sym h) none
 
-full-at_limit : (kept entries : List Entry) → kept ≡ entries → nat_le (2 ^ 62) (length kept) ≡ true → unless_full entries ≡ Some HistoryFull
-full-at_limit kept entries same h = let e : nat_lt (length entries) (2 ^ 62) ≡ false = le-ltb (length entries) (2 ^ 62) (subst (λ es. 2 ^ 62 ≤ length es) same (leb-true (2 ^ 62) (length kept) h)) in rw e
+full-at_limit : (kept entries : List Entry) → kept ≡ entries → nat_le HISTORY_LIMIT (length kept) ≡ true → unless_full entries ≡ Some HistoryFull
+full-at_limit kept entries same h = let e : nat_lt (length entries) HISTORY_LIMIT ≡ false = le-ltb (length entries) HISTORY_LIMIT (subst (λ es. HISTORY_LIMIT ≤ length es) same (leb-true HISTORY_LIMIT (length kept) h)) in rw e
 
-room-below_limit : (kept entries : List Entry) → kept ≡ entries → nat_le (2 ^ 62) (length kept) ≡ false → unless_full entries ≡ None
-room-below_limit kept entries same h = let e : nat_lt (length entries) (2 ^ 62) ≡ true = lt-ltb (length entries) (2 ^ 62) (subst (λ es. length es < 2 ^ 62) same (leb-false (2 ^ 62) (length kept) h)) in rw e
+room-below_limit : (kept entries : List Entry) → kept ≡ entries → nat_le HISTORY_LIMIT (length kept) ≡ false → unless_full entries ≡ None
+room-below_limit kept entries same h = let e : nat_lt (length entries) HISTORY_LIMIT ≡ true = lt-ltb (length entries) HISTORY_LIMIT (subst (λ es. length es < HISTORY_LIMIT) same (leb-false HISTORY_LIMIT (length kept) h)) in rw e
 
 -- ---- arrivals
 
@@ -32,11 +33,11 @@ pub refused-elsewhere : (s : Server) → s.head ≡ false → refusal_of_arrival
 unfolding refusal_of_arrival
 refused-elsewhere s h = rw h
 
-pub refused-full : (s : Server) (kept : List Entry) → s.head ≡ true → kept ≡ s.entries → nat_le (2 ^ 62) (length kept) ≡ true → refusal_of_arrival s ≡ Some HistoryFull
+pub refused-full : (s : Server) (kept : List Entry) → s.head ≡ true → kept ≡ s.entries → nat_le HISTORY_LIMIT (length kept) ≡ true → refusal_of_arrival s ≡ Some HistoryFull
 unfolding refusal_of_arrival
 refused-full s kept h same full = rw h (full-at_limit kept s.entries same full)
 
-pub not-refused : (s : Server) (kept : List Entry) → s.head ≡ true → kept ≡ s.entries → nat_le (2 ^ 62) (length kept) ≡ false → refusal_of_arrival s ≡ None
+pub not-refused : (s : Server) (kept : List Entry) → s.head ≡ true → kept ≡ s.entries → nat_le HISTORY_LIMIT (length kept) ≡ false → refusal_of_arrival s ≡ None
 unfolding refusal_of_arrival
 not-refused s kept h same room = rw h (room-below_limit kept s.entries same room)
 
@@ -52,11 +53,11 @@ query-not-refused s h = rw h
 
 -- ---- messages
 
-pub refused-next : (s : Server) (kept : List Entry) (from place : ℕ) (e : Entry) → is_next s from place e ≡ true → kept ≡ s.entries → nat_le (2 ^ 62) (length kept) ≡ true → refusal_of_taking (parties.Server from) (Fwd place e) s ≡ Some HistoryFull
+pub refused-next : (s : Server) (kept : List Entry) (from place : ℕ) (e : Entry) → is_next s from place e ≡ true → kept ≡ s.entries → nat_le HISTORY_LIMIT (length kept) ≡ true → refusal_of_taking (parties.Server from) (Fwd place e) s ≡ Some HistoryFull
 unfolding refusal_of_taking
 refused-next s kept from place e h same full = rw h (full-at_limit kept s.entries same full)
 
-pub next-not-refused : (s : Server) (kept : List Entry) (from place : ℕ) (e : Entry) → is_next s from place e ≡ true → kept ≡ s.entries → nat_le (2 ^ 62) (length kept) ≡ false → refusal_of_taking (parties.Server from) (Fwd place e) s ≡ None
+pub next-not-refused : (s : Server) (kept : List Entry) (from place : ℕ) (e : Entry) → is_next s from place e ≡ true → kept ≡ s.entries → nat_le HISTORY_LIMIT (length kept) ≡ false → refusal_of_taking (parties.Server from) (Fwd place e) s ≡ None
 unfolding refusal_of_taking
 next-not-refused s kept from place e h same room = rw h (room-below_limit kept s.entries same room)
 

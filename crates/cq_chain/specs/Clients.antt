@@ -1,7 +1,8 @@
 -- The clients of the queues. A client asks one thing at a time, each under a number of its own, and may ask the same
 -- once more under the same number (a choice of this project: SQS has no such numbers).
-use Rattle.std.specs.Prelude.{◌≡◌, ℕ, ◌^◌, ◌+◌, ◌==◌, ◌&&◌, Bool, is_some, nat_lt, if◌then◌else◌, Option, None, Some}
+use Rattle.std.specs.Prelude.{◌≡◌, ℕ, ◌+◌, ◌==◌, ◌&&◌, Bool, is_some, nat_lt, if◌then◌else◌, Option, None, Some}
 use Rattle.std.specs.Option.{option_map}
+use Rattle.cq_base.specs.declared.limits.TheConstants.{REQUESTS_LIMIT}
 use Rattle.cq_base.specs.declared.ask.Ask.{Ask}
 use Rattle.cq_base.specs.declared.ask.Request.{Request}
 use Rattle.cq_chain.specs.declared.client.Client as rust
@@ -23,13 +24,9 @@ pub record Client : Type 0 where
 abbrev pub first_client : ℕ → Client
 first_client id = record { id = id; used = 0; pending = None; length = 0 }
 
--- the largest number of a request (a choice of this project)
-abbrev pub numbers_limit : ℕ
-numbers_limit = 2 ^ 62
-
 -- Why an ask is refused, if it is: a client waits for the answer to one request before it makes the next.
 abbrev pub refusal_of_ask : Client → Option ClientFault
-refusal_of_ask c = if is_some c.pending then Some Busy else if nat_lt c.used numbers_limit then None else Some NumbersSpent
+refusal_of_ask c = if is_some c.pending then Some Busy else if nat_lt c.used REQUESTS_LIMIT then None else Some NumbersSpent
 
 -- what a client asks, under that number
 abbrev pub request_of : Client → ℕ → Ask → Request

@@ -1,6 +1,7 @@
 -- When a server refuses what comes to it.
-use Rattle.std.specs.Prelude.{◌^◌, ℕ, List, length, Bool, false, nat_lt, if◌then◌else◌, Option, None, Some}
+use Rattle.std.specs.Prelude.{ℕ, List, length, Bool, false, nat_lt, if◌then◌else◌, Option, None, Some}
 use Rattle.cq_base.specs.declared.ask.Entry.{Entry}
+use Rattle.cq_base.specs.declared.limits.TheConstants.{HISTORY_LIMIT}
 use Rattle.cq_base.specs.declared.party.Party.{Party}
 use Rattle.cq_base.specs.declared.party.Party.TheVariants as parties
 use Rattle.cq_chain.specs.declared.fault.WorldFault.{WorldFault}
@@ -9,13 +10,9 @@ use Rattle.cq_chain.specs.Messages.{Message, Fwd}
 use Rattle.cq_chain.specs.Servers.{Server, acts}
 use Rattle.cq_chain.specs.Steps.{is_next}
 
--- the most entries of a history
-abbrev pub history_limit : ℕ
-history_limit = 2 ^ 62
-
 -- refused where no entry may be added any more
 abbrev pub unless_full : List Entry → Option WorldFault
-unless_full entries = if nat_lt (length entries) history_limit then None else Some HistoryFull
+unless_full entries = if nat_lt (length entries) HISTORY_LIMIT then None else Some HistoryFull
 
 -- why an arrival is refused, if it is
 unfoldable pub refusal_of_arrival : Server → Option WorldFault

@@ -4,10 +4,7 @@ ghost use Rattle.cq_chain.specs.Clients.{StandsFor, first_client, refusal_of_ask
 ghost use Rattle.cq_chain.specs.Faults.{IsClientRefusal};
 
 use crate::fault::ClientFault;
-use cq_base::{Ask, NoMemory, Reply, Request};
-
-/// The largest number that a client gives to a request.
-const NUMBERS_LIMIT: u64 = 4_611_686_018_427_387_904;
+use cq_base::{Ask, NoMemory, REQUESTS_LIMIT, Reply, Request};
 
 /// A client of the queues. It asks one thing at a time, each under a number of its own, and once more under the
 /// same number where it waits too long, until an answer closes the request. Numbers are a choice of this project:
@@ -60,7 +57,7 @@ impl Client {
         if self.pending.is_some() {
             return Err(ClientFault::Busy);
         }
-        if NUMBERS_LIMIT <= self.used {
+        if REQUESTS_LIMIT <= self.used {
             return Err(ClientFault::NumbersSpent);
         }
         let number = self.used + 1;

@@ -1,4 +1,5 @@
-ghost use Rattle.std.specs.Prelude.{◌≡◌, ◌<◌, ◌≤◌, ◌^◌, ◌++◌, ◌∷◌, [], length, IfOk, OnErr};
+ghost use Rattle.std.specs.Prelude.{◌≡◌, ◌<◌, ◌≤◌, ◌++◌, ◌∷◌, [], length, IfOk, OnErr};
+ghost use Rattle.cq_base.specs.declared.limits.TheConstants.{HISTORY_LIMIT};
 ghost use Rattle.cq_base.specs.History.{last_moment, reply_to, counts_after};
 
 use cq_base::{Entry, Moment, NoMemory, Query, Reply};
@@ -73,7 +74,7 @@ impl History {
     /// Takes the next entry, and answers it. After `NoMemory` nothing has changed. It takes what the store
     /// takes.
     pub fn append(&mut self, entry: Entry) -> Result<Reply, NoMemory>
-        requires room { length self.old < 2 ^ 62 }
+        requires room { length self.old < HISTORY_LIMIT }
         requires stamped { last_moment self.old ≤ entry.moment }
         ensures reply { IfOk result (λ reply. reply ≡ reply_to self.old entry) }
         ensures entries { IfOk result (λ _. self.new ≡ self.old ++ entry ∷ []) }

@@ -1,4 +1,5 @@
-ghost use Rattle.std.specs.Prelude.{◌≡◌, ◌≤◌, ◌+◌, ◌-◌, ◌==◌, ◌^◌, nat_le, ℕ, List, [], length, if◌then◌else◌, None, Some, IfOk};
+ghost use Rattle.std.specs.Prelude.{◌≡◌, ◌≤◌, ◌+◌, ◌-◌, ◌==◌, nat_le, ℕ, List, [], length, if◌then◌else◌, None, Some, IfOk};
+ghost use Rattle.cq_base.specs.declared.limits.TheConstants.{HISTORY_LIMIT};
 ghost use Rattle.cq_base.specs.declared.party.Party as rust_party;
 ghost use Rattle.cq_chain.specs.Messages as sent;
 ghost use Rattle.cq_chain.specs.Servers as states;
@@ -16,11 +17,8 @@ mod take;
 use crate::history::History;
 use crate::message::Message;
 use crate::outboxes::Outboxes;
-use cq_base::{ChainSize, NoMemory, Party, ServerId};
+use cq_base::{ChainSize, HISTORY_LIMIT, NoMemory, Party, ServerId};
 use std::alloc::Global;
-
-/// The most entries that a server takes.
-const HISTORY_LIMIT: u64 = 4_611_686_018_427_387_904;
 
 /// A server of the chain, with its outboxes (van Renesse and Schneider, "Chain Replication for Supporting High
 /// Throughput and Availability", OSDI 2004, section 3). It keeps its whole history, and a message waits in an
@@ -197,7 +195,7 @@ impl Server {
 
     /// It may take no more entry.
     fn is_at_limit(&self) -> bool
-        ensures { result ≡ nat_le (2 ^ 62) (length self.now.history) }
+        ensures { result ≡ nat_le HISTORY_LIMIT (length self.now.history) }
     {
         HISTORY_LIMIT <= self.history.count()
     }

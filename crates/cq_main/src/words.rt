@@ -3,6 +3,7 @@ ghost use Rattle.std.specs.Prelude.{◌≡◌, ◌≢◌, ℕ, ◌<◌, ◌+◌,
 ghost use Rattle.clap.specs.Words.{HasKind, app_of, fault_of, kind_of, subcommand_of, subcommand_rows_of};
 ghost use Rattle.clap.specs.declared.builder.command.Command.TheViews.{out-Command};
 ghost use Rattle.clap.specs.declared.error.kind.ErrorKind.TheVariants.{OutOfMemory};
+ghost use Rattle.cq_main.specs.declared.words.TheConstants.{ZERO_DIGIT};
 ghost use Rattle.cq_main.specs.CommandLine.{IsAsked, asked_servers, program_app, replay_app, size_of, text_in};
 
 use clap::error::ErrorKind;
@@ -10,6 +11,9 @@ use clap::{Arg, ArgMatches, Command, Error, value_parser};
 use cq_base::{CHAIN_LIMIT, ChainSize};
 use std::alloc::{AllocError, Global};
 use std::convert::AsStr;
+
+/// The first digit, as a byte.
+const ZERO_DIGIT: u8 = b'0';
 
 /// What the command line asks for.
 #[derive(Clone, Copy, Debug, PartialEq, Eq)]
@@ -65,7 +69,7 @@ fn program<'a>(alloc: Global) -> Result<Command<'a>, AllocError>
 /// How many servers a replay asks for; one where no subcommand stands.
 fn servers_in(matches: &ArgMatches<'_>) -> Option<u8>
     ensures asked { IfSome result (IsAsked (subcommand_rows_of matches.now)) }
-    ensures digit { (servers : ℕ) → servers < 10 → text_in (subcommand_rows_of matches.now) ≡ Some ((48 + servers) ∷ [])
+    ensures digit { (servers : ℕ) → servers < 10 → text_in (subcommand_rows_of matches.now) ≡ Some ((ZERO_DIGIT + servers) ∷ [])
         → result ≡ Some servers }
 {
     match matches.subcommand() {

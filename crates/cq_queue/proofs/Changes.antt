@@ -4,10 +4,11 @@ use Rattle.std.specs.Prelude.{nat_lt}
 use Rattle.std.proofs.lemmas.Bool.{cases_Bool, both_ways, eqb-true}
 use Rattle.cq_base.specs.declared.ask.Ask.TheVariants.{Change}
 use Rattle.cq_base.specs.declared.ask.Entry.{Entry}
+use Rattle.cq_base.specs.declared.limits.TheConstants.{SECOND, FLIGHT_LIMIT}
 use Rattle.cq_base.specs.declared.reply.Reply.{Reply}
 use Rattle.cq_base.specs.declared.reply.Reply.TheVariants.{Changed, Refused}
 use Rattle.cq_base.specs.declared.reply.Refusal.TheVariants.{ReceiptHandleIsInvalid, MessageNotInflight, VisibilityBeyondLimit}
-use Rattle.cq_base.specs.Effects.{Effect, only_replies, takes_effect, message_at, fits, flight_limit, change_standing, change_sent, change, effect_on}
+use Rattle.cq_base.specs.Effects.{Effect, only_replies, takes_effect, message_at, fits, change_standing, change_sent, change, effect_on}
 use Rattle.cq_base.specs.Facts.{Fact}
 use Rattle.cq_base.specs.Handle.{Handle}
 use Rattle.cq_base.specs.History.{fact_with}
@@ -58,7 +59,7 @@ chosen_on sequence false x y first second = second
 -- a change with a receipt of a message that isn't deleted
 standing_on : (sequence moment visibility : ℕ) (receipt : Handle) (x : Message) → x.sequence ≡ sequence → IsOn sequence (change_standing moment visibility receipt x)
 standing_on sequence moment visibility receipt x same =
-    let beyond = nat_lt (x.handed_at + flight_limit) (moment + 1000 * visibility) in
+    let beyond = nat_lt (x.handed_at + FLIGHT_LIMIT) (moment + SECOND * visibility) in
     let last = cond beyond (only_replies (Refused VisibilityBeyondLimit)) (takes_effect x.sequence Changed) in
     let landed = cond (not (is_in_flight moment x)) (only_replies (Refused MessageNotInflight)) last in
     chosen_on sequence (not (fits receipt x)) (only_replies (Refused ReceiptHandleIsInvalid)) landed (idle_on sequence _ refl)
@@ -87,11 +88,11 @@ stands_timeout : (kept : Incarnation) (xs : List Fact) (moment : ℕ) (e : Entry
 stands_timeout kept xs moment e queue receipt visibility stands before =
     let f = changing_fact kept moment e queue receipt visibility (takes_effect receipt.sequence Changed) in
     let own = kept.visibility in
-    let hide = hidden_until receipt.sequence (moment + 1000 * visibility) in
+    let hide = hidden_until receipt.sequence (moment + SECOND * visibility) in
     record {
       sent = stands.sent ∙ sent-same xs f refl;
       messages = ap (map hide) stands.messages
-          ∙ map-agrees hide (after_fact own f) (standing own xs) (λ m. ap (λ b. cond b (record m { until = moment + 1000 * visibility }) m) (eqb-swapped m.sequence receipt.sequence) ∙ sym (chosen_timeout own f (eqb receipt.sequence m.sequence) m))
+          ∙ map-agrees hide (after_fact own f) (standing own xs) (λ m. ap (λ b. cond b (record m { until = moment + SECOND * visibility }) m) (eqb-swapped m.sequence receipt.sequence) ∙ sym (chosen_timeout own f (eqb receipt.sequence m.sequence) m))
           ∙ ap (map (after_fact own f)) (sym (filter-same (is_left_by f) (standing own xs) (λ m. refl)))
           ∙ sym (standing-more own xs f refl);
       window = window-same kept xs f moment stands refl before;
@@ -117,7 +118,7 @@ stands_quiet kept xs moment e queue receipt visibility effect stands idle handed
 changed_handed : (moment visibility : ℕ) (receipt : Handle) (found : Option Message) → (change_sent moment visibility receipt found).handed ≡ []
 changed_handed moment visibility receipt None = refl
 changed_handed moment visibility receipt (Some x) =
-    let beyond = nat_lt (x.handed_at + flight_limit) (moment + 1000 * visibility) in
+    let beyond = nat_lt (x.handed_at + FLIGHT_LIMIT) (moment + SECOND * visibility) in
     let last = cond beyond (only_replies (Refused VisibilityBeyondLimit)) (takes_effect x.sequence Changed) in
     let landed = cond (not (is_in_flight moment x)) (only_replies (Refused MessageNotInflight)) last in
     chosen_handed (not (fits receipt x)) (only_replies (Refused ReceiptHandleIsInvalid)) landed refl

@@ -2,6 +2,7 @@
 use Rattle.std.proofs.Common.{◌≡◌, ℕ, ◌+◌, ◌*◌, ◌≤◌, ◌∙◌, ◌||◌, ap, sym, List, [], ◌∷◌, ◌++◌, map, Option, Some, Bool, true, false, cond, subst, refl}
 use Rattle.cq_base.specs.declared.ask.Ask.TheVariants.{Receive}
 use Rattle.cq_base.specs.declared.ask.Entry.{Entry}
+use Rattle.cq_base.specs.declared.limits.TheConstants.{SECOND}
 use Rattle.cq_base.specs.declared.reply.Reply.TheVariants.{Received}
 use Rattle.cq_base.specs.Asks.{timeout_or}
 use Rattle.cq_base.specs.Effects.{hand, effect_on}
@@ -31,7 +32,7 @@ standing-handed : (kept : Incarnation) (xs : List Fact) (moment : ℕ) (e : Entr
 standing-handed kept xs moment e queue size visibility stands =
     let f = handing_fact kept moment e queue size visibility in
     let own = kept.visibility in
-    let mark = marked moment (moment + 1000 * timeout_or own visibility) (numbers_to_hand size moment kept.messages) in
+    let mark = marked moment (moment + SECOND * timeout_or own visibility) (numbers_to_hand size moment kept.messages) in
     ap (map mark) stands.messages
     ∙ map-agrees mark (after_fact own f) (standing own xs) (λ m. sym (chosen_mark own f (hands_it m.sequence f) m))
     ∙ ap (map (after_fact own f)) (sym (filter-same (is_left_by f) (standing own xs) (λ m. refl)))

@@ -9,12 +9,13 @@ use Rattle.std.proofs.lemmas.Bool.Decides.{nat_tests}
 use Rattle.std.proofs.lemmas.List.Folds.{find-append}
 use Rattle.cq_base.specs.declared.ask.Ask.TheVariants.{Send}
 use Rattle.cq_base.specs.declared.ask.Entry.{Entry}
+use Rattle.cq_base.specs.declared.limits.TheConstants.{DEDUPLICATION_WINDOW}
 use Rattle.cq_base.specs.declared.reply.Reply.TheVariants.{Sent}
 use Rattle.cq_base.specs.Effects.{takes_effect, only_replies, send, effect_on}
 use Rattle.cq_base.specs.Facts.{Fact}
 use Rattle.cq_base.specs.History.{fact_with}
 use Rattle.cq_base.specs.Incarnations.{Accepted, Incarnation, coming, told_of, repeated, counts_for}
-use Rattle.cq_base.specs.Messages.{messages, duplicate, is_duplicated_by, window}
+use Rattle.cq_base.specs.Messages.{messages, duplicate, is_duplicated_by}
 use Rattle.cq_base.proofs.Numbers.{messages-next}
 use Rattle.cq_queue.specs.within.Kept.{used_at, is_recent, new_message, with_message}
 use Rattle.cq_queue.specs.Entries.{IsSend, StandsAfter, IsAnswered}
@@ -40,7 +41,7 @@ chosen_image f g false x y h = refl
 repeated-next : (id : List ℕ) (moment later : ℕ) (accepted : List Accepted) (a : Accepted) → moment ≤ later → repeated id later (filter (is_recent moment) accepted ++ a ∷ []) ≡ option_or (repeated id later accepted) (option_map (λ y. y.sequence) (cond (counts_for id later a) (Some a) None))
 repeated-next id moment later accepted a after =
     let counts = counts_for id later in
-    ap (option_map (λ y. y.sequence)) (find-append counts (filter (is_recent moment) accepted) (a ∷ []) ∙ ap (λ o. option_or o (cond (counts a) (Some a) None)) (find-kept counts (is_recent moment) accepted (λ y passes. still (bytes_eq y.dedup id) moment later (y.moment + window) after passes)))
+    ap (option_map (λ y. y.sequence)) (find-append counts (filter (is_recent moment) accepted) (a ∷ []) ∙ ap (λ o. option_or o (cond (counts a) (Some a) None)) (find-kept counts (is_recent moment) accepted (λ y passes. still (bytes_eq y.dedup id) moment later (y.moment + DEDUPLICATION_WINDOW) after passes)))
     ∙ option_map-or (λ y. y.sequence) (find counts accepted) (cond (counts a) (Some a) None)
   where
     still : (b : Bool) (moment later end : ℕ) → moment ≤ later → (b && nat_lt later end) ≡ true → nat_lt moment end ≡ true

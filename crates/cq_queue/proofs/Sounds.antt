@@ -1,7 +1,8 @@
 -- What is known of each queue stays so.
-use Rattle.std.proofs.Common.{ℕ, ◌+◌, ◌<◌, ◌≤◌, ◌^◌, List, map, Bool, true, false, cond, arith}
+use Rattle.std.proofs.Common.{ℕ, ◌+◌, ◌<◌, ◌≤◌, List, map, Bool, true, false, cond, arith}
 use Rattle.std.specs.List.{filter}
 use Rattle.std.proofs.lemmas.List.Elements.{All-map, All-weaker, All-filter}
+use Rattle.cq_base.specs.declared.limits.TheConstants.{HISTORY_LIMIT}
 use Rattle.cq_base.specs.Messages.{Message}
 use Rattle.cq_queue.specs.within.Kept.{marked, handed_at_until, is_other, hidden_until}
 use Rattle.cq_queue.specs.within.Sound.{IsHandedUpTo, IsSound}
@@ -24,7 +25,7 @@ marked_handings true used moment end m h = omega arith
 marked_handings false used moment end m h = omega arith
 
 -- after a receive
-pub sound-marked : (number sent used : ℕ) (messages : List Message) (moment end : ℕ) (numbers : List ℕ) → used < 2 ^ 62 → IsSound number sent used messages → IsSound number sent (used + 1) (map (marked moment end numbers) messages)
+pub sound-marked : (number sent used : ℕ) (messages : List Message) (moment end : ℕ) (numbers : List ℕ) → used < HISTORY_LIMIT → IsSound number sent used messages → IsSound number sent (used + 1) (map (marked moment end numbers) messages)
 sound-marked number sent used messages moment end numbers room h = record {
   positive = h.positive;
   sends = omega (arith, h.sends);

@@ -4,9 +4,10 @@ use Rattle.std.specs.Prelude.{nat_lt}
 use Rattle.std.specs.List.{filter, list_any}
 use Rattle.cq_base.specs.declared.ask.Ask.{Ask}
 use Rattle.cq_base.specs.declared.ask.Ask.TheVariants.{Create, Remove, Send, Receive, Delete, Change}
+use Rattle.cq_base.specs.declared.limits.TheConstants.{SECOND, FLIGHT_LIMIT}
 use Rattle.cq_base.specs.declared.reply.Reply.TheVariants.{Changed, Refused}
 use Rattle.cq_base.specs.declared.reply.Refusal.TheVariants.{ReceiptHandleIsInvalid, MessageNotInflight, VisibilityBeyondLimit}
-use Rattle.cq_base.specs.Effects.{Effect, only_replies, takes_effect, create_again, send, message_at, is_own, fits, delete, flight_limit, change_standing, change_sent, effect_on}
+use Rattle.cq_base.specs.Effects.{Effect, only_replies, takes_effect, create_again, send, message_at, is_own, fits, delete, change_standing, change_sent, effect_on}
 use Rattle.cq_base.specs.Facts.{Fact}
 use Rattle.cq_base.specs.Handle.{Handle}
 use Rattle.cq_base.specs.History.{fact_with}
@@ -62,7 +63,7 @@ chosen_not n false x y first second = second
 changed_not : (n moment visibility : ℕ) (receipt : Handle) (x : Message) → x.sequence < n → IsNotOn n (change_standing moment visibility receipt x)
 changed_not n moment visibility receipt x less =
     let other : eqb x.sequence n ≡ false = grind arith in
-    let beyond = nat_lt (x.handed_at + flight_limit) (moment + 1000 * visibility) in
+    let beyond = nat_lt (x.handed_at + FLIGHT_LIMIT) (moment + SECOND * visibility) in
     let last = cond beyond (only_replies (Refused VisibilityBeyondLimit)) (takes_effect x.sequence Changed) in
     let landed = cond (not (is_in_flight moment x)) (only_replies (Refused MessageNotInflight)) last in
     chosen_not n (not (fits receipt x)) (only_replies (Refused ReceiptHandleIsInvalid)) landed refl

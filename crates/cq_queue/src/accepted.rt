@@ -1,15 +1,11 @@
 ghost use Rattle.std.specs.Prelude.{◌≡◌, ◌+◌, ◌≤◌, ◌<◌, ◌++◌, [], ◌∷◌, filter, find, option_map, vec_len, vec_capacity, IfOk};
-ghost use Rattle.cq_base.specs.Messages.{window};
+ghost use Rattle.cq_base.specs.declared.limits.TheConstants.{DEDUPLICATION_WINDOW};
 ghost use Rattle.cq_base.specs.Incarnations.{counts_for, repeated};
 ghost use Rattle.cq_queue.specs.within.Kept.{is_recent};
 
-use cq_base::{DedupId, Moment, NoMemory};
+use cq_base::{DEDUPLICATION_WINDOW, DedupId, Moment, NoMemory};
 use std::alloc::Global;
 use std::marker::Model;
-
-/// The five minutes in which a deduplication id counts, in milliseconds (SQS API Reference, "SendMessage",
-/// `MessageDeduplicationId`).
-const WINDOW: u64 = 300_000;
 
 /// An accepted send, as far as its deduplication id goes.
 #[derive(Drop)]
@@ -32,7 +28,7 @@ impl Accepted {
     fn is_recent(&self, moment: Moment) -> bool
         ensures { result ≡ is_recent moment self.now }
     {
-        moment.get() < self.moment.get() + WINDOW
+        moment.get() < self.moment.get() + DEDUPLICATION_WINDOW
     }
 
     /// Whether a send of that deduplication id repeats it at that moment.

@@ -1,26 +1,23 @@
 ghost use Rattle.std.specs.Prelude.{◌≡◌, ◌+◌, ◌*◌, map, nat_lt};
-ghost use Rattle.cq_base.specs.Effects.{message_at, flight_limit, change_standing, change_sent};
+ghost use Rattle.cq_base.specs.declared.limits.TheConstants.{SECOND, FLIGHT_LIMIT};
+ghost use Rattle.cq_base.specs.Effects.{message_at, change_standing, change_sent};
 ghost use Rattle.cq_queue.specs.within.Answers.{change_reply, is_changing};
 ghost use Rattle.cq_queue.specs.within.Kept.{hidden_until};
 
 use crate::delete::{fits, message_at};
 use crate::message::Message;
-use cq_base::{Moment, Receipt, Refusal, Seconds};
-
-/// The twelve hours for which a message can be kept in flight, in milliseconds (SQS API Reference,
-/// "ChangeMessageVisibility").
-const FLIGHT_LIMIT: u64 = 43_200_000;
+use cq_base::{FLIGHT_LIMIT, Moment, Receipt, Refusal, SECOND, Seconds};
 
 /// The moment in milliseconds so many seconds after this one.
 pub fn end_of(moment: Moment, visibility: Seconds) -> u64
-    ensures { result ≡ moment + 1000 * visibility }
+    ensures { result ≡ moment + SECOND * visibility }
 {
-    moment.get() + 1000 * u64::from(visibility.get())
+    moment.get() + SECOND * u64::from(visibility.get())
 }
 
 /// Whether a timeout from this moment on ends later than twelve hours after the last handing.
 fn is_beyond_limit(moment: Moment, visibility: Seconds, message: &Message) -> bool
-    ensures { result ≡ nat_lt (message.now.handed_at + flight_limit) (moment + 1000 * visibility) }
+    ensures { result ≡ nat_lt (message.now.handed_at + FLIGHT_LIMIT) (moment + SECOND * visibility) }
 {
     message.handed_at.get() + FLIGHT_LIMIT < end_of(moment, visibility)
 }

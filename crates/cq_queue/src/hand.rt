@@ -1,6 +1,7 @@
 ghost use Rattle.std.specs.List.{All, list_any};
-ghost use Rattle.std.specs.Prelude.{◌≡◌, ℕ, ◌+◌, ◌^◌, ◌<◌, ◌≤◌, ◌==◌, ◌++◌, [], ◌∷◌, map, take, length};
+ghost use Rattle.std.specs.Prelude.{◌≡◌, ℕ, ◌+◌, ◌<◌, ◌≤◌, ◌==◌, ◌++◌, [], ◌∷◌, map, take, length};
 ghost use Rattle.arrayvec.specs.ArrayVec.{array_vec_len};
+ghost use Rattle.cq_base.specs.declared.limits.TheConstants.{HISTORY_LIMIT};
 ghost use Rattle.cq_base.specs.Receiving.{is_same_group, group_with, in_turn};
 ghost use Rattle.cq_queue.specs.within.Kept.{is_numbered_in, marked, numbers_of, numbers_to_hand};
 
@@ -59,7 +60,7 @@ fn is_numbered_in(numbers: &[u64], message: &Message) -> bool
 
 /// Hands out the message at that moment, if its sequence number is one of these, and hides it up to `end`.
 fn mark_one(message: &mut Message, moment: Moment, end: u64, numbers: &[u64])
-    requires { message.old.handings < 2 ^ 62 }
+    requires { message.old.handings < HISTORY_LIMIT }
     ensures { message.new ≡ marked moment end numbers.now message.old }
 {
     if is_numbered_in(numbers, message) {
@@ -69,7 +70,7 @@ fn mark_one(message: &mut Message, moment: Moment, end: u64, numbers: &[u64])
 
 /// Hands out those of the messages whose sequence numbers are given. It takes no memory.
 pub fn mark(messages: &mut Vec<Message>, moment: Moment, end: u64, numbers: &[u64])
-    requires { All (λ m. m.handings < 2 ^ 62) messages.old.items }
+    requires { All (λ m. m.handings < HISTORY_LIMIT) messages.old.items }
     ensures { messages.new.items ≡ map (marked moment end numbers.now) messages.old.items }
 {
     for i in 0..messages.len() {

@@ -1,4 +1,5 @@
-ghost use Rattle.std.specs.Prelude.{◌≡◌, ◌^◌, ◌<◌, not, filter, length, IfOk};
+ghost use Rattle.std.specs.Prelude.{◌≡◌, ◌<◌, not, filter, length, IfOk};
+ghost use Rattle.cq_base.specs.declared.limits.TheConstants.{HISTORY_LIMIT};
 ghost use Rattle.cq_base.specs.Receiving.{is_same_group, is_in_flight, is_blocked_by, is_preceded_by, delivery_of};
 ghost use Rattle.cq_queue.specs.within.Kept.{new_message, handed_at_until, hidden_until};
 
@@ -21,7 +22,8 @@ pub struct Message {
 }
 
 impl Model for Message {
-    ghost use Rattle.std.specs.Prelude.{◌<◌, ◌^◌};
+    ghost use Rattle.std.specs.Prelude.{◌<◌, ◌≤◌};
+    ghost use Rattle.cq_base.specs.declared.limits.TheConstants.{HISTORY_LIMIT};
     ghost use Rattle.cq_base.specs.Messages as object;
 
     ghost Value = { object.Message };
@@ -35,7 +37,7 @@ impl Model for Message {
       until = m.until;
     } };
 
-    ghost invariant = { λ m. (0 < m.sequence) × (m.handings < 2 ^ 63) };
+    ghost invariant = { λ m. (0 < m.sequence) × (m.handings ≤ HISTORY_LIMIT) };
 }
 
 impl Message {
@@ -92,7 +94,7 @@ impl Message {
 
     /// Hands it out once more at that moment, and hides it up to `end`.
     pub fn hand(&mut self, moment: Moment, end: u64)
-        requires { self.old.handings < 2 ^ 62 }
+        requires { self.old.handings < HISTORY_LIMIT }
         ensures { self.new ≡ handed_at_until moment end self.old }
     {
         self.handings += 1;

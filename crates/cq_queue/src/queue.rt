@@ -1,4 +1,5 @@
-ghost use Rattle.std.specs.Prelude.{◌≡◌, ◌+◌, ◌*◌, ◌^◌, ◌<◌, ◌≤◌, ℕ, [], false, IsOk, IsErr, IfOk, IfErr, OnOk, OnErr, Some};
+ghost use Rattle.std.specs.Prelude.{◌≡◌, ◌+◌, ◌*◌, ◌<◌, ◌≤◌, ℕ, [], false, IsOk, IsErr, IfOk, IfErr, OnOk, OnErr, Some};
+ghost use Rattle.cq_base.specs.declared.limits.TheConstants.{HISTORY_LIMIT};
 ghost use Rattle.cq_base.specs.declared.reply.Reply.TheVariants.{Sent, Deleted, Changed, Refused};
 ghost use Rattle.cq_base.specs.Incarnations.{IncarnationStands, repeated};
 ghost use Rattle.cq_queue.specs.within.Answers.{delete_reply, is_deleting, change_reply, is_changing};
@@ -83,7 +84,7 @@ impl Queue {
 
     /// Counts a send that repeats a message, and answers with that one's sequence number.
     fn count_repeat(&mut self, moment: Moment, sequence: u64) -> u64
-        requires { self.old.used < 2 ^ 62 }
+        requires { self.old.used < HISTORY_LIMIT }
         ensures sequence { result ≡ sequence }
         ensures used { self.new ≡ used_at moment self.old }
     {
@@ -101,7 +102,7 @@ impl Queue {
         dedup: &DedupId,
         body: &Body,
     ) -> Result<u64, NoMemory>
-        requires { self.old.used < 2 ^ 62 }
+        requires { self.old.used < HISTORY_LIMIT }
         ensures sequence { IfOk result (λ n. n ≡ self.old.sent + 1) }
         ensures ok { OnOk result (self.new ≡ with_message moment group.now dedup.now body.now self.old) }
         ensures err { OnErr result (self.new ≡ self.old) }
@@ -135,7 +136,7 @@ impl Queue {
         body: &Body,
     ) -> Result<u64, NoMemory>
         requires order { self.old.last ≤ moment }
-        requires room { self.old.used < 2 ^ 62 }
+        requires room { self.old.used < HISTORY_LIMIT }
         ensures stands { OnOk result
             (StandsAfter (IsSend moment group.now dedup.now body.now) self.old self.new) }
         ensures reply { IfOk result (λ sequence.
@@ -154,7 +155,7 @@ impl Queue {
 
     /// Hands out up to so many messages, hides each for that timeout, and counts the receive.
     fn mark(&mut self, moment: Moment, size: BatchSize, timeout: Seconds)
-        requires { self.old.used < 2 ^ 62 }
+        requires { self.old.used < HISTORY_LIMIT }
         ensures { self.new ≡ handed_out moment size (Some timeout) self.old }
     {
         let numbers = numbers_to_hand(moment, size, &self.messages);
@@ -168,7 +169,7 @@ impl Queue {
     /// what `offer` lists. It takes no memory. O(messages^2).
     pub fn hand(&mut self, moment: Moment, size: BatchSize, visibility: Option<Seconds>)
         requires order { self.old.last ≤ moment }
-        requires room { self.old.used < 2 ^ 62 }
+        requires room { self.old.used < HISTORY_LIMIT }
         ensures stands { StandsAfter (IsReceive moment size visibility) self.old self.new }
         ensures last { self.new.last ≡ moment }
         ensures used { self.new.used ≡ self.old.used + 1 }

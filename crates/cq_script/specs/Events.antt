@@ -1,10 +1,11 @@
 -- The events that JSON objects say: which keys an object has, and in which order its faults count.
 -- All members are read before a text is looked at, so an object with any other fault is bad.
-use Rattle.std.specs.Prelude.{ℕ, ◌-◌, ◌^◌, [], ◌∷◌, codes, if◌then◌else◌, Result, Ok, Err, unwrap_or}
+use Rattle.std.specs.Prelude.{ℕ, ◌-◌, [], ◌∷◌, codes, if◌then◌else◌, Result, Ok, Err, unwrap_or}
 use Rattle.std.specs.Str.{bytes_eq}
 use Rattle.serde_json.specs.Data.{Data}
 use Rattle.cq_base.specs.declared.ask.Ask.{Ask}
 use Rattle.cq_base.specs.declared.ask.Ask.TheVariants.{Create, Remove, Send, Receive, Delete, Change}
+use Rattle.cq_base.specs.declared.limits.TheConstants.{MOMENT_LIMIT, SECONDS_LIMIT, BATCH_LIMIT, PARTY_LIMIT, NUMBER_LIMIT}
 use Rattle.cq_base.specs.declared.party.Party.{Party}
 use Rattle.cq_script.specs.Fields.{Reason, bad, ◌>>=◌, has_only, member_at, text_at, number_at, number_if_at, party_at, queue_name, group_id, dedup_id, message_body}
 use Rattle.cq_script.specs.Receipts.{receipt_handle}
@@ -16,7 +17,7 @@ use Rattle.cq_world.specs.declared.event.Event.TheVariants as events
 unfoldable pub create_in : Data → Result Ask Reason
 create_in d = if has_only (codes "kind" ∷ codes "queue" ∷ codes "visibility" ∷ []) d then (do
   name ← text_at (codes "queue") d
-  visibility ← number_if_at 0 43200 (codes "visibility") d
+  visibility ← number_if_at 0 SECONDS_LIMIT (codes "visibility") d
   queue ← queue_name name
   Ok (Create queue (unwrap_or visibility 30))) else Err bad
 
@@ -44,8 +45,8 @@ send_in d = if has_only (codes "kind" ∷ codes "queue" ∷ codes "group" ∷ co
 unfoldable pub receive_in : Data → Result Ask Reason
 receive_in d = if has_only (codes "kind" ∷ codes "queue" ∷ codes "size" ∷ codes "visibility" ∷ []) d then (do
   name ← text_at (codes "queue") d
-  size ← number_if_at 1 10 (codes "size") d
-  visibility ← number_if_at 0 43200 (codes "visibility") d
+  size ← number_if_at 1 BATCH_LIMIT (codes "size") d
+  visibility ← number_if_at 0 SECONDS_LIMIT (codes "visibility") d
   queue ← queue_name name
   Ok (Receive queue (unwrap_or size 1) visibility)) else Err bad
 
@@ -63,7 +64,7 @@ change_in d = if has_only (codes "kind" ∷ codes "queue" ∷ codes "receipt" �
   name ← text_at (codes "queue") d
   receipt_text ← text_at (codes "receipt") d
   receipt ← receipt_handle receipt_text
-  visibility ← number_at 0 43200 (codes "visibility") d
+  visibility ← number_at 0 SECONDS_LIMIT (codes "visibility") d
   queue ← queue_name name
   Ok (Change queue receipt visibility)) else Err bad
 
@@ -82,10 +83,10 @@ ask_in d = do
 -- this project).
 unfoldable pub arrive_in : Data → Result Event Reason
 arrive_in d = if has_only (codes "op" ∷ codes "at" ∷ codes "clock" ∷ codes "client" ∷ codes "number" ∷ codes "ask" ∷ []) d then (do
-  at ← number_at 1 (2 ^ 32 - 1) (codes "at") d
-  clock ← number_at 0 (2 ^ 60) (codes "clock") d
-  client ← number_at 0 (2 ^ 32 - 1) (codes "client") d
-  number ← number_at 0 (2 ^ 64 - 1) (codes "number") d
+  at ← number_at 1 PARTY_LIMIT (codes "at") d
+  clock ← number_at 0 MOMENT_LIMIT (codes "clock") d
+  client ← number_at 0 PARTY_LIMIT (codes "client") d
+  number ← number_at 0 NUMBER_LIMIT (codes "number") d
   inner ← member_at (codes "ask") d
   ask ← ask_in inner
   Ok (events.Arrive at clock (record { client = client; number = number; ask = ask }))) else Err bad
@@ -93,9 +94,9 @@ arrive_in d = if has_only (codes "op" ∷ codes "at" ∷ codes "clock" ∷ codes
 -- A query of a client reaches a server.
 unfoldable pub query_in : Data → Result Event Reason
 query_in d = if has_only (codes "op" ∷ codes "at" ∷ codes "client" ∷ codes "tag" ∷ codes "queue" ∷ []) d then (do
-  at ← number_at 1 (2 ^ 32 - 1) (codes "at") d
-  client ← number_at 0 (2 ^ 32 - 1) (codes "client") d
-  tag ← number_at 0 (2 ^ 64 - 1) (codes "tag") d
+  at ← number_at 1 PARTY_LIMIT (codes "at") d
+  client ← number_at 0 PARTY_LIMIT (codes "client") d
+  tag ← number_at 0 NUMBER_LIMIT (codes "tag") d
   name ← text_at (codes "queue") d
   queue ← queue_name name
   Ok (events.Ask at (record { client = client; tag = tag; queue = queue }))) else Err bad
@@ -113,7 +114,7 @@ of_ends event ends = ends >>= λ link. Ok (event link.0 link.1)
 
 -- the server of an event that has nothing else
 unfoldable pub server_in : Data → Result ℕ Reason
-server_in d = if has_only (codes "op" ∷ codes "server" ∷ []) d then number_at 1 (2 ^ 32 - 1) (codes "server") d else Err bad
+server_in d = if has_only (codes "op" ∷ codes "server" ∷ []) d then number_at 1 PARTY_LIMIT (codes "server") d else Err bad
 
 -- the event of a server, if there is one
 abbrev pub of_server : (ℕ → Event) → Result ℕ Reason → Result Event Reason

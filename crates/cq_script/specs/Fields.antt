@@ -1,6 +1,6 @@
 -- What the members of a JSON object say, one reading for each kind of member. A reading gives the
 -- value, or why there is none.
-use Rattle.std.specs.Prelude.{ℕ, ◌-◌, ◌^◌, ◌&&◌, codes, List, Bool, true, false, nat_le, if◌then◌else◌, Option, Some, None, Result, Ok, Err, option_map, option_and_then, unwrap_or}
+use Rattle.std.specs.Prelude.{ℕ, ◌-◌, ◌&&◌, codes, List, Bool, true, false, nat_le, if◌then◌else◌, Option, Some, None, Result, Ok, Err, option_map, option_and_then, unwrap_or}
 use Rattle.std.specs.List.{list_any}
 use Rattle.std.specs.Str.{bytes_eq}
 use Rattle.serde_json.specs.Data.{Data, Members, no_members, member}
@@ -8,6 +8,7 @@ use Rattle.serde_json.specs.Find.{get, as_number, as_u64, as_str, as_object}
 use Rattle.cq_base.specs.Texts.{is_queue_name, is_id, has_body_characters, has_body_length}
 use Rattle.cq_base.specs.declared.fault.BaseFault.{BaseFault}
 use Rattle.cq_base.specs.declared.fault.BaseFault.TheVariants.{BadQueueName, BadGroup, BadDedup, InvalidMessageContents, BodyLength}
+use Rattle.cq_base.specs.declared.limits.TheConstants.{PARTY_LIMIT}
 use Rattle.cq_base.specs.declared.party.Party.{Party}
 use Rattle.cq_base.specs.declared.party.Party.TheVariants as parties
 
@@ -75,7 +76,7 @@ party_named name = if bytes_eq name (codes "master") then Ok parties.Master else
 -- the party that the value says, which has that text, if it is one: a server is said by its number
 abbrev pub party_said : Data → Option (List ℕ) → Result Party Reason
 party_said d (Some name) = party_named name
-party_said d None = whole 1 (2 ^ 32 - 1) d >>= λ id. Ok (parties.Server id)
+party_said d None = whole 1 PARTY_LIMIT d >>= λ id. Ok (parties.Server id)
 
 -- the party that the value says
 abbrev pub party_in : Data → Result Party Reason

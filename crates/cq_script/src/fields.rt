@@ -1,14 +1,15 @@
-ghost use Rattle.std.specs.Prelude.{◌≡◌, ◌≤◌, ◌^◌, ◌-◌, map, string_bytes, IfOk};
+ghost use Rattle.std.specs.Prelude.{◌≡◌, ◌≤◌, ◌-◌, map, string_bytes, IfOk};
 ghost use Rattle.std.specs.BTreeMap.{keys as keys_of};
 ghost use Rattle.std.specs.List.{list_any, list_all};
 ghost use Rattle.std.specs.Str.{bytes_eq};
 ghost use Rattle.serde_json.specs.View.{view};
+ghost use Rattle.cq_base.specs.declared.limits.TheConstants.{MOMENT_LIMIT, SECONDS_LIMIT, BATCH_LIMIT, PARTY_LIMIT, NUMBER_LIMIT};
 ghost use Rattle.cq_script.specs.Fields as spec;
 ghost use Rattle.cq_script.specs.within.Readers.{Gives, same};
 
 use cq_base::{
-    BATCH_LIMIT, BaseFault, BatchSize, MOMENT_LIMIT, Moment, Party, SECONDS_LIMIT, Seconds,
-    ServerId,
+    BATCH_LIMIT, BaseFault, BatchSize, MOMENT_LIMIT, Moment, NUMBER_LIMIT, PARTY_LIMIT, Party,
+    SECONDS_LIMIT, Seconds, ServerId,
 };
 use serde_json::{Map, Value};
 
@@ -99,21 +100,21 @@ fn whole(value: &Value, low: u64, high: u64) -> Result<u64, Stop>
 }
 
 fn seconds(value: &Value) -> Result<Seconds, Stop>
-    ensures { Gives same result (spec.whole 0 43200 (view value.now)) }
+    ensures { Gives same result (spec.whole 0 SECONDS_LIMIT (view value.now)) }
 {
     Ok(Seconds::new(whole(value, 0, u64::from(SECONDS_LIMIT))? as u32).unwrap())
 }
 
 fn batch_size(value: &Value) -> Result<BatchSize, Stop>
-    ensures { Gives same result (spec.whole 1 10 (view value.now)) }
+    ensures { Gives same result (spec.whole 1 BATCH_LIMIT (view value.now)) }
 {
     Ok(BatchSize::new(whole(value, 1, u64::from(BATCH_LIMIT))? as u8).unwrap())
 }
 
 fn server(value: &Value) -> Result<ServerId, Stop>
-    ensures { Gives same result (spec.whole 1 (2 ^ 32 - 1) (view value.now)) }
+    ensures { Gives same result (spec.whole 1 PARTY_LIMIT (view value.now)) }
 {
-    Ok(ServerId::new(whole(value, 1, u64::from(u32::MAX))? as u32).unwrap())
+    Ok(ServerId::new(whole(value, 1, u64::from(PARTY_LIMIT))? as u32).unwrap())
 }
 
 fn party_named(name: &str) -> Result<Party, Stop>
@@ -139,7 +140,7 @@ fn party(value: &Value) -> Result<Party, Stop>
 
 /// The server under the key.
 pub(crate) fn server_at(value: &Value, key: &str) -> Result<ServerId, Stop>
-    ensures { Gives same result (spec.number_at 1 (2 ^ 32 - 1) key.now (view value.now)) }
+    ensures { Gives same result (spec.number_at 1 PARTY_LIMIT key.now (view value.now)) }
 {
     server(member_at(value, key)?)
 }
@@ -153,35 +154,35 @@ pub(crate) fn party_at(value: &Value, key: &str) -> Result<Party, Stop>
 
 /// The number under the key.
 pub(crate) fn u32_at(value: &Value, key: &str) -> Result<u32, Stop>
-    ensures { Gives same result (spec.number_at 0 (2 ^ 32 - 1) key.now (view value.now)) }
+    ensures { Gives same result (spec.number_at 0 PARTY_LIMIT key.now (view value.now)) }
 {
-    Ok(whole(member_at(value, key)?, 0, u64::from(u32::MAX))? as u32)
+    Ok(whole(member_at(value, key)?, 0, u64::from(PARTY_LIMIT))? as u32)
 }
 
 /// The number under the key.
 pub(crate) fn u64_at(value: &Value, key: &str) -> Result<u64, Stop>
-    ensures { Gives same result (spec.number_at 0 (2 ^ 64 - 1) key.now (view value.now)) }
+    ensures { Gives same result (spec.number_at 0 NUMBER_LIMIT key.now (view value.now)) }
 {
-    whole(member_at(value, key)?, 0, u64::MAX)
+    whole(member_at(value, key)?, 0, NUMBER_LIMIT)
 }
 
 /// The moment under the key.
 pub(crate) fn moment_at(value: &Value, key: &str) -> Result<Moment, Stop>
-    ensures { Gives same result (spec.number_at 0 (2 ^ 60) key.now (view value.now)) }
+    ensures { Gives same result (spec.number_at 0 MOMENT_LIMIT key.now (view value.now)) }
 {
     Ok(Moment::new(whole(member_at(value, key)?, 0, MOMENT_LIMIT)?).unwrap())
 }
 
 /// The visibility timeout under the key.
 pub(crate) fn seconds_at(value: &Value, key: &str) -> Result<Seconds, Stop>
-    ensures { Gives same result (spec.number_at 0 43200 key.now (view value.now)) }
+    ensures { Gives same result (spec.number_at 0 SECONDS_LIMIT key.now (view value.now)) }
 {
     seconds(member_at(value, key)?)
 }
 
 /// The visibility timeout under the key, which may be missing.
 pub(crate) fn seconds_if_at(value: &Value, key: &str) -> Result<Option<Seconds>, Stop>
-    ensures { Gives same result (spec.number_if_at 0 43200 key.now (view value.now)) }
+    ensures { Gives same result (spec.number_if_at 0 SECONDS_LIMIT key.now (view value.now)) }
 {
     match value.get(key) {
         Some(found) => Ok(Some(seconds(found)?)),
@@ -191,7 +192,7 @@ pub(crate) fn seconds_if_at(value: &Value, key: &str) -> Result<Option<Seconds>,
 
 /// The number of messages under the key, which may be missing.
 pub(crate) fn batch_size_if_at(value: &Value, key: &str) -> Result<Option<BatchSize>, Stop>
-    ensures { Gives same result (spec.number_if_at 1 10 key.now (view value.now)) }
+    ensures { Gives same result (spec.number_if_at 1 BATCH_LIMIT key.now (view value.now)) }
 {
     match value.get(key) {
         Some(found) => Ok(Some(batch_size(found)?)),

@@ -5,12 +5,13 @@ use Rattle.std.specs.List.{list_any}
 use Rattle.std.proofs.lemmas.Bool.{cases_Bool, eq-eqb, ne_eqb, lt-ltb, ltb-true, false_from_ne_true}
 use Rattle.std.proofs.lemmas.List.{map-append}
 use Rattle.std.proofs.lemmas.List.Folds.{list_any-append}
+use Rattle.cq_base.specs.declared.limits.TheConstants.{REMOVAL_DELAY}
 use Rattle.cq_base.specs.declared.ask.Entry.{Entry}
 use Rattle.cq_base.specs.Effects.{visibility_by}
 use Rattle.cq_base.specs.Facts.{Fact, on}
 use Rattle.cq_base.specs.History.{fresh_fact}
 use Rattle.cq_base.specs.Incarnations.{Incarnation, IncarnationStands, coming, told_of, lifetime}
-use Rattle.cq_base.specs.Lifetimes.{is_creation, is_removal, is_recent_removal, live, removed_lately, removal_delay, incarnation_of}
+use Rattle.cq_base.specs.Lifetimes.{is_creation, is_removal, is_recent_removal, live, removed_lately, incarnation_of}
 use Rattle.cq_base.proofs.Among.{among-filter}
 use Rattle.cq_base.proofs.Ends.{any-fails}
 use Rattle.cq_store.specs.Stands.{NameKept, NameStands, LivesAs, IsLiving, IsPast, is_resting}
@@ -37,22 +38,22 @@ name-later last later kept facts more h = record {
 -- a fact that is no removal hinders no creation
 lately-same : (moment : ℕ) (xs : List Fact) (f : Fact) → is_removal f ≡ false → removed_lately moment (xs ++ f ∷ []) ≡ removed_lately moment xs
 unfolding removed_lately
-lately-same moment xs f other = any-fails (is_recent_removal moment) xs f (ap (λ b. b && nat_lt moment (f.entry.moment + removal_delay)) other)
+lately-same moment xs f other = any-fails (is_recent_removal moment) xs f (ap (λ b. b && nat_lt moment (f.entry.moment + REMOVAL_DELAY)) other)
 
 -- a removal does for its minute
-lately-more : (moment : ℕ) (xs : List Fact) (f : Fact) → is_removal f ≡ true → removed_lately moment (xs ++ f ∷ []) ≡ (removed_lately moment xs || nat_lt moment (f.entry.moment + removal_delay))
+lately-more : (moment : ℕ) (xs : List Fact) (f : Fact) → is_removal f ≡ true → removed_lately moment (xs ++ f ∷ []) ≡ (removed_lately moment xs || nat_lt moment (f.entry.moment + REMOVAL_DELAY))
 unfolding removed_lately
 lately-more moment xs f own =
     list_any-append (is_recent_removal moment) xs (f ∷ [])
-    ∙ ap (λ b. list_any (is_recent_removal moment) xs || ((b && nat_lt moment (f.entry.moment + removal_delay)) || false)) own
-    ∙ ap (λ b. list_any (is_recent_removal moment) xs || b) (or_alone (nat_lt moment (f.entry.moment + removal_delay)))
+    ∙ ap (λ b. list_any (is_recent_removal moment) xs || ((b && nat_lt moment (f.entry.moment + REMOVAL_DELAY)) || false)) own
+    ∙ ap (λ b. list_any (is_recent_removal moment) xs || b) (or_alone (nat_lt moment (f.entry.moment + REMOVAL_DELAY)))
 
 -- a name rests after its last removal, if it does after one before
-rests-after : (removed : Option ℕ) (last moment : ℕ) → IsPast removed last → (is_resting removed moment || nat_lt moment (last + removal_delay)) ≡ nat_lt moment (last + removal_delay)
+rests-after : (removed : Option ℕ) (last moment : ℕ) → IsPast removed last → (is_resting removed moment || nat_lt moment (last + REMOVAL_DELAY)) ≡ nat_lt moment (last + REMOVAL_DELAY)
 rests-after None last moment h = refl
-rests-after (Some removed) last moment h = elim (cases_Bool (nat_lt moment (removed + removal_delay))) [
-  | inl rests ↦ let less = ltb-true moment (removed + removal_delay) rests in ap (λ b. b || nat_lt moment (last + removal_delay)) rests ∙ sym (lt-ltb moment (last + removal_delay) (omega (arith, less, h)))
-  | inr over ↦ ap (λ b. b || nat_lt moment (last + removal_delay)) over
+rests-after (Some removed) last moment h = elim (cases_Bool (nat_lt moment (removed + REMOVAL_DELAY))) [
+  | inl rests ↦ let less = ltb-true moment (removed + REMOVAL_DELAY) rests in ap (λ b. b || nat_lt moment (last + REMOVAL_DELAY)) rests ∙ sym (lt-ltb moment (last + REMOVAL_DELAY) (omega (arith, less, h)))
+  | inr over ↦ ap (λ b. b || nat_lt moment (last + REMOVAL_DELAY)) over
 ]
 
 -- the entry of a fresh entry's fact
@@ -116,8 +117,8 @@ name-removed last kept own e more other removes h = let f = fresh_fact e own in 
   past = omega arith;
   removed = λ moment after. let before : last ≤ moment = omega (arith, more, after) in
       sym (lately-more moment own f removes
-      ∙ ap (λ d. removed_lately moment own || nat_lt moment (d.moment + removal_delay)) (entry-fresh e own)
-      ∙ ap (λ b. b || nat_lt moment (e.moment + removal_delay)) (sym (h.removed moment before))
+      ∙ ap (λ d. removed_lately moment own || nat_lt moment (d.moment + REMOVAL_DELAY)) (entry-fresh e own)
+      ∙ ap (λ b. b || nat_lt moment (e.moment + REMOVAL_DELAY)) (sym (h.removed moment before))
       ∙ rests-after kept.removed e.moment moment (past-later kept.removed last e.moment more h.past));
   living = subst (λ o. IsLiving None o (own ++ f ∷ [])) (sym (live-removed own f other removes)) tt;
 }

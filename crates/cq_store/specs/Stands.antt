@@ -3,13 +3,14 @@ use Rattle.std.specs.Prelude.{◌≡◌, ℕ, ◌+◌, ◌≤◌, ◌==◌, List
 use Rattle.std.specs.Map.{lookup}
 use Rattle.std.specs.Str.{bytes_eq}
 use Rattle.cq_base.specs.declared.ask.Entry.{Entry}
+use Rattle.cq_base.specs.declared.limits.TheConstants.{REMOVAL_DELAY}
 use Rattle.cq_base.specs.declared.reply.Reply.{Reply}
 use Rattle.cq_base.specs.Clients.{of_client, is_fresh, is_stale, kept_reply}
 use Rattle.cq_base.specs.Effects.{visibility_by}
 use Rattle.cq_base.specs.Facts.{Fact, about, on}
 use Rattle.cq_base.specs.History.{history, last_moment}
 use Rattle.cq_base.specs.Incarnations.{Incarnation, IncarnationStands}
-use Rattle.cq_base.specs.Lifetimes.{live, creations, removal_delay, removed_lately}
+use Rattle.cq_base.specs.Lifetimes.{live, creations, removed_lately}
 
 -- ---- clients
 
@@ -42,7 +43,7 @@ pub record NameKept : Type 0 where
 -- at that moment the minute after the removal isn't over
 abbrev pub is_resting : Option ℕ → ℕ → Bool
 is_resting None moment = false
-is_resting (Some removed) moment = nat_lt moment (removed + removal_delay)
+is_resting (Some removed) moment = nat_lt moment (removed + REMOVAL_DELAY)
 
 -- the removal came at that moment or before
 abbrev pub IsPast : Option ℕ → ℕ → Type 0

@@ -1,4 +1,5 @@
-ghost use Rattle.std.specs.Prelude.{◌≡◌, ◌<◌, ◌≤◌, ◌+◌, ◌-◌, ◌^◌, ℕ, List, None, Some, IfOk, OnErr};
+ghost use Rattle.std.specs.Prelude.{◌≡◌, ◌<◌, ◌≤◌, ◌+◌, ◌-◌, ℕ, List, None, Some, IfOk, OnErr};
+ghost use Rattle.cq_base.specs.declared.limits.TheConstants.{HISTORY_LIMIT};
 ghost use Rattle.cq_base.specs.declared.ask.Ask.TheVariants as asks;
 ghost use Rattle.cq_base.specs.Effects.{create_again};
 ghost use Rattle.cq_store.specs.within.Asked.{IsAnswer, IsCount};
@@ -7,15 +8,12 @@ ghost use Rattle.cq_store.specs.Stands.{is_resting, unknown};
 
 use crate::answered::Answered;
 use cq_base::{
-    Ask, BatchSize, Body, DedupId, Deliveries, GroupId, Moment, NoMemory, Receipt, Refusal, Reply,
-    Seconds,
+    Ask, BatchSize, Body, DedupId, Deliveries, GroupId, Moment, NoMemory, REMOVAL_DELAY, Receipt,
+    Refusal, Reply, Seconds,
 };
 use cq_queue::Queue;
 use std::alloc::Global;
 use std::marker::Model;
-
-/// The minute after a removal in which the name can't be used again, in milliseconds.
-const REMOVAL_DELAY: u64 = 60_000;
 
 /// What is kept of a name of queues.
 #[derive(Drop)]
@@ -66,7 +64,7 @@ impl NameKept {
         visibility: Seconds,
     ) -> Result<Answered, NoMemory>
         requires dead { self.old.living ≡ None }
-        requires room { IsWithin (2 ^ 62 - 1) moment self.old }
+        requires room { IsWithin (HISTORY_LIMIT - 1) moment self.old }
         ensures ok { IfOk result (λ answered. (queue : List ℕ) →
             IsAnswer self.old self.new moment (asks.Create queue visibility) answered.reply) }
         ensures kept { IfOk result (λ answered. answered.kept ≡ answered.reply) }
@@ -101,7 +99,7 @@ impl NameKept {
         moment: Moment,
         visibility: Seconds,
     ) -> Result<Answered, NoMemory>
-        requires room { IsWithin (2 ^ 62 - 1) moment self.old }
+        requires room { IsWithin (HISTORY_LIMIT - 1) moment self.old }
         ensures ok { IfOk result (λ answered. (queue : List ℕ) →
             IsAnswer self.old self.new moment (asks.Create queue visibility) answered.reply) }
         ensures kept { IfOk result (λ answered. answered.kept ≡ answered.reply) }
@@ -137,7 +135,7 @@ impl NameKept {
         dedup: &DedupId,
         body: &Body,
     ) -> Result<Answered, NoMemory>
-        requires room { IsWithin (2 ^ 62 - 1) moment self.old }
+        requires room { IsWithin (HISTORY_LIMIT - 1) moment self.old }
         ensures ok { IfOk result (λ answered. (queue : List ℕ) →
             IsAnswer self.old self.new moment (asks.Send queue group.now dedup.now body.now) answered.reply) }
         ensures kept { IfOk result (λ answered. answered.kept ≡ answered.reply) }
@@ -157,7 +155,7 @@ impl NameKept {
         size: BatchSize,
         visibility: Option<Seconds>,
     ) -> Result<Answered, NoMemory>
-        requires room { IsWithin (2 ^ 62 - 1) moment self.old }
+        requires room { IsWithin (HISTORY_LIMIT - 1) moment self.old }
         ensures ok { IfOk result (λ answered. (queue : List ℕ) →
             IsAnswer self.old self.new moment (asks.Receive queue size visibility) answered.reply) }
         ensures kept { IfOk result (λ answered. answered.kept ≡ answered.reply) }
@@ -193,7 +191,7 @@ impl NameKept {
 
     /// A change of a message's visibility timeout.
     pub fn change(&mut self, moment: Moment, receipt: &Receipt, visibility: Seconds) -> Answered
-        requires room { IsWithin (2 ^ 62 - 1) moment self.old }
+        requires room { IsWithin (HISTORY_LIMIT - 1) moment self.old }
         ensures ok { (queue : List ℕ) →
             IsAnswer self.old self.new moment (asks.Change queue receipt.now visibility) result.reply }
         ensures kept { result.kept ≡ result.reply }
@@ -210,7 +208,7 @@ impl NameKept {
 
     /// What one ask does. After `NoMemory` nothing has changed.
     pub fn apply(&mut self, alloc: Global, moment: Moment, ask: &Ask) -> Result<Answered, NoMemory>
-        requires room { IsWithin (2 ^ 62 - 1) moment self.old }
+        requires room { IsWithin (HISTORY_LIMIT - 1) moment self.old }
         ensures ok { IfOk result (λ answered. IsAnswer self.old self.new moment ask.now answered.reply) }
         ensures kept { IfOk result (λ answered. answered.kept ≡ answered.reply) }
         ensures within { (count : ℕ) → IsWithin count moment self.old → IsWithin (count + 1) moment self.new }

@@ -1,5 +1,6 @@
-ghost use Rattle.std.specs.Prelude.{◌≡◌, ◌+◌, ◌-◌, ◌^◌, ℕ, List, None, false, IfOk, OnErr};
+ghost use Rattle.std.specs.Prelude.{◌≡◌, ◌+◌, ◌-◌, ℕ, List, None, false, IfOk, OnErr};
 ghost use Rattle.std.specs.Str.{bytes_eq};
+ghost use Rattle.cq_base.specs.declared.limits.TheConstants.{HISTORY_LIMIT};
 ghost use Rattle.cq_base.specs.Asks.{queue_of};
 ghost use Rattle.cq_store.specs.within.Asked.{IsAnswer, IsCount};
 ghost use Rattle.cq_store.specs.within.Rooms.{IsWithin, CameBy};
@@ -68,7 +69,7 @@ impl Names {
     /// What one ask does, and its reply: O(1), and what the ask takes on its queue. After `NoMemory` nothing has
     /// changed.
     pub fn apply(&mut self, alloc: Global, moment: Moment, ask: &Ask) -> Result<Answered, NoMemory>
-        requires { IsWithin (2 ^ 62 - 1) moment (or_unknown (name_at self.old (queue_of ask.now))) }
+        requires { IsWithin (HISTORY_LIMIT - 1) moment (or_unknown (name_at self.old (queue_of ask.now))) }
         ensures ok { IfOk result (λ answered. IsAnswer (or_unknown (name_at self.old (queue_of ask.now)))
             (or_unknown (name_at self.new (queue_of ask.now))) moment ask.now answered.reply) }
         ensures kept { IfOk result (λ answered. answered.kept ≡ answered.reply) }

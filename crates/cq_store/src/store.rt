@@ -1,4 +1,5 @@
-ghost use Rattle.std.specs.Prelude.{◌≡◌, ◌<◌, ◌≤◌, ◌+◌, ◌^◌, ℕ, List, [], ◌∷◌, ◌++◌, true, Some, cond, ◌==◌, IfOk, OnOk, OnErr};
+ghost use Rattle.std.specs.Prelude.{◌≡◌, ◌<◌, ◌≤◌, ◌+◌, ℕ, List, [], ◌∷◌, ◌++◌, true, Some, cond, ◌==◌, IfOk, OnOk, OnErr};
+ghost use Rattle.cq_base.specs.declared.limits.TheConstants.{HISTORY_LIMIT};
 ghost use Rattle.cq_base.specs.declared.ask.Entry.{Entry};
 ghost use Rattle.cq_base.specs.Clients.{is_fresh};
 ghost use Rattle.cq_base.specs.History as object;
@@ -57,7 +58,7 @@ impl Store {
 
     /// One more entry, which isn't fresh.
     fn pass(&mut self, entry: &Entry)
-        requires room { count_of self.old < 2 ^ 62 }
+        requires room { count_of self.old < HISTORY_LIMIT }
         requires stamped { last_of self.old ≤ entry.now.moment }
         ensures count { self.new.count ≡ self.old.count + 1 }
         ensures last { self.new.last ≡ entry.now.moment }
@@ -70,7 +71,7 @@ impl Store {
 
     /// One more entry, which is fresh.
     fn apply_fresh(&mut self, entry: &Entry) -> Result<Reply, NoMemory>
-        requires room { count_of self.old < 2 ^ 62 }
+        requires room { count_of self.old < HISTORY_LIMIT }
         requires stamped { last_of self.old ≤ entry.now.moment }
         ensures ok { (entries : List Entry) → Stands self.old entries
             → is_fresh entry.now.request.client entry.now.request.number (object.history entries) ≡ true
@@ -96,7 +97,7 @@ impl Store {
     /// The client and the queue are found by their hashes: O(1), and what the ask takes on its queue. A repeat
     /// copies the kept reply, and a receive makes two copies of its list.
     pub fn apply(&mut self, entry: &Entry) -> Result<Reply, NoMemory>
-        requires room { count_of self.old < 2 ^ 62 }
+        requires room { count_of self.old < HISTORY_LIMIT }
         requires stamped { last_of self.old ≤ entry.now.moment }
         ensures ok { (entries : List Entry) → Stands self.old entries → IfOk result (λ reply.
             (reply ≡ object.reply_to entries entry.now) × Stands self.new (entries ++ entry.now ∷ [])) }

@@ -1,4 +1,5 @@
-ghost use Rattle.std.specs.Prelude.{◌≡◌, ◌<◌, ◌≤◌, ◌^◌, ℕ, List, length, OnOk, OnErr};
+ghost use Rattle.std.specs.Prelude.{◌≡◌, ◌<◌, ◌≤◌, ℕ, List, length, OnOk, OnErr};
+ghost use Rattle.cq_base.specs.declared.limits.TheConstants.{HISTORY_LIMIT};
 ghost use Rattle.cq_base.specs.declared.party.Party as rust_party;
 ghost use Rattle.cq_base.specs.History.{last_moment, reply_to};
 ghost use Rattle.cq_chain.specs.Messages as sent;
@@ -52,7 +53,7 @@ impl Server {
 
     /// One more entry, which is sent on, in room that was made.
     pub(super) fn append(&mut self, entry: Entry) -> Result<(), NoMemory>
-        requires limit { length self.old.history < 2 ^ 62 }
+        requires limit { length self.old.history < HISTORY_LIMIT }
         requires stamped { last_moment self.old.history ≤ entry.moment }
         requires room { HasRoom self.old.outboxes 4 self.old.pred self.old.succ }
         ensures ok { OnOk result (Does self.old self.new

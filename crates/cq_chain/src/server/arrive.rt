@@ -1,4 +1,5 @@
-ghost use Rattle.std.specs.Prelude.{◌≡◌, ◌<◌, ◌≤◌, ◌^◌, max, List, length, IfOk, OnOk, OnErr};
+ghost use Rattle.std.specs.Prelude.{◌≡◌, ◌<◌, ◌≤◌, max, List, length, IfOk, OnOk, OnErr};
+ghost use Rattle.cq_base.specs.declared.limits.TheConstants.{HISTORY_LIMIT};
 ghost use Rattle.cq_base.specs.declared.party.Party as rust_party;
 ghost use Rattle.cq_base.specs.History.{last_moment};
 ghost use Rattle.cq_chain.specs.Messages as sent;
@@ -33,7 +34,7 @@ impl Server {
 
     /// A request becomes the next entry.
     fn enter(&mut self, request: &Request, clock: Moment) -> Result<(), NoMemory>
-        requires { length self.old.history < 2 ^ 62 }
+        requires { length self.old.history < HISTORY_LIMIT }
         ensures ok { OnOk result (Does self.old self.new (arrived clock request.now)) }
         ensures err { OnErr result (Keeps self.old self.new) }
     {

@@ -1,4 +1,5 @@
-ghost use Rattle.std.specs.Prelude.{◌≡◌, ◌<◌, ◌≤◌, ◌+◌, ◌==◌, ◌&&◌, ◌^◌, nat_le, min, true, List, length, OnOk, OnErr};
+ghost use Rattle.std.specs.Prelude.{◌≡◌, ◌<◌, ◌≤◌, ◌+◌, ◌==◌, ◌&&◌, nat_le, min, true, List, length, OnOk, OnErr};
+ghost use Rattle.cq_base.specs.declared.limits.TheConstants.{HISTORY_LIMIT};
 ghost use Rattle.cq_base.specs.declared.party.Party as rust_party;
 ghost use Rattle.cq_base.specs.declared.party.Party.TheVariants as parties;
 ghost use Rattle.cq_base.specs.History.{last_moment};
@@ -35,7 +36,7 @@ impl Server {
 
     /// The next entry of the predecessor is appended.
     fn take_next(&mut self, entry: &Entry) -> Result<(), NoMemory>
-        requires limit { length self.old.history < 2 ^ 62 }
+        requires limit { length self.old.history < HISTORY_LIMIT }
         requires stamped { last_moment self.old.history ≤ entry.now.moment }
         ensures ok { OnOk result (Does self.old self.new (forwarded entry.now)) }
         ensures err { OnErr result (Keeps self.old self.new) }

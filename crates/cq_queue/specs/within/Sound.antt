@@ -1,6 +1,7 @@
 -- What is known of each queue, besides what it stands for.
-use Rattle.std.specs.Prelude.{ℕ, ◌<◌, ◌≤◌, ◌^◌, List}
+use Rattle.std.specs.Prelude.{ℕ, ◌<◌, ◌≤◌, List}
 use Rattle.std.specs.List.{All}
+use Rattle.cq_base.specs.declared.limits.TheConstants.{HISTORY_LIMIT}
 use Rattle.cq_base.specs.Messages.{Message}
 
 -- the message wasn't handed out more often than so
@@ -13,4 +14,4 @@ pub record IsSound (number sent used : ℕ) (messages : List Message) : Type 0 w
   pub positive : 0 < number
   pub sends : sent ≤ used
   pub handings : All (IsHandedUpTo used) messages
-  pub uses : used ≤ 2 ^ 62
+  pub uses : used ≤ HISTORY_LIMIT

@@ -3,11 +3,12 @@ use Rattle.std.proofs.Common.{◌≡◌, ℕ, ◌+◌, ap, List, [], length, Opt
 use Rattle.cq_base.specs.declared.ask.Ask.{Ask}
 use Rattle.cq_base.specs.declared.ask.Ask.TheVariants.{Create, Remove, Send, Receive, Delete, Change}
 use Rattle.cq_base.specs.declared.ask.Entry.{Entry}
+use Rattle.cq_base.specs.declared.limits.TheConstants.{SECOND, FLIGHT_LIMIT}
 use Rattle.cq_base.specs.declared.reply.Delivery.{Delivery}
 use Rattle.cq_base.specs.declared.reply.Refusal.TheVariants.{QueueNameExists, QueueDeletedRecently, ReceiptHandleIsInvalid, MessageNotInflight, VisibilityBeyondLimit}
 use Rattle.cq_base.specs.declared.reply.Reply.{Reply}
 use Rattle.cq_base.specs.declared.reply.Reply.TheVariants.{Created, Received, Deleted, Changed, Refused}
-use Rattle.cq_base.specs.Effects.{Effect, only_replies, takes_effect, send, is_own, fits, message_at, delete_standing, delete_sent, delete, flight_limit, change_standing, change_sent, change, effect_on, effect_off, effect_by, effect_of, visibility_by}
+use Rattle.cq_base.specs.Effects.{Effect, only_replies, takes_effect, send, is_own, fits, message_at, delete_standing, delete_sent, delete, change_standing, change_sent, change, effect_on, effect_off, effect_by, effect_of, visibility_by}
 use Rattle.cq_base.specs.Facts.{Fact, on}
 use Rattle.cq_base.specs.Handle.{Handle}
 use Rattle.cq_base.specs.History.{fresh_fact}
@@ -49,7 +50,7 @@ deleted_of n xs ms receipt = chosen (is_own n xs receipt) n (delete_sent receipt
 
 change_standing_of : (n moment visibility : ℕ) (receipt : Handle) (x : Message) → IsOf n (change_standing moment visibility receipt x)
 change_standing_of n moment visibility receipt x =
-    let beyond = nat_lt (x.handed_at + flight_limit) (moment + 1000 * visibility) in
+    let beyond = nat_lt (x.handed_at + FLIGHT_LIMIT) (moment + SECOND * visibility) in
     let last = cond beyond (only_replies (Refused VisibilityBeyondLimit)) (takes_effect x.sequence Changed) in
     let landed = not (is_in_flight moment x) in
     chosen (not (fits receipt x)) n (only_replies (Refused ReceiptHandleIsInvalid)) (cond landed (only_replies (Refused MessageNotInflight)) last) (λ d at. absurd at)

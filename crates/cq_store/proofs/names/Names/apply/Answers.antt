@@ -1,7 +1,8 @@
 -- A known name is written in its place.
-use Rattle.std.proofs.Common.{◌≡◌, ◌+◌, ◌∙◌, ap, sym, subst, Some}
+use Rattle.std.proofs.Common.{◌-◌, ◌≡◌, ◌+◌, ◌∙◌, ap, sym, subst, Some}
 use Rattle.std.specs.Option.{is_some}
 use Rattle.std.specs.Str.{bytes_eq}
+use Rattle.cq_base.specs.declared.limits.TheConstants.{HISTORY_LIMIT}
 use Rattle.cq_base.specs.Asks.{queue_of}
 use Rattle.cq_store.specs.within.Asked.{IsAnswer}
 use Rattle.cq_store.specs.within.Rooms.{IsWithin}
@@ -10,7 +11,7 @@ use Rattle.cq_store.proofs.Lookups.{found, written, bounded, if_ok}
 use Rattle.cq_store.proofs.names.Names.apply.Goals as goal
 
 pub apply-requires : goal.apply-requires
-apply-requires c = record { room = subst (λ o. IsWithin 4611686018427387903 c.args.moment (or_unknown o)) (found c.self.inside.kept.entries c.args.self.now c.queue.result.now (queue_of c.args.ask.now) c.in-Some.name.now c.self.view_is c.queue.ensures c.in-Some.ensures.value) c.requires }
+apply-requires c = record { room = subst (λ o. IsWithin (HISTORY_LIMIT - 1) c.args.moment (or_unknown o)) (found c.self.inside.kept.entries c.args.self.now c.queue.result.now (queue_of c.args.ask.now) c.in-Some.name.now c.self.view_is c.queue.ensures c.in-Some.ensures.value) c.requires }
 
 pub returns-in-Some-clause-ok : goal.returns-in-Some-clause-ok
 returns-in-Some-clause-ok c =
