@@ -7,7 +7,8 @@ use Rattle.cq_base.specs.contracts.party.PartyPartialEq.TheImpl.{eq-value as der
 use Rattle.cq_base.specs.declared.party.Party.{Party}
 use Rattle.cq_base.specs.declared.party.Party.TheVariants.{Master, Clients, Server}
 use Rattle.cq_chain.specs.declared.message.Message as rust
-use Rattle.cq_chain.specs.within.Boxes.{Row, messages_of, room_of, row_for, messages_for}
+use Rattle.cq_chain.specs.Lanes.{Lane, messages_of, room_of}
+use Rattle.cq_chain.specs.within.Boxes.{lane_for, messages_for}
 use Rattle.cq_chain.specs.Messages.{Message}
 use Rattle.cq_chain.specs.Parties.{same, addressed}
 use Rattle.cq_chain.specs.Stands.{Means, AllMean, IsFirst, posted, drained}
@@ -89,48 +90,48 @@ lookup-agrees : {K X : Type 0} (f g : K → Bool) → ((k : K) → f k ≡ g k) 
 lookup-agrees f g h [] = refl
 lookup-agrees f g h (e ∷ es) = ap (λ b. cond b (Some e.1) (lookup f es)) (h e.0) ∙ ap (λ o. cond (g e.0) (Some e.1) o) (lookup-agrees f g h es)
 
--- ---- rows
+-- ---- lanes
 
--- The row for a party is that one now, and the others stay.
-abbrev pub Rewrites : List (Party × Row) → List (Party × Row) → Party → Option Row → Type 0
-Rewrites old new to row = (p : Party) → row_for new p ≡ cond (same to p) row (row_for old p)
+-- The lane for a party is that one now, and the others stay.
+abbrev pub Rewrites : List (Party × Lane) → List (Party × Lane) → Party → Option Lane → Type 0
+Rewrites old new to lane = (p : Party) → lane_for new p ≡ cond (same to p) lane (lane_for old p)
 
--- what a map finds by the derived equality is the row for the party
-pub found : (inside now : List (Party × Row)) (to : Party) (row : Option Row) → inside ≡ now → row ≡ lookup (derived.it to) inside → row_for now to ≡ row
-found inside now to row view is = ap (λ es. row_for es to) (sym view) ∙ sym (lookup-agrees (derived.it to) (same to) (party-eq to) inside) ∙ sym is
+-- what a map finds by the derived equality is the lane for the party
+pub found : (inside now : List (Party × Lane)) (to : Party) (lane : Option Lane) → inside ≡ now → lane ≡ lookup (derived.it to) inside → lane_for now to ≡ lane
+found inside now to lane view is = ap (λ es. lane_for es to) (sym view) ∙ sym (lookup-agrees (derived.it to) (same to) (party-eq to) inside) ∙ sym is
 
 -- and what it writes
-pub written : (inside now new : List (Party × Row)) (to : Party) (row : Option Row) → inside ≡ now → ((p : Party) → lookup (derived.it p) new ≡ cond (derived.it to p) row (lookup (derived.it p) inside)) → Rewrites now new to row
-written inside now new to row view writes p = sym (lookup-agrees (derived.it p) (same p) (party-eq p) new) ∙ writes p
-    ∙ ap (λ b. cond b row (lookup (derived.it p) inside)) (party-eq to p) ∙ ap (λ o. cond (same to p) row o) (lookup-agrees (derived.it p) (same p) (party-eq p) inside ∙ ap (λ es. row_for es p) view)
+pub written : (inside now new : List (Party × Lane)) (to : Party) (lane : Option Lane) → inside ≡ now → ((p : Party) → lookup (derived.it p) new ≡ cond (derived.it to p) lane (lookup (derived.it p) inside)) → Rewrites now new to lane
+written inside now new to lane view writes p = sym (lookup-agrees (derived.it p) (same p) (party-eq p) new) ∙ writes p
+    ∙ ap (λ b. cond b lane (lookup (derived.it p) inside)) (party-eq to p) ∙ ap (λ o. cond (same to p) lane o) (lookup-agrees (derived.it p) (same p) (party-eq p) inside ∙ ap (λ es. lane_for es p) view)
 
-replaced : (P : Bool → Option Row → Option Row → Type 0) (a b : Bool) (o p n m : Option Row) → a ≡ b → o ≡ p → n ≡ m → P b p m → P a o n
+replaced : (P : Bool → Option Lane → Option Lane → Type 0) (a b : Bool) (o p n m : Option Lane) → a ≡ b → o ≡ p → n ≡ m → P b p m → P a o n
 replaced P a b o p n m e f g h = subst (λ x. P x o n) (sym e) (subst (λ x. P b x n) (sym f) (subst (λ x. P b p x) (sym g) h))
 
--- what holds of the row that is written, and of each that stays, holds of all
-by_row : (old new : List (Party × Row)) (to : Party) (before after : Option Row) (P : Bool → Option Row → Option Row → Type 0) → row_for old to ≡ before → Rewrites old new to after
-    → P true before after → ((o : Option Row) → P false o o) → (p : Party) → P (same to p) (row_for old p) (row_for new p)
-by_row old new to before after P was writes here there p = elim (cases_Bool (same to p)) [
-  | inl e ↦ replaced P (same to p) true (row_for old p) before (row_for new p) after e (ap (λ q. row_for old q) (sym (same-equal to p e)) ∙ was) (writes p ∙ ap (λ b. cond b after (row_for old p)) e) here
-  | inr e ↦ replaced P (same to p) false (row_for old p) (row_for old p) (row_for new p) (row_for old p) e refl (writes p ∙ ap (λ b. cond b after (row_for old p)) e) (there (row_for old p))
+-- what holds of the lane that is written, and of each that stays, holds of all
+by_lane : (old new : List (Party × Lane)) (to : Party) (before after : Option Lane) (P : Bool → Option Lane → Option Lane → Type 0) → lane_for old to ≡ before → Rewrites old new to after
+    → P true before after → ((o : Option Lane) → P false o o) → (p : Party) → P (same to p) (lane_for old p) (lane_for new p)
+by_lane old new to before after P was writes here there p = elim (cases_Bool (same to p)) [
+  | inl e ↦ replaced P (same to p) true (lane_for old p) before (lane_for new p) after e (ap (λ q. lane_for old q) (sym (same-equal to p e)) ∙ was) (writes p ∙ ap (λ b. cond b after (lane_for old p)) e) here
+  | inr e ↦ replaced P (same to p) false (lane_for old p) (lane_for old p) (lane_for new p) (lane_for old p) e refl (writes p ∙ ap (λ b. cond b after (lane_for old p)) e) (there (lane_for old p))
 ]
 
 -- nothing is written
-pub unwritten : (old : List (Party × Row)) (to : Party) (before : Option Row) → row_for old to ≡ before → Rewrites old old to before
+pub unwritten : (old : List (Party × Lane)) (to : Party) (before : Option Lane) → lane_for old to ≡ before → Rewrites old old to before
 unwritten old to before was p = elim (cases_Bool (same to p)) [
-  | inl e ↦ ap (λ q. row_for old q) (sym (same-equal to p e)) ∙ was ∙ sym (ap (λ b. cond b before (row_for old p)) e)
-  | inr e ↦ sym (ap (λ b. cond b before (row_for old p)) e)
+  | inl e ↦ ap (λ q. lane_for old q) (sym (same-equal to p e)) ∙ was ∙ sym (ap (λ b. cond b before (lane_for old p)) e)
+  | inr e ↦ sym (ap (λ b. cond b before (lane_for old p)) e)
 ]
 
--- a row with the same messages and no less room
-pub row-kept : (old new : List (Party × Row)) (to : Party) (before : Option Row) (row : Row) → row_for old to ≡ before → Rewrites old new to (Some row) → row.messages ≡ messages_of before → room_of before ≤ row.room → KeepsAll old new
-row-kept old new to before row was writes messages room = (by_row old new to before (Some row) (λ b o n. messages_of n ≡ messages_of o) was writes messages (λ o. refl), by_row old new to before (Some row) (λ b o n. room_of o ≤ room_of n) was writes room (λ o. omega arith))
+-- a lane with the same messages and no less room
+pub lane-kept : (old new : List (Party × Lane)) (to : Party) (before : Option Lane) (lane : Lane) → lane_for old to ≡ before → Rewrites old new to (Some lane) → lane.messages ≡ messages_of before → room_of before ≤ lane.room → KeepsAll old new
+lane-kept old new to before lane was writes messages room = (by_lane old new to before (Some lane) (λ b o n. messages_of n ≡ messages_of o) was writes messages (λ o. refl), by_lane old new to before (Some lane) (λ b o n. room_of o ≤ room_of n) was writes room (λ o. omega arith))
 
--- a row with one more message
-pub row-posts : (old new : List (Party × Row)) (to : Party) (before : Option Row) (row : Row) (message : rust.Message) → row_for old to ≡ before → Rewrites old new to (Some row) → row.messages ≡ messages_of before ++ message ∷ []
+-- a lane with one more message
+pub lane-posts : (old new : List (Party × Lane)) (to : Party) (before : Option Lane) (lane : Lane) (message : rust.Message) → lane_for old to ≡ before → Rewrites old new to (Some lane) → lane.messages ≡ messages_of before ++ message ∷ []
     → (m : Message) → Means message m → Posts old new ((to, m) ∷ [])
-row-posts old new to before row message was writes messages m means outbox h p = subst (λ b. AllMean (messages_for new p) (outbox p ++ (if b then m ∷ [] else []))) (same-turned to p)
-    (by_row old new to before (Some row) (λ b o n. AllMean (messages_of o) (outbox p) → AllMean (messages_of n) (outbox p ++ (if b then m ∷ [] else []))) was writes
+lane-posts old new to before lane message was writes messages m means outbox h p = subst (λ b. AllMean (messages_for new p) (outbox p ++ (if b then m ∷ [] else []))) (same-turned to p)
+    (by_lane old new to before (Some lane) (λ b o n. AllMean (messages_of o) (outbox p) → AllMean (messages_of n) (outbox p ++ (if b then m ∷ [] else []))) was writes
     (λ k. subst (λ xs. AllMean xs (outbox p ++ m ∷ [])) (sym messages) (means-append (messages_of before) (message ∷ []) (outbox p) (m ∷ []) k (means, tt)))
     (λ o k. subst (λ ms. AllMean (messages_of o) ms) (sym (append-nil (outbox p))) k) p (h p))
 
@@ -147,45 +148,46 @@ for-no to p [] (x ∷ xs) h e = absurd h
 for-no to p (y ∷ ys) [] h e = absurd h
 for-no to p (y ∷ ys) (x ∷ xs) h e = ap (λ b. if b then x.1 ∷ addressed p xs else addressed p xs) (ap (λ q. same p q) h.0 ∙ e) ∙ for-no to p ys xs h.1.1 e
 
--- a row with these messages more
-pub rows-post : (old new : List (Party × Row)) (to : Party) (before : Option Row) (row : Row) (ys : List rust.Message) → row_for old to ≡ before → Rewrites old new to (Some row) → row.messages ≡ messages_of before ++ ys
+-- a lane with these messages more
+pub lanes-post : (old new : List (Party × Lane)) (to : Party) (before : Option Lane) (lane : Lane) (ys : List rust.Message) → lane_for old to ≡ before → Rewrites old new to (Some lane) → lane.messages ≡ messages_of before ++ ys
     → (all : List (Party × Message)) → AllFor to ys all → Posts old new all
-rows-post old new to before row ys was writes messages all for outbox h p =
-    by_row old new to before (Some row) (λ b o n. b ≡ same to p → AllMean (messages_of o) (outbox p) → AllMean (messages_of n) (outbox p ++ addressed p all)) was writes
+lanes-post old new to before lane ys was writes messages all for outbox h p =
+    by_lane old new to before (Some lane) (λ b o n. b ≡ same to p → AllMean (messages_of o) (outbox p) → AllMean (messages_of n) (outbox p ++ addressed p all)) was writes
     (λ e k. subst (λ xs. AllMean xs (outbox p ++ addressed p all)) (sym messages) (means-append (messages_of before) ys (outbox p) (addressed p all) k (for-yes to p ys all for (same-turned p to ∙ sym e))))
     (λ o e k. subst (λ ms. AllMean (messages_of o) (outbox p ++ ms)) (sym (for-no to p ys all for (same-turned p to ∙ sym e))) (subst (λ ms. AllMean (messages_of o) ms) (sym (append-nil (outbox p))) k))
     p refl (h p)
 
 -- none is sent, where there is no room
-pub none-post : (boxes : List (Party × Row)) (to : Party) (ys : List rust.Message) → row_for boxes to ≡ None → length ys ≤ room_of (row_for boxes to) → (all : List (Party × Message)) → AllFor to ys all → (outbox : Party → List Message) → Waits boxes outbox
+pub none-post : (boxes : List (Party × Lane)) (to : Party) (ys : List rust.Message) → lane_for boxes to ≡ None → length ys ≤ room_of (lane_for boxes to) → (all : List (Party × Message)) → AllFor to ys all → (outbox : Party → List Message) → Waits boxes outbox
     → Waits boxes (posted outbox all)
 none-post boxes to [] was fits [] for outbox h = λ p. subst (λ ms. AllMean (messages_for boxes p) ms) (sym (append-nil (outbox p))) (h p)
 none-post boxes to [] was fits (x ∷ xs) for outbox h = absurd for
 none-post boxes to (y ∷ ys) was fits all for outbox h = let k : length (y ∷ ys) ≤ 0 = subst (λ o. length (y ∷ ys) ≤ room_of o) was fits in absurd (omega arith)
 
--- the rows of others have as much room
-pub rows-others : (old new : List (Party × Row)) (to : Party) (before : Option Row) (row : Row) → row_for old to ≡ before → Rewrites old new to (Some row) → (p : Party) → same to p ≡ false → room_of (row_for old p) ≤ room_of (row_for new p)
-rows-others old new to before row was writes p other =
-    by_row old new to before (Some row) (λ b o n. b ≡ false → room_of o ≤ room_of n) was writes (λ e. absurd (true≢false e)) (λ o e. omega arith) p other
+-- the lanes of others have as much room
+pub lanes-others : (old new : List (Party × Lane)) (to : Party) (before : Option Lane) (lane : Lane) → lane_for old to ≡ before → Rewrites old new to (Some lane) → (p : Party) → same to p ≡ false → room_of (lane_for old p) ≤ room_of (lane_for new p)
+lanes-others old new to before lane was writes p other =
+    by_lane old new to before (Some lane) (λ b o n. b ≡ false → room_of o ≤ room_of n) was writes (λ e. absurd (true≢false e)) (λ o e. omega arith) p other
 
-pub row-takes_one : (old new : List (Party × Row)) (to : Party) (before : Option Row) (row : Row) → row_for old to ≡ before → Rewrites old new to (Some row) → room_of before ≤ row.room + 1 → TakesOne old new
-row-takes_one old new to before row was writes room = by_row old new to before (Some row) (λ b o n. room_of o ≤ room_of n + 1) was writes room (λ o. omega arith)
+pub lane-takes_one : (old new : List (Party × Lane)) (to : Party) (before : Option Lane) (lane : Lane) → lane_for old to ≡ before → Rewrites old new to (Some lane) → room_of before ≤ lane.room + 1 → TakesOne old new
+lane-takes_one old new to before lane was writes room = by_lane old new to before (Some lane) (λ b o n. room_of o ≤ room_of n + 1) was writes room (λ o. omega arith)
 
--- the message that leaves a row is the first that waits
+-- the message that leaves a lane is the first that waits
 pub popped-first : (result : Option rust.Message) (old new : List rust.Message) (ms : List Message) → IfSome result (λ x. old ≡ x ∷ new) → IfNone result (old ≡ []) → AllMean old ms → IsFirst result ms
 popped-first None old new ms some none h = none-mean ms (subst (λ xs. AllMean xs ms) none h)
 popped-first (Some x) old new ms some none h = first-mean x new ms (subst (λ xs. AllMean xs ms) some h)
 
-popped-rest : (result : Option rust.Message) (old new : List rust.Message) (ms : List Message) → IfSome result (λ x. old ≡ x ∷ new) → IfNone result (old ≡ []) → IfNone result (new ≡ []) → AllMean old ms → AllMean new (drop 1 ms)
-popped-rest None old new ms some none empty h = subst (λ xs. AllMean xs (drop 1 ms)) (sym empty) (subst (λ ns. AllMean [] (drop 1 ns)) (sym (none-mean ms (subst (λ xs. AllMean xs ms) none h))) tt)
-popped-rest (Some x) old new ms some none empty h = rest-mean x new ms (subst (λ xs. AllMean xs ms) some h)
+rest-means : (xs : List rust.Message) (ms : List Message) → AllMean xs ms → AllMean (drop 1 xs) (drop 1 ms)
+rest-means [] [] h = tt
+rest-means [] (m ∷ ms) h = absurd h
+rest-means (x ∷ xs) ms h = rest-mean x xs ms h
 
 -- and the others wait on
-pub row-drained : (old new : List (Party × Row)) (to : Party) (before after : Option Row) (result : Option rust.Message) → row_for old to ≡ before → Rewrites old new to after
-    → IfSome result (λ x. messages_of before ≡ x ∷ messages_of after) → IfNone result (messages_of before ≡ []) → IfNone result (messages_of after ≡ []) → (outbox : Party → List Message) → Waits old outbox → Waits new (drained outbox to)
-row-drained old new to before after result was writes some none empty outbox h p =
-    by_row old new to before after (λ b o n. AllMean (messages_of o) (outbox p) → AllMean (messages_of n) (if b then drop 1 (outbox p) else outbox p)) was writes
-    (λ k. popped-rest result (messages_of before) (messages_of after) (outbox p) some none empty k) (λ o k. k) p (h p)
+pub lane-drained : (old new : List (Party × Lane)) (to : Party) (before after : Option Lane) → lane_for old to ≡ before → Rewrites old new to after
+    → messages_of after ≡ drop 1 (messages_of before) → (outbox : Party → List Message) → Waits old outbox → Waits new (drained outbox to)
+lane-drained old new to before after was writes rest outbox h p =
+    by_lane old new to before after (λ b o n. AllMean (messages_of o) (outbox p) → AllMean (messages_of n) (if b then drop 1 (outbox p) else outbox p)) was writes
+    (λ k. subst (λ xs. AllMean xs (drop 1 (outbox p))) (sym rest) (rest-means (messages_of before) (outbox p) k)) (λ o k. k) p (h p)
 
 -- ---- one after the other
 
@@ -203,16 +205,16 @@ pub posted-append : (outbox : Party → List Message) (xs ys : List (Party × Me
 posted-append outbox xs ys p = append_assoc (outbox p) (addressed p xs) (addressed p ys) ∙ ap (λ ms. outbox p ++ ms) (sym (addressed-append p xs ys))
 
 -- nothing is sent
-pub posts-none : (boxes : List (Party × Row)) → Posts boxes boxes []
+pub posts-none : (boxes : List (Party × Lane)) → Posts boxes boxes []
 posts-none boxes outbox h p = subst (λ ms. AllMean (messages_for boxes p) ms) (sym (append-nil (outbox p))) (h p)
 
 -- one after the other
-pub posts-then : (a b c : List (Party × Row)) (xs ys : List (Party × Message)) → Posts a b xs → Posts b c ys → Posts a c (xs ++ ys)
+pub posts-then : (a b c : List (Party × Lane)) (xs ys : List (Party × Message)) → Posts a b xs → Posts b c ys → Posts a c (xs ++ ys)
 posts-then a b c xs ys h k outbox waits p = subst (λ ms. AllMean (messages_for c p) ms) (posted-append outbox xs ys p) (k (posted outbox xs) (h outbox waits) p)
 
 -- the same messages wait
-pub waits-kept : (old new : List (Party × Row)) → KeepsAll old new → (outbox : Party → List Message) → Waits old outbox → Waits new outbox
+pub waits-kept : (old new : List (Party × Lane)) → KeepsAll old new → (outbox : Party → List Message) → Waits old outbox → Waits new outbox
 waits-kept old new keeps outbox h p = subst (λ xs. AllMean xs (outbox p)) (sym (keeps.0 p)) (h p)
 
-pub posts-after : (a b c : List (Party × Row)) (xs : List (Party × Message)) → KeepsAll a b → Posts b c xs → Posts a c xs
+pub posts-after : (a b c : List (Party × Lane)) (xs : List (Party × Message)) → KeepsAll a b → Posts b c xs → Posts a c xs
 posts-after a b c xs keeps posts outbox h = posts outbox (waits-kept a b keeps outbox h)

@@ -7,7 +7,8 @@ use Rattle.cq_chain.specs.declared.fault.WorldFault.TheVariants.{NoSuchServer, L
 use Rattle.cq_chain.specs.declared.master.Master as kept
 use Rattle.cq_chain.specs.declared.message.Message as rust
 use Rattle.cq_chain.specs.declared.message.Message.TheVariants as sent
-use Rattle.cq_chain.specs.within.Boxes.{Row, messages_for}
+use Rattle.cq_chain.specs.Lanes.{Lane}
+use Rattle.cq_chain.specs.within.Boxes.{messages_for}
 use Rattle.cq_chain.specs.Masters.{Master, Order, no_order, is_in, is_last, stands_before, without, detected, joined, hears, said_of_loss, said_of_join, refusal_of_detection, refusal_of_join}
 use Rattle.cq_chain.specs.Messages.{Message, Have, Adopted, Ready, Adopt, BeTail}
 use Rattle.cq_chain.specs.Parties.{addressed}
@@ -24,7 +25,7 @@ unfolding IsMaster
 master-parts kept m outbox h = h
 
 -- with other outboxes
-pub with_master_boxes : (kept : kept.Master) (m : Master) (outbox next : Party → List Message) (boxes : List (Party × Row)) → IsMaster kept m outbox → Waits boxes next → next parties.Master ≡ [] → next parties.Clients ≡ []
+pub with_master_boxes : (kept : kept.Master) (m : Master) (outbox next : Party → List Message) (boxes : List (Party × Lane)) → IsMaster kept m outbox → Waits boxes next → next parties.Master ≡ [] → next parties.Clients ≡ []
     → IsMaster (record kept { outboxes = boxes }) m next
 with_master_boxes kept m outbox next boxes h waits master clients = let p = master-parts kept m outbox h in master-stands (record kept { outboxes = boxes }) m next (record {
   chain = p.chain;
@@ -37,7 +38,7 @@ with_master_boxes kept m outbox next boxes h waits master clients = let p = mast
 })
 
 -- with room
-pub with_master_room : (kept : kept.Master) (m : Master) (outbox : Party → List Message) (boxes : List (Party × Row)) → IsMaster kept m outbox → KeepsAll kept.outboxes boxes → IsMaster (record kept { outboxes = boxes }) m outbox
+pub with_master_room : (kept : kept.Master) (m : Master) (outbox : Party → List Message) (boxes : List (Party × Lane)) → IsMaster kept m outbox → KeepsAll kept.outboxes boxes → IsMaster (record kept { outboxes = boxes }) m outbox
 with_master_room kept m outbox boxes h keeps = let p = master-parts kept m outbox h in
     with_master_boxes kept m outbox outbox boxes h (waits-kept kept.outboxes boxes keeps outbox p.waiting) p.master p.clients
 
@@ -57,13 +58,13 @@ said-to_server to y (x ∷ []) h = rw h.0 (refl, refl)
 said-to_server to y (x ∷ z ∷ zs) h = absurd h.1.1
 
 -- it is said
-pub said-stands : (kept : kept.Master) (m : Master) (outbox : Party → List Message) (boxes : List (Party × Row)) (to : ℕ) (y : rust.Message) (all : List (Party × Message)) → IsMaster kept m outbox → AllFor (parties.Server to) (y ∷ []) all
+pub said-stands : (kept : kept.Master) (m : Master) (outbox : Party → List Message) (boxes : List (Party × Lane)) (to : ℕ) (y : rust.Message) (all : List (Party × Message)) → IsMaster kept m outbox → AllFor (parties.Server to) (y ∷ []) all
     → Posts kept.outboxes boxes all → IsMaster (record kept { outboxes = boxes }) m (posted outbox all)
 said-stands kept m outbox boxes to y all h for posts = let p = master-parts kept m outbox h in let none = said-to_server to y all for in
     with_master_boxes kept m outbox (posted outbox all) boxes h (posts outbox p.waiting) (rw (p.master, none.0)) (rw (p.clients, none.1))
 
 -- one message is for its party
-pub one-for : (to : Party) (y : rust.Message) (all : List (Party × Message)) (boxes new : List (Party × Row)) → AllFor to (y ∷ []) all → ((m : Message) → Means y m → Posts boxes new ((to, m) ∷ [])) → Posts boxes new all
+pub one-for : (to : Party) (y : rust.Message) (all : List (Party × Message)) (boxes new : List (Party × Lane)) → AllFor to (y ∷ []) all → ((m : Message) → Means y m → Posts boxes new ((to, m) ∷ [])) → Posts boxes new all
 one-for to y [] boxes new h posts = absurd h
 one-for to y ((p, m) ∷ []) boxes new h posts = subst (λ q. Posts boxes new ((q, m) ∷ [])) (sym h.0) (posts m h.1.0)
 one-for to y (a ∷ b ∷ rest) boxes new h posts = absurd h.1.1

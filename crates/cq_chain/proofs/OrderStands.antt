@@ -4,7 +4,7 @@ use Rattle.cq_base.specs.declared.ask.Entry.{Entry}
 use Rattle.cq_base.specs.declared.party.Party.{Party}
 use Rattle.cq_base.specs.declared.party.Party.TheVariants as parties
 use Rattle.cq_chain.specs.declared.server.Server as kept
-use Rattle.cq_chain.specs.within.Boxes.{Row}
+use Rattle.cq_chain.specs.Lanes.{Lane}
 use Rattle.cq_chain.specs.Messages.{Message, Snap, Ack, Have, Adopted, Ready}
 use Rattle.cq_chain.specs.Servers.{Server, acts, is_that}
 use Rattle.cq_chain.specs.Stands.{StandsFor, Does, posted}
@@ -13,7 +13,7 @@ use Rattle.cq_chain.specs.within.Waiting.{Posts, KeepsAll, Waits}
 use Rattle.cq_chain.proofs.ServerStands.{stands, stands-by, parts, nothing-sent}
 
 -- room is made twice
-pub keeps-then : (a b c : List (Party × Row)) → KeepsAll a b → KeepsAll b c → KeepsAll a c
+pub keeps-then : (a b c : List (Party × Lane)) → KeepsAll a b → KeepsAll b c → KeepsAll a c
 keeps-then a b c h k = ((λ to. k.0 to ∙ h.0 to), (λ to. omega (arith, h.1 to, k.1 to)))
 
 -- a server that is down
@@ -53,7 +53,7 @@ pub headed-stands : (kept : kept.Server) (s : Server) (outbox : Party → List M
 headed-stands kept s outbox h = nothing-sent (record kept { head = true; pred = None }) (record s { head = true; pred = None }) outbox (head-stands kept s outbox h)
 
 -- a new predecessor
-pub reported-stands : (kept : kept.Server) (s : Server) (outbox : Party → List Message) (boxes : List (Party × Row)) (pred n k : ℕ) → StandsFor kept s outbox
+pub reported-stands : (kept : kept.Server) (s : Server) (outbox : Party → List Message) (boxes : List (Party × Lane)) (pred n k : ℕ) → StandsFor kept s outbox
     → Posts kept.outboxes boxes ((parties.Master, Have pred n) ∷ (parties.Server pred, Ack k) ∷ []) → n ≡ length kept.history → k ≡ kept.acked
     → StandsFor (record kept { pred = Some pred; outboxes = boxes }) (reported pred s).server (posted outbox (reported pred s).sent)
 reported-stands kept s outbox boxes pred n k h posts is_n is_k = let p = parts kept s outbox h in
@@ -72,7 +72,7 @@ reported-stands kept s outbox boxes pred n k h posts is_n is_k = let p = parts k
     })
 
 -- a new successor
-pub adopting-stands : (kept : kept.Server) (s : Server) (outbox : Party → List Message) (boxes : List (Party × Row)) (succ have n : ℕ) → StandsFor kept s outbox
+pub adopting-stands : (kept : kept.Server) (s : Server) (outbox : Party → List Message) (boxes : List (Party × Lane)) (succ have n : ℕ) → StandsFor kept s outbox
     → Posts kept.outboxes boxes (repair succ have s ++ (parties.Master, Adopted succ n) ∷ []) → n ≡ length kept.history
     → StandsFor (record kept { at_least = None; succ = Some succ; outboxes = boxes }) (adopting succ have s).server (posted outbox (adopting succ have s).sent)
 adopting-stands kept s outbox boxes succ have n h posts is_n = let p = parts kept s outbox h in

@@ -6,7 +6,7 @@ use Rattle.cq_base.specs.declared.party.Party.{Party}
 use Rattle.cq_base.specs.declared.party.Party.TheVariants as parties
 use Rattle.cq_chain.specs.declared.message.Message as rust
 use Rattle.cq_chain.specs.declared.message.Message.TheVariants as kept
-use Rattle.cq_chain.specs.within.Boxes.{Row}
+use Rattle.cq_chain.specs.Lanes.{Lane}
 use Rattle.cq_chain.specs.Messages.{Message, Fwd, Snap}
 use Rattle.cq_chain.specs.Servers.{Server}
 use Rattle.cq_chain.specs.Stands.{Means}
@@ -39,23 +39,23 @@ pub repair-whole : (to have : ℕ) (s : Server) → nat_le s.floor have ≡ fals
 repair-whole to have s h = rw h
 
 -- one more entry is sent
-pub sent-more : (to have i place : ℕ) (es : List Entry) (e : Entry) (row new : List rust.Message) → i < length es → e ≡ get_or es i e → AllFor (parties.Server to) row (forwards to (have + 1) (take i es)) → place ≡ have + 1 + i
-    → new ≡ row ++ kept.Fwd place e ∷ [] → AllFor (parties.Server to) new (forwards to (have + 1) (take (i + 1) es))
-sent-more to have i place es e row new within is h at more =
+pub sent-more : (to have i place : ℕ) (es : List Entry) (e : Entry) (lane new : List rust.Message) → i < length es → e ≡ get_or es i e → AllFor (parties.Server to) lane (forwards to (have + 1) (take i es)) → place ≡ have + 1 + i
+    → new ≡ lane ++ kept.Fwd place e ∷ [] → AllFor (parties.Server to) new (forwards to (have + 1) (take (i + 1) es))
+sent-more to have i place es e lane new within is h at more =
     let n : have + 1 + length (take i es) ≡ place = ap (λ k. have + 1 + k) (length-take-le i es (omega arith)) ∙ sym at in
     let all : forwards to (have + 1) (take (i + 1) es) ≡ forwards to (have + 1) (take i es) ++ (parties.Server to, Fwd place e) ∷ [] =
     ap (λ xs. forwards to (have + 1) xs) (take_more es i e within) ∙ forwards-more to (have + 1) (take i es) (get_or es i e)
     ∙ ap (λ k. forwards to (have + 1) (take i es) ++ (parties.Server to, Fwd k (get_or es i e)) ∷ []) n
     ∙ ap (λ x. forwards to (have + 1) (take i es) ++ (parties.Server to, Fwd place x) ∷ []) (sym is) in
     subst (λ xs. AllFor (parties.Server to) new xs) (sym all) (subst (λ ys. AllFor (parties.Server to) ys (forwards to (have + 1) (take i es) ++ (parties.Server to, Fwd place e) ∷ [])) (sym more)
-    (for-append (parties.Server to) row (kept.Fwd place e) (forwards to (have + 1) (take i es)) (Fwd place e) h refl))
+    (for-append (parties.Server to) lane (kept.Fwd place e) (forwards to (have + 1) (take i es)) (Fwd place e) h refl))
 
 -- nothing is sent
-pub sent-none : (to place : ℕ) (es : List Entry) (row : List rust.Message) → row ≡ [] → es ≡ [] → AllFor (parties.Server to) row (forwards to place es)
-sent-none to place es row empty none = subst (λ ys. AllFor (parties.Server to) ys (forwards to place es)) (sym empty) (subst (λ xs. AllFor (parties.Server to) [] (forwards to place xs)) (sym none)
+pub sent-none : (to place : ℕ) (es : List Entry) (lane : List rust.Message) → lane ≡ [] → es ≡ [] → AllFor (parties.Server to) lane (forwards to place es)
+sent-none to place es lane empty none = subst (λ ys. AllFor (parties.Server to) ys (forwards to place es)) (sym empty) (subst (λ xs. AllFor (parties.Server to) [] (forwards to place xs)) (sym none)
     (subst (λ xs. AllFor (parties.Server to) [] xs) (sym (forwards-none to place)) tt))
 
 -- what is made is what is sent
-pub made-by : {E : Type 0} (r : Result Row E) (all other : ℕ → List (Party × Message)) → ((to : ℕ) → all to ≡ other to) → IfOk r (λ row. (to : ℕ) → AllFor (parties.Server to) row.messages (all to)) → IfOk r (λ row. (to : ℕ) → AllFor (parties.Server to) row.messages (other to))
-made-by (Ok row) all other same h = λ to. subst (λ xs. AllFor (parties.Server to) row.messages xs) (same to) (h to)
+pub made-by : {E : Type 0} (r : Result Lane E) (all other : ℕ → List (Party × Message)) → ((to : ℕ) → all to ≡ other to) → IfOk r (λ lane. (to : ℕ) → AllFor (parties.Server to) lane.messages (all to)) → IfOk r (λ lane. (to : ℕ) → AllFor (parties.Server to) lane.messages (other to))
+made-by (Ok lane) all other same h = λ to. subst (λ xs. AllFor (parties.Server to) lane.messages xs) (same to) (h to)
 made-by (Err e) all other same h = tt

@@ -7,7 +7,8 @@ use Rattle.cq_base.specs.declared.party.Party.{Party}
 use Rattle.cq_base.specs.declared.party.Party.TheVariants as parties
 use Rattle.cq_chain.specs.declared.message.Answer.{Answer}
 use Rattle.cq_chain.specs.declared.server.Server as kept
-use Rattle.cq_chain.specs.within.Boxes.{Row, messages_for}
+use Rattle.cq_chain.specs.Lanes.{Lane}
+use Rattle.cq_chain.specs.within.Boxes.{messages_for}
 use Rattle.cq_chain.specs.Messages.{Message, Fwd, Ack, Ready, Answers}
 use Rattle.cq_chain.specs.Servers.{Server, acts, reaches}
 use Rattle.cq_chain.specs.Stands.{AllMean, Holds, StandsFor, posted}
@@ -37,7 +38,7 @@ acting kept s outbox h = let p = parts kept s outbox h in ap (λ es. reaches (le
 -- ---- outboxes
 
 -- with other outboxes
-pub with_boxes : (kept : kept.Server) (s : Server) (outbox next : Party → List Message) (boxes : List (Party × Row)) → StandsFor kept s outbox → Waits boxes next → StandsFor (record kept { outboxes = boxes }) s next
+pub with_boxes : (kept : kept.Server) (s : Server) (outbox next : Party → List Message) (boxes : List (Party × Lane)) → StandsFor kept s outbox → Waits boxes next → StandsFor (record kept { outboxes = boxes }) s next
 with_boxes kept s outbox next boxes h waits = let p = parts kept s outbox h in stands (record kept { outboxes = boxes }) s next (record {
   entries = p.entries;
   acked = p.acked;
@@ -52,11 +53,11 @@ with_boxes kept s outbox next boxes h waits = let p = parts kept s outbox h in s
 })
 
 -- with room
-pub with_room : (kept : kept.Server) (s : Server) (outbox : Party → List Message) (boxes : List (Party × Row)) → StandsFor kept s outbox → KeepsAll kept.outboxes boxes → StandsFor (record kept { outboxes = boxes }) s outbox
+pub with_room : (kept : kept.Server) (s : Server) (outbox : Party → List Message) (boxes : List (Party × Lane)) → StandsFor kept s outbox → KeepsAll kept.outboxes boxes → StandsFor (record kept { outboxes = boxes }) s outbox
 with_room kept s outbox boxes h keeps = with_boxes kept s outbox outbox boxes h (waits-kept kept.outboxes boxes keeps outbox (parts kept s outbox h).waiting)
 
 -- with messages
-pub with_posts : (kept : kept.Server) (s : Server) (outbox : Party → List Message) (boxes : List (Party × Row)) (sent all : List (Party × Message)) → StandsFor kept s outbox → Posts kept.outboxes boxes sent → sent ≡ all
+pub with_posts : (kept : kept.Server) (s : Server) (outbox : Party → List Message) (boxes : List (Party × Lane)) (sent all : List (Party × Message)) → StandsFor kept s outbox → Posts kept.outboxes boxes sent → sent ≡ all
     → StandsFor (record kept { outboxes = boxes }) s (posted outbox all)
 with_posts kept s outbox boxes sent all h posts same = subst (λ xs. StandsFor (record kept { outboxes = boxes }) s (posted outbox xs)) same
     (with_boxes kept s outbox (posted outbox sent) boxes h (posts outbox (parts kept s outbox h).waiting))
@@ -139,7 +140,7 @@ pub arrived-stands : (new : kept.Server) (clock : ℕ) (request : Request) (s : 
 unfolding arrived
 arrived-stands new clock request s outbox e is h = subst (λ d. StandsFor new (settled (appended s d)) (posted outbox (passed_on s d))) is h
 
-pub asked-stands : (kept : kept.Server) (boxes mid : List (Party × Row)) (query : Query) (s : Server) (outbox : Party → List Message) (answer : Answer) → StandsFor kept s outbox → KeepsAll kept.outboxes mid
+pub asked-stands : (kept : kept.Server) (boxes mid : List (Party × Lane)) (query : Query) (s : Server) (outbox : Party → List Message) (answer : Answer) → StandsFor kept s outbox → KeepsAll kept.outboxes mid
     → Posts mid boxes ((parties.Clients, Answers answer) ∷ []) → answer ≡ answer_to_query s.entries query → StandsFor (record kept { outboxes = boxes }) (asked query s).server (posted outbox (asked query s).sent)
 unfolding asked
 asked-stands kept boxes mid query s outbox answer h keeps posts is = with_posts kept s outbox boxes ((parties.Clients, Answers answer) ∷ []) ((parties.Clients, Answers (answer_to_query s.entries query)) ∷ []) h
@@ -150,7 +151,7 @@ pub ignored-stands : (kept : kept.Server) (n : ℕ) (s : Server) (outbox : Party
 ignored-stands kept n s outbox h old = rw old (nothing-sent kept s outbox h)
 
 -- an acknowledgement is kept and passed on
-pub acknowledged-stands : (kept : kept.Server) (boxes mid : List (Party × Row)) (n k l : ℕ) (s : Server) (outbox : Party → List Message) → StandsFor kept s outbox → KeepsAll kept.outboxes mid
+pub acknowledged-stands : (kept : kept.Server) (boxes mid : List (Party × Lane)) (n k l : ℕ) (s : Server) (outbox : Party → List Message) → StandsFor kept s outbox → KeepsAll kept.outboxes mid
     → Posts mid boxes (to_server kept.pred (Ack k)) → k ≡ n → l ≡ max kept.floor n → nat_lt s.acked n ≡ true → StandsFor (record kept { acked = k; floor = l; outboxes = boxes }) (acknowledged n s).server (posted outbox (acknowledged n s).sent)
 acknowledged-stands kept boxes mid n k l s outbox h keeps posts is_k is_l news = let p = parts kept s outbox h in
     let now : Server = record s { acked = n; floor = max s.floor n } in

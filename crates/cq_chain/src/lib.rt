@@ -6,10 +6,10 @@
 mod client;
 mod fault;
 mod history;
+mod lane;
 mod master;
 mod message;
 mod outboxes;
-mod row;
 mod server;
 #[cfg(test)]
 mod tests;
@@ -17,6 +17,7 @@ mod tests;
 pub use client::Client;
 pub use fault::{ClientFault, WorldFault};
 pub use history::History;
+pub use lane::Lane;
 pub use master::Master;
 pub use message::{Answer, Message};
 pub use server::Server;

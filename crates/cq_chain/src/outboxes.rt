@@ -1,14 +1,14 @@
 ghost use Rattle.std.specs.Prelude.{◌≡◌, ◌<◌, ◌≤◌, List, [], ◌∷◌, length, false, None, OnOk};
 ghost use Rattle.cq_base.specs.declared.party.Party as rust_party;
-ghost use Rattle.cq_chain.specs.within.Boxes.{messages_for, room_for, row_for};
+ghost use Rattle.cq_chain.specs.within.Boxes.{messages_for, room_for, lane_for};
 ghost use Rattle.cq_chain.specs.Messages as sent;
 ghost use Rattle.cq_chain.specs.Parties.{same};
 ghost use Rattle.cq_chain.specs.Stands.{Means, IsFirst, drained};
 ghost use Rattle.cq_chain.specs.Steps.{to_server};
 ghost use Rattle.cq_chain.specs.within.Waiting.{Waits, Posts, AllFor, KeepsAll, TakesOne, HasRoom, HasRoomAt};
 
+use crate::lane::Lane;
 use crate::message::Message;
-use crate::row::Row;
 use cq_base::{NoMemory, Party, ServerId};
 use indexmap::IndexMap;
 use std::alloc::Global;
@@ -20,17 +20,17 @@ const STEP_ROOM: usize = 4;
 /// What a server has to send, to each party in order: found by a hash of the party.
 #[derive(Drop)]
 pub struct Outboxes {
-    rows: IndexMap<Party, Row>,
+    lanes: IndexMap<Party, Lane>,
 }
 
 impl Model for Outboxes {
     ghost use Rattle.std.specs.Prelude.{List};
     ghost use Rattle.cq_base.specs.declared.party.Party as rust_party;
-    ghost use Rattle.cq_chain.specs.within.Boxes as boxes;
+    ghost use Rattle.cq_chain.specs.Lanes as kept;
 
-    ghost Value = { List (rust_party.Party × boxes.Row) };
+    ghost Value = { List (rust_party.Party × kept.Lane) };
 
-    ghost view = { λ o. o.rows.entries };
+    ghost view = { λ o. o.lanes.entries };
 }
 
 impl Outboxes {
@@ -39,7 +39,7 @@ impl Outboxes {
         ensures { (to : rust_party.Party) → messages_for result to ≡ [] }
     {
         Outboxes {
-            rows: IndexMap::new(alloc),
+            lanes: IndexMap::new(alloc),
         }
     }
 
@@ -47,21 +47,21 @@ impl Outboxes {
     pub fn waiting(&self, to: Party) -> usize
         ensures { result ≡ length (messages_for self.now to) }
     {
-        match self.rows.get(&to) {
-            Some(row) => row.len(),
+        match self.lanes.get(&to) {
+            Some(lane) => lane.len(),
             None => 0,
         }
     }
 
-    /// A row for a party that has none, with room for so many messages.
+    /// A lane for a party that has none, with room for so many messages.
     fn add(&mut self, alloc: Global, to: Party, count: usize) -> Result<(), NoMemory>
-        requires { row_for self.old to ≡ None }
+        requires { lane_for self.old to ≡ None }
         ensures keeps { KeepsAll self.old self.new }
         ensures room { OnOk result (count ≤ room_for self.new to) }
     {
-        let mut row = Row::new(alloc);
-        row.reserve(count)?;
-        self.rows.insert(to, row)?;
+        let mut lane = Lane::new(alloc);
+        lane.reserve(count)?;
+        self.lanes.insert(to, lane)?;
         Ok(())
     }
 
@@ -70,8 +70,8 @@ impl Outboxes {
         ensures keeps { KeepsAll self.old self.new }
         ensures room { OnOk result (count ≤ room_for self.new to) }
     {
-        match self.rows.get_mut(&to) {
-            Some(row) => row.reserve(count),
+        match self.lanes.get_mut(&to) {
+            Some(lane) => lane.reserve(count),
             None => self.add(alloc, to, count),
         }
     }
@@ -117,21 +117,21 @@ impl Outboxes {
         ensures posts { (m : sent.Message) → Means message m → Posts self.old self.new ((to, m) ∷ []) }
         ensures room { TakesOne self.old self.new }
     {
-        match self.rows.get_mut(&to) {
-            Some(row) => row.push(message),
+        match self.lanes.get_mut(&to) {
+            Some(lane) => lane.push(message),
             None => unreachable!(),
         }
     }
 
     /// These messages wait for the party behind the others, in room that was made: O(messages that come).
-    pub fn push_all(&mut self, to: Party, messages: Row)
+    pub fn push_all(&mut self, to: Party, messages: Lane)
         requires { length messages.messages ≤ room_for self.old to }
         ensures posts { (all : List (rust_party.Party × sent.Message)) → AllFor to messages.messages all
             → Posts self.old self.new all }
         ensures others { (party : rust_party.Party) → same to party ≡ false → room_for self.old party ≤ room_for self.new party }
     {
-        match self.rows.get_mut(&to) {
-            Some(row) => row.append(messages),
+        match self.lanes.get_mut(&to) {
+            Some(lane) => lane.append(messages),
             None => (),
         }
     }
@@ -154,8 +154,8 @@ impl Outboxes {
         ensures rest { (outbox : rust_party.Party → List sent.Message) → Waits self.old outbox
             → Waits self.new (drained outbox to) }
     {
-        match self.rows.get_mut(&to) {
-            Some(row) => row.pop(),
+        match self.lanes.get_mut(&to) {
+            Some(lane) => lane.pop(),
             None => None,
         }
     }

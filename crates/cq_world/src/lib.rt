@@ -5,7 +5,6 @@ mod event;
 pub mod laws;
 mod links;
 mod ran;
-mod row;
 mod sim;
 #[cfg(test)]
 mod tests;

@@ -3,9 +3,8 @@ ghost use Rattle.cq_base.specs.declared.party.Party as rust_party;
 ghost use Rattle.cq_world.specs.within.Kept.{messages_at, room_at};
 ghost use Rattle.cq_world.specs.Worlds.{set_pair};
 
-use crate::row::Row;
 use cq_base::{NoMemory, Party};
-use cq_chain::Message;
+use cq_chain::{Lane, Message};
 use indexmap::IndexMap;
 use std::alloc::Global;
 use std::marker::Model;
@@ -20,17 +19,17 @@ pub struct Pair {
 /// The links between all parties, each found by a hash of its two ends.
 #[derive(Drop)]
 pub struct Links {
-    rows: IndexMap<Pair, Row>,
+    lanes: IndexMap<Pair, Lane>,
 }
 
 impl Model for Links {
     ghost use Rattle.std.specs.Prelude.{List};
-    ghost use Rattle.cq_chain.specs.within.Boxes as boxes;
+    ghost use Rattle.cq_chain.specs.Lanes as kept;
     ghost use Rattle.cq_world.specs.declared.links.Pair as rust_pair;
 
-    ghost Value = { List (rust_pair.Pair × boxes.Row) };
+    ghost Value = { List (rust_pair.Pair × kept.Lane) };
 
-    ghost view = { λ l. l.rows.entries };
+    ghost view = { λ l. l.lanes.entries };
 }
 
 impl Links {
@@ -39,7 +38,7 @@ impl Links {
         ensures { (from to : rust_party.Party) → messages_at result from to ≡ [] }
     {
         Links {
-            rows: IndexMap::new(alloc),
+            lanes: IndexMap::new(alloc),
         }
     }
 
@@ -47,8 +46,8 @@ impl Links {
     pub fn waiting(&self, pair: &Pair) -> u64
         ensures { result ≡ length (messages_at self.now pair.now.from pair.now.to) }
     {
-        match self.rows.get(pair) {
-            Some(row) => row.count(),
+        match self.lanes.get(pair) {
+            Some(lane) => lane.len() as u64,
             None => 0,
         }
     }
@@ -57,8 +56,8 @@ impl Links {
     pub fn first(&self, pair: &Pair) -> Option<&Message>
         ensures { option_map (λ message. message.now) result ≡ slice_get (messages_at self.now pair.now.from pair.now.to) 0 }
     {
-        match self.rows.get(pair) {
-            Some(row) => row.first(),
+        match self.lanes.get(pair) {
+            Some(lane) => lane.first(),
             None => None,
         }
     }
@@ -69,19 +68,19 @@ impl Links {
         ensures messages { (x y : rust_party.Party) → messages_at self.new x y ≡ messages_at self.old x y }
         ensures room { OnOk result (0 < room_at self.new pair.now.from pair.now.to) }
     {
-        let mut row = Row::new(*self.rows.allocator());
-        row.reserve()?;
-        self.rows.insert(*pair, row)?;
+        let mut lane = Lane::new(*self.lanes.allocator());
+        lane.reserve(1)?;
+        self.lanes.insert(*pair, lane)?;
         Ok(())
     }
 
-    /// Makes room for one more message in the link: O(1), but where its row grows.
+    /// Makes room for one more message in the link: O(1), but where its lane grows.
     pub fn reserve(&mut self, pair: &Pair) -> Result<(), NoMemory>
         ensures messages { (x y : rust_party.Party) → messages_at self.new x y ≡ messages_at self.old x y }
         ensures room { OnOk result (0 < room_at self.new pair.now.from pair.now.to) }
     {
-        match self.rows.get_mut(pair) {
-            Some(row) => row.reserve(),
+        match self.lanes.get_mut(pair) {
+            Some(lane) => lane.reserve(1),
             None => self.reserve_new(pair),
         }
     }
@@ -92,8 +91,8 @@ impl Links {
         ensures { (x y : rust_party.Party) → messages_at self.new x y
             ≡ set_pair (messages_at self.old) pair.now.from pair.now.to (messages_at self.old pair.now.from pair.now.to ++ message ∷ []) x y }
     {
-        match self.rows.get_mut(pair) {
-            Some(row) => row.push(message),
+        match self.lanes.get_mut(pair) {
+            Some(lane) => lane.push(message),
             None => unreachable!(),
         }
     }
@@ -103,8 +102,8 @@ impl Links {
         ensures { (x y : rust_party.Party) → messages_at self.new x y
             ≡ set_pair (messages_at self.old) pair.now.from pair.now.to (drop 1 (messages_at self.old pair.now.from pair.now.to)) x y }
     {
-        match self.rows.get_mut(pair) {
-            Some(row) => row.pop(),
+        match self.lanes.get_mut(pair) {
+            Some(lane) => drop(lane.pop()),
             None => (),
         }
     }

@@ -12,7 +12,7 @@ use Rattle.cq_world.specs.Runs.{world_after, longest_from}
 use Rattle.cq_world.specs.Worlds.{World, first_world, channel}
 use Rattle.cq_world.proofs.Chains.{last-in, before-in, before-behind, before-first}
 use Rattle.cq_world.proofs.Commits.{Commits, tails, bit, waits}
-use Rattle.cq_world.proofs.Wholes.Feeds.{Feeds}
+use Rattle.cq_world.proofs.Wholes.Feeding.{Feeds}
 use Rattle.cq_world.proofs.Running.{Good, first-good, runs-good}
 use Rattle.cq_world.proofs.Sights.{sight}
 use Rattle.cq_world.proofs.Prefixes.Steps.{below-pred}

@@ -1,12 +1,12 @@
 -- The keys of links are compared as their ends are.
 use Rattle.std.proofs.Common.{◌≡◌, ◌∙◌, ap, sym, refl, ◌&&◌, List, [], ◌∷◌, Option, Some, cond}
 use Rattle.std.specs.Map.{lookup}
-use Rattle.cq_chain.specs.within.Boxes.{Row}
+use Rattle.cq_chain.specs.Lanes.{Lane}
 use Rattle.cq_base.specs.declared.party.Party.{Party}
 use Rattle.cq_base.specs.declared.party.Party.TheVariants.{Master, Clients, Server}
 use Rattle.cq_base.specs.contracts.party.PartyPartialEq.TheImpl as party_impl
 use Rattle.cq_chain.specs.Parties.{same}
-use Rattle.cq_world.specs.within.Kept.{is_between, row_at}
+use Rattle.cq_world.specs.within.Kept.{is_between, lane_at}
 use Rattle.cq_world.specs.contracts.links.PairPartialEq.TheImpl as pair_impl
 use Rattle.cq_world.specs.declared.links.Pair.{Pair}
 use Rattle.cq_world.proofs.Parties.{same-turned}
@@ -30,22 +30,22 @@ abbrev pub found : {A : Type 0} → Pair → List (Pair × A) → Option A
 found q links = lookup (pair_impl.ghosts.eq q) links
 
 -- is what is kept of the link
-pub found-row : (links : List (Pair × Row)) (q : Pair) → found q links ≡ row_at links q.from q.to
-found-row [] q = refl
-found-row (e ∷ es) q = ap (λ b. cond b (Some e.1) (found q es)) (pair-eq q e.0) ∙ ap (λ o. cond (is_between q.from q.to e.0) (Some e.1) o) (found-row es q)
+pub found-lane : (links : List (Pair × Lane)) (q : Pair) → found q links ≡ lane_at links q.from q.to
+found-lane [] q = refl
+found-lane (e ∷ es) q = ap (λ b. cond b (Some e.1) (found q es)) (pair-eq q e.0) ∙ ap (λ o. cond (is_between q.from q.to e.0) (Some e.1) o) (found-lane es q)
 
--- One key's row is written.
-abbrev pub Updates : List (Pair × Row) → List (Pair × Row) → Pair → Row → Type 0
-Updates old new key row = (q : Pair) → found q new ≡ cond (pair_impl.ghosts.eq key q) (Some row) (found q old)
+-- One key's lane is written.
+abbrev pub Updates : List (Pair × Lane) → List (Pair × Lane) → Pair → Lane → Type 0
+Updates old new key lane = (q : Pair) → found q new ≡ cond (pair_impl.ghosts.eq key q) (Some lane) (found q old)
 
 -- the same by the ends of links
-abbrev pub IsWritten : List (Pair × Row) → List (Pair × Row) → Party → Party → Row → Type 0
-IsWritten old new from to row = (x y : Party) → row_at new x y ≡ cond (same x from && same y to) (Some row) (row_at old x y)
+abbrev pub IsWritten : List (Pair × Lane) → List (Pair × Lane) → Party → Party → Lane → Type 0
+IsWritten old new from to lane = (x y : Party) → lane_at new x y ≡ cond (same x from && same y to) (Some lane) (lane_at old x y)
 
-pub update-written : (old new : List (Pair × Row)) (key : Pair) (row : Row) → Updates old new key row → IsWritten old new key.from key.to row
-update-written old new key row h x y =
+pub update-written : (old new : List (Pair × Lane)) (key : Pair) (lane : Lane) → Updates old new key lane → IsWritten old new key.from key.to lane
+update-written old new key lane h x y =
     let q : Pair = record { from = x; to = y } in
-    sym (found-row new q) ∙ h q ∙ ap (λ b. cond b (Some row) (found q old)) (pair-eq key q)
-    ∙ ap (λ o. cond (same key.from x && same key.to y) (Some row) o) (found-row old q)
-    ∙ ap (λ b. cond (b && same key.to y) (Some row) (row_at old x y)) (same-turned key.from x)
-    ∙ ap (λ b. cond (same x key.from && b) (Some row) (row_at old x y)) (same-turned key.to y)
+    sym (found-lane new q) ∙ h q ∙ ap (λ b. cond b (Some lane) (found q old)) (pair-eq key q)
+    ∙ ap (λ o. cond (same key.from x && same key.to y) (Some lane) o) (found-lane old q)
+    ∙ ap (λ b. cond (b && same key.to y) (Some lane) (lane_at old x y)) (same-turned key.from x)
+    ∙ ap (λ b. cond (same x key.from && b) (Some lane) (lane_at old x y)) (same-turned key.to y)

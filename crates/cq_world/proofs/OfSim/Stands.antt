@@ -7,7 +7,7 @@ use Rattle.cq_base.specs.declared.party.Party.TheVariants as parties
 use Rattle.cq_chain.specs.declared.message.Message as rust_message
 use Rattle.cq_chain.specs.declared.master.Master as rust_master
 use Rattle.cq_chain.specs.declared.server.Server as rust_server
-use Rattle.cq_chain.specs.within.Boxes.{Row}
+use Rattle.cq_chain.specs.Lanes.{Lane}
 use Rattle.cq_chain.specs.Masters.{Master, Order, no_order, detected, hears, stands_before, is_last}
 use Rattle.cq_chain.specs.Messages.{Message, Fwd, Snap, Ack, BeHead, Report, Adopt, BeTail, Have, Adopted, Ready, Answers}
 use Rattle.cq_chain.specs.Parties.{same, addressed}
@@ -267,8 +267,8 @@ found w id o (Some kept) same h = subst (λ q. IsFound w id q) (sym same) h
 
 -- ---- links
 
--- other rows with the same messages
-pub reserved-stands : (old : Sim) (links : List (Pair × Row)) (w : World) → ((x y : Party) → messages_at links x y ≡ messages_at old.links x y) → Holds old w → Holds (record { alloc = old.alloc; servers = old.servers; links = links; master = old.master }) w
+-- other lanes with the same messages
+pub reserved-stands : (old : Sim) (links : List (Pair × Lane)) (w : World) → ((x y : Party) → messages_at links x y ≡ messages_at old.links x y) → Holds old w → Holds (record { alloc = old.alloc; servers = old.servers; links = links; master = old.master }) w
 reserved-stands old links w same h = record {
   servers = h.servers;
   links = λ x y. subst (λ ms. AllMean ms (w.link x y)) (sym (same x y)) (h.links x y);
@@ -277,7 +277,7 @@ reserved-stands old links w same h = record {
 }
 
 -- a link without its first message
-pub without-stands : (old : Sim) (links : List (Pair × Row)) (w : World) (from to : Party) → ((x y : Party) → messages_at links x y ≡ set_pair (messages_at old.links) from to (drop 1 (messages_at old.links from to)) x y)
+pub without-stands : (old : Sim) (links : List (Pair × Lane)) (w : World) (from to : Party) → ((x y : Party) → messages_at links x y ≡ set_pair (messages_at old.links) from to (drop 1 (messages_at old.links from to)) x y)
     → Holds old w → Holds (record { alloc = old.alloc; servers = old.servers; links = links; master = old.master }) (without_first w from to)
 without-stands old links w from to popped h = record {
   servers = h.servers;
@@ -288,7 +288,7 @@ without-stands old links w from to popped h = record {
 }
 
 -- a link with what was drawn from an outbox
-pub posted-stands : (drawn : Sim) (links : List (Pair × Row)) (w : World) (from to : Party) (x : rust_message.Message)
+pub posted-stands : (drawn : Sim) (links : List (Pair × Lane)) (w : World) (from to : Party) (x : rust_message.Message)
     → ((a b : Party) → messages_at links a b ≡ set_pair (messages_at drawn.links) from to (messages_at drawn.links from to ++ x ∷ []) a b) → IsFirst (Some x) (w.outbox from to)
     → Holds drawn (after_drawing w from to) → Holds (record { alloc = drawn.alloc; servers = drawn.servers; links = links; master = drawn.master }) (after_posting w from to)
 posted-stands drawn links w from to x pushed first h = record {

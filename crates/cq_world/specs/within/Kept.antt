@@ -5,7 +5,7 @@ use Rattle.std.specs.HashMap.{HashMap}
 use Rattle.cq_base.specs.declared.party.Party.{Party}
 use Rattle.cq_chain.specs.declared.message.Message.{Message}
 use Rattle.cq_chain.specs.declared.server.Server.{Server}
-use Rattle.cq_chain.specs.within.Boxes.{Row, messages_of, room_of}
+use Rattle.cq_chain.specs.Lanes.{Lane, messages_of, room_of}
 use Rattle.cq_chain.specs.Parties.{same}
 use Rattle.cq_chain.specs.Messages as told
 use Rattle.cq_world.specs.Events.{first_of}
@@ -21,16 +21,16 @@ abbrev pub is_between : Party → Party → Pair → Bool
 is_between from to pair = same from pair.from && same to pair.to
 
 -- what is kept of the link from one party to another, if something is
-abbrev pub row_at : List (Pair × Row) → Party → Party → Option Row
-row_at links from to = lookup (is_between from to) links
+abbrev pub lane_at : List (Pair × Lane) → Party → Party → Option Lane
+lane_at links from to = lookup (is_between from to) links
 
 -- the messages that stand in the link from one party to another
-abbrev pub messages_at : List (Pair × Row) → Party → Party → List Message
-messages_at links from to = messages_of (row_at links from to)
+abbrev pub messages_at : List (Pair × Lane) → Party → Party → List Message
+messages_at links from to = messages_of (lane_at links from to)
 
 -- how many more messages that link can take without memory
-abbrev pub room_at : List (Pair × Row) → Party → Party → ℕ
-room_at links from to = room_of (row_at links from to)
+abbrev pub room_at : List (Pair × Lane) → Party → Party → ℕ
+room_at links from to = room_of (lane_at links from to)
 
 -- there is a message
 abbrev pub IsFilled : List told.Message → Type 0

@@ -11,7 +11,7 @@ use Rattle.cq_chain.proofs.server.repair.forwards.Goals as goal
 pub loop-entry-init : goal.loop-entry-init
 loop-entry-init c = record {
   place = omega arith;
-  sent = λ to. sent-none to (c.args.have + 1) [] c.new-row.result.messages c.new-row.ensures refl;
+  sent = λ to. sent-none to (c.args.have + 1) [] c.new-lane.result.messages c.new-lane.ensures refl;
 }
 
 pub loop-entry-preserved : goal.loop-entry-preserved
@@ -24,8 +24,8 @@ loop-entry-preserved c =
     let at : c.loop-entry.place + 1 ≡ c.args.have + 1 + i = omega arith in
     record {
       place = omega arith;
-      sent = λ to. sent-more to c.args.have i (c.loop-entry.place + 1) entries e c.loop-entry.row.messages c.push.new.self.messages c.loop-entry-test.true is (c.loop-entry.invariant.sent to) at more;
+      sent = λ to. sent-more to c.args.have i (c.loop-entry.place + 1) entries e c.loop-entry.lane.messages c.push.new.self.messages c.loop-entry-test.true is (c.loop-entry.invariant.sent to) at more;
     }
 
 pub returns : goal.returns
-returns c = λ to. subst (λ es. AllFor (parties.Server to) c.loop-entry.row.messages (forwards to (c.args.have + 1) es)) (take_all c.loop-entry.entry-index c.args.entries.now c.loop-entry-test.false) (c.loop-entry.invariant.sent to)
+returns c = λ to. subst (λ es. AllFor (parties.Server to) c.loop-entry.lane.messages (forwards to (c.args.have + 1) es)) (take_all c.loop-entry.entry-index c.args.entries.now c.loop-entry-test.false) (c.loop-entry.invariant.sent to)

@@ -1,4 +1,5 @@
-ghost use Rattle.std.specs.Prelude.{◌≡◌, ◌<◌, ◌≤◌, ◌+◌, ◌++◌, ◌∷◌, [], length, IfSome, IfNone, OnOk};
+//! Messages that wait in order, for one party or in one link.
+ghost use Rattle.std.specs.Prelude.{◌≡◌, ◌<◌, ◌≤◌, ◌+◌, ◌++◌, ◌∷◌, [], drop, length, slice_get, option_map, IfSome, IfNone, OnOk};
 
 use crate::message::Message;
 use cq_base::NoMemory;
@@ -6,40 +7,47 @@ use std::alloc::Global;
 use std::collections::VecDeque;
 use std::marker::Model;
 
-/// Messages on their way to one party, in order.
+/// Messages in order, each of which leaves after those that came before it.
 #[derive(Drop)]
-pub struct Row {
+pub struct Lane {
     messages: VecDeque<Message>,
 }
 
-impl Model for Row {
-    ghost use Rattle.cq_chain.specs.within.Boxes as boxes;
+impl Model for Lane {
+    ghost use Rattle.cq_chain.specs.Lanes as lanes;
     ghost use Rattle.std.specs.Prelude.{◌-◌};
     ghost use Rattle.std.specs.VecDeque.{deque_capacity, deque_len};
 
-    ghost Value = { boxes.Row };
+    ghost Value = { lanes.Lane };
 
-    ghost view = { λ r. record { messages = r.messages.items; room = deque_capacity r.messages - deque_len r.messages } };
+    ghost view = { λ l. record { messages = l.messages.items; room = deque_capacity l.messages - deque_len l.messages } };
 }
 
-impl Row {
-    /// No message is on its way.
-    pub fn new(alloc: Global) -> Row
+impl Lane {
+    /// No message waits: O(1).
+    pub fn new(alloc: Global) -> Lane
         ensures { result.messages ≡ [] }
     {
-        Row {
+        Lane {
             messages: VecDeque::new(alloc),
         }
     }
 
-    /// How many messages are on their way: O(1).
+    /// How many messages wait: O(1).
     pub fn len(&self) -> usize
         ensures { result ≡ length self.now.messages }
     {
         self.messages.len()
     }
 
-    /// Makes room for so many more messages.
+    /// The first message: O(1).
+    pub fn first(&self) -> Option<&Message>
+        ensures { option_map (λ message. message.now) result ≡ slice_get self.now.messages 0 }
+    {
+        self.messages.front()
+    }
+
+    /// Makes room for so many more messages: amortized O(count).
     pub fn reserve(&mut self, count: usize) -> Result<(), NoMemory>
         ensures messages { self.new.messages ≡ self.old.messages }
         ensures room { self.old.room ≤ self.new.room }
@@ -59,7 +67,7 @@ impl Row {
     }
 
     /// These messages behind the others, in room that was made: O(messages that come).
-    pub fn append(&mut self, other: Row)
+    pub fn append(&mut self, other: Lane)
         requires { length other.messages ≤ self.old.room }
         ensures messages { self.new.messages ≡ self.old.messages ++ other.messages }
         ensures room { self.old.room ≤ self.new.room + length other.messages }
@@ -71,11 +79,11 @@ impl Row {
         }
     }
 
-    /// The first message, which leaves the row: O(1).
+    /// The first message leaves: O(1).
     pub fn pop(&mut self) -> Option<Message>
         ensures first { IfSome result (λ message. self.old.messages ≡ message ∷ self.new.messages) }
         ensures none { IfNone result (self.old.messages ≡ []) }
-        ensures empty { IfNone result (self.new.messages ≡ []) }
+        ensures rest { self.new.messages ≡ drop 1 self.old.messages }
     {
         self.messages.pop_front()
     }
