@@ -1,3 +1,4 @@
+//! What clients ask: of a queue, as a request under a number, as an entry of a history, or as a query.
 ghost use Rattle.std.specs.Prelude.{◌≡◌, IfOk};
 ghost use Rattle.cq_base.specs.Asks.{queue_of};
 

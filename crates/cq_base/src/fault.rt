@@ -1,3 +1,4 @@
+//! Why a value of these types can't be had.
 ghost use Rattle.std.specs.Prelude.{◌≡◌, Some, codes};
 ghost use Rattle.cq_base.specs.declared.fault.BaseFault.TheVariants as faults;
 ghost use Rattle.cq_base.specs.Fault.{code_of, name_of};

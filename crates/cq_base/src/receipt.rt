@@ -1,3 +1,4 @@
+//! Receipt handles, and their texts.
 ghost use Rattle.std.specs.Prelude.{◌≡◌, ◌≢◌, ◌<◌, ◌↔◌, ◌++◌, IsSome, IfSome, IfNone, OnOk, OnErr, Some, ℕ};
 ghost use Rattle.std.specs.Fmt.{decimal};
 ghost use Rattle.cq_base.specs.Handle.{Handle, IsHandle, IsHandleNumber, handle_text};

@@ -1,3 +1,4 @@
+//! What a queue replies: deliveries, refusals, and the rest.
 ghost use Rattle.std.specs.Prelude.{◌≡◌, List, Some, IfOk};
 ghost use Rattle.cq_base.specs.Refusals.{refusal_code, refusal_name};
 

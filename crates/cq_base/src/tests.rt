@@ -1,3 +1,4 @@
+//! What rows can't compute: texts in a loop, copies, faults, and how values are shown.
 use crate::{
     Ask, BaseFault, BatchSize, Body, ChainSize, DedupId, Deliveries, Delivery, Entry, GroupId,
     Moment, NoMemory, Query, QueueName, Receipt, Refusal, Reply, Request, Seconds, ServerId,

@@ -1,3 +1,4 @@
+//! Queue names, ids and bodies: texts that keep their rules.
 ghost use Rattle.std.specs.Prelude.{◌≡◌, ◌↔◌, true, false, List, ℕ, length, Some, IfOk, IfErr, IsErrOf};
 ghost use Rattle.std.specs.Arc.{arc_str_bytes};
 ghost use Rattle.std.specs.List.{list_all};

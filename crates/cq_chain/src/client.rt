@@ -1,3 +1,4 @@
+//! A client: one open request at a time, asked again where its answer is missing.
 ghost use Rattle.std.specs.Prelude.{◌≡◌, None, IfOk, IfErr};
 ghost use Rattle.cq_chain.specs.Clients as clients;
 ghost use Rattle.cq_chain.specs.Clients.{StandsFor, first_client, refusal_of_ask, request_of, next_request, asked, open_request, closes, after_answer};

@@ -1,3 +1,4 @@
+//! Why servers, the master, the world and clients refuse.
 ghost use Rattle.std.specs.Prelude.{◌≡◌};
 ghost use Rattle.cq_chain.specs.Faults.{code_of, name_of, client_code_of, client_name_of};
 ghost use Rattle.cq_chain.specs.declared.fault.ClientFault.TheVariants as client_faults;

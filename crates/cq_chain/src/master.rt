@@ -1,3 +1,4 @@
+//! The master: who is in the chain, and what each member is told.
 ghost use Rattle.std.specs.Prelude.{◌≡◌, ℕ, List, [], length, OnOk, OnErr, IfOk};
 ghost use Rattle.cq_base.specs.declared.party.Party as rust_party;
 ghost use Rattle.cq_base.specs.declared.party.Party.TheVariants as parties;

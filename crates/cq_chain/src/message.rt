@@ -1,3 +1,4 @@
+//! What servers, the master and the clients tell each other.
 use crate::history::History;
 use cq_base::{Entry, Reply, ServerId};
 

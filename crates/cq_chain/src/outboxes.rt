@@ -1,3 +1,4 @@
+//! What waits at a server, or at the master, for each party.
 ghost use Rattle.std.specs.Prelude.{◌≡◌, ◌<◌, ◌≤◌, List, [], ◌∷◌, length, false, None, OnOk};
 ghost use Rattle.cq_base.specs.declared.party.Party as rust_party;
 ghost use Rattle.cq_chain.specs.within.Boxes.{messages_for, room_for, lane_for};

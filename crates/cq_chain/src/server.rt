@@ -1,3 +1,4 @@
+//! A server of the chain: its state, and the calls that read it.
 ghost use Rattle.std.specs.Prelude.{◌≡◌, ◌≤◌, ◌+◌, ◌-◌, ◌==◌, nat_le, ℕ, List, [], length, if◌then◌else◌, None, Some, IfOk};
 ghost use Rattle.cq_base.specs.declared.limits.TheConstants.{HISTORY_LIMIT};
 ghost use Rattle.cq_base.specs.declared.party.Party as rust_party;

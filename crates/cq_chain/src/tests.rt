@@ -1,3 +1,4 @@
+//! Servers side by side: what one puts, the other takes.
 mod clients;
 mod common;
 mod masters;

@@ -1,3 +1,4 @@
+//! How faults are told, and the status that the program ends with.
 ghost use Rattle.std.specs.Prelude.{◌≡◌};
 ghost use Rattle.cq_script.specs.Checks.{inner_of, is_failed};
 ghost use Rattle.cq_main.specs.Outcomes.{EndsAt};

@@ -1,3 +1,4 @@
+//! The accepted sends whose deduplication ids still count.
 ghost use Rattle.std.specs.Prelude.{◌≡◌, ◌+◌, ◌≤◌, ◌<◌, ◌++◌, [], ◌∷◌, filter, find, option_map, vec_len, vec_capacity, IfOk};
 ghost use Rattle.cq_base.specs.declared.limits.TheConstants.{DEDUPLICATION_WINDOW};
 ghost use Rattle.cq_base.specs.Incarnations.{counts_for, repeated};

@@ -1,3 +1,4 @@
+//! A change of a message's timeout.
 ghost use Rattle.std.specs.Prelude.{◌≡◌, ◌+◌, ◌*◌, map, nat_lt};
 ghost use Rattle.cq_base.specs.declared.limits.TheConstants.{SECOND, FLIGHT_LIMIT};
 ghost use Rattle.cq_base.specs.Effects.{message_at, change_standing, change_sent};

@@ -1,3 +1,4 @@
+//! A delete of a message.
 ghost use Rattle.std.specs.Prelude.{◌≡◌, filter, option_map};
 ghost use Rattle.cq_base.specs.Effects.{message_at, fits, delete_standing, delete_sent};
 ghost use Rattle.cq_queue.specs.within.Answers.{delete_reply, is_deleting};

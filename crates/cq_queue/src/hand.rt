@@ -1,3 +1,4 @@
+//! What a receive does to the messages that it hands out.
 ghost use Rattle.std.specs.List.{All, list_any};
 ghost use Rattle.std.specs.Prelude.{◌≡◌, ℕ, ◌+◌, ◌<◌, ◌≤◌, ◌==◌, ◌++◌, [], ◌∷◌, map, take, length};
 ghost use Rattle.arrayvec.specs.ArrayVec.{array_vec_len};

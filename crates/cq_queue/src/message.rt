@@ -1,3 +1,4 @@
+//! A message of a queue.
 ghost use Rattle.std.specs.Prelude.{◌≡◌, ◌<◌, not, filter, length, IfOk};
 ghost use Rattle.cq_base.specs.declared.limits.TheConstants.{HISTORY_LIMIT};
 ghost use Rattle.cq_base.specs.Receiving.{is_same_group, is_in_flight, is_blocked_by, is_preceded_by, delivery_of};

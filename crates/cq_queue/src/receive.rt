@@ -1,3 +1,4 @@
+//! Which messages a receive may hand out, and in which order.
 ghost use Rattle.std.specs.List.{list_any};
 ghost use Rattle.std.specs.Prelude.{◌≡◌, ◌<◌, ◌≤◌, ◌++◌, [], ◌∷◌, map, take, length, IfOk, OnOk};
 ghost use Rattle.cq_base.specs.Receiving.{is_blocked_by, is_preceded_by, leads, group_with, in_turn, to_hand, delivery_of};

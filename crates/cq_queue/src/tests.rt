@@ -1,3 +1,4 @@
+//! Rows on one queue, each an ask and its answer.
 ghost use Rattle.std.specs.Prelude.{◌<◌, ◌≤◌};
 
 use crate::Queue;

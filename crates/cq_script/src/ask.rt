@@ -1,3 +1,4 @@
+//! The JSON of asks.
 ghost use Rattle.serde_json.specs.View.{view};
 ghost use Rattle.cq_script.specs.Events as spec;
 ghost use Rattle.cq_script.specs.within.Readers.{Gives, same};

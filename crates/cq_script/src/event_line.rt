@@ -1,3 +1,4 @@
+//! A line of a script, and the event that it says.
 ghost use Rattle.std.specs.Prelude.{◌≡◌, Ok, Err, true};
 ghost use Rattle.std.specs.List.{list_all};
 ghost use Rattle.serde_json.specs.View.{view};

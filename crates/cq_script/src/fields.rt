@@ -1,3 +1,4 @@
+//! The members of a JSON object, each read as the kind that its key wants.
 ghost use Rattle.std.specs.Prelude.{◌≡◌, ◌≤◌, ◌-◌, map, string_bytes, IfOk};
 ghost use Rattle.std.specs.BTreeMap.{keys as keys_of};
 ghost use Rattle.std.specs.List.{list_any, list_all};

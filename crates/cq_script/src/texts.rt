@@ -1,3 +1,4 @@
+//! Members that are texts with a rule.
 ghost use Rattle.std.specs.Prelude.{◌≡◌, ◌↔◌, Ok};
 ghost use Rattle.cq_base.specs.Handle.{Handle, IsHandle, handle_text};
 ghost use Rattle.cq_script.specs.Fields as spec;

@@ -1,3 +1,4 @@
+//! Replies that are both given and kept.
 ghost use Rattle.std.specs.Prelude.{◌≡◌, IfOk};
 ghost use Rattle.cq_base.specs.declared.reply.Reply.TheVariants as replies;
 

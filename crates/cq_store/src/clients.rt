@@ -1,3 +1,4 @@
+//! What is kept of each client: its largest number, and the reply to it.
 ghost use Rattle.std.specs.Prelude.{◌≡◌, ◌<◌, ◌==◌, None, Some, ℕ, option_map, cond, IfOk, OnOk, OnErr};
 ghost use Rattle.indexmap.specs.IndexMap.{get};
 ghost use Rattle.cq_store.specs.within.Rooms.{again_of};

@@ -1,3 +1,4 @@
+//! The store, and the calls that change it.
 ghost use Rattle.std.specs.Prelude.{◌≡◌, ◌<◌, ◌≤◌, ◌+◌, ℕ, List, [], ◌∷◌, ◌++◌, true, Some, cond, ◌==◌, IfOk, OnOk, OnErr};
 ghost use Rattle.cq_base.specs.declared.limits.TheConstants.{HISTORY_LIMIT};
 ghost use Rattle.cq_base.specs.declared.ask.Entry.{Entry};

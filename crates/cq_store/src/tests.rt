@@ -1,3 +1,4 @@
+//! Rows on a store, each an ask and its answer.
 use crate::Store;
 use cq_base::{
     Ask, BatchSize, Body, DedupId, Delivery, Entry, GroupId, Moment, NoMemory, Query, QueueName,

@@ -1,3 +1,4 @@
+//! The events of the world.
 use cq_base::{Moment, Party, Query, Request, ServerId};
 
 /// One thing that happens in the world.
@@ -23,7 +24,8 @@ pub enum Event {
     Take {
         from: Party,
         to: Party,
-    }, /// A server crashes: what it has is lost to the chain, and nothing comes to it any more.
+    },
+    /// A server crashes: what it has is lost to the chain, and nothing comes to it any more.
     Crash {
         server: ServerId,
     },

@@ -1,3 +1,4 @@
+//! The links between parties.
 ghost use Rattle.std.specs.Prelude.{◌≡◌, ◌<◌, ◌++◌, ◌∷◌, [], drop, length, slice_get, option_map, OnOk};
 ghost use Rattle.cq_base.specs.declared.party.Party as rust_party;
 ghost use Rattle.cq_world.specs.within.Kept.{messages_at, room_at};

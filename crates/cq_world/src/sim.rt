@@ -1,3 +1,4 @@
+//! The world in memory: its parts, single events, and runs.
 ghost use Rattle.std.specs.Prelude.{◌≡◌, ◌&&◌, ◌≤◌, ◌<◌, ◌+◌, ◌^◌, ◌++◌, ℕ, List, true, false, length, take, slice_get, option_map, Err, Some, IsSome, IfOk, IfErr, IfNone, OnOk, OnErr};
 ghost use Rattle.cq_base.specs.declared.party.Party.TheVariants as parties;
 ghost use Rattle.cq_base.specs.Relations.{Among};

@@ -1,3 +1,4 @@
+//! Rows on worlds: events, and what comes of them.
 use crate::{Event, Ran, Sim};
 use cq_base::{
     Ask, BatchSize, Body, ChainSize, DedupId, Delivery, GroupId, Moment, Party, Query, QueueName,

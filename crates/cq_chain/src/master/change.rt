@@ -1,3 +1,4 @@
+//! Members that are lost, and servers that join.
 ghost use Rattle.std.specs.Prelude.{◌≡◌, ◌||◌, ◌&&◌, not, List, false, Some, OnOk, OnErr};
 ghost use Rattle.cq_base.specs.declared.party.Party as rust_party;
 ghost use Rattle.cq_chain.specs.Masters as masters;

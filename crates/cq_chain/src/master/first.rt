@@ -1,3 +1,4 @@
+//! The master of a first chain.
 ghost use Rattle.std.specs.Prelude.{◌≡◌, IfOk};
 ghost use Rattle.cq_chain.specs.Masters.{numbers_from};
 

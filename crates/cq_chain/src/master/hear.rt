@@ -1,3 +1,4 @@
+//! What the master does with what servers tell it.
 ghost use Rattle.std.specs.Prelude.{◌≡◌, ℕ, OnOk, OnErr};
 ghost use Rattle.cq_chain.specs.Messages as sent;
 ghost use Rattle.cq_chain.specs.Masters.{hears};

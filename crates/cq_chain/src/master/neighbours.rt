@@ -1,3 +1,4 @@
+//! Who stands before and behind whom, and what a gap in the chain makes of them.
 ghost use Rattle.std.specs.Prelude.{◌≡◌, ◌<◌, ◌+◌, ◌==◌, ◌&&◌, ℕ, List, ◌∷◌, length, drop, Some};
 ghost use Rattle.cq_chain.specs.Masters.{is_last, stands_before, closing, said_of_loss, said_of_join};
 ghost use Rattle.cq_chain.specs.within.Waiting.{IsSaid};

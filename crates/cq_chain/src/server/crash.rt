@@ -1,3 +1,4 @@
+//! A server stops.
 ghost use Rattle.cq_chain.specs.Stands.{Does};
 ghost use Rattle.cq_chain.specs.Steps.{crashed};
 

@@ -1,3 +1,4 @@
+//! What a server does with the orders of the master.
 ghost use Rattle.std.specs.Prelude.{◌≡◌, OnOk, OnErr};
 ghost use Rattle.cq_base.specs.declared.party.Party.TheVariants as parties;
 ghost use Rattle.cq_chain.specs.Messages as sent;

@@ -1,3 +1,4 @@
+//! What a new successor is sent.
 ghost use Rattle.std.specs.Prelude.{◌≡◌, ◌<◌, ◌+◌, ℕ, List, [], ◌∷◌, length, drop, IfOk};
 ghost use Rattle.cq_base.specs.declared.limits.TheConstants.{SLICE_LIMIT};
 ghost use Rattle.cq_base.specs.declared.party.Party as rust_party;

@@ -1,3 +1,4 @@
+//! A server that joined gets the state of its predecessor.
 ghost use Rattle.std.specs.Prelude.{◌≡◌, ◌&&◌, is_none, nat_le, length, OnOk, OnErr};
 ghost use Rattle.cq_base.specs.declared.party.Party.TheVariants as parties;
 ghost use Rattle.cq_chain.specs.Messages as sent;

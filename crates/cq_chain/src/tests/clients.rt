@@ -1,3 +1,4 @@
+//! Clients, and the answers that close their requests.
 use super::common::create;
 use crate::{Client, ClientFault};
 use cq_base::{Ask, QueueName, Reply, Request};

@@ -1,3 +1,4 @@
+//! Servers, requests and texts that the tests share.
 use crate::{Answer, Master, Message, Server, WorldFault};
 use cq_base::{Ask, ChainSize, Moment, Party, Query, QueueName, Reply, Request, Seconds, ServerId};
 use std::alloc::Global;

@@ -1,3 +1,4 @@
+//! The master, and what it tells whom.
 use super::common::{check_said, detect, hear, id, is_chain, join};
 use crate::{Master, Message};
 use cq_base::ChainSize;

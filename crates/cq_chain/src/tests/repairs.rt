@@ -1,3 +1,4 @@
+//! What a successor is sent where one before it is lost.
 use super::common::{
     adopt, be_tail, check_ack, check_count, check_put, check_sent, enter, id, member, party, pass,
     report,

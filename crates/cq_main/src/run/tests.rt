@@ -1,3 +1,4 @@
+//! The program as a whole: what it writes, tells, and ends with.
 use super::run;
 use cq_script::Checked;
 use std::alloc::{AllocError, Global};

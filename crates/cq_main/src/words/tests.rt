@@ -1,3 +1,4 @@
+//! Command lines, and the faults of their words.
 use super::{Choice, choice_of};
 use clap::error::ErrorKind;
 use cq_base::ChainSize;

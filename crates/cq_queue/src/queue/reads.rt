@@ -1,3 +1,4 @@
+//! The calls that read a queue, and the copy.
 ghost use Rattle.std.specs.Prelude.{◌≡◌, ◌≤◌, IfOk};
 ghost use Rattle.cq_queue.specs.Entries.{AreOffered, AreCounted};
 

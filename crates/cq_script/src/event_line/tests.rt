@@ -1,3 +1,4 @@
+//! Lines, and what is read of them.
 use super::{Line, LineFault, event_of};
 use cq_base::{Ask, Party, Query};
 use cq_world::Event;

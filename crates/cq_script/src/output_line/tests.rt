@@ -1,3 +1,4 @@
+//! Answers and refusals, and the lines that tell them.
 use super::{answer_line, refused_line};
 use cq_base::{Body, Deliveries, Delivery, GroupId, Receipt, Reply};
 use cq_chain::Answer;

@@ -1,3 +1,4 @@
+//! The calls that read a store.
 ghost use Rattle.std.specs.Prelude.{◌≡◌, List, length};
 ghost use Rattle.cq_base.specs.declared.ask.Entry.{Entry};
 ghost use Rattle.cq_base.specs.History.{last_moment};

@@ -1,3 +1,4 @@
+//! Crashes, detections and joins.
 ghost use Rattle.std.specs.Prelude.{◌≡◌, ◌&&◌, ◌<◌, [], not, None, Err, IfOk, IfErr, OnOk, OnErr};
 ghost use Rattle.indexmap.specs.IndexMap.{spare};
 ghost use Rattle.cq_chain.specs.Faults.{IsRefusal};

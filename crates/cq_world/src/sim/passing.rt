@@ -1,3 +1,4 @@
+//! Messages on their way: put on links, given to clients, and taken.
 ghost use Rattle.std.specs.Prelude.{◌≡◌, ◌≢◌, [], ◌∷◌, is_none, None, true, IfOk, IfErr, OnOk};
 ghost use Rattle.cq_base.specs.declared.party.Party.TheVariants as parties;
 ghost use Rattle.cq_chain.specs.Faults.{IsRefusal};

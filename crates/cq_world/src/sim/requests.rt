@@ -1,3 +1,4 @@
+//! Requests and queries that come to servers.
 ghost use Rattle.std.specs.Prelude.{◌≡◌, None, IfErr, OnOk};
 ghost use Rattle.cq_chain.specs.Faults.{IsRefusal};
 ghost use Rattle.cq_world.specs.Events.{refusal_of, next};

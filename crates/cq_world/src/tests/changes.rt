@@ -1,3 +1,4 @@
+//! Crashes and joins that may be, and that may not.
 use super::*;
 
 fn with_one(rt: &impl Abort, alloc: Global, sim: &mut Sim) -> Result<(), Fail> {

@@ -1,3 +1,4 @@
+//! Clocks of servers that differ, before and after a crash.
 use super::*;
 
 fn delivered(answer: &Answer) -> Option<&[Delivery]> {

@@ -1,3 +1,4 @@
+//! Servers that join while others are lost.
 use super::*;
 
 /// Two entries that both servers have, and know to have reached the tail.

@@ -1,3 +1,4 @@
+//! Chains that lose their middle, their head or their tail.
 use super::*;
 
 /// Three requests, of which the last server gets one before the one in the middle is lost.

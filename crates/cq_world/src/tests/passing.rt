@@ -1,3 +1,4 @@
+//! Whole runs, and events at the wrong places.
 use super::*;
 
 fn go_wrong(rt: &impl Abort, alloc: Global, sim: &mut Sim) -> Result<(), Fail> {
