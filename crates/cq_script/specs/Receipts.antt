@@ -1,5 +1,5 @@
 -- The receipt handle that a text is. It is `Ok h` exactly if the text is that of a handle, and h is that
--- handle: clause `exact` of the function `receipt` in src/script/texts.rt.
+-- handle: clause `exact` of the function `receipt` in `src/texts.rt`.
 use Rattle.std.specs.Prelude.{ℕ, ◌&&◌, ◌==◌, ◌^◌, List, Bool, nat_lt, if◌then◌else◌, Result, Ok, Err}
 use Rattle.std.specs.List.{before_first, after_first}
 use Rattle.std.specs.Str.{bytes_eq}
