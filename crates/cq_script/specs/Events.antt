@@ -21,6 +21,7 @@ create_in d = if has_only (codes "kind" ∷ codes "queue" ∷ codes "visibility"
   queue ← queue_name name
   Ok (Create queue (unwrap_or visibility 30))) else Err bad
 
+-- a removal of a queue
 unfoldable pub remove_in : Data → Result Ask Reason
 remove_in d = if has_only (codes "kind" ∷ codes "queue" ∷ []) d then (do
   name ← text_at (codes "queue") d
@@ -50,6 +51,7 @@ receive_in d = if has_only (codes "kind" ∷ codes "queue" ∷ codes "size" ∷ 
   queue ← queue_name name
   Ok (Receive queue (unwrap_or size 1) visibility)) else Err bad
 
+-- a delete with a receipt
 unfoldable pub delete_in : Data → Result Ask Reason
 delete_in d = if has_only (codes "kind" ∷ codes "queue" ∷ codes "receipt" ∷ []) d then (do
   name ← text_at (codes "queue") d

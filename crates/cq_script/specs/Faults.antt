@@ -3,6 +3,7 @@ use Rattle.std.specs.Prelude.{ℕ, List, codes}
 use Rattle.cq_script.specs.declared.fault.ScriptFault.{ScriptFault}
 use Rattle.cq_script.specs.declared.fault.ScriptFault.TheVariants.{BadLine, LineTooLong, TooManyLines, ReadFailed, WriteFailed, NoMemory}
 
+-- the number of a fault
 abbrev pub code_of : ScriptFault → ℕ
 code_of (BadLine n) = 61
 code_of (LineTooLong n) = 62
@@ -11,6 +12,7 @@ code_of ReadFailed = 64
 code_of WriteFailed = 65
 code_of NoMemory = 20
 
+-- the name of a fault
 abbrev pub name_of : ScriptFault → List ℕ
 name_of (BadLine n) = codes "BadLine"
 name_of (LineTooLong n) = codes "LineTooLong"

@@ -55,6 +55,7 @@ script_from n (line ∷ lines) =
 unfoldable pub script_of : List ℕ → Script
 script_of bytes = script_from 1 (lines_of bytes)
 
+-- a line ends among these bytes
 abbrev pub has_line_feed : List ℕ → Bool
 has_line_feed bytes = list_any (λ b. b == 10) bytes
 

@@ -7,6 +7,7 @@ use Rattle.std.specs.Str.Parse.{digits_value}
 use Rattle.cq_base.specs.Handle.{Handle, handle_text}
 use Rattle.cq_script.specs.Fields.{Reason, bad}
 
+-- the byte between two numbers of a handle
 abbrev pub is_hyphen : ℕ → Bool
 is_hyphen b = b == 45
 

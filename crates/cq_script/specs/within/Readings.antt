@@ -15,6 +15,7 @@ pub record SoFar : Type 0 where
   pub lines : ℕ
   pub begun : List ℕ
 
+-- before the first byte
 abbrev pub nothing_read : SoFar
 nothing_read = record { items = []; lines = 0; begun = [] }
 
@@ -23,6 +24,7 @@ pub data Next : Type 0 where
   goes : SoFar → Next
   stops : Script → Next
 
+-- a script that ends at this fault
 abbrev pub stopped : SoFar → ScriptFault → Next
 stopped s f = stops (record { items = s.items; fault = Some f })
 
@@ -44,6 +46,7 @@ byte_of s b =
     else (if nat_le LINE_LIMIT (length s.begun) then stopped s (LineTooLong (s.lines + 1))
     else goes (record { items = s.items; lines = s.lines; begun = s.begun ++ b ∷ [] })))
 
+-- goes on, unless the script has ended
 abbrev pub then_next : (SoFar → Next) → Next → Next
 then_next f (goes s) = f s
 then_next f (stops script) = stops script
@@ -53,6 +56,7 @@ unfoldable pub bytes_of : SoFar → List ℕ → Next
 bytes_of s [] = goes s
 bytes_of s (b ∷ bs) = then_next (λ t. bytes_of t bs) (byte_of s b)
 
+-- after the end, by the line that has begun
 abbrev pub end_with : SoFar → List ℕ → Next
 end_with s [] = goes s
 end_with s (b ∷ bs) = line_ended s
@@ -61,6 +65,7 @@ end_with s (b ∷ bs) = line_ended s
 unfoldable pub end_of : SoFar → Next
 end_of s = end_with s s.begun
 
+-- what was read is the whole script, up to this fault
 abbrev pub StopsAt : ScriptFault → SoFar → Next → Type 0
 StopsAt f new next = next ≡ stops (record { items = new.items; fault = Some f })
 
