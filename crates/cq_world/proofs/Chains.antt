@@ -1,12 +1,12 @@
--- The order of the members of a chain, and of their histories.
+-- The order of the members of a chain, or of the servers of the line, and of their histories.
 use Rattle.std.proofs.Common.{◌≡◌, ℕ, ◌∙◌, ap, sym, List, [], ◌∷◌, ◌++◌, ◌&&◌, ◌⊎◌, not, Bool, true, false, cond, eqb, subst, refl, inl, inr}
 use Rattle.std.proofs.lemmas.Bool.{eqb-true, eq-eqb, false≢true, both_ways, and_from, and_parts, or_cases, or_left, or_right, cases_Bool}
 use Rattle.cq_base.specs.Relations.{Among, Front, Pairwise}
 use Rattle.cq_chain.specs.Masters.{is_in, is_last, without, stands_before}
 use Rattle.cq_world.proofs.Prefixes.Climbing.{climbs-top, ups}
 use Rattle.cq_world.proofs.Eaches.{front-trans}
-use Rattle.cq_world.proofs.Prefixes.{Prefixes, Linked, LinkedChain}
-use Rattle.cq_world.proofs.Sights.{Sight}
+use Rattle.cq_world.proofs.Prefixes.{Prefixes, Linked, LinkedLine}
+use Rattle.cq_world.proofs.Sights.{Sight, line}
 
 -- the numbers are all different
 abbrev pub Apart : List ℕ → Type 0
@@ -24,18 +24,18 @@ pub apart-out : (a : ℕ) (ids : List ℕ) → ((b : ℕ) → Among b ids → eq
 apart-out a ids h member = both_ways (eqb a a) (h a (among-in ids a member)) (eq-eqb a a refl)
 
 -- who is the last is a member
-pub last-in : (chain : List ℕ) (id : ℕ) → is_last chain id ≡ true → is_in chain id ≡ true
+pub last-in : (ids : List ℕ) (id : ℕ) → is_last ids id ≡ true → is_in ids id ≡ true
 last-in [] id h = absurd (false≢true h)
 last-in (a ∷ []) id h = or_left (eqb a id) false h
 last-in (a ∷ b ∷ rest) id h = or_right (eqb a id) (is_in (b ∷ rest) id) (last-in (b ∷ rest) id h)
 
 -- there is one last
-pub last-one : (chain : List ℕ) (x y : ℕ) → is_last chain x ≡ true → is_last chain y ≡ true → x ≡ y
+pub last-one : (ids : List ℕ) (x y : ℕ) → is_last ids x ≡ true → is_last ids y ≡ true → x ≡ y
 last-one [] x y h k = absurd (false≢true h)
 last-one (a ∷ []) x y h k = sym (eqb-true a x h) ∙ eqb-true a y k
 last-one (a ∷ b ∷ rest) x y h k = last-one (b ∷ rest) x y h k
 
--- a chain that has a member has a last one
+-- where there is a member there is a last one
 pub last-some : (a : ℕ) (rest : List ℕ) → (x : ℕ) × (is_last (a ∷ rest) x ≡ true)
 last-some a [] = (a, eq-eqb a a refl)
 last-some a (b ∷ rest) = last-some b rest
@@ -47,7 +47,7 @@ last-behind a (b ∷ rest) x h = h
 
 -- ---- neighbours
 
-pub before-in : (p s : ℕ) (chain : List ℕ) → stands_before p s chain ≡ true → (is_in chain p ≡ true) × (is_in chain s ≡ true)
+pub before-in : (p s : ℕ) (ids : List ℕ) → stands_before p s ids ≡ true → (is_in ids p ≡ true) × (is_in ids s ≡ true)
 before-in p s [] h = absurd (false≢true h)
 before-in p s (a ∷ []) h = absurd (false≢true h)
 before-in p s (a ∷ b ∷ rest) h = elim (or_cases (eqb a p && eqb b s) (stands_before p s (b ∷ rest)) h) [
@@ -73,7 +73,7 @@ keeps_first : (d a : ℕ) (rest : List ℕ) → eqb a d ≡ false → without d 
 keeps_first d a rest other = ap (λ b. cond (not b) (a ∷ without d rest) (without d rest)) other
 
 -- without a third one they are neighbours
-pub before-without : (d p s : ℕ) (chain : List ℕ) → stands_before p s chain ≡ true → eqb p d ≡ false → eqb s d ≡ false → stands_before p s (without d chain) ≡ true
+pub before-without : (d p s : ℕ) (ids : List ℕ) → stands_before p s ids ≡ true → eqb p d ≡ false → eqb s d ≡ false → stands_before p s (without d ids) ≡ true
 before-without d p s [] h k l = absurd (false≢true h)
 before-without d p s (a ∷ []) h k l = absurd (false≢true h)
 before-without d p s (a ∷ b ∷ rest) h k l = elim (or_cases (eqb a p && eqb b s) (stands_before p s (b ∷ rest)) h) [
@@ -86,7 +86,7 @@ before-without d p s (a ∷ b ∷ rest) h k l = elim (or_cases (eqb a p && eqb b
   go false is = before-behind p s a (without d (b ∷ rest)) is
 
 -- with one more at the end they are
-pub before-more : (p s x : ℕ) (chain : List ℕ) → stands_before p s chain ≡ true → stands_before p s (chain ++ x ∷ []) ≡ true
+pub before-more : (p s x : ℕ) (ids : List ℕ) → stands_before p s ids ≡ true → stands_before p s (ids ++ x ∷ []) ≡ true
 before-more p s x [] h = absurd (false≢true h)
 before-more p s x (a ∷ []) h = absurd (false≢true h)
 before-more p s x (a ∷ b ∷ rest) h = elim (or_cases (eqb a p && eqb b s) (stands_before p s (b ∷ rest)) h) [
@@ -95,13 +95,13 @@ before-more p s x (a ∷ b ∷ rest) h = elim (or_cases (eqb a p && eqb b s) (st
 ]
 
 -- the last stands directly before one that is put behind it
-pub before-end : (t x : ℕ) (chain : List ℕ) → is_last chain t ≡ true → stands_before t x (chain ++ x ∷ []) ≡ true
+pub before-end : (t x : ℕ) (ids : List ℕ) → is_last ids t ≡ true → stands_before t x (ids ++ x ∷ []) ≡ true
 before-end t x [] h = absurd (false≢true h)
 before-end t x (a ∷ []) h = before-first t x a x [] h (eq-eqb x x refl)
 before-end t x (a ∷ b ∷ rest) h = or_right (eqb a t && eqb b x) (stands_before t x ((b ∷ rest) ++ x ∷ [])) (before-end t x (b ∷ rest) h)
 
 -- who stands before another one isn't the last
-pub before-last : (p s : ℕ) (chain : List ℕ) → Apart chain → stands_before p s chain ≡ true → is_last chain p ≡ true → ⊥
+pub before-last : (p s : ℕ) (ids : List ℕ) → Apart ids → stands_before p s ids ≡ true → is_last ids p ≡ true → ⊥
 before-last p s [] apart h last = false≢true h
 before-last p s (a ∷ []) apart h last = false≢true h
 before-last p s (a ∷ b ∷ rest) apart h last = elim (or_cases (eqb a p && eqb b s) (stands_before p s (b ∷ rest)) h) [
@@ -112,7 +112,7 @@ before-last p s (a ∷ b ∷ rest) apart h last = elim (or_cases (eqb a p && eqb
 -- ---- the last, after a change
 
 -- where the last one stays, it is the last without another one
-pub last-without : (d x : ℕ) (chain : List ℕ) → is_last chain x ≡ true → eqb x d ≡ false → is_last (without d chain) x ≡ true
+pub last-without : (d x : ℕ) (ids : List ℕ) → is_last ids x ≡ true → eqb x d ≡ false → is_last (without d ids) x ≡ true
 last-without d x [] h k = absurd (false≢true h)
 last-without d x (a ∷ []) h k = subst (λ us. is_last us x ≡ true) (sym (keeps_first d a [] (other_than a x d h k))) h
 last-without d x (a ∷ b ∷ rest) h k = go (eqb a d) (last-without d x (b ∷ rest) h k) where
@@ -121,7 +121,7 @@ last-without d x (a ∷ b ∷ rest) h k = go (eqb a d) (last-without d x (b ∷ 
   go false is = last-behind a (without d (b ∷ rest)) x is
 
 -- with one more at the end, that is the last
-pub last-end : (chain : List ℕ) (x : ℕ) → is_last (chain ++ x ∷ []) x ≡ true
+pub last-end : (ids : List ℕ) (x : ℕ) → is_last (ids ++ x ∷ []) x ≡ true
 last-end [] x = eq-eqb x x refl
 last-end (a ∷ []) x = eq-eqb x x refl
 last-end (a ∷ b ∷ rest) x = last-end (b ∷ rest) x
@@ -134,7 +134,7 @@ Before p s [] = ⊥
 Before p s (a ∷ rest) = ((eqb a p ≡ true) × (is_in rest s ≡ true)) ⊎ Before p s rest
 
 -- of two members one stands before the other
-pub before-either : (chain : List ℕ) (p s : ℕ) → is_in chain p ≡ true → is_in chain s ≡ true → eqb p s ≡ false → Before p s chain ⊎ Before s p chain
+pub before-either : (ids : List ℕ) (p s : ℕ) → is_in ids p ≡ true → is_in ids s ≡ true → eqb p s ≡ false → Before p s ids ⊎ Before s p ids
 before-either [] p s h k other = absurd (false≢true h)
 before-either (a ∷ rest) p s h k other = elim (or_cases (eqb a p) (is_in rest p) h) [
   | inl e ↦ elim (or_cases (eqb a s) (is_in rest s) k) [
@@ -148,13 +148,13 @@ before-either (a ∷ rest) p s h k other = elim (or_cases (eqb a p) (is_in rest 
 ]
 
 -- both are members
-pub before-members : (chain : List ℕ) (p s : ℕ) → Before p s chain → is_in chain p ≡ true
+pub before-members : (ids : List ℕ) (p s : ℕ) → Before p s ids → is_in ids p ≡ true
 before-members [] p s h = absurd h
 before-members (a ∷ rest) p s (inl h) = or_left (eqb a p) (is_in rest p) h.0
 before-members (a ∷ rest) p s (inr h) = or_right (eqb a p) (is_in rest p) (before-members rest p s h)
 
 -- who stands before another one isn't the last
-pub before-not-last : (chain : List ℕ) (p s : ℕ) → Apart chain → Before p s chain → is_last chain p ≡ false
+pub before-not-last : (ids : List ℕ) (p s : ℕ) → Apart ids → Before p s ids → is_last ids p ≡ false
 before-not-last [] p s apart h = absurd h
 before-not-last (a ∷ []) p s apart (inl h) = absurd (false≢true h.1)
 before-not-last (a ∷ []) p s apart (inr h) = absurd h
@@ -165,7 +165,7 @@ before-not-last (a ∷ b ∷ rest) p s apart (inl h) = elim (cases_Bool (is_last
 before-not-last (a ∷ b ∷ rest) p s apart (inr h) = before-not-last (b ∷ rest) p s apart.1 h
 
 -- behind the one directly before the last there is only the last
-pub before-only : (chain : List ℕ) (p s z : ℕ) → Apart chain → stands_before p z chain ≡ true → is_last chain z ≡ true → Before p s chain → s ≡ z
+pub before-only : (ids : List ℕ) (p s z : ℕ) → Apart ids → stands_before p z ids ≡ true → is_last ids z ≡ true → Before p s ids → s ≡ z
 before-only [] p s z apart h last b = absurd b
 before-only (a ∷ []) p s z apart h last b = absurd (false≢true h)
 before-only (a ∷ b ∷ rest) p s z apart h last (inl first) = elim (or_cases (eqb a p && eqb b z) (stands_before p z (b ∷ rest)) h) [
@@ -195,9 +195,12 @@ below_linked v a rest p s h l (inl first) = subst (λ i. Front (v.server s).entr
 below_linked v a [] p s h l (inr later) = absurd later
 below_linked v a (b ∷ rest) p s h l (inr later) = below_linked v b rest p s h l.1 later
 
--- The history of a member is a front of that of each member before it.
-pub chain-order : (v : Sight) (p s : ℕ) → Prefixes v → Before p s v.master.chain → Front (v.server s).entries (v.server p).entries
-chain-order v p s h before = go v.master.chain h.linked before where
-  go : (chain : List ℕ) → LinkedChain v chain → Before p s chain → Front (v.server s).entries (v.server p).entries
+-- The history of a server of the line is a front of that of each before it, and so along the chain.
+pub line-order : (v : Sight) (p s : ℕ) → Prefixes v → Before p s (line v.master) → Front (v.server s).entries (v.server p).entries
+line-order v p s h before = go (line v.master) h.linked before where
+  go : (ids : List ℕ) → LinkedLine v ids → Before p s ids → Front (v.server s).entries (v.server p).entries
   go [] l b = absurd b
   go (a ∷ rest) l b = below_linked v a rest p s h l b
+
+pub chain-order : (v : Sight) (p s : ℕ) → Prefixes v → Before p s v.master.chain → Front (v.server s).entries (v.server p).entries
+chain-order v p s h before = line-order v p s h before

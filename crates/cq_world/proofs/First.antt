@@ -9,7 +9,7 @@ use Rattle.cq_world.proofs.Chains.{last-one}
 use Rattle.cq_world.proofs.Prefixes.Climbing.{one, ups, Climbs}
 use Rattle.cq_world.proofs.Commits.{Commits, bit, waits}
 use Rattle.cq_world.proofs.Eaches.{front-none, some_none}
-use Rattle.cq_world.proofs.Prefixes.{Prefixes, Linked, LinkedChain}
+use Rattle.cq_world.proofs.Prefixes.{Prefixes, Linked, LinkedLine}
 use Rattle.cq_world.proofs.Sights.{Sight, sight}
 
 -- ---- numbers
@@ -64,10 +64,10 @@ first_linked size v (suc n) k h some within = (
   first_linked size v n (k + 1) h (omega arith) (omega (arith, within)),
 )
 
-first_chain : (size : ℕ) (v : Sight) → ((id : ℕ) → 1 ≤ id → id ≤ size → ups v id ≡ one (first_member size id).pred) → LinkedChain v (numbers_from 1 size)
+first_line : (size : ℕ) (v : Sight) → ((id : ℕ) → 1 ≤ id → id ≤ size → ups v id ≡ one (first_member size id).pred) → LinkedLine v (numbers_from 1 size)
 unfolding numbers_from
-first_chain zero v h = tt
-first_chain (suc n) v h = first_linked (suc n) v n 1 h (omega arith) (omega arith)
+first_line zero v h = tt
+first_line (suc n) v h = first_linked (suc n) v n 1 h (omega arith) (omega arith)
 
 first_ups : (t : Bool) (size id : ℕ) → t ≡ true → one (at_first t size id).pred ++ [] ≡ one (first_member size id).pred
 first_ups true size id e = append-nil (one (first_member size id).pred)
@@ -86,7 +86,7 @@ prefixes-first size = record {
   fresh = λ id unused. (first_fresh (is_in (numbers_from 1 size) id) size id unused, refl);
   speaks = λ id to. tt;
   climbs = λ id. first_climb (first_world size).server id (at_first (is_in (numbers_from 1 size) id) size id).pred (first_entries (is_in (numbers_from 1 size) id) size id);
-  linked = first_chain size (sight (first_world size)) (λ id low high. first_ups (is_in (numbers_from 1 size) id) size id (in-numbers size 1 id low (omega (arith, high))));
+  linked = first_line size (sight (first_world size)) (λ id low high. first_ups (is_in (numbers_from 1 size) id) size id (in-numbers size 1 id low (omega (arith, high))));
   heads = λ id h. tt;
   headless = λ id h is. first_head (is_in (numbers_from 1 size) id) size id is;
 }

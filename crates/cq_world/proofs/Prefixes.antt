@@ -1,4 +1,4 @@
--- Histories are fronts of each other along the chain, whatever changes: the sentences that carry this, and that each
+-- Histories are fronts of each other along the line, whatever changes: the sentences that carry this, and that each
 -- step of a server keeps them.
 pub mod Climbing
 pub mod Steps
@@ -18,7 +18,7 @@ use Rattle.cq_world.specs.Worlds.{set_at, set_pair}
 use Rattle.cq_world.proofs.Eaches.{Each, each-append, each-follows, each-addressed, front-trans}
 use Rattle.cq_world.proofs.Parties.{same-true}
 use Rattle.cq_world.proofs.Prefixes.Climbing.{reports, one, ups, Climbs, Grows, climbs-other}
-use Rattle.cq_world.proofs.Sights.{Sight, turn}
+use Rattle.cq_world.proofs.Sights.{Sight, line, turn}
 
 -- ---- the sentences
 
@@ -27,38 +27,38 @@ abbrev pub is_first : List ℕ → ℕ → Bool
 is_first [] id = false
 is_first (a ∷ rest) id = eqb a id
 
--- each member's last predecessor is the member before it
+-- each server's last predecessor is the one before it
 abbrev pub Linked : Sight → ℕ → List ℕ → Type 0
 Linked v p [] = Unit {0}
 Linked v p (s ∷ rest) = (is_last (ups v s) p ≡ true) × Linked v s rest
 
 -- the same, from the head on
-abbrev pub LinkedChain : Sight → List ℕ → Type 0
-LinkedChain v [] = Unit {0}
-LinkedChain v (head ∷ rest) = Linked v head rest
+abbrev pub LinkedLine : Sight → List ℕ → Type 0
+LinkedLine v [] = Unit {0}
+LinkedLine v (head ∷ rest) = Linked v head rest
 
--- who is told to be the head is the first of the chain, and is told of no predecessor after that
+-- who is told to be the head is the first of the line, and is told of no predecessor after that
 abbrev pub Heads : List ℕ → ℕ → List Message → Type 0
-Heads chain s [] = Unit {0}
-Heads chain s (BeHead ∷ ms) = (is_first chain s ≡ true) × (reports ms ≡ []) × Heads chain s ms
-Heads chain s (m ∷ ms) = Heads chain s ms
+Heads line s [] = Unit {0}
+Heads line s (BeHead ∷ ms) = (is_first line s ≡ true) × (reports ms ≡ []) × Heads line s ms
+Heads line s (m ∷ ms) = Heads line s ms
 
 pub record Prefixes (v : Sight) : Type 0 where
-  -- the members of the chain are different, and have been used
-  pub apart : Pairwise (λ a b. eqb a b ≡ false) v.master.chain
-  pub members : (id : ℕ) → is_in v.master.chain id ≡ true → is_in v.master.used id ≡ true
-  -- a server that left the chain is down
-  pub away : (id : ℕ) → is_in v.master.used id ≡ true → is_in v.master.chain id ≡ false → (v.server id).down ≡ true
+  -- the servers of the line are different, and have been used
+  pub apart : Pairwise (λ a b. eqb a b ≡ false) (line v.master)
+  pub members : (id : ℕ) → is_in (line v.master) id ≡ true → is_in v.master.used id ≡ true
+  -- a server that left the line is down
+  pub away : (id : ℕ) → is_in v.master.used id ≡ true → is_in (line v.master) id ≡ false → (v.server id).down ≡ true
   -- a number that wasn't used has a server that joins, to which the master said nothing
   pub fresh : (id : ℕ) → is_in v.master.used id ≡ false → (v.server id ≡ joining) × (v.channel parties.Master (parties.Server id) ≡ [])
   -- what is on its way from a server is of its history
   pub speaks : (id : ℕ) (to : Party) → Each (Speaks (v.server id).entries) (v.channel (parties.Server id) to)
   -- a server's history is a front of its predecessor's, and so for all that it will be given
   pub climbs : (id : ℕ) → Climbs v.server id (ups v id)
-  pub linked : LinkedChain v v.master.chain
+  pub linked : LinkedLine v (line v.master)
   -- a head has no predecessor, and is given none
-  pub heads : (id : ℕ) → is_in v.master.chain id ≡ true → Heads v.master.chain id (v.channel parties.Master (parties.Server id))
-  pub headless : (id : ℕ) → is_in v.master.chain id ≡ true → (v.server id).head ≡ true → ups v id ≡ []
+  pub heads : (id : ℕ) → is_in (line v.master) id ≡ true → Heads (line v.master) id (v.channel parties.Master (parties.Server id))
+  pub headless : (id : ℕ) → is_in (line v.master) id ≡ true → (v.server id).head ≡ true → ups v id ≡ []
 
 -- ---- a server's turn
 
@@ -79,8 +79,8 @@ pub record Turn (v : Sight) (from : Party) (k : ℕ) (rest : List Message) (s : 
   pub grows : Front (v.server k).entries s.entries
   pub speaks : Each (λ x. Speaks s.entries x.1) out
   pub climbs : Climbs (set_at v.server k s) k (ups_after v from k rest s)
-  pub last : is_first v.master.chain k ≡ false → (p : ℕ) → is_last (ups v k) p ≡ true → is_last (ups_after v from k rest s) p ≡ true
-  pub head : s.head ≡ true → is_in v.master.chain k ≡ true → ups_after v from k rest s ≡ []
+  pub last : is_first (line v.master) k ≡ false → (p : ℕ) → is_last (ups v k) p ≡ true → is_last (ups_after v from k rest s) p ≡ true
+  pub head : s.head ≡ true → is_in (line v.master) k ≡ true → ups_after v from k rest s ≡ []
 
 -- what a message says stays so when the history grows
 pub speaks-grows : (xs ys : List Entry) → Front xs ys → (m : Message) → Speaks xs m → Speaks ys m
@@ -94,9 +94,9 @@ each-end P [] ys h = h
 each-end P (x ∷ xs) ys h = each-end P xs ys h.1
 
 -- Heads of the end of a row
-pub heads-end : (chain : List ℕ) (s : ℕ) (xs ys : List Message) → Heads chain s (xs ++ ys) → Heads chain s ys
-heads-end chain s [] ys h = h
-heads-end chain s (m ∷ xs) ys h = heads-end chain s xs ys (heads_skip chain s m (xs ++ ys) h) where
+pub heads-end : (line : List ℕ) (s : ℕ) (xs ys : List Message) → Heads line s (xs ++ ys) → Heads line s ys
+heads-end line s [] ys h = h
+heads-end line s (m ∷ xs) ys h = heads-end line s xs ys (heads_skip line s m (xs ++ ys) h) where
   heads_skip : (c : List ℕ) (i : ℕ) (n : Message) (ns : List Message) → Heads c i (n ∷ ns) → Heads c i ns
   heads_skip c i BeHead ns g = g.2
   heads_skip c i n ns g = g
@@ -142,19 +142,19 @@ climbs_turn v from k rest s out h t id = go (eqb id k) refl where
   go false other = subst (λ us. Climbs (set_at v.server k s) id us) (sym (ups_other v from k rest s out id other))
       (climbs-other v.server (set_at v.server k s) k id (ups v id) (turn_grows v from k rest s out t) t.lives other (h.climbs id))
 
-linked_turn : (v w : Sight) (chain : List ℕ) (p : ℕ) → ((s : ℕ) → Among s chain → (q : ℕ) → is_last (ups v s) q ≡ true → is_last (ups w s) q ≡ true) → Linked v p chain → Linked w p chain
+linked_turn : (v w : Sight) (line : List ℕ) (p : ℕ) → ((s : ℕ) → Among s line → (q : ℕ) → is_last (ups v s) q ≡ true → is_last (ups w s) q ≡ true) → Linked v p line → Linked w p line
 linked_turn v w [] p h l = tt
-linked_turn v w (s ∷ chain) p h l = (h s (inl refl) p l.0, linked_turn v w chain s (λ r among. h r (inr among)) l.1)
+linked_turn v w (s ∷ line) p h l = (h s (inl refl) p l.0, linked_turn v w line s (λ r among. h r (inr among)) l.1)
 
-last_turn : (v : Sight) (from : Party) (k : ℕ) (rest : List Message) (s : Server) (out : List (Party × Message)) → Turn v from k rest s out → (j : ℕ) → is_first v.master.chain j ≡ false → (q : ℕ) → is_last (ups v j) q ≡ true → is_last (ups (turn v from k rest s out) j) q ≡ true
+last_turn : (v : Sight) (from : Party) (k : ℕ) (rest : List Message) (s : Server) (out : List (Party × Message)) → Turn v from k rest s out → (j : ℕ) → is_first (line v.master) j ≡ false → (q : ℕ) → is_last (ups v j) q ≡ true → is_last (ups (turn v from k rest s out) j) q ≡ true
 last_turn v from k rest s out t j first q last = go (eqb j k) refl where
   go : (b : Bool) → eqb j k ≡ b → is_last (ups (turn v from k rest s out) j) q ≡ true
-  go true own = ap (λ us. is_last us q) (ups_own v from k rest s out j own) ∙ t.last (subst (λ i. is_first v.master.chain i ≡ false) (eqb-true j k own) first) q (subst (λ i. is_last (ups v i) q ≡ true) (eqb-true j k own) last)
+  go true own = ap (λ us. is_last us q) (ups_own v from k rest s out j own) ∙ t.last (subst (λ i. is_first (line v.master) i ≡ false) (eqb-true j k own) first) q (subst (λ i. is_last (ups v i) q ≡ true) (eqb-true j k own) last)
   go false other = ap (λ us. is_last us q) (ups_other v from k rest s out j other) ∙ last
 
-linked_chain : (v w : Sight) (chain : List ℕ) → Pairwise (λ a b. eqb a b ≡ false) chain → ((j : ℕ) → is_first chain j ≡ false → (q : ℕ) → is_last (ups v j) q ≡ true → is_last (ups w j) q ≡ true) → LinkedChain v chain → LinkedChain w chain
-linked_chain v w [] apart h l = tt
-linked_chain v w (a ∷ chain) apart h l = linked_turn v w chain a (λ s among. h s (apart.0 s among)) l
+linked_line : (v w : Sight) (line : List ℕ) → Pairwise (λ a b. eqb a b ≡ false) line → ((j : ℕ) → is_first line j ≡ false → (q : ℕ) → is_last (ups v j) q ≡ true → is_last (ups w j) q ≡ true) → LinkedLine v line → LinkedLine w line
+linked_line v w [] apart h l = tt
+linked_line v w (a ∷ line) apart h l = linked_turn v w line a (λ s among. h s (apart.0 s among)) l
 
 speaks_row : (t : Bool) (P Q : Message → Type 0) (old rest : List Message) → Each P old → (t ≡ true → Each P rest) → Each P (cond t rest old)
 speaks_row true P Q old rest h k = k refl
@@ -176,20 +176,20 @@ speaks_turn v from k rest s out h t id to = go (eqb id k) refl where
       (each-addressed (Speaks s.entries) to out t.speaks)
   go false other = row
 
-heads_turn : (v : Sight) (from : Party) (k : ℕ) (rest : List Message) (s : Server) (out : List (Party × Message)) → Prefixes v → Turn v from k rest s out → (id : ℕ) → is_in v.master.chain id ≡ true → Heads v.master.chain id ((turn v from k rest s out).channel parties.Master (parties.Server id))
+heads_turn : (v : Sight) (from : Party) (k : ℕ) (rest : List Message) (s : Server) (out : List (Party × Message)) → Prefixes v → Turn v from k rest s out → (id : ℕ) → is_in (line v.master) id ≡ true → Heads (line v.master) id ((turn v from k rest s out).channel parties.Master (parties.Server id))
 heads_turn v from k rest s out h t id member = go (same parties.Master from && same (parties.Server id) (parties.Server k)) refl where
-  go : (b : Bool) → (same parties.Master from && same (parties.Server id) (parties.Server k)) ≡ b → Heads v.master.chain id (cond b rest (v.channel parties.Master (parties.Server id)))
+  go : (b : Bool) → (same parties.Master from && same (parties.Server id) (parties.Server k)) ≡ b → Heads (line v.master) id (cond b rest (v.channel parties.Master (parties.Server id)))
   go true is = let both = and_parts (same parties.Master from) (same (parties.Server id) (parties.Server k)) is in
-      heads-end v.master.chain id t.front rest (subst (λ ms. Heads v.master.chain id ms) (ap (λ p. v.channel p (parties.Server id)) (same-true parties.Master from both.0) ∙ ap (λ p. v.channel from p) (same-true (parties.Server id) (parties.Server k) both.1) ∙ t.taken) (h.heads id member))
+      heads-end (line v.master) id t.front rest (subst (λ ms. Heads (line v.master) id ms) (ap (λ p. v.channel p (parties.Server id)) (same-true parties.Master from both.0) ∙ ap (λ p. v.channel from p) (same-true (parties.Server id) (parties.Server k) both.1) ∙ t.taken) (h.heads id member))
   go false is = h.heads id member
 
-headless_turn : (v : Sight) (from : Party) (k : ℕ) (rest : List Message) (s : Server) (out : List (Party × Message)) → Prefixes v → Turn v from k rest s out → (id : ℕ) → is_in v.master.chain id ≡ true → (set_at v.server k s id).head ≡ true → ups (turn v from k rest s out) id ≡ []
+headless_turn : (v : Sight) (from : Party) (k : ℕ) (rest : List Message) (s : Server) (out : List (Party × Message)) → Prefixes v → Turn v from k rest s out → (id : ℕ) → is_in (line v.master) id ≡ true → (set_at v.server k s id).head ≡ true → ups (turn v from k rest s out) id ≡ []
 headless_turn v from k rest s out h t id member is_head = go (eqb id k) refl where
   go : (b : Bool) → eqb id k ≡ b → ups (turn v from k rest s out) id ≡ []
-  go true own = ups_own v from k rest s out id own ∙ t.head (sym (ap (λ b. (cond b s (v.server id)).head) own) ∙ is_head) (subst (λ i. is_in v.master.chain i ≡ true) (eqb-true id k own) member)
+  go true own = ups_own v from k rest s out id own ∙ t.head (sym (ap (λ b. (cond b s (v.server id)).head) own) ∙ is_head) (subst (λ i. is_in (line v.master) i ≡ true) (eqb-true id k own) member)
   go false other = ups_other v from k rest s out id other ∙ h.headless id member (sym (ap (λ b. (cond b s (v.server id)).head) other) ∙ is_head)
 
-away_turn : (v : Sight) (k : ℕ) (s : Server) → Prefixes v → (v.server k).down ≡ false → (id : ℕ) → is_in v.master.used id ≡ true → is_in v.master.chain id ≡ false → (set_at v.server k s id).down ≡ true
+away_turn : (v : Sight) (k : ℕ) (s : Server) → Prefixes v → (v.server k).down ≡ false → (id : ℕ) → is_in v.master.used id ≡ true → is_in (line v.master) id ≡ false → (set_at v.server k s id).down ≡ true
 away_turn v k s h lives id used out_of = go (eqb id k) refl where
   go : (b : Bool) → eqb id k ≡ b → (cond b s (v.server id)).down ≡ true
   go true own = absurd (both_ways (v.server k).down lives (subst (λ i. (v.server i).down ≡ true) (eqb-true id k own) (h.away id used out_of)))
@@ -214,7 +214,7 @@ turn-keeps v from k rest s out h t = record {
   fresh = fresh_turn v from k rest s out h t;
   speaks = speaks_turn v from k rest s out h t;
   climbs = climbs_turn v from k rest s out h t;
-  linked = linked_chain v (turn v from k rest s out) v.master.chain h.apart (last_turn v from k rest s out t) h.linked;
+  linked = linked_line v (turn v from k rest s out) (line v.master) h.apart (last_turn v from k rest s out t) h.linked;
   heads = heads_turn v from k rest s out h t;
   headless = headless_turn v from k rest s out h t;
 }

@@ -30,8 +30,9 @@ use Rattle.cq_world.proofs.Eaches.{Each, each-append, each-drop, front-refl, fro
 use Rattle.cq_world.proofs.First.{prefixes-first, commits-first}
 use Rattle.cq_world.proofs.Prefixes.Orders.{said-keeps, detected-said, joined-said, heard-said}
 use Rattle.cq_world.proofs.Parties.{same-true}
-use Rattle.cq_world.proofs.Prefixes.{Prefixes, Linked, LinkedChain, Heads, Turn, turn-keeps}
-use Rattle.cq_world.proofs.Sights.{Sight, sight, turn, said, drained, same_channels, sight-put, sight-given, sight-step, sight-taken, sight-without}
+use Rattle.cq_world.proofs.Prefixes.{Prefixes, Linked, LinkedLine, Heads, Turn, turn-keeps}
+use Rattle.cq_world.proofs.Sights.{Sight, line, sight, turn, said, drained, same_channels}
+use Rattle.cq_world.proofs.Sights.{sight-put, sight-given, sight-step, sight-taken, sight-without}
 use Rattle.cq_world.proofs.Prefixes.Steps.{lives-member, take-turn, arrive-turn, ask-turn, crash-turn}
 use Rattle.cq_world.proofs.Unrefused.{known-parts, lives-parts, server-parts, at-head}
 
@@ -46,8 +47,8 @@ drained_keeps v from to rest no_server says h = record {
   fresh = λ id unused. ((h.fresh id unused).0, row id ∙ (h.fresh id unused).1);
   speaks = λ id x. go id x (same (parties.Server id) from) (same x to) refl;
   climbs = λ id. subst (λ ms. Climbs v.server id (one (v.server id).pred ++ reports ms)) (sym (row id)) (h.climbs id);
-  linked = linked_same v.master.chain h.linked;
-  heads = λ id member. subst (λ ms. Heads v.master.chain id ms) (sym (row id)) (h.heads id member);
+  linked = linked_same (line v.master) h.linked;
+  heads = λ id member. subst (λ ms. Heads (line v.master) id ms) (sym (row id)) (h.heads id member);
   headless = λ id member is. ap (λ ms. one (v.server id).pred ++ reports ms) (row id) ∙ h.headless id member is;
 } where
   and_false : (b c : Bool) (us ws : List Message) → c ≡ false → cond (b && c) us ws ≡ ws
@@ -62,13 +63,13 @@ drained_keeps v from to rest no_server says h = record {
   go id x true false e = h.speaks id x
   go id x false c e = h.speaks id x
 
-  linked_on : (p : ℕ) (chain : List ℕ) → Linked v p chain → Linked (drained v from to rest) p chain
+  linked_on : (p : ℕ) (line : List ℕ) → Linked v p line → Linked (drained v from to rest) p line
   linked_on p [] l = tt
-  linked_on p (s ∷ chain) l = (ap (λ ms. is_last (one (v.server s).pred ++ reports ms) p) (row s) ∙ l.0, linked_on s chain l.1)
+  linked_on p (s ∷ line) l = (ap (λ ms. is_last (one (v.server s).pred ++ reports ms) p) (row s) ∙ l.0, linked_on s line l.1)
 
-  linked_same : (chain : List ℕ) → LinkedChain v chain → LinkedChain (drained v from to rest) chain
+  linked_same : (line : List ℕ) → LinkedLine v line → LinkedLine (drained v from to rest) line
   linked_same [] l = tt
-  linked_same (a ∷ chain) l = linked_on a chain l
+  linked_same (a ∷ line) l = linked_on a line l
 
 -- where the rows between the master and servers stay, so do the sentences on who acts
 aside_commits : (v : Sight) (c : List Entry) (from to : Party) (rest : List Message) → ((s : ℕ) → (drained v from to rest).channel parties.Master (parties.Server s) ≡ v.channel parties.Master (parties.Server s))

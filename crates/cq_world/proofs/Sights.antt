@@ -18,6 +18,10 @@ pub record Sight : Type 0 where
   pub channel : Party → Party → List Message
   pub master : Master
 
+-- the servers that are fed, in order: each gets what the one before it has
+abbrev pub line : Master → List ℕ
+line m = m.chain
+
 abbrev pub sight : World → Sight
 sight w = record { server = w.server; channel = channel w; master = w.master }
 

@@ -22,8 +22,8 @@ use Rattle.cq_world.proofs.Prefixes.Climbing.{reports, one, ups}
 use Rattle.cq_world.proofs.Commits.{bit}
 use Rattle.cq_world.proofs.Eaches.{Each}
 use Rattle.cq_world.proofs.Wholes.Feeding.{NoData, OfSnap, Feeds}
-use Rattle.cq_world.proofs.Prefixes.{Prefixes, Linked, LinkedChain}
-use Rattle.cq_world.proofs.Sights.{Sight}
+use Rattle.cq_world.proofs.Prefixes.{Prefixes, Linked, LinkedLine}
+use Rattle.cq_world.proofs.Sights.{Sight, line}
 
 -- ---- words on messages
 
@@ -52,11 +52,11 @@ news (Adopt s n ∷ ms) = suc (news ms)
 news (BeTail least ∷ ms) = suc (news ms)
 news (m ∷ ms) = news ms
 
--- behind a word on a member as successor there is no other one
+-- behind a word on a server of the line as successor there is no other one
 abbrev pub Ends : List ℕ → List Message → Type 0
-Ends chain [] = Unit {0}
-Ends chain (Adopt s n ∷ ms) = (is_in chain s ≡ true → news ms ≡ 0) × Ends chain ms
-Ends chain (m ∷ ms) = Ends chain ms
+Ends line [] = Unit {0}
+Ends line (Adopt s n ∷ ms) = (is_in line s ≡ true → news ms ≡ 0) × Ends line ms
+Ends line (m ∷ ms) = Ends line ms
 
 -- who is named has been used
 abbrev pub Known : List ℕ → Message → Type 0
@@ -99,18 +99,18 @@ pub record Whole (v : Sight) (c : List Entry) : Type 0 where
   pub reports_known : (id : ℕ) → Each (Known v.master.used) (v.channel (parties.Server id) parties.Master)
   pub unheard : (p id : ℕ) → is_in v.master.used id ≡ false → Each NoData (v.channel (parties.Server p) (parties.Server id))
   -- the making of a pair of neighbours stands at one stage, and that of others at none
-  pub token : (p s : ℕ) → is_in v.master.chain p ≡ true → is_in v.master.chain s ≡ true → tokens v p s ≡ bit (stands_before p s v.master.chain)
-  -- a member that is a successor stays it
-  pub ends : (p : ℕ) → is_in v.master.chain p ≡ true → Ends v.master.chain (v.channel parties.Master (parties.Server p))
-  pub follows : (p s : ℕ) → is_in v.master.chain p ≡ true → is_in v.master.chain s ≡ true → is_that (v.server p).succ s ≡ true → news (v.channel parties.Master (parties.Server p)) ≡ 0
+  pub token : (p s : ℕ) → is_in (line v.master) p ≡ true → is_in (line v.master) s ≡ true → tokens v p s ≡ bit (stands_before p s (line v.master))
+  -- a server of the line that is a successor stays it
+  pub ends : (p : ℕ) → is_in (line v.master) p ≡ true → Ends (line v.master) (v.channel parties.Master (parties.Server p))
+  pub follows : (p s : ℕ) → is_in (line v.master) p ≡ true → is_in (line v.master) s ≡ true → is_that (v.server p).succ s ≡ true → news (v.channel parties.Master (parties.Server p)) ≡ 0
   -- what is told of a neighbour's entries is so
-  pub counts : (p s : ℕ) → stands_before p s v.master.chain ≡ true → Each (HaveIs p (length (v.server s).entries)) (v.channel (parties.Server s) parties.Master)
-  pub adopts : (p s : ℕ) → stands_before p s v.master.chain ≡ true → is_that (v.server p).succ s ≡ false → Each (AdoptIs s (length (v.server s).entries)) (v.channel parties.Master (parties.Server p))
+  pub counts : (p s : ℕ) → stands_before p s (line v.master) ≡ true → Each (HaveIs p (length (v.server s).entries)) (v.channel (parties.Server s) parties.Master)
+  pub adopts : (p s : ℕ) → stands_before p s (line v.master) ≡ true → is_that (v.server p).succ s ≡ false → Each (AdoptIs s (length (v.server s).entries)) (v.channel parties.Master (parties.Server p))
   -- entries go to the successor alone, and where there is one its predecessor has been told
-  pub data_none : (p s : ℕ) → is_in v.master.chain s ≡ true → is_that (v.server p).succ s ≡ false → Each NoData (v.channel (parties.Server p) (parties.Server s))
-  pub linked_told : (p s : ℕ) → is_in v.master.chain s ≡ true → is_that (v.server p).succ s ≡ true → reports_of p (v.channel parties.Master (parties.Server s)) ≡ 0
+  pub data_none : (p s : ℕ) → is_in (line v.master) s ≡ true → is_that (v.server p).succ s ≡ false → Each NoData (v.channel (parties.Server p) (parties.Server s))
+  pub linked_told : (p s : ℕ) → is_in (line v.master) s ≡ true → is_that (v.server p).succ s ≡ true → reports_of p (v.channel parties.Master (parties.Server s)) ≡ 0
   -- what is on its way takes the successor to what the predecessor has
-  pub feed : (p s : ℕ) → is_in v.master.chain s ≡ true → (v.server s).pred ≡ Some p → is_that (v.server p).succ s ≡ true → Feeds (length (v.server s).entries) (v.channel (parties.Server p) (parties.Server s)) (length (v.server p).entries)
+  pub feed : (p s : ℕ) → is_in (line v.master) s ≡ true → (v.server s).pred ≡ Some p → is_that (v.server p).succ s ≡ true → Feeds (length (v.server s).entries) (v.channel (parties.Server p) (parties.Server s)) (length (v.server p).entries)
   -- a snapshot is for one that lacks something of what is committed, and has no successor
   pub snap : (p s : ℕ) → is_in v.master.chain s ≡ true → (v.server s).pred ≡ Some p → Each (OfSnap (length (v.server s).entries < length c)) (v.channel (parties.Server p) (parties.Server s))
   pub young_succ : (id : ℕ) → is_in v.master.chain id ≡ true → (v.server id).full ≡ false → (v.server id).succ ≡ None
@@ -122,7 +122,7 @@ pub record Whole (v : Sight) (c : List Entry) : Type 0 where
 -- ---- neighbours
 
 -- no server stands before itself
-pub before-self : (p : ℕ) (chain : List ℕ) → Apart chain → stands_before p p chain ≡ true → ⊥
+pub before-self : (p : ℕ) (line : List ℕ) → Apart line → stands_before p p line ≡ true → ⊥
 before-self p [] apart h = false≢true h
 before-self p (a ∷ []) apart h = false≢true h
 before-self p (a ∷ b ∷ rest) apart h = elim (or_cases (eqb a p && eqb b p) (stands_before p p (b ∷ rest)) h) [
@@ -138,9 +138,9 @@ linked_before v a (b ∷ rest) p s l h = elim (or_cases (eqb a p && eqb b s) (st
   | inr later ↦ linked_before v b rest p s l.1 later
 ]
 
-pub last-pred : (v : Sight) (p s : ℕ) → Prefixes v → stands_before p s v.master.chain ≡ true → is_last (ups v s) p ≡ true
-last-pred v p s g h = go v.master.chain g.linked h where
-  go : (chain : List ℕ) → LinkedChain v chain → stands_before p s chain ≡ true → is_last (ups v s) p ≡ true
+pub last-pred : (v : Sight) (p s : ℕ) → Prefixes v → stands_before p s (line v.master) ≡ true → is_last (ups v s) p ≡ true
+last-pred v p s g h = go (line v.master) g.linked h where
+  go : (line : List ℕ) → LinkedLine v line → stands_before p s line ≡ true → is_last (ups v s) p ≡ true
   go [] l before = absurd (false≢true before)
   go (a ∷ rest) l before = linked_before v a rest p s l before
 
@@ -166,7 +166,7 @@ last_told (m ∷ ms) p h = skip m h (λ l. last_told ms p l) where
   skip x l later = later l
 
 -- A neighbour whose predecessor isn't on its way to it has it, and is told of no other.
-pub stage-past : (v : Sight) (p s : ℕ) → Prefixes v → stands_before p s v.master.chain ≡ true → reports_of p (v.channel parties.Master (parties.Server s)) ≡ 0
+pub stage-past : (v : Sight) (p s : ℕ) → Prefixes v → stands_before p s (line v.master) ≡ true → reports_of p (v.channel parties.Master (parties.Server s)) ≡ 0
     → ((v.server s).pred ≡ Some p) × (reports (v.channel parties.Master (parties.Server s)) ≡ [])
 stage-past v p s g before none = go (v.server s).pred (reports (v.channel parties.Master (parties.Server s))) refl refl (last-pred v p s g before) where
   ms : List Message

@@ -18,8 +18,8 @@ use Rattle.cq_world.proofs.Commits.Turns.{Acting, by_server, stage_one}
 use Rattle.cq_world.proofs.Eaches.{Each, each-follows, some_none}
 use Rattle.cq_world.proofs.Settled.{IsSettled, is_settled}
 use Rattle.cq_world.proofs.Prefixes.Orders.{linked_some}
-use Rattle.cq_world.proofs.Prefixes.{Prefixes, LinkedChain, master_after}
-use Rattle.cq_world.proofs.Sights.{Sight, turn}
+use Rattle.cq_world.proofs.Prefixes.{Prefixes, LinkedLine, master_after}
+use Rattle.cq_world.proofs.Sights.{Sight, line, turn}
 use Rattle.cq_world.proofs.Prefixes.Steps.{lives-member}
 
 -- ---- what is said to the master
@@ -394,9 +394,9 @@ behind_first a [] p s (inr later) = absurd later
 behind_first a (b ∷ rest) p s (inr later) = or_right (eqb b s) (is_in rest s) (behind_first b rest p s later)
 
 -- a head isn't behind another one
-head_behind : (v : Sight) (p k : ℕ) → Prefixes v → is_in v.master.chain k ≡ true → (v.server k).head ≡ true → Before p k v.master.chain → ⊥
-head_behind v p k g member is_head before = go v.master.chain g.linked before where
-  go : (chain : List ℕ) → LinkedChain v chain → Before p k chain → ⊥
+head_behind : (v : Sight) (p k : ℕ) → Prefixes v → is_in (line v.master) k ≡ true → (v.server k).head ≡ true → Before p k (line v.master) → ⊥
+head_behind v p k g member is_head before = go (line v.master) g.linked before where
+  go : (ids : List ℕ) → LinkedLine v ids → Before p k ids → ⊥
   go [] l b = absurd b
   go (a ∷ rest) l b = linked_some v a rest k l (among-in rest k (behind_first a rest p k b)) (g.headless k member is_head)
 

@@ -1,4 +1,4 @@
--- Each step of the master keeps histories fronts of each other along the chain.
+-- Each step of the master keeps histories fronts of each other along the line.
 use Rattle.std.proofs.Common.{◌≡◌, ℕ, ◌∙◌, ap, sym, List, [], ◌∷◌, ◌++◌, length, ◌&&◌, ◌||◌, ◌⊎◌, not, Bool, true, false, cond, eqb, subst, refl, inl, inr, append-nil, append_assoc}
 use Rattle.std.proofs.lemmas.Bool.{eqb-true, eq-eqb, ne_eqb, false≢true, both_ways, and_parts, or_cases, or_left, or_right, or_parts}
 use Rattle.cq_base.specs.declared.party.Party.{Party}
@@ -11,8 +11,8 @@ use Rattle.cq_chain.specs.Parties.{same, addressed}
 use Rattle.cq_chain.specs.Servers.{joining}
 use Rattle.cq_world.proofs.Prefixes.Climbing.{reports, one, ups, Climbs, climbs-top, climbs-on, last-more, reports-append}
 use Rattle.cq_world.proofs.Eaches.{front-none}
-use Rattle.cq_world.proofs.Prefixes.{Prefixes, Linked, LinkedChain, Heads, is_first, heads-end}
-use Rattle.cq_world.proofs.Sights.{Sight, said}
+use Rattle.cq_world.proofs.Prefixes.{Prefixes, Linked, LinkedLine, Heads, is_first, heads-end}
+use Rattle.cq_world.proofs.Sights.{Sight, line, said}
 
 -- ---- what the master says
 
@@ -37,19 +37,19 @@ NoHead (BeHead ∷ ms) = ⊥
 NoHead (m ∷ ms) = NoHead ms
 
 -- who isn't the first is not told to be the head
-no_head : (chain : List ℕ) (s : ℕ) (ms : List Message) → is_first chain s ≡ false → Heads chain s ms → NoHead ms
-no_head chain s [] other h = tt
-no_head chain s (BeHead ∷ ms) other h = absurd (both_ways (is_first chain s) other h.0)
-no_head chain s (m ∷ ms) other h = no_head_skip chain s m ms other h (λ g. no_head chain s ms other g) where
+no_head : (line : List ℕ) (s : ℕ) (ms : List Message) → is_first line s ≡ false → Heads line s ms → NoHead ms
+no_head line s [] other h = tt
+no_head line s (BeHead ∷ ms) other h = absurd (both_ways (is_first line s) other h.0)
+no_head line s (m ∷ ms) other h = no_head_skip line s m ms other h (λ g. no_head line s ms other g) where
   no_head_skip : (c : List ℕ) (i : ℕ) (n : Message) (ns : List Message) → is_first c i ≡ false → Heads c i (n ∷ ns) → (Heads c i ns → NoHead ns) → NoHead (n ∷ ns)
   no_head_skip c i BeHead ns is g rest = absurd (both_ways (is_first c i) is g.0)
   no_head_skip c i n ns is g rest = rest g
 
 -- a row without a word on the head, and then one
-heads_after : (chain : List ℕ) (s : ℕ) (ms ys : List Message) → NoHead ms → Heads chain s ys → Heads chain s (ms ++ ys)
-heads_after chain s [] ys none h = h
-heads_after chain s (BeHead ∷ ms) ys none h = absurd none
-heads_after chain s (m ∷ ms) ys none h = after_skip chain s m ms ys none (λ g. heads_after chain s ms ys g h) where
+heads_after : (line : List ℕ) (s : ℕ) (ms ys : List Message) → NoHead ms → Heads line s ys → Heads line s (ms ++ ys)
+heads_after line s [] ys none h = h
+heads_after line s (BeHead ∷ ms) ys none h = absurd none
+heads_after line s (m ∷ ms) ys none h = after_skip line s m ms ys none (λ g. heads_after line s ms ys g h) where
   after_skip : (c : List ℕ) (i : ℕ) (n : Message) (ns us : List Message) → NoHead (n ∷ ns) → (NoHead ns → Heads c i (ns ++ us)) → Heads c i (n ∷ (ns ++ us))
   after_skip c i BeHead ns us g rest = absurd g
   after_skip c i n ns us g rest = rest g
@@ -73,14 +73,14 @@ heads_first old new s (m ∷ ms) ys first h told none = first_skip m (heads_firs
 -- ---- what an order of the master has to show
 
 pub record Said (v : Sight) (m : Master) (out : List (Party × Message)) : Type 0 where
-  pub apart : Pairwise (λ a b. eqb a b ≡ false) m.chain
-  pub members : (id : ℕ) → is_in m.chain id ≡ true → is_in m.used id ≡ true
-  pub away : (id : ℕ) → is_in m.used id ≡ true → is_in m.chain id ≡ false → (v.server id).down ≡ true
+  pub apart : Pairwise (λ a b. eqb a b ≡ false) (line m)
+  pub members : (id : ℕ) → is_in (line m) id ≡ true → is_in m.used id ≡ true
+  pub away : (id : ℕ) → is_in m.used id ≡ true → is_in (line m) id ≡ false → (v.server id).down ≡ true
   pub unused : (id : ℕ) → is_in m.used id ≡ false → (is_in v.master.used id ≡ false) × (told_to id out ≡ [])
   pub climbs : (id : ℕ) → Climbs v.server id (ups v id ++ reports (told_to id out))
-  pub linked : LinkedChain (said v m out) m.chain
-  pub heads : (id : ℕ) → is_in m.chain id ≡ true → Heads m.chain id (v.channel parties.Master (parties.Server id) ++ told_to id out)
-  pub headless : (id : ℕ) → is_in m.chain id ≡ true → (v.server id).head ≡ true → ups v id ++ reports (told_to id out) ≡ []
+  pub linked : LinkedLine (said v m out) (line m)
+  pub heads : (id : ℕ) → is_in (line m) id ≡ true → Heads (line m) id (v.channel parties.Master (parties.Server id) ++ told_to id out)
+  pub headless : (id : ℕ) → is_in (line m) id ≡ true → (v.server id).head ≡ true → ups v id ++ reports (told_to id out) ≡ []
 
 -- An order keeps all sentences.
 pub said-keeps : (v : Sight) (m : Master) (out : List (Party × Message)) → Prefixes v → Said v m out → Prefixes (said v m out)
@@ -99,8 +99,8 @@ said-keeps v m out h o = record {
 -- ---- detections
 
 -- a row without a word on the head says nothing of it
-heads_none : (chain : List ℕ) (s : ℕ) (ms : List Message) → NoHead ms → Heads chain s ms
-heads_none chain s ms none = subst (λ us. Heads chain s us) (append-nil ms) (heads_after chain s ms [] none tt)
+heads_none : (line : List ℕ) (s : ℕ) (ms : List Message) → NoHead ms → Heads line s ms
+heads_none line s ms none = subst (λ us. Heads line s us) (append-nil ms) (heads_after line s ms [] none tt)
 
 -- where one isn't among them, none is left out
 without_absent : (id : ℕ) (ids : List ℕ) → is_in ids id ≡ false → without id ids ≡ ids
@@ -138,11 +138,11 @@ in_apart [] j h = absurd (false≢true h)
 in_apart (x ∷ ids) j h = elim (or_cases (eqb x j) (is_in ids j) h) [ inl e ↦ inl (sym (eqb-true x j e)) | inr r ↦ inr (in_apart ids j r) ]
 
 -- others stay linked where they are told of no predecessor
-linked_silent : (v : Sight) (m : Master) (out : List (Party × Message)) (p : ℕ) (chain : List ℕ) → ((s : ℕ) → Among s chain → reports (told_to s out) ≡ []) → Linked v p chain → Linked (said v m out) p chain
+linked_silent : (v : Sight) (m : Master) (out : List (Party × Message)) (p : ℕ) (line : List ℕ) → ((s : ℕ) → Among s line → reports (told_to s out) ≡ []) → Linked v p line → Linked (said v m out) p line
 linked_silent v m out p [] none l = tt
-linked_silent v m out p (s ∷ chain) none l = (ap (λ us. is_last us p) (ups_silent v m out s (none s (inl refl))) ∙ l.0, linked_silent v m out s chain (λ r among. none r (inr among)) l.1)
+linked_silent v m out p (s ∷ line) none l = (ap (λ us. is_last us p) (ups_silent v m out s (none s (inl refl))) ∙ l.0, linked_silent v m out s line (λ r among. none r (inr among)) l.1)
 
--- What is said when a member behind another one is gone: the others are linked again, and nobody is told to be the head.
+-- What is said when a server behind another one is gone: the others are linked again, and nobody is told to be the head.
 record Closed (v : Sight) (m : Master) (a id : ℕ) (rest : List ℕ) (out : List (Party × Message)) : Type 0 where
   linked : Linked (said v m out) a (without id rest)
   climbs : (j : ℕ) → Climbs v.server j (ups v j ++ reports (told_to j out))
@@ -162,7 +162,7 @@ calm_one : (m : Message) (t : Bool) → NoHead (m ∷ []) → NoHead (cond t (m 
 calm_one m true h = h
 calm_one m false h = tt
 
--- the last member is gone
+-- the last one is gone
 closed_last : (v : Sight) (m : Master) (a id x : ℕ) → eqb x id ≡ true → ((j : ℕ) → Climbs v.server j (ups v j)) → Closed v m a id (x ∷ []) ((parties.Server a, BeTail 0) ∷ [])
 closed_last v m a id x same climbs = record {
   linked = subst (λ us. Linked (said v m ((parties.Server a, BeTail 0) ∷ [])) a us) (sym (ap (λ b. cond (not b) (x ∷ []) []) same)) tt;
@@ -177,7 +177,7 @@ closed_last v m a id x same climbs = record {
     go true = refl
     go false = refl
 
--- a member between two others is gone
+-- one between two others is gone
 closed_between : (v : Sight) (m : Master) (a id x y : ℕ) (rest : List ℕ) → eqb x id ≡ true → (v.server id).down ≡ true → Pairwise (λ b c. eqb b c ≡ false) (x ∷ y ∷ rest) → Linked v a (x ∷ y ∷ rest) → ((j : ℕ) → Climbs v.server j (ups v j))
     → Closed v m a id (x ∷ y ∷ rest) ((parties.Server y, Report a) ∷ [])
 closed_between v m a id x y rest same down apart l climbs = record {
@@ -201,7 +201,7 @@ closed_between v m a id x y rest same down apart l climbs = record {
       (climbs-on v.server j (ups v j) x a (climbs j) (subst (λ i. is_last (ups v i) x ≡ true) (sym (eqb-true j y e)) l.1.0) (subst (λ i. (v.server i).down ≡ true) (sym (eqb-true x id same)) down) (climbs-top v.server x (ups v x) a (climbs x) l.0))
   climb j false e = subst (λ ms. Climbs v.server j (ups v j ++ reports ms)) (sym (one_told j y (Report a) false e)) (subst (λ us. Climbs v.server j us) (sym (append-nil (ups v j))) (climbs j))
 
--- any member behind another one is gone
+-- any one behind another one is gone
 closed : (v : Sight) (m : Master) (id : ℕ) (rest : List ℕ) (a : ℕ) → Pairwise (λ b c. eqb b c ≡ false) (a ∷ rest) → Linked v a rest → is_in rest id ≡ true → (v.server id).down ≡ true → ((j : ℕ) → Climbs v.server j (ups v j))
     → Closed v m a id rest (closing a id rest)
 closed v m id [] a apart l there down climbs = absurd (false≢true there)
@@ -221,40 +221,40 @@ closed v m id (x ∷ y ∷ rest) a apart l there down climbs = go (eqb x id) ref
     silent = λ j other none. let parts = or_parts (eqb x j) (is_in (y ∷ rest) j) none in behind.silent j parts.0 parts.1;
   }
 
--- a member behind the first has predecessors
+-- a server behind the first has predecessors
 pub linked_some : (v : Sight) (a : ℕ) (rest : List ℕ) (s : ℕ) → Linked v a rest → Among s rest → ups v s ≡ [] → ⊥
 linked_some v a [] s l among none = absurd among
 linked_some v a (x ∷ rest) s l (inl e) none = false≢true (sym (ap (λ us. is_last us a) (ap (λ i. ups v i) (sym e) ∙ none)) ∙ l.0)
 linked_some v a (x ∷ rest) s l (inr among) none = linked_some v x rest s l.1 among none
 
--- the sentences that any order keeps which leaves out one member that is down
+-- the sentences that any order keeps which leaves out one server that is down
 record LeavesOut (v : Sight) (m : Master) (id : ℕ) : Type 0 where
-  chain : m.chain ≡ without id v.master.chain
+  left : line m ≡ without id (line v.master)
   used : m.used ≡ v.master.used
 
-left_apart : (v : Sight) (m : Master) (id : ℕ) → Prefixes v → LeavesOut v m id → Pairwise (λ a b. eqb a b ≡ false) m.chain
-left_apart v m id h o = subst (λ us. Pairwise (λ a b. eqb a b ≡ false) us) (sym o.chain) (pairwise-filter (λ a b. eqb a b ≡ false) (λ other. not (eqb other id)) v.master.chain h.apart)
+left_apart : (v : Sight) (m : Master) (id : ℕ) → Prefixes v → LeavesOut v m id → Pairwise (λ a b. eqb a b ≡ false) (line m)
+left_apart v m id h o = subst (λ us. Pairwise (λ a b. eqb a b ≡ false) us) (sym o.left) (pairwise-filter (λ a b. eqb a b ≡ false) (λ other. not (eqb other id)) (line v.master) h.apart)
 
-left_members : (v : Sight) (m : Master) (id : ℕ) → Prefixes v → LeavesOut v m id → (j : ℕ) → is_in m.chain j ≡ true → is_in m.used j ≡ true
-left_members v m id h o j member = ap (λ us. is_in us j) o.used ∙ h.members j (in-without id v.master.chain j (sym (ap (λ us. is_in us j) o.chain) ∙ member)).0
+left_members : (v : Sight) (m : Master) (id : ℕ) → Prefixes v → LeavesOut v m id → (j : ℕ) → is_in (line m) j ≡ true → is_in m.used j ≡ true
+left_members v m id h o j member = ap (λ us. is_in us j) o.used ∙ h.members j (in-without id (line v.master) j (sym (ap (λ us. is_in us j) o.left) ∙ member)).0
 
-left_away : (v : Sight) (m : Master) (id : ℕ) → Prefixes v → LeavesOut v m id → (v.server id).down ≡ true → (j : ℕ) → is_in m.used j ≡ true → is_in m.chain j ≡ false → (v.server j).down ≡ true
+left_away : (v : Sight) (m : Master) (id : ℕ) → Prefixes v → LeavesOut v m id → (v.server id).down ≡ true → (j : ℕ) → is_in m.used j ≡ true → is_in (line m) j ≡ false → (v.server j).down ≡ true
 left_away v m id h o down j used out = go (eqb j id) refl where
   go : (t : Bool) → eqb j id ≡ t → (v.server j).down ≡ true
   go true e = subst (λ i. (v.server i).down ≡ true) (sym (eqb-true j id e)) down
-  go false e = h.away j (sym (ap (λ us. is_in us j) o.used) ∙ used) (out-without id v.master.chain j (sym (ap (λ us. is_in us j) o.chain) ∙ out) e)
+  go false e = h.away j (sym (ap (λ us. is_in us j) o.used) ∙ used) (out-without id (line v.master) j (sym (ap (λ us. is_in us j) o.left) ∙ out) e)
 
 -- the head is gone, and the next one is told
-head_lost : (v : Sight) (m : Master) (a b : ℕ) (rest : List ℕ) → Prefixes v → v.master.chain ≡ a ∷ b ∷ rest → LeavesOut v m a → (v.server a).down ≡ true → Said v m ((parties.Server b, BeHead) ∷ [])
+head_lost : (v : Sight) (m : Master) (a b : ℕ) (rest : List ℕ) → Prefixes v → line v.master ≡ a ∷ b ∷ rest → LeavesOut v m a → (v.server a).down ≡ true → Said v m ((parties.Server b, BeHead) ∷ [])
 head_lost v m a b rest h is o down = record {
   apart = left_apart v m a h o;
   members = left_members v m a h o;
   away = left_away v m a h o down;
   unused = λ id un. let was = sym (ap (λ us. is_in us id) o.used) ∙ un in (was, one_told id b BeHead false (ne_eqb id b (λ e. both_ways (is_in v.master.used id) was (h.members id (ap (λ us. is_in us id) is ∙ or_right (eqb a id) (is_in (b ∷ rest) id) (or_left (eqb b id) (is_in rest id) (eq-eqb b id (sym e))))))));
   climbs = λ id. subst (λ us. Climbs v.server id us) (sym (ap (λ r. ups v id ++ r) (none id) ∙ append-nil (ups v id))) (h.climbs id);
-  linked = subst (λ us. LinkedChain (said v m out) us) (sym chain) (linked_silent v m out b rest (λ s among. none s) old_linked.1);
-  heads = λ id member. subst (λ us. Heads us id (v.channel parties.Master (parties.Server id) ++ told_to id out)) (sym chain) (told_head id (subst (λ us. is_in us id ≡ true) chain member) (eqb id b) refl);
-  headless = λ id member is_head. ap (λ r. ups v id ++ r) (none id) ∙ append-nil (ups v id) ∙ h.headless id (ap (λ us. is_in us id) is ∙ or_right (eqb a id) (is_in (b ∷ rest) id) (subst (λ us. is_in us id ≡ true) chain member)) is_head;
+  linked = subst (λ us. LinkedLine (said v m out) us) (sym now) (linked_silent v m out b rest (λ s among. none s) old_linked.1);
+  heads = λ id member. subst (λ us. Heads us id (v.channel parties.Master (parties.Server id) ++ told_to id out)) (sym now) (told_head id (subst (λ us. is_in us id ≡ true) now member) (eqb id b) refl);
+  headless = λ id member is_head. ap (λ r. ups v id ++ r) (none id) ∙ append-nil (ups v id) ∙ h.headless id (ap (λ us. is_in us id) is ∙ or_right (eqb a id) (is_in (b ∷ rest) id) (subst (λ us. is_in us id ≡ true) now member)) is_head;
 } where
   out : List (Party × Message)
   out = (parties.Server b, BeHead) ∷ []
@@ -263,10 +263,10 @@ head_lost v m a b rest h is o down = record {
   apart = subst (λ us. Pairwise (λ x y. eqb x y ≡ false) us) is h.apart
 
   old_linked : Linked v a (b ∷ rest)
-  old_linked = subst (λ us. LinkedChain v us) is h.linked
+  old_linked = subst (λ us. LinkedLine v us) is h.linked
 
-  chain : m.chain ≡ b ∷ rest
-  chain = o.chain ∙ ap (λ us. without a us) is ∙ ap (λ t. cond (not t) (a ∷ without a (b ∷ rest)) (without a (b ∷ rest))) (eq-eqb a a refl) ∙ without_absent a (b ∷ rest) (apart_out a (b ∷ rest) apart.0)
+  now : line m ≡ b ∷ rest
+  now = o.left ∙ ap (λ us. without a us) is ∙ ap (λ t. cond (not t) (a ∷ without a (b ∷ rest)) (without a (b ∷ rest))) (eq-eqb a a refl) ∙ without_absent a (b ∷ rest) (apart_out a (b ∷ rest) apart.0)
 
   none : (j : ℕ) → reports (told_to j ((parties.Server b, BeHead) ∷ [])) ≡ []
   none j = go (eqb j b) where
@@ -276,14 +276,14 @@ head_lost v m a b rest h is o down = record {
 
   told_head : (id : ℕ) → is_in (b ∷ rest) id ≡ true → (t : Bool) → eqb id b ≡ t → Heads (b ∷ rest) id (v.channel parties.Master (parties.Server id) ++ told_to id ((parties.Server b, BeHead) ∷ []))
   told_head id member t e = heads_after (b ∷ rest) id (v.channel parties.Master (parties.Server id)) (told_to id ((parties.Server b, BeHead) ∷ []))
-      (no_head v.master.chain id (v.channel parties.Master (parties.Server id)) (ap (λ us. is_first us id) is ∙ apart.0 id (in_apart (b ∷ rest) id member)) (h.heads id (ap (λ us. is_in us id) is ∙ or_right (eqb a id) (is_in (b ∷ rest) id) member)))
+      (no_head (line v.master) id (v.channel parties.Master (parties.Server id)) (ap (λ us. is_first us id) is ∙ apart.0 id (in_apart (b ∷ rest) id member)) (h.heads id (ap (λ us. is_in us id) is ∙ or_right (eqb a id) (is_in (b ∷ rest) id) member)))
       (subst (λ ms. Heads (b ∷ rest) id ms) (sym (one_told id b BeHead t e)) (ends t e)) where
         ends : (u : Bool) → eqb id b ≡ u → Heads (b ∷ rest) id (cond u (BeHead ∷ []) [])
         ends true k = (eq-eqb b id (sym (eqb-true id b k)), refl, tt)
         ends false k = tt
 
--- another member is gone
-other_lost : (v : Sight) (m : Master) (a id : ℕ) (rest : List ℕ) → Prefixes v → v.master.chain ≡ a ∷ rest → eqb a id ≡ false → is_in rest id ≡ true → LeavesOut v m id → (v.server id).down ≡ true → Said v m (closing a id rest)
+-- another one is gone
+other_lost : (v : Sight) (m : Master) (a id : ℕ) (rest : List ℕ) → Prefixes v → line v.master ≡ a ∷ rest → eqb a id ≡ false → is_in rest id ≡ true → LeavesOut v m id → (v.server id).down ≡ true → Said v m (closing a id rest)
 other_lost v m a id rest h is other there o down = record {
   apart = left_apart v m id h o;
   members = left_members v m id h o;
@@ -291,8 +291,8 @@ other_lost v m a id rest h is other there o down = record {
   unused = λ j un. let was = sym (ap (λ us. is_in us j) o.used) ∙ un in
       let parts = or_parts (eqb a j) (is_in rest j) (out_of j was) in (was, behind.silent j parts.0 parts.1);
   climbs = behind.climbs;
-  linked = subst (λ us. LinkedChain (said v m (closing a id rest)) us) (sym chain) behind.linked;
-  heads = λ j member. subst (λ us. Heads us j (v.channel parties.Master (parties.Server j) ++ told_to j (closing a id rest))) (sym chain) (row j (was_member j member) (eqb a j) refl);
+  linked = subst (λ us. LinkedLine (said v m (closing a id rest)) us) (sym now) behind.linked;
+  heads = λ j member. subst (λ us. Heads us j (v.channel parties.Master (parties.Server j) ++ told_to j (closing a id rest))) (sym now) (row j (was_member j member) (eqb a j) refl);
   headless = λ j member is_head. let none = h.headless j (was_member j member) is_head in
       ap (λ us. us ++ reports (told_to j (closing a id rest))) none ∙ first_told j (was_member j member) none;
 } where
@@ -300,13 +300,13 @@ other_lost v m a id rest h is other there o down = record {
   apart = subst (λ us. Pairwise (λ x y. eqb x y ≡ false) us) is h.apart
 
   old_linked : Linked v a rest
-  old_linked = subst (λ us. LinkedChain v us) is h.linked
+  old_linked = subst (λ us. LinkedLine v us) is h.linked
 
   behind : Closed v m a id rest (closing a id rest)
   behind = closed v m id rest a apart old_linked there down h.climbs
 
-  chain : m.chain ≡ a ∷ without id rest
-  chain = o.chain ∙ ap (λ us. without id us) is ∙ ap (λ t. cond (not t) (a ∷ without id rest) (without id rest)) other
+  now : line m ≡ a ∷ without id rest
+  now = o.left ∙ ap (λ us. without id us) is ∙ ap (λ t. cond (not t) (a ∷ without id rest) (without id rest)) other
 
   out_of : (j : ℕ) → is_in v.master.used j ≡ false → is_in (a ∷ rest) j ≡ false
   out_of j unused = go (is_in (a ∷ rest) j) refl where
@@ -314,16 +314,16 @@ other_lost v m a id rest h is other there o down = record {
     go true e = absurd (both_ways (is_in v.master.used j) unused (h.members j (ap (λ us. is_in us j) is ∙ e)))
     go false e = refl
 
-  was_member : (j : ℕ) → is_in m.chain j ≡ true → is_in v.master.chain j ≡ true
-  was_member j member = (in-without id v.master.chain j (sym (ap (λ us. is_in us j) o.chain) ∙ member)).0
+  was_member : (j : ℕ) → is_in (line m) j ≡ true → is_in (line v.master) j ≡ true
+  was_member j member = (in-without id (line v.master) j (sym (ap (λ us. is_in us j) o.left) ∙ member)).0
 
-  row : (j : ℕ) → is_in v.master.chain j ≡ true → (t : Bool) → eqb a j ≡ t → Heads (a ∷ without id rest) j (v.channel parties.Master (parties.Server j) ++ told_to j (closing a id rest))
-  row j member true e = heads_first v.master.chain (a ∷ without id rest) j (v.channel parties.Master (parties.Server j)) (told_to j (closing a id rest)) e (h.heads j member)
+  row : (j : ℕ) → is_in (line v.master) j ≡ true → (t : Bool) → eqb a j ≡ t → Heads (a ∷ without id rest) j (v.channel parties.Master (parties.Server j) ++ told_to j (closing a id rest))
+  row j member true e = heads_first (line v.master) (a ∷ without id rest) j (v.channel parties.Master (parties.Server j)) (told_to j (closing a id rest)) e (h.heads j member)
       (behind.aside j (subst (λ i. is_in rest i ≡ false) (eqb-true a j e) (apart_out a rest apart.0))) (behind.calm j)
   row j member false e = heads_after (a ∷ without id rest) j (v.channel parties.Master (parties.Server j)) (told_to j (closing a id rest))
-      (no_head v.master.chain j (v.channel parties.Master (parties.Server j)) (ap (λ us. is_first us j) is ∙ e) (h.heads j member)) (heads_none (a ∷ without id rest) j (told_to j (closing a id rest)) (behind.calm j))
+      (no_head (line v.master) j (v.channel parties.Master (parties.Server j)) (ap (λ us. is_first us j) is ∙ e) (h.heads j member)) (heads_none (a ∷ without id rest) j (told_to j (closing a id rest)) (behind.calm j))
 
-  first_told : (j : ℕ) → is_in v.master.chain j ≡ true → ups v j ≡ [] → reports (told_to j (closing a id rest)) ≡ []
+  first_told : (j : ℕ) → is_in (line v.master) j ≡ true → ups v j ≡ [] → reports (told_to j (closing a id rest)) ≡ []
   first_told j member none = elim (or_cases (eqb a j) (is_in rest j) (sym (ap (λ us. is_in us j) is) ∙ member)) [
     | inl first ↦ behind.aside j (subst (λ i. is_in rest i ≡ false) (eqb-true a j first) (apart_out a rest apart.0))
     | inr later ↦ absurd (linked_some v a rest j old_linked (in_apart rest j later) none)
@@ -341,8 +341,8 @@ detected-said v id h member down more = by_chain v.master.chain refl where
   by_chain (a ∷ []) is = absurd (more (ap length is))
   by_chain (a ∷ b ∷ rest) is = go (eqb a id) refl where
     go : (t : Bool) → eqb a id ≡ t → Said v m (cond t ((parties.Server b, BeHead) ∷ []) (closing a id (b ∷ rest)))
-    go true e = head_lost v m a b rest h is (record { chain = ap (λ i. without i v.master.chain) (sym (eqb-true a id e)); used = refl }) (subst (λ i. (v.server i).down ≡ true) (sym (eqb-true a id e)) down)
-    go false e = other_lost v m a id (b ∷ rest) h is e (elim (or_cases (eqb a id) (is_in (b ∷ rest) id) (sym (ap (λ us. is_in us id) is) ∙ member)) [ inl k ↦ absurd (both_ways (eqb a id) e k) | inr k ↦ k ]) (record { chain = refl; used = refl }) down
+    go true e = head_lost v m a b rest h is (record { left = ap (λ i. without i v.master.chain) (sym (eqb-true a id e)); used = refl }) (subst (λ i. (v.server i).down ≡ true) (sym (eqb-true a id e)) down)
+    go false e = other_lost v m a id (b ∷ rest) h is e (elim (or_cases (eqb a id) (is_in (b ∷ rest) id) (sym (ap (λ us. is_in us id) is) ∙ member)) [ inl k ↦ absurd (both_ways (eqb a id) e k) | inr k ↦ k ]) (record { left = refl; used = refl }) down
 
 -- ---- joins
 
@@ -382,7 +382,7 @@ pub out_more : (ids : List ℕ) (id j : ℕ) → is_in (ids ++ id ∷ []) j ≡ 
 out_more [] id j h = (refl, (or_parts (eqb id j) false h).0)
 out_more (x ∷ ids) id j h = let parts = or_parts (eqb x j) (is_in (ids ++ id ∷ []) j) h in let rest = out_more ids id j parts.1 in (ap (λ b. b || is_in ids j) parts.0 ∙ rest.0, rest.1)
 
--- a chain that goes on with one that has the last member as predecessor
+-- a line that goes on with one that has the last one as predecessor
 linked_more : (v : Sight) (m : Master) (out : List (Party × Message)) (a : ℕ) (rest : List ℕ) (id : ℕ) → ((s : ℕ) → Among s rest → reports (told_to s out) ≡ []) → Linked v a rest → is_last (ups (said v m out) id) (last_of a rest) ≡ true → Linked (said v m out) a (rest ++ id ∷ [])
 linked_more v m out a [] id none l last = (last, tt)
 linked_more v m out a (s ∷ rest) id none l last = (ap (λ us. is_last us a) (ups_silent v m out s (none s (inl refl))) ∙ l.0, linked_more v m out s rest id (λ r among. none r (inr among)) l.1 last)
@@ -391,13 +391,13 @@ linked_more v m out a (s ∷ rest) id none l last = (ap (λ us. is_last us a) (u
 pub joined-said : (v : Sight) (id a : ℕ) (rest : List ℕ) → Prefixes v → is_in v.master.used id ≡ false → v.master.chain ≡ a ∷ rest → Said v (joined id v.master).master (joined id v.master).said
 unfolding joined
 joined-said v id a rest h unused is = subst (λ os. Said v m os) (sym (ap (λ us. said_of_join id us) is ∙ join_told id a rest)) (record {
-  apart = pairwise-push (λ x y. eqb x y ≡ false) v.master.chain id h.apart (λ x among. member_other x (among_in v.master.chain x among));
-  members = λ j member. elim (in_more v.master.chain id j member) [ inl k ↦ in_left v.master.used id j (h.members j k) | inr e ↦ subst (λ i. is_in (v.master.used ++ id ∷ []) i ≡ true) (eqb-true id j e) (in_end v.master.used id) ];
-  away = λ j used out_of. let parts = out_more v.master.chain id j out_of in elim (in_more v.master.used id j used) [ inl k ↦ h.away j k parts.0 | inr e ↦ absurd (both_ways (eqb id j) parts.1 e) ];
+  apart = pairwise-push (λ x y. eqb x y ≡ false) (line v.master) id h.apart (λ x among. member_other x (among_in (line v.master) x among));
+  members = λ j member. elim (in_more (line v.master) id j member) [ inl k ↦ in_left v.master.used id j (h.members j k) | inr e ↦ subst (λ i. is_in (v.master.used ++ id ∷ []) i ≡ true) (eqb-true id j e) (in_end v.master.used id) ];
+  away = λ j used out_of. let parts = out_more (line v.master) id j out_of in elim (in_more v.master.used id j used) [ inl k ↦ h.away j k parts.0 | inr e ↦ absurd (both_ways (eqb id j) parts.1 e) ];
   unused = λ j un. let parts = out_more v.master.used id j un in (parts.0, one_told j id (Report t) false (eqb_turned id j parts.1));
   climbs = λ j. climb j (eqb j id) refl;
-  linked = subst (λ us. LinkedChain (said v m out) (us ++ id ∷ [])) (sym is) (linked_more v m out a rest id (λ s among. ap reports (one_told s id (Report t) false (member_other s (ap (λ us. is_in us s) is ∙ or_right (eqb a s) (is_in rest s) (among_in rest s among)))))
-      (subst (λ us. LinkedChain v us) is h.linked) (ap (λ us. is_last us t) (said_ups v m out id ∙ ap (λ us. us ++ reports (told_to id out)) none_before ∙ ap reports (one_told id id (Report t) true (eq-eqb id id refl))) ∙ eq-eqb t t refl));
+  linked = subst (λ us. LinkedLine (said v m out) (us ++ id ∷ [])) (sym is) (linked_more v m out a rest id (λ s among. ap reports (one_told s id (Report t) false (member_other s (ap (λ us. is_in us s) is ∙ or_right (eqb a s) (is_in rest s) (among_in rest s among)))))
+      (subst (λ us. LinkedLine v us) is h.linked) (ap (λ us. is_last us t) (said_ups v m out id ∙ ap (λ us. us ++ reports (told_to id out)) none_before ∙ ap reports (one_told id id (Report t) true (eq-eqb id id refl))) ∙ eq-eqb t t refl));
   heads = λ j member. row j member (eqb j id) refl;
   headless = λ j member is_head. headless j member is_head (eqb j id) refl;
 }) where
@@ -416,7 +416,7 @@ joined-said v id a rest h unused is = subst (λ os. Said v m os) (sym (ap (λ us
   none_before : ups v id ≡ []
   none_before = ap (λ s. one s.pred ++ reports (v.channel parties.Master (parties.Server id))) fresh.0 ∙ ap reports fresh.1
 
-  member_other : (s : ℕ) → is_in v.master.chain s ≡ true → eqb s id ≡ false
+  member_other : (s : ℕ) → is_in (line v.master) s ≡ true → eqb s id ≡ false
   member_other s member = ne_eqb s id (λ e. both_ways (is_in v.master.used id) unused (subst (λ i. is_in v.master.used i ≡ true) e (h.members s member)))
 
   among_in : (ids : List ℕ) (s : ℕ) → Among s ids → is_in ids s ≡ true
@@ -427,37 +427,37 @@ joined-said v id a rest h unused is = subst (λ os. Said v m os) (sym (ap (λ us
       (subst (λ us. Climbs v.server j (us ++ last_of a rest ∷ [])) (sym (ap (λ i. ups v i) (eqb-true j id e) ∙ none_before)) (front-none (v.server j).entries (v.server (last_of a rest)).entries (ap (λ i. (v.server i).entries) (eqb-true j id e) ∙ ap (λ s. s.entries) fresh.0)))
   climb j false e = subst (λ ms. Climbs v.server j (ups v j ++ reports ms)) (sym (one_told j id (Report (last_of a rest)) false e)) (subst (λ us. Climbs v.server j us) (sym (append-nil (ups v j))) (h.climbs j))
 
-  was : (j : ℕ) → is_in (v.master.chain ++ id ∷ []) j ≡ true → eqb j id ≡ false → is_in v.master.chain j ≡ true
-  was j member other = elim (in_more v.master.chain id j member) [ inl k ↦ k | inr e ↦ absurd (both_ways (eqb j id) other (eq-eqb j id (sym (eqb-true id j e)))) ]
+  was : (j : ℕ) → is_in (line v.master ++ id ∷ []) j ≡ true → eqb j id ≡ false → is_in (line v.master) j ≡ true
+  was j member other = elim (in_more (line v.master) id j member) [ inl k ↦ k | inr e ↦ absurd (both_ways (eqb j id) other (eq-eqb j id (sym (eqb-true id j e)))) ]
 
-  row : (j : ℕ) → is_in (v.master.chain ++ id ∷ []) j ≡ true → (b : Bool) → eqb j id ≡ b → Heads (v.master.chain ++ id ∷ []) j (v.channel parties.Master (parties.Server j) ++ told_to j ((parties.Server id, Report (last_of a rest)) ∷ []))
-  row j member true e = subst (λ ms. Heads (v.master.chain ++ id ∷ []) j (v.channel parties.Master (parties.Server j) ++ ms)) (sym (one_told j id (Report (last_of a rest)) true e))
-      (subst (λ ms. Heads (v.master.chain ++ id ∷ []) j (ms ++ Report (last_of a rest) ∷ [])) (sym (ap (λ i. v.channel parties.Master (parties.Server i)) (eqb-true j id e) ∙ fresh.1)) tt)
-  row j member false e = subst (λ ms. Heads (v.master.chain ++ id ∷ []) j (v.channel parties.Master (parties.Server j) ++ ms)) (sym (one_told j id (Report (last_of a rest)) false e)) (stays (is_first v.master.chain j) refl) where
-    same_first : is_first (v.master.chain ++ id ∷ []) j ≡ is_first v.master.chain j
+  row : (j : ℕ) → is_in (line v.master ++ id ∷ []) j ≡ true → (b : Bool) → eqb j id ≡ b → Heads (line v.master ++ id ∷ []) j (v.channel parties.Master (parties.Server j) ++ told_to j ((parties.Server id, Report (last_of a rest)) ∷ []))
+  row j member true e = subst (λ ms. Heads (line v.master ++ id ∷ []) j (v.channel parties.Master (parties.Server j) ++ ms)) (sym (one_told j id (Report (last_of a rest)) true e))
+      (subst (λ ms. Heads (line v.master ++ id ∷ []) j (ms ++ Report (last_of a rest) ∷ [])) (sym (ap (λ i. v.channel parties.Master (parties.Server i)) (eqb-true j id e) ∙ fresh.1)) tt)
+  row j member false e = subst (λ ms. Heads (line v.master ++ id ∷ []) j (v.channel parties.Master (parties.Server j) ++ ms)) (sym (one_told j id (Report (last_of a rest)) false e)) (stays (is_first (line v.master) j) refl) where
+    same_first : is_first (line v.master ++ id ∷ []) j ≡ is_first (line v.master) j
     same_first = ap (λ us. is_first (us ++ id ∷ []) j) is ∙ sym (ap (λ us. is_first us j) is)
 
-    stays : (b : Bool) → is_first v.master.chain j ≡ b → Heads (v.master.chain ++ id ∷ []) j (v.channel parties.Master (parties.Server j) ++ [])
-    stays true k = heads_first v.master.chain (v.master.chain ++ id ∷ []) j (v.channel parties.Master (parties.Server j)) [] (same_first ∙ k) (h.heads j (was j member e)) refl tt
-    stays false k = heads_after (v.master.chain ++ id ∷ []) j (v.channel parties.Master (parties.Server j)) [] (no_head v.master.chain j (v.channel parties.Master (parties.Server j)) k (h.heads j (was j member e))) tt
+    stays : (b : Bool) → is_first (line v.master) j ≡ b → Heads (line v.master ++ id ∷ []) j (v.channel parties.Master (parties.Server j) ++ [])
+    stays true k = heads_first (line v.master) (line v.master ++ id ∷ []) j (v.channel parties.Master (parties.Server j)) [] (same_first ∙ k) (h.heads j (was j member e)) refl tt
+    stays false k = heads_after (line v.master ++ id ∷ []) j (v.channel parties.Master (parties.Server j)) [] (no_head (line v.master) j (v.channel parties.Master (parties.Server j)) k (h.heads j (was j member e))) tt
 
-  headless : (j : ℕ) → is_in (v.master.chain ++ id ∷ []) j ≡ true → (v.server j).head ≡ true → (b : Bool) → eqb j id ≡ b → ups v j ++ reports (told_to j ((parties.Server id, Report (last_of a rest)) ∷ [])) ≡ []
+  headless : (j : ℕ) → is_in (line v.master ++ id ∷ []) j ≡ true → (v.server j).head ≡ true → (b : Bool) → eqb j id ≡ b → ups v j ++ reports (told_to j ((parties.Server id, Report (last_of a rest)) ∷ [])) ≡ []
   headless j member is_head true e = absurd (false≢true (sym (ap (λ i. (v.server i).head) (eqb-true j id e) ∙ ap (λ s. s.head) fresh.0) ∙ is_head))
   headless j member is_head false e = ap (λ ms. ups v j ++ reports ms) (one_told j id (Report (last_of a rest)) false e) ∙ append-nil (ups v j) ∙ h.headless j (was j member e) is_head
 
 -- ---- messages to the master
 
--- What is said to a member, if it tells of no predecessor and no head, keeps all sentences.
-quiet_said : (v : Sight) (m : Master) (to : ℕ) (word : Message) → Prefixes v → m.chain ≡ v.master.chain → m.used ≡ v.master.used → is_in v.master.chain to ≡ true → reports (word ∷ []) ≡ [] → NoHead (word ∷ []) → Said v m ((parties.Server to, word) ∷ [])
-quiet_said v m to word h chain used member told calm = record {
-  apart = subst (λ us. Pairwise (λ a b. eqb a b ≡ false) us) (sym chain) h.apart;
-  members = λ id k. ap (λ us. is_in us id) used ∙ h.members id (sym (ap (λ us. is_in us id) chain) ∙ k);
-  away = λ id k out_of. h.away id (sym (ap (λ us. is_in us id) used) ∙ k) (sym (ap (λ us. is_in us id) chain) ∙ out_of);
-  unused = λ id un. let was = sym (ap (λ us. is_in us id) used) ∙ un in (was, one_told id to word false (ne_eqb id to (λ e. both_ways (is_in v.master.used id) was (h.members id (subst (λ i. is_in v.master.chain i ≡ true) (sym e) member)))));
+-- What is said to a server of the line, if it tells of no predecessor and no head, keeps all sentences.
+quiet_said : (v : Sight) (m : Master) (to : ℕ) (word : Message) → Prefixes v → line m ≡ line v.master → m.used ≡ v.master.used → is_in (line v.master) to ≡ true → reports (word ∷ []) ≡ [] → NoHead (word ∷ []) → Said v m ((parties.Server to, word) ∷ [])
+quiet_said v m to word h stays used member told calm = record {
+  apart = subst (λ us. Pairwise (λ a b. eqb a b ≡ false) us) (sym stays) h.apart;
+  members = λ id k. ap (λ us. is_in us id) used ∙ h.members id (sym (ap (λ us. is_in us id) stays) ∙ k);
+  away = λ id k out_of. h.away id (sym (ap (λ us. is_in us id) used) ∙ k) (sym (ap (λ us. is_in us id) stays) ∙ out_of);
+  unused = λ id un. let was = sym (ap (λ us. is_in us id) used) ∙ un in (was, one_told id to word false (ne_eqb id to (λ e. both_ways (is_in v.master.used id) was (h.members id (subst (λ i. is_in (line v.master) i ≡ true) (sym e) member)))));
   climbs = λ id. subst (λ us. Climbs v.server id us) (sym (ap (λ r. ups v id ++ r) (none id) ∙ append-nil (ups v id))) (h.climbs id);
-  linked = subst (λ us. LinkedChain (said v m out) us) (sym chain) (linked v.master.chain h.linked);
-  heads = λ id k. subst (λ us. Heads us id (v.channel parties.Master (parties.Server id) ++ told_to id out)) (sym chain) (row id (sym (ap (λ us. is_in us id) chain) ∙ k) (is_first v.master.chain id) refl);
-  headless = λ id k is_head. ap (λ r. ups v id ++ r) (none id) ∙ append-nil (ups v id) ∙ h.headless id (sym (ap (λ us. is_in us id) chain) ∙ k) is_head;
+  linked = subst (λ us. LinkedLine (said v m out) us) (sym stays) (linked (line v.master) h.linked);
+  heads = λ id k. subst (λ us. Heads us id (v.channel parties.Master (parties.Server id) ++ told_to id out)) (sym stays) (row id (sym (ap (λ us. is_in us id) stays) ∙ k) (is_first (line v.master) id) refl);
+  headless = λ id k is_head. ap (λ r. ups v id ++ r) (none id) ∙ append-nil (ups v id) ∙ h.headless id (sym (ap (λ us. is_in us id) stays) ∙ k) is_head;
 } where
   out : List (Party × Message)
   out = (parties.Server to, word) ∷ []
@@ -468,32 +468,32 @@ quiet_said v m to word h chain used member told calm = record {
     go true = told
     go false = refl
 
-  linked : (ids : List ℕ) → LinkedChain v ids → LinkedChain (said v m ((parties.Server to, word) ∷ [])) ids
+  linked : (ids : List ℕ) → LinkedLine v ids → LinkedLine (said v m ((parties.Server to, word) ∷ [])) ids
   linked [] l = tt
   linked (a ∷ ids) l = linked_silent v m ((parties.Server to, word) ∷ []) a ids (λ s among. none s) l
 
-  row : (j : ℕ) → is_in v.master.chain j ≡ true → (t : Bool) → is_first v.master.chain j ≡ t → Heads v.master.chain j (v.channel parties.Master (parties.Server j) ++ told_to j ((parties.Server to, word) ∷ []))
-  row j k true first = heads_first v.master.chain v.master.chain j (v.channel parties.Master (parties.Server j)) (told_to j ((parties.Server to, word) ∷ [])) first (h.heads j k) (none j) (calm_one word (eqb j to) calm)
-  row j k false other = heads_after v.master.chain j (v.channel parties.Master (parties.Server j)) (told_to j ((parties.Server to, word) ∷ [])) (no_head v.master.chain j (v.channel parties.Master (parties.Server j)) other (h.heads j k)) (heads_none v.master.chain j (told_to j ((parties.Server to, word) ∷ [])) (calm_one word (eqb j to) calm))
+  row : (j : ℕ) → is_in (line v.master) j ≡ true → (t : Bool) → is_first (line v.master) j ≡ t → Heads (line v.master) j (v.channel parties.Master (parties.Server j) ++ told_to j ((parties.Server to, word) ∷ []))
+  row j k true first = heads_first (line v.master) (line v.master) j (v.channel parties.Master (parties.Server j)) (told_to j ((parties.Server to, word) ∷ [])) first (h.heads j k) (none j) (calm_one word (eqb j to) calm)
+  row j k false other = heads_after (line v.master) j (v.channel parties.Master (parties.Server j)) (told_to j ((parties.Server to, word) ∷ [])) (no_head (line v.master) j (v.channel parties.Master (parties.Server j)) other (h.heads j k)) (heads_none (line v.master) j (told_to j ((parties.Server to, word) ∷ [])) (calm_one word (eqb j to) calm))
 
--- What is said to nobody, where the chain stays, changes nothing.
-still_said : (v : Sight) (m : Master) → Prefixes v → m.chain ≡ v.master.chain → m.used ≡ v.master.used → Said v m []
-still_said v m h chain used = record {
-  apart = subst (λ us. Pairwise (λ a b. eqb a b ≡ false) us) (sym chain) h.apart;
-  members = λ id k. ap (λ us. is_in us id) used ∙ h.members id (sym (ap (λ us. is_in us id) chain) ∙ k);
-  away = λ id k out_of. h.away id (sym (ap (λ us. is_in us id) used) ∙ k) (sym (ap (λ us. is_in us id) chain) ∙ out_of);
+-- What is said to nobody, where the line stays, changes nothing.
+still_said : (v : Sight) (m : Master) → Prefixes v → line m ≡ line v.master → m.used ≡ v.master.used → Said v m []
+still_said v m h stays used = record {
+  apart = subst (λ us. Pairwise (λ a b. eqb a b ≡ false) us) (sym stays) h.apart;
+  members = λ id k. ap (λ us. is_in us id) used ∙ h.members id (sym (ap (λ us. is_in us id) stays) ∙ k);
+  away = λ id k out_of. h.away id (sym (ap (λ us. is_in us id) used) ∙ k) (sym (ap (λ us. is_in us id) stays) ∙ out_of);
   unused = λ id un. (sym (ap (λ us. is_in us id) used) ∙ un, refl);
   climbs = λ id. subst (λ us. Climbs v.server id us) (sym (append-nil (ups v id))) (h.climbs id);
-  linked = subst (λ us. LinkedChain (said v m []) us) (sym chain) (linked v.master.chain h.linked);
-  heads = λ id k. subst (λ us. Heads us id (v.channel parties.Master (parties.Server id) ++ [])) (sym chain) (subst (λ ms. Heads v.master.chain id ms) (sym (append-nil (v.channel parties.Master (parties.Server id)))) (h.heads id (sym (ap (λ us. is_in us id) chain) ∙ k)));
-  headless = λ id k is_head. append-nil (ups v id) ∙ h.headless id (sym (ap (λ us. is_in us id) chain) ∙ k) is_head;
+  linked = subst (λ us. LinkedLine (said v m []) us) (sym stays) (linked (line v.master) h.linked);
+  heads = λ id k. subst (λ us. Heads us id (v.channel parties.Master (parties.Server id) ++ [])) (sym stays) (subst (λ ms. Heads (line v.master) id ms) (sym (append-nil (v.channel parties.Master (parties.Server id)))) (h.heads id (sym (ap (λ us. is_in us id) stays) ∙ k)));
+  headless = λ id k is_head. append-nil (ups v id) ∙ h.headless id (sym (ap (λ us. is_in us id) stays) ∙ k) is_head;
 } where
-  linked : (ids : List ℕ) → LinkedChain v ids → LinkedChain (said v m []) ids
+  linked : (ids : List ℕ) → LinkedLine v ids → LinkedLine (said v m []) ids
   linked [] l = tt
   linked (a ∷ ids) l = linked_silent v m [] a ids (λ s among. refl) l
 
 -- who stands directly before another one is a member
-before_in : (p s : ℕ) (chain : List ℕ) → stands_before p s chain ≡ true → is_in chain p ≡ true
+before_in : (p s : ℕ) (ids : List ℕ) → stands_before p s ids ≡ true → is_in ids p ≡ true
 before_in p s [] h = absurd (false≢true h)
 before_in p s (a ∷ []) h = absurd (false≢true h)
 before_in p s (a ∷ b ∷ rest) h = elim (or_cases (eqb a p && eqb b s) (stands_before p s (b ∷ rest)) h) [
@@ -502,7 +502,7 @@ before_in p s (a ∷ b ∷ rest) h = elim (or_cases (eqb a p && eqb b s) (stands
 ]
 
 -- who is the last is a member
-last_in : (chain : List ℕ) (id : ℕ) → is_last chain id ≡ true → is_in chain id ≡ true
+last_in : (ids : List ℕ) (id : ℕ) → is_last ids id ≡ true → is_in ids id ≡ true
 last_in [] id h = absurd (false≢true h)
 last_in (a ∷ []) id h = or_left (eqb a id) false h
 last_in (a ∷ b ∷ rest) id h = or_right (eqb a id) (is_in (b ∷ rest) id) (last_in (b ∷ rest) id h)

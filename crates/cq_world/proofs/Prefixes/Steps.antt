@@ -19,15 +19,15 @@ use Rattle.cq_world.proofs.Prefixes.Climbing.{reports, one, ups, Climbs, Grows, 
 use Rattle.cq_world.proofs.Eaches.{Each, each-append, each-when, each-to_server, front-refl, front-more, front-next, cons_nil}
 use Rattle.cq_world.proofs.Settled.{is_settled, that_some}
 use Rattle.cq_world.proofs.Prefixes.{Prefixes, Turn, Heads, is_first, master_after, ups_after}
-use Rattle.cq_world.proofs.Sights.{Sight}
+use Rattle.cq_world.proofs.Sights.{Sight, line}
 
 -- all that is sent is of that history
 abbrev pub AllSpeak : List Entry → List (Party × Message) → Type 0
 AllSpeak entries sent = Each (λ x. Speaks entries x.1) sent
 
--- a server that lives is a member
-pub lives-member : (v : Sight) (k : ℕ) → Prefixes v → is_in v.master.used k ≡ true → (v.server k).down ≡ false → is_in v.master.chain k ≡ true
-lives-member v k h known lives = elim (cases_Bool (is_in v.master.chain k)) [ inl member ↦ member | inr out ↦ absurd (both_ways (v.server k).down lives (h.away k known out)) ]
+-- a server that lives is in the line
+pub lives-member : (v : Sight) (k : ℕ) → Prefixes v → is_in v.master.used k ≡ true → (v.server k).down ≡ false → is_in (line v.master) k ≡ true
+lives-member v k h known lives = elim (cases_Bool (is_in (line v.master) k)) [ inl member ↦ member | inr out ↦ absurd (both_ways (v.server k).down lives (h.away k known out)) ]
 
 -- the server that has become another, among all
 grows_at : (f : ℕ → Server) (k : ℕ) (s : Server) → Front (f k).entries s.entries → (f k).down ≡ false → Grows f (set_at f k s) k
@@ -194,8 +194,8 @@ server_turn v p k m rest h known lives taken says = calm-turn v (parties.Server 
 -- ---- messages of the master
 
 -- the master has less for the server after it took one of its messages
-heads_of : (v : Sight) (k : ℕ) (ms : List Message) → Prefixes v → is_in v.master.used k ≡ true → (v.server k).down ≡ false → v.channel parties.Master (parties.Server k) ≡ ms → Heads v.master.chain k ms
-heads_of v k ms h known lives taken = subst (λ us. Heads v.master.chain k us) taken (h.heads k (lives-member v k h known lives))
+heads_of : (v : Sight) (k : ℕ) (ms : List Message) → Prefixes v → is_in v.master.used k ≡ true → (v.server k).down ≡ false → v.channel parties.Master (parties.Server k) ≡ ms → Heads (line v.master) k ms
+heads_of v k ms h known lives taken = subst (λ us. Heads (line v.master) k us) taken (h.heads k (lives-member v k h known lives))
 
 -- a server is told that it is the head
 be_head_turn : (v : Sight) (k : ℕ) (rest : List Message) → Prefixes v → is_in v.master.used k ≡ true → (v.server k).down ≡ false → v.channel parties.Master (parties.Server k) ≡ BeHead ∷ rest
@@ -208,7 +208,7 @@ be_head_turn v k rest h known lives taken = let told = heads_of v k (BeHead ∷ 
   grows = front-refl (v.server k).entries;
   speaks = tt;
   climbs = subst (λ us. Climbs (set_at v.server k (record (v.server k) { head = true; pred = None })) k us) (sym told.1) tt;
-  last = λ first p last. absurd (both_ways (is_first v.master.chain k) first told.0);
+  last = λ first p last. absurd (both_ways (is_first (line v.master) k) first told.0);
   head = λ is_head member. told.1;
 }
 

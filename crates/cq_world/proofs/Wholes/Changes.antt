@@ -14,7 +14,7 @@ use Rattle.cq_world.proofs.Commits.{bit}
 use Rattle.cq_world.proofs.Eaches.{Each, each-append, each-follows}
 use Rattle.cq_world.proofs.Prefixes.Orders.{told_to, one_told, in-without, eqb_turned}
 use Rattle.cq_world.proofs.Prefixes.{Prefixes}
-use Rattle.cq_world.proofs.Sights.{Sight, said}
+use Rattle.cq_world.proofs.Sights.{Sight, line, said}
 use Rattle.cq_world.proofs.Wholes.{Whole, reports_of, haves_of, adopts_of, news, Ends, Known, AdoptIs, links, tokens, before-self}
 use Rattle.cq_world.proofs.Wholes.Orders.{behind-one, linked-token, adopt-token}
 use Rattle.cq_world.proofs.Wholes.Steps.{no_haves, no_adopts}
@@ -24,15 +24,15 @@ use Rattle.cq_world.proofs.Wholes.Turns.{reports-append, adopts-append, news-app
 
 -- whether one stands between two others
 abbrev pub between : ℕ → ℕ → ℕ → List ℕ → Bool
-between p d s chain = stands_before p d chain && stands_before d s chain
+between p d s line = stands_before p d line && stands_before d s line
 
-no_before : (p s : ℕ) (chain : List ℕ) → (is_in chain p ≡ true → ⊥) → stands_before p s chain ≡ false
-no_before p s chain h = elim (cases_Bool (stands_before p s chain)) [ inl is ↦ absurd (h (before-in p s chain is).0) | inr none ↦ none ]
+no_before : (p s : ℕ) (line : List ℕ) → (is_in line p ≡ true → ⊥) → stands_before p s line ≡ false
+no_before p s line h = elim (cases_Bool (stands_before p s line)) [ inl is ↦ absurd (h (before-in p s line is).0) | inr none ↦ none ]
 
-no_behind : (p s : ℕ) (chain : List ℕ) → (is_in chain s ≡ true → ⊥) → stands_before p s chain ≡ false
-no_behind p s chain h = elim (cases_Bool (stands_before p s chain)) [ inl is ↦ absurd (h (before-in p s chain is).1) | inr none ↦ none ]
+no_behind : (p s : ℕ) (line : List ℕ) → (is_in line s ≡ true → ⊥) → stands_before p s line ≡ false
+no_behind p s line h = elim (cases_Bool (stands_before p s line)) [ inl is ↦ absurd (h (before-in p s line is).1) | inr none ↦ none ]
 
--- what a chain without one of its members says of neighbours, and what is told of it
+-- what a line without one of its servers says of neighbours, and what is told of it
 record Gone (d p s a : ℕ) (us : List ℕ) : Type 0 where
   neighbours : stands_before p s (without d (a ∷ us)) ≡ (stands_before p s (a ∷ us) || between p d s (a ∷ us))
   told : reports_of p (told_to s (closing a d us)) ≡ bit (between p d s (a ∷ us))
@@ -148,7 +148,7 @@ gone_last d p s a x apart not_p not_s same = (
   go true = refl
   go false = refl
 
--- any member behind the first
+-- any one behind the first
 gone : (us : List ℕ) (d p s a : ℕ) → Apart (a ∷ us) → eqb p d ≡ false → eqb s d ≡ false → is_in us d ≡ true → Gone d p s a us
 gone [] d p s a apart not_p not_s there = absurd (false≢true there)
 gone (x ∷ []) d p s a apart not_p not_s there = let at : eqb x d ≡ true = elim (or_cases (eqb x d) false there) [ inl e ↦ e | inr none ↦ absurd (false≢true none) ] in
@@ -171,9 +171,9 @@ gone (x ∷ y ∷ rest) d p s a apart not_p not_s there = go (eqb x d) refl (λ 
     same_between : eqb x d ≡ false → between p d s (a ∷ x ∷ y ∷ rest) ≡ between p d s (x ∷ y ∷ rest)
     same_between other = and_same (stands_before p d (a ∷ x ∷ y ∷ rest)) (stands_before d s (a ∷ x ∷ y ∷ rest)) (stands_before p d (x ∷ y ∷ rest)) (stands_before d s (x ∷ y ∷ rest)) (skip_behind p d a x (y ∷ rest) other) (skip_before d s a x (y ∷ rest) first)
 
--- any member of a chain of two or more
-pub gone-from : (d p s : ℕ) (chain : List ℕ) → Apart chain → eqb p d ≡ false → eqb s d ≡ false → is_in chain d ≡ true → (length chain ≡ 1 → ⊥)
-    → (stands_before p s (without d chain) ≡ (stands_before p s chain || between p d s chain)) × (reports_of p (told_to s (said_of_loss d chain)) ≡ bit (between p d s chain))
+-- any server of a line of two or more
+pub gone-from : (d p s : ℕ) (line : List ℕ) → Apart line → eqb p d ≡ false → eqb s d ≡ false → is_in line d ≡ true → (length line ≡ 1 → ⊥)
+    → (stands_before p s (without d line) ≡ (stands_before p s line || between p d s line)) × (reports_of p (told_to s (said_of_loss d line)) ≡ bit (between p d s line))
 gone-from d p s [] apart not_p not_s there more = absurd (false≢true there)
 gone-from d p s (a ∷ []) apart not_p not_s there more = absurd (more refl)
 gone-from d p s (a ∷ b ∷ rest) apart not_p not_s there more = go (eqb a d) refl where
@@ -218,7 +218,7 @@ closing_names d s a (x ∷ y ∷ rest) apart there = go (eqb x d) refl (λ later
   go true e rec = one (eqb s y)
   go false e rec = rec (elim (or_cases (eqb x d) (is_in (y ∷ rest) d) there) [ inl same ↦ absurd (both_ways (eqb x d) e same) | inr r ↦ r ])
 
-loss_names : (d s : ℕ) (chain : List ℕ) → Apart chain → is_in chain d ≡ true → reports_of d (told_to s (said_of_loss d chain)) ≡ 0
+loss_names : (d s : ℕ) (line : List ℕ) → Apart line → is_in line d ≡ true → reports_of d (told_to s (said_of_loss d line)) ≡ 0
 loss_names d s [] apart there = refl
 loss_names d s (a ∷ []) apart there = refl
 loss_names d s (a ∷ b ∷ rest) apart there = go (eqb a d) refl where
@@ -275,7 +275,7 @@ closing_words used j a d (x ∷ y ∷ rest) known all = go (eqb x d) (closing_wo
   go true h = word_one used (Report a) (eqb j y) known
   go false h = h
 
-loss_words : (used : List ℕ) (j d : ℕ) (chain : List ℕ) → ((x : ℕ) → is_in chain x ≡ true → is_in used x ≡ true) → Each (Word used) (told_to j (said_of_loss d chain))
+loss_words : (used : List ℕ) (j d : ℕ) (line : List ℕ) → ((x : ℕ) → is_in line x ≡ true → is_in used x ≡ true) → Each (Word used) (told_to j (said_of_loss d line))
 loss_words used j d [] all = tt
 loss_words used j d (a ∷ []) all = tt
 loss_words used j d (a ∷ b ∷ rest) all = go (eqb a d) (closing_words used j a d (b ∷ rest) (all a (or_left (eqb a a) (is_in (b ∷ rest) a) (eq-eqb a a refl))) (λ z there. all z (or_right (eqb a z) (is_in (b ∷ rest) z) there))) where
@@ -291,24 +291,24 @@ neutral_news (m ∷ ms) h = step m h.0 (neutral_news ms h.1) where
   step (BeTail least) g e = absurd g
   step x g e = e
 
--- what ends a row, where fewer are members
-ends_fewer : (used chain less : List ℕ) (xs ys : List Message) → ((s : ℕ) → is_in less s ≡ true → is_in chain s ≡ true) → Ends chain xs → Each (Word used) ys → news ys ≡ 0 → Ends less (xs ++ ys)
-ends_fewer used chain less [] ys sub h words none = all ys words where
+-- what ends a row, where fewer are in the line
+ends_fewer : (used line less : List ℕ) (xs ys : List Message) → ((s : ℕ) → is_in less s ≡ true → is_in line s ≡ true) → Ends line xs → Each (Word used) ys → news ys ≡ 0 → Ends less (xs ++ ys)
+ends_fewer used line less [] ys sub h words none = all ys words where
   all : (ms : List Message) → Each (Word used) ms → Ends less ms
   all [] k = tt
   all (m ∷ ms) k = step m k.0 (all ms k.1) where
     step : (x : Message) → Word used x → Ends less ms → Ends less (x ∷ ms)
     step (Adopt q n) g e = absurd g
     step x g e = e
-ends_fewer used chain less (m ∷ xs) ys sub h words none = step m h (λ k. ends_fewer used chain less xs ys sub k words none) where
-  step : (x : Message) → Ends chain (x ∷ xs) → (Ends chain xs → Ends less (xs ++ ys)) → Ends less (x ∷ (xs ++ ys))
+ends_fewer used line less (m ∷ xs) ys sub h words none = step m h (λ k. ends_fewer used line less xs ys sub k words none) where
+  step : (x : Message) → Ends line (x ∷ xs) → (Ends line xs → Ends less (xs ++ ys)) → Ends less (x ∷ (xs ++ ys))
   step (Adopt q n) k later = ((λ there. omega (arith, k.0 (sub q there), none, news-append xs ys)), later k.1)
   step x k later = later (rest_of x k) where
-    rest_of : (y : Message) → Ends chain (y ∷ xs) → Ends chain xs
+    rest_of : (y : Message) → Ends line (y ∷ xs) → Ends line xs
     rest_of (Adopt q n) g = g.1
     rest_of y g = g
 
--- where no member is named, more words may follow
+-- where no server of the line is named, more words may follow
 ends_free : (used less : List ℕ) (xs ys : List Message) → ((s : ℕ) → is_in less s ≡ true → adopts_of s xs ≡ 0) → Each (Word used) ys → Ends less (xs ++ ys)
 ends_free used less [] ys none words = all ys words where
   all : (ms : List Message) → Each (Word used) ms → Ends less ms
@@ -330,26 +330,26 @@ ends_free used less (m ∷ xs) ys none words = step m none (λ k. ends_free used
 
 -- ---- detections
 
--- A detection keeps all sentences, where what is told changes no successor, or that of one that has no other member
--- behind it.
+-- A detection keeps all sentences, where what is told changes no successor, or that of one that has no other server of
+-- the line behind it.
 record Leaving (v : Sight) (d : ℕ) (out : List (Party × Message)) : Type 0 where
   words : (j : ℕ) → Each (Word v.master.used) (told_to j out)
-  told : (p s : ℕ) → eqb p d ≡ false → eqb s d ≡ false → reports_of p (told_to s out) ≡ bit (between p d s v.master.chain)
+  told : (p s : ℕ) → eqb p d ≡ false → eqb s d ≡ false → reports_of p (told_to s out) ≡ bit (between p d s (line v.master))
   names : (s : ℕ) → reports_of d (told_to s out) ≡ 0
-  neighbours : (p s : ℕ) → eqb p d ≡ false → eqb s d ≡ false → stands_before p s (without d v.master.chain) ≡ (stands_before p s v.master.chain || between p d s v.master.chain)
-  calm : (j : ℕ) → is_in (without d v.master.chain) j ≡ true → (news (told_to j out) ≡ 0) ⊎ ((x : ℕ) → is_in (without d v.master.chain) x ≡ true → tokens v j x ≡ 0)
+  neighbours : (p s : ℕ) → eqb p d ≡ false → eqb s d ≡ false → stands_before p s (without d (line v.master)) ≡ (stands_before p s (line v.master) || between p d s (line v.master))
+  calm : (j : ℕ) → is_in (without d (line v.master)) j ≡ true → (news (told_to j out) ≡ 0) ⊎ ((x : ℕ) → is_in (without d (line v.master)) x ≡ true → tokens v j x ≡ 0)
 
-leaving_whole : (v : Sight) (c : List Entry) (d : ℕ) (m : Master) (out : List (Party × Message)) → Prefixes v → Whole v c → m.chain ≡ without d v.master.chain → m.used ≡ v.master.used → Leaving v d out → Whole (said v m out) c
-leaving_whole v c d m out g h chain used o = record {
+leaving_whole : (v : Sight) (c : List Entry) (d : ℕ) (m : Master) (out : List (Party × Message)) → Prefixes v → Whole v c → line m ≡ without d (line v.master) → m.chain ≡ without d v.master.chain → m.used ≡ v.master.used → Leaving v d out → Whole (said v m out) c
+leaving_whole v c d m out g h stays chain used o = record {
   pred_known = λ id p is. subst (λ us. is_in us p ≡ true) (sym used) (h.pred_known id p is);
   succ_known = λ id s is. subst (λ us. is_in us s ≡ true) (sym used) (h.succ_known id s is);
   orders_known = λ j. subst (λ us. Each (Known us) (row j ++ told_to j out)) (sym used) (each-append (Known v.master.used) (row j) (told_to j out) (h.orders_known j) (each-follows (Word v.master.used) (Known v.master.used) (told_to j out) (word_known v.master.used) (o.words j)));
   reports_known = λ j. subst (λ us. Each (Known us) (v.channel (parties.Server j) parties.Master)) (sym used) (h.reports_known j);
   unheard = λ p id unused. h.unheard p id (subst (λ us. is_in us id ≡ false) used unused);
   token = λ p s a b. token p s (was p a) (was s b);
-  ends = λ p a. subst (λ us. Ends us (row p ++ told_to p out)) (sym chain) (elim (o.calm p (now p a)) [
-    | inl none ↦ ends_fewer v.master.used v.master.chain (without d v.master.chain) (row p) (told_to p out) (λ s there. (in-without d v.master.chain s there).0) (h.ends p (was p a).0) (o.words p) none
-    | inr free ↦ ends_free v.master.used (without d v.master.chain) (row p) (told_to p out) (λ s there. no_adopt p s (free s there)) (o.words p)
+  ends = λ p a. subst (λ us. Ends us (row p ++ told_to p out)) (sym stays) (elim (o.calm p (now p a)) [
+    | inl none ↦ ends_fewer v.master.used (line v.master) (without d (line v.master)) (row p) (told_to p out) (λ s there. (in-without d (line v.master) s there).0) (h.ends p (was p a).0) (o.words p) none
+    | inr free ↦ ends_free v.master.used (without d (line v.master)) (row p) (told_to p out) (λ s there. no_adopt p s (free s there)) (o.words p)
   ]);
   follows = λ p s a b link. elim (o.calm p (now p a)) [
     | inl none ↦ omega (arith, news-append (row p) (told_to p out), none, h.follows p s (was p a).0 (was s b).0 link)
@@ -366,20 +366,23 @@ leaving_whole v c d m out g h chain used o = record {
   data_none = λ p s a none. h.data_none p s (was s a).0 none;
   linked_told = λ p s a link. omega (arith, reports-append p (row s) (told_to s out), h.linked_told p s (was s a).0 link, untold p s (was s a) link (eqb p d) refl);
   feed = λ p s a is_pred link. h.feed p s (was s a).0 is_pred link;
-  snap = λ p s a is_pred. h.snap p s (was s a).0 is_pred;
-  young_succ = λ id a young. h.young_succ id (was id a).0 young;
+  snap = λ p s a is_pred. h.snap p s (was_member s a) is_pred;
+  young_succ = λ id a young. h.young_succ id (was_member id a) young;
   acked = h.acked;
   acks = h.acks;
-  floors = λ id a full. h.floors id (was id a).0 full;
+  floors = λ id a full. h.floors id (was_member id a) full;
 } where
   row : ℕ → List Message
   row j = v.channel parties.Master (parties.Server j)
 
-  now : (j : ℕ) → is_in m.chain j ≡ true → is_in (without d v.master.chain) j ≡ true
-  now j a = subst (λ us. is_in us j ≡ true) chain a
+  now : (j : ℕ) → is_in (line m) j ≡ true → is_in (without d (line v.master)) j ≡ true
+  now j a = subst (λ us. is_in us j ≡ true) stays a
 
-  was : (j : ℕ) → is_in m.chain j ≡ true → (is_in v.master.chain j ≡ true) × (eqb j d ≡ false)
-  was j a = in-without d v.master.chain j (subst (λ us. is_in us j ≡ true) chain a)
+  was : (j : ℕ) → is_in (line m) j ≡ true → (is_in (line v.master) j ≡ true) × (eqb j d ≡ false)
+  was j a = in-without d (line v.master) j (subst (λ us. is_in us j ≡ true) stays a)
+
+  was_member : (j : ℕ) → is_in m.chain j ≡ true → is_in v.master.chain j ≡ true
+  was_member j a = (in-without d v.master.chain j (subst (λ us. is_in us j ≡ true) chain a)).0
 
   no_adopt : (p s : ℕ) → tokens v p s ≡ 0 → adopts_of s (v.channel parties.Master (parties.Server p)) ≡ 0
   no_adopt p s none = go (adopts_of s (v.channel parties.Master (parties.Server p))) refl where
@@ -388,27 +391,27 @@ leaving_whole v c d m out g h chain used o = record {
     go (suc n) e = absurd (omega (arith, none, adopt-token v p s (omega (arith, e))))
 
   -- neighbours were neighbours, or have become such
-  cases : (p s : ℕ) → stands_before p s m.chain ≡ true → (stands_before p s v.master.chain ≡ true) ⊎ (between p d s v.master.chain ≡ true)
+  cases : (p s : ℕ) → stands_before p s (line m) ≡ true → (stands_before p s (line v.master) ≡ true) ⊎ (between p d s (line v.master) ≡ true)
   cases p s before =
-      let here = subst (λ us. stands_before p s us ≡ true) chain before in
-      let members = before-in p s (without d v.master.chain) here in
-      let not_p = (in-without d v.master.chain p members.0).1 in
-      let not_s = (in-without d v.master.chain s members.1).1 in
-      or_cases (stands_before p s v.master.chain) (between p d s v.master.chain) (sym (o.neighbours p s not_p not_s) ∙ here)
+      let here = subst (λ us. stands_before p s us ≡ true) stays before in
+      let members = before-in p s (without d (line v.master)) here in
+      let not_p = (in-without d (line v.master) p members.0).1 in
+      let not_s = (in-without d (line v.master) s members.1).1 in
+      or_cases (stands_before p s (line v.master)) (between p d s (line v.master)) (sym (o.neighbours p s not_p not_s) ∙ here)
 
   -- who become neighbours weren't
-  apart_before : (p s : ℕ) → between p d s v.master.chain ≡ true → stands_before p s v.master.chain ≡ false
-  apart_before p s is = go (stands_before p s v.master.chain) refl where
-    go : (t : Bool) → stands_before p s v.master.chain ≡ t → t ≡ false
+  apart_before : (p s : ℕ) → between p d s (line v.master) ≡ true → stands_before p s (line v.master) ≡ false
+  apart_before p s is = go (stands_before p s (line v.master)) refl where
+    go : (t : Bool) → stands_before p s (line v.master) ≡ t → t ≡ false
     go false e = refl
     go true e =
-        let both = and_parts (stands_before p d v.master.chain) (stands_before d s v.master.chain) is in
-        let same = behind-one p s d v.master.chain g.apart e both.0 in
-        absurd (before-self d v.master.chain g.apart (subst (λ i. stands_before d i v.master.chain ≡ true) same both.1))
+        let both = and_parts (stands_before p d (line v.master)) (stands_before d s (line v.master)) is in
+        let same = behind-one p s d (line v.master) g.apart e both.0 in
+        absurd (before-self d (line v.master) g.apart (subst (λ i. stands_before d i (line v.master) ≡ true) same both.1))
 
-  unmade : (p s : ℕ) → between p d s v.master.chain ≡ true → tokens v p s ≡ 0
-  unmade p s is = let both = and_parts (stands_before p d v.master.chain) (stands_before d s v.master.chain) is in
-      h.token p s (before-in p d v.master.chain both.0).0 (before-in d s v.master.chain both.1).1 ∙ ap (λ t. bit t) (apart_before p s is)
+  unmade : (p s : ℕ) → between p d s (line v.master) ≡ true → tokens v p s ≡ 0
+  unmade p s is = let both = and_parts (stands_before p d (line v.master)) (stands_before d s (line v.master)) is in
+      h.token p s (before-in p d (line v.master) both.0).0 (before-in d s (line v.master) both.1).1 ∙ ap (λ t. bit t) (apart_before p s is)
 
   sum : (a b : Bool) → (b ≡ true → a ≡ false) → bit a + bit b ≡ bit (a || b)
   sum true true e = absurd (false≢true (sym (e refl)))
@@ -416,8 +419,8 @@ leaving_whole v c d m out g h chain used o = record {
   sum false true e = refl
   sum false false e = refl
 
-  token : (p s : ℕ) → (is_in v.master.chain p ≡ true) × (eqb p d ≡ false) → (is_in v.master.chain s ≡ true) × (eqb s d ≡ false)
-      → reports_of p (v.channel parties.Master (parties.Server s) ++ told_to s out) + (haves_of p (v.channel (parties.Server s) parties.Master) + links (v.server p).succ s (v.channel parties.Master (parties.Server p) ++ told_to p out)) ≡ bit (stands_before p s m.chain)
+  token : (p s : ℕ) → (is_in (line v.master) p ≡ true) × (eqb p d ≡ false) → (is_in (line v.master) s ≡ true) × (eqb s d ≡ false)
+      → reports_of p (v.channel parties.Master (parties.Server s) ++ told_to s out) + (haves_of p (v.channel (parties.Server s) parties.Master) + links (v.server p).succ s (v.channel parties.Master (parties.Server p) ++ told_to p out)) ≡ bit (stands_before p s (line m))
   token p s a b =
       let same_links = ap (λ n. cond (is_that (v.server p).succ s) 1 n) (adopts-append s (v.channel parties.Master (parties.Server p)) (told_to p out) ∙ ap (λ n. adopts_of s (v.channel parties.Master (parties.Server p)) + n) (words_adopts v.master.used s (told_to p out) (o.words p)) ∙ plus_none (adopts_of s (v.channel parties.Master (parties.Server p)))) in
       omega (
@@ -426,25 +429,25 @@ leaving_whole v c d m out g h chain used o = record {
         same_links,
         o.told p s a.1 b.1,
         h.token p s a.0 b.0,
-        sum (stands_before p s v.master.chain) (between p d s v.master.chain) (apart_before p s),
+        sum (stands_before p s (line v.master)) (between p d s (line v.master)) (apart_before p s),
         ap (λ t. bit t) (sym (o.neighbours p s a.1 b.1)),
-        ap (λ us. bit (stands_before p s us)) (sym chain),
+        ap (λ us. bit (stands_before p s us)) (sym stays),
       ) where
         plus_none : (n : ℕ) → n + 0 ≡ n
         plus_none n = omega arith
 
   -- a server that is linked isn't told anew
-  untold : (p s : ℕ) → (is_in v.master.chain s ≡ true) × (eqb s d ≡ false) → is_that (v.server p).succ s ≡ true → (t : Bool) → eqb p d ≡ t → reports_of p (told_to s out) ≡ 0
+  untold : (p s : ℕ) → (is_in (line v.master) s ≡ true) × (eqb s d ≡ false) → is_that (v.server p).succ s ≡ true → (t : Bool) → eqb p d ≡ t → reports_of p (told_to s out) ≡ 0
   untold p s a link true e = subst (λ i. reports_of i (told_to s out) ≡ 0) (sym (eqb-true p d e)) (o.names s)
-  untold p s a link false e = o.told p s e a.1 ∙ go (between p d s v.master.chain) refl where
-    go : (t : Bool) → between p d s v.master.chain ≡ t → bit t ≡ 0
+  untold p s a link false e = o.told p s e a.1 ∙ go (between p d s (line v.master)) refl where
+    go : (t : Bool) → between p d s (line v.master) ≡ t → bit t ≡ 0
     go false f = refl
     go true f = absurd (omega (arith, unmade p s f, linked-token v p s link))
 
 -- A detection of a member, while others remain, keeps all sentences.
 pub detected-whole : (v : Sight) (c : List Entry) (d : ℕ) → Prefixes v → Whole v c → is_in v.master.chain d ≡ true → (length v.master.chain ≡ 1 → ⊥) → Whole (said v (detected d v.master).master (detected d v.master).said) c
 unfolding detected
-detected-whole v c d g h there more = leaving_whole v c d (detected d v.master).master (said_of_loss d v.master.chain) g h refl refl (record {
+detected-whole v c d g h there more = leaving_whole v c d (detected d v.master).master (said_of_loss d v.master.chain) g h refl refl refl (record {
   words = λ j. loss_words v.master.used j d v.master.chain g.members;
   told = λ p s not_p not_s. (gone-from d p s v.master.chain g.apart not_p not_s there more).1;
   names = λ s. loss_names d s v.master.chain g.apart there;

@@ -16,7 +16,7 @@ use Rattle.cq_world.proofs.Eaches.{Each, each-append, each-follows}
 use Rattle.cq_world.proofs.Wholes.Feeding.{NoData, NoSnap, OfSnap, Feeds, all-data-snap, feeds-append, no-snap}
 use Rattle.cq_world.proofs.Prefixes.{Prefixes, master_after}
 use Rattle.cq_world.proofs.Settled.{IsSettled, is_settled}
-use Rattle.cq_world.proofs.Sights.{Sight}
+use Rattle.cq_world.proofs.Sights.{Sight, line}
 use Rattle.cq_world.proofs.Wholes.{Whole, reports_of, haves_of, adopts_of, news, Known, HaveIs, AckWithin, links}
 use Rattle.cq_world.proofs.Wholes.Steps.{Idle, idle_known, idle_have, idle_haves, no_haves, no_adopts, feeds_still, own_link}
 use Rattle.cq_world.proofs.Wholes.Turns.{Feeding, left_between}
@@ -92,7 +92,7 @@ pub record Grown (v : Sight) (c : List Entry) (from : Party) (k : ℕ) (rest : L
   pub same_told : master_after v from k rest ≡ v.channel parties.Master (parties.Server k)
   pub idle : Each Idle (addressed parties.Master out)
   pub own : acts x ≡ true → longer c (acting_history (settled x)) ≡ (settled x).entries
-  pub alone : (q : ℕ) → stands_before q k v.master.chain ≡ true → (haves_of q (v.channel (parties.Server k) parties.Master) ≡ 0) × (is_that (v.server q).succ k ≡ false → adopts_of k (v.channel parties.Master (parties.Server q)) ≡ 0)
+  pub alone : (q : ℕ) → stands_before q k (line v.master) ≡ true → (haves_of q (v.channel (parties.Server k) parties.Master) ≡ 0) × (is_that (v.server q).succ k ≡ false → adopts_of k (v.channel parties.Master (parties.Server q)) ≡ 0)
   pub sent_data : (y : ℕ) → is_that x.succ y ≡ false → Each NoData (addressed (parties.Server y) out)
   pub sent_snaps : (y : ℕ) → Each NoSnap (addressed (parties.Server y) out)
   pub feeds_on : (y : ℕ) → is_that x.succ y ≡ true → Feeds (length (v.server k).entries) (addressed (parties.Server y) out) (length x.entries)

@@ -14,7 +14,7 @@ use Rattle.cq_world.proofs.Wholes.Feeding.{NoData}
 use Rattle.cq_world.proofs.Prefixes.Orders.{told_to, one_told, in_more, in_left, out_more, join_told, last_of, eqb_turned}
 use Rattle.cq_world.proofs.Prefixes.{Prefixes}
 use Rattle.cq_world.proofs.Settled.{that_some}
-use Rattle.cq_world.proofs.Sights.{Sight, said}
+use Rattle.cq_world.proofs.Sights.{Sight, line, said}
 use Rattle.cq_world.proofs.Wholes.{Whole, reports_of, haves_of, adopts_of, news, Ends, Known, HaveIs, AdoptIs, links, tokens}
 use Rattle.cq_world.proofs.Wholes.Turns.{reports-append, adopts-append, news-append}
 
@@ -60,38 +60,38 @@ known_more used x (Adopt q n) h = in_left used x q h
 known_more used x (Have q n) h = in_left used x q h
 known_more used x m h = tt
 
-ends_joined : (used chain : List ℕ) (x : ℕ) (ms : List Message) → is_in used x ≡ false → Each (Known used) ms → Ends chain ms → Ends (chain ++ x ∷ []) ms
-ends_joined used chain x [] unused k h = tt
-ends_joined used chain x (m ∷ ms) unused k h = step m k.0 h (λ g. ends_joined used chain x ms unused k.1 g) where
-  step : (y : Message) → Known used y → Ends chain (y ∷ ms) → (Ends chain ms → Ends (chain ++ x ∷ []) ms) → Ends (chain ++ x ∷ []) (y ∷ ms)
+ends_joined : (used line : List ℕ) (x : ℕ) (ms : List Message) → is_in used x ≡ false → Each (Known used) ms → Ends line ms → Ends (line ++ x ∷ []) ms
+ends_joined used line x [] unused k h = tt
+ends_joined used line x (m ∷ ms) unused k h = step m k.0 h (λ g. ends_joined used line x ms unused k.1 g) where
+  step : (y : Message) → Known used y → Ends line (y ∷ ms) → (Ends line ms → Ends (line ++ x ∷ []) ms) → Ends (line ++ x ∷ []) (y ∷ ms)
   step (Adopt q n) known g later = (
-    (λ there. elim (in_more chain x q there) [ inl was ↦ g.0 was | inr same ↦ absurd (both_ways (is_in used x) unused (subst (λ i. is_in used i ≡ true) (sym (eqb-true x q same)) known)) ]),
+    (λ there. elim (in_more line x q there) [ inl was ↦ g.0 was | inr same ↦ absurd (both_ways (is_in used x) unused (subst (λ i. is_in used i ≡ true) (sym (eqb-true x q same)) known)) ]),
     later g.1,
   )
   step y known g later = later (rest_of y g) where
-    rest_of : (z : Message) → Ends chain (z ∷ ms) → Ends chain ms
+    rest_of : (z : Message) → Ends line (z ∷ ms) → Ends line ms
     rest_of (Adopt q n) f = f.1
     rest_of z f = f
 
 -- a word on a predecessor behind a row
-ends_report : (chain : List ℕ) (p : ℕ) (ms : List Message) → Ends chain ms → Ends chain (ms ++ Report p ∷ [])
-ends_report chain p [] h = tt
-ends_report chain p (m ∷ ms) h = step m h (λ g. ends_report chain p ms g) where
-  step : (y : Message) → Ends chain (y ∷ ms) → (Ends chain ms → Ends chain (ms ++ Report p ∷ [])) → Ends chain (y ∷ (ms ++ Report p ∷ []))
+ends_report : (line : List ℕ) (p : ℕ) (ms : List Message) → Ends line ms → Ends line (ms ++ Report p ∷ [])
+ends_report line p [] h = tt
+ends_report line p (m ∷ ms) h = step m h (λ g. ends_report line p ms g) where
+  step : (y : Message) → Ends line (y ∷ ms) → (Ends line ms → Ends line (ms ++ Report p ∷ [])) → Ends line (y ∷ (ms ++ Report p ∷ []))
   step (Adopt q n) g later = ((λ there. omega (arith, g.0 there, news-append ms (Report p ∷ []))), later g.1)
   step y g later = later (rest_of y g) where
-    rest_of : (z : Message) → Ends chain (z ∷ ms) → Ends chain ms
+    rest_of : (z : Message) → Ends line (z ∷ ms) → Ends line ms
     rest_of (Adopt q n) f = f.1
     rest_of z f = f
 
--- ---- neighbours in a chain with one more
+-- ---- neighbours in a line with one more
 
-joined_behind : (p s x : ℕ) (chain : List ℕ) → eqb x s ≡ false → stands_before p s (chain ++ x ∷ []) ≡ stands_before p s chain
+joined_behind : (p s x : ℕ) (line : List ℕ) → eqb x s ≡ false → stands_before p s (line ++ x ∷ []) ≡ stands_before p s line
 joined_behind p s x [] other = refl
 joined_behind p s x (a ∷ []) other = ap (λ b. b || false) (and_right (eqb a p) (eqb x s) other)
 joined_behind p s x (a ∷ b ∷ rest) other = ap (λ t. eqb a p && eqb b s || t) (joined_behind p s x (b ∷ rest) other)
 
-joined_last : (p x : ℕ) (chain : List ℕ) → (is_in chain x ≡ true → ⊥) → stands_before p x (chain ++ x ∷ []) ≡ is_last chain p
+joined_last : (p x : ℕ) (line : List ℕ) → (is_in line x ≡ true → ⊥) → stands_before p x (line ++ x ∷ []) ≡ is_last line p
 joined_last p x [] out = refl
 joined_last p x (a ∷ []) out = ap (λ b. eqb a p && b || false) (eq-eqb x x refl) ∙ both (eqb a p) where
   both : (t : Bool) → (t && true || false) ≡ t
@@ -101,39 +101,39 @@ joined_last p x (a ∷ b ∷ rest) out = ap (λ t. t || stands_before p x ((b �
   not_b : eqb b x ≡ false
   not_b = elim (cases_Bool (eqb b x)) [ inl e ↦ absurd (out (or_right (eqb a x) (is_in (b ∷ rest) x) (or_left (eqb b x) (is_in rest x) e))) | inr other ↦ other ]
 
-join_whole : (v : Sight) (c : List Entry) (x t : ℕ) → Prefixes v → Commits v c → Whole v c → is_in v.master.used x ≡ false → is_last v.master.chain t ≡ true
+join_whole : (v : Sight) (c : List Entry) (x t : ℕ) → Prefixes v → Commits v c → Whole v c → is_in v.master.used x ≡ false → is_last (line v.master) t ≡ true
     → Whole (said v (record { chain = v.master.chain ++ x ∷ []; told = false; ready = false; used = v.master.used ++ x ∷ [] }) ((parties.Server x, Report t) ∷ [])) c
 join_whole v c x t g k h unused last = record {
   pred_known = λ id p is. in_left used x p (h.pred_known id p is);
   succ_known = λ id s is. in_left used x s (h.succ_known id s is);
-  orders_known = λ j. each_one (Known (used ++ x ∷ [])) j x (Report t) (row j) (each-follows (Known used) (Known (used ++ x ∷ [])) (row j) (known_more used x) (h.orders_known j)) (λ e. in_left used x t (g.members t (last-in chain t last)));
+  orders_known = λ j. each_one (Known (used ++ x ∷ [])) j x (Report t) (row j) (each-follows (Known used) (Known (used ++ x ∷ [])) (row j) (known_more used x) (h.orders_known j)) (λ e. in_left used x t (g.members t (last-in (line v.master) t last)));
   reports_known = λ j. each-follows (Known used) (Known (used ++ x ∷ [])) (v.channel (parties.Server j) parties.Master) (known_more used x) (h.reports_known j);
   unheard = λ p id out. h.unheard p id (out_more used x id out).0;
-  token = λ p s a b. token p s (member p a) (member s b);
-  ends = λ p a. one_more p x (Report t) (λ ms. Ends (chain ++ x ∷ []) ms) (row p) (λ e. ends_report (chain ++ x ∷ []) t (row p) (own_ends p (member p a))) (λ e. own_ends p (member p a));
-  follows = λ p s a b link. one_more p x (Report t) (λ ms. news ms ≡ 0) (row p) (λ e. absurd (unlinked p s e link)) (λ e. follows p s (member p a) (member s b) link);
+  token = λ p s a b. token p s (placed p a) (placed s b);
+  ends = λ p a. one_more p x (Report t) (λ ms. Ends (line v.master ++ x ∷ []) ms) (row p) (λ e. ends_report (line v.master ++ x ∷ []) t (row p) (own_ends p (placed p a))) (λ e. own_ends p (placed p a));
+  follows = λ p s a b link. one_more p x (Report t) (λ ms. news ms ≡ 0) (row p) (λ e. absurd (unlinked p s e link)) (λ e. follows p s (placed p a) (placed s b) link);
   counts = λ p s before. counts p s before (eqb x s) refl;
   adopts = λ p s before none. each_one (AdoptIs s (length (v.server s).entries)) p x (Report t) (row p) (adopts p s before none (eqb x s) refl) (λ e. tt);
-  data_none = λ p s b none. elim (member s b) [ inl was ↦ h.data_none p s was none | inr new ↦ subst (λ i. Each NoData (v.channel (parties.Server p) (parties.Server i))) (eqb-true x s new) (h.unheard p x unused) ];
-  linked_told = λ p s b link. elim (member s b) [
+  data_none = λ p s b none. elim (placed s b) [ inl was ↦ h.data_none p s was none | inr new ↦ subst (λ i. Each NoData (v.channel (parties.Server p) (parties.Server i))) (eqb-true x s new) (h.unheard p x unused) ];
+  linked_told = λ p s b link. elim (placed s b) [
     | inl was ↦ one_more s x (Report t) (λ ms. reports_of p ms ≡ 0) (row s) (λ e. absurd (strange s was e)) (λ e. h.linked_told p s was link)
     | inr new ↦ absurd (both_ways (is_that (v.server p).succ s) (not_succ p s new) link)
   ];
-  feed = λ p s b is_pred link. elim (member s b) [ inl was ↦ h.feed p s was is_pred link | inr new ↦ absurd (some_none p (sym is_pred ∙ ap (λ y. y.pred) (new_server s new))) ];
+  feed = λ p s b is_pred link. elim (placed s b) [ inl was ↦ h.feed p s was is_pred link | inr new ↦ absurd (some_none p (sym is_pred ∙ ap (λ y. y.pred) (new_server s new))) ];
   snap = λ p s b is_pred. elim (member s b) [ inl was ↦ h.snap p s was is_pred | inr new ↦ absurd (some_none p (sym is_pred ∙ ap (λ y. y.pred) (new_server s new))) ];
   young_succ = λ id b young. elim (member id b) [ inl was ↦ h.young_succ id was young | inr new ↦ ap (λ y. y.succ) (new_server id new) ];
   acked = h.acked;
   acks = h.acks;
   floors = λ id b full. elim (member id b) [ inl was ↦ h.floors id was full | inr new ↦ absurd (both_ways (v.server id).full (ap (λ y. y.full) (new_server id new)) full) ];
 } where
-  chain : List ℕ
-  chain = v.master.chain
-
   used : List ℕ
   used = v.master.used
 
   row : ℕ → List Message
   row j = v.channel parties.Master (parties.Server j)
+
+  placed : (j : ℕ) → is_in (line v.master ++ x ∷ []) j ≡ true → (is_in (line v.master) j ≡ true) ⊎ (eqb x j ≡ true)
+  placed j a = in_more (line v.master) x j a
 
   member : (j : ℕ) → is_in (v.master.chain ++ x ∷ []) j ≡ true → (is_in v.master.chain j ≡ true) ⊎ (eqb x j ≡ true)
   member j a = in_more v.master.chain x j a
@@ -147,8 +147,8 @@ join_whole v c x t g k h unused last = record {
   new_reports : (j : ℕ) → eqb x j ≡ true → v.channel (parties.Server j) parties.Master ≡ []
   new_reports j same = ap (λ i. v.channel (parties.Server i) parties.Master) (sym (eqb-true x j same)) ∙ k.silent x unused
 
-  strange : (j : ℕ) → is_in v.master.chain j ≡ true → eqb j x ≡ true → ⊥
-  strange j was e = both_ways (is_in v.master.used x) unused (g.members x (subst (λ i. is_in v.master.chain i ≡ true) (eqb-true j x e) was))
+  strange : (j : ℕ) → is_in (line v.master) j ≡ true → eqb j x ≡ true → ⊥
+  strange j was e = both_ways (is_in v.master.used x) unused (g.members x (subst (λ i. is_in (line v.master) i ≡ true) (eqb-true j x e) was))
 
   not_succ : (p s : ℕ) → eqb x s ≡ true → is_that (v.server p).succ s ≡ false
   not_succ p s new = elim (cases_Bool (is_that (v.server p).succ s)) [
@@ -159,22 +159,22 @@ join_whole v c x t g k h unused last = record {
   unlinked : (p s : ℕ) → eqb p x ≡ true → is_that (v.server p).succ s ≡ true → ⊥
   unlinked p s e link = false≢true (sym (ap (λ y. is_that y.succ s) (new_server p (eq-eqb x p (sym (eqb-true p x e))))) ∙ link)
 
-  own_ends : (p : ℕ) → (is_in v.master.chain p ≡ true) ⊎ (eqb x p ≡ true) → Ends (v.master.chain ++ x ∷ []) (v.channel parties.Master (parties.Server p))
-  own_ends p (inl was) = ends_joined v.master.used v.master.chain x (v.channel parties.Master (parties.Server p)) unused (h.orders_known p) (h.ends p was)
-  own_ends p (inr new) = subst (λ ms. Ends (v.master.chain ++ x ∷ []) ms) (sym (new_row p new)) tt
+  own_ends : (p : ℕ) → (is_in (line v.master) p ≡ true) ⊎ (eqb x p ≡ true) → Ends (line v.master ++ x ∷ []) (v.channel parties.Master (parties.Server p))
+  own_ends p (inl was) = ends_joined v.master.used (line v.master) x (v.channel parties.Master (parties.Server p)) unused (h.orders_known p) (h.ends p was)
+  own_ends p (inr new) = subst (λ ms. Ends (line v.master ++ x ∷ []) ms) (sym (new_row p new)) tt
 
-  follows : (p s : ℕ) → (is_in v.master.chain p ≡ true) ⊎ (eqb x p ≡ true) → (is_in v.master.chain s ≡ true) ⊎ (eqb x s ≡ true) → is_that (v.server p).succ s ≡ true → news (v.channel parties.Master (parties.Server p)) ≡ 0
+  follows : (p s : ℕ) → (is_in (line v.master) p ≡ true) ⊎ (eqb x p ≡ true) → (is_in (line v.master) s ≡ true) ⊎ (eqb x s ≡ true) → is_that (v.server p).succ s ≡ true → news (v.channel parties.Master (parties.Server p)) ≡ 0
   follows p s (inl a) (inl b) link = h.follows p s a b link
   follows p s (inr new) b link = ap news (new_row p new)
   follows p s (inl a) (inr new) link = absurd (both_ways (is_that (v.server p).succ s) (not_succ p s new) link)
 
-  counts : (p s : ℕ) → stands_before p s (v.master.chain ++ x ∷ []) ≡ true → (u : Bool) → eqb x s ≡ u → Each (HaveIs p (length (v.server s).entries)) (v.channel (parties.Server s) parties.Master)
+  counts : (p s : ℕ) → stands_before p s (line v.master ++ x ∷ []) ≡ true → (u : Bool) → eqb x s ≡ u → Each (HaveIs p (length (v.server s).entries)) (v.channel (parties.Server s) parties.Master)
   counts p s before true e = subst (λ ms. Each (HaveIs p (length (v.server s).entries)) ms) (sym (new_reports s e)) tt
-  counts p s before false e = h.counts p s (sym (joined_behind p s x v.master.chain e) ∙ before)
+  counts p s before false e = h.counts p s (sym (joined_behind p s x (line v.master) e) ∙ before)
 
-  adopts : (p s : ℕ) → stands_before p s (v.master.chain ++ x ∷ []) ≡ true → is_that (v.server p).succ s ≡ false → (u : Bool) → eqb x s ≡ u → Each (AdoptIs s (length (v.server s).entries)) (v.channel parties.Master (parties.Server p))
+  adopts : (p s : ℕ) → stands_before p s (line v.master ++ x ∷ []) ≡ true → is_that (v.server p).succ s ≡ false → (u : Bool) → eqb x s ≡ u → Each (AdoptIs s (length (v.server s).entries)) (v.channel parties.Master (parties.Server p))
   adopts p s before none true e = each-follows (Known v.master.used) (AdoptIs s (length (v.server s).entries)) (v.channel parties.Master (parties.Server p)) (λ m known. unnamed_adopt v.master.used s (length (v.server s).entries) m (subst (λ i. is_in v.master.used i ≡ false) (eqb-true x s e) unused) known) (h.orders_known p)
-  adopts p s before none false e = h.adopts p s (sym (joined_behind p s x v.master.chain e) ∙ before) none
+  adopts p s before none false e = h.adopts p s (sym (joined_behind p s x (line v.master) e) ∙ before) none
 
   -- what is told tells one of its predecessor, and nobody of a successor
   told_more : (p s : ℕ) → reports_of p (v.channel parties.Master (parties.Server s) ++ told_to s ((parties.Server x, Report t) ∷ [])) ≡ reports_of p (v.channel parties.Master (parties.Server s)) + bit (eqb s x && eqb t p)
@@ -187,16 +187,16 @@ join_whole v c x t g k h unused last = record {
   same_links : (p s : ℕ) → links (v.server p).succ s (v.channel parties.Master (parties.Server p) ++ told_to p ((parties.Server x, Report t) ∷ [])) ≡ links (v.server p).succ s (v.channel parties.Master (parties.Server p))
   same_links p s = ap (λ n. cond (is_that (v.server p).succ s) 1 n) (one_more p x (Report t) (λ ms. adopts_of s ms ≡ adopts_of s (v.channel parties.Master (parties.Server p))) (v.channel parties.Master (parties.Server p)) (λ e. omega (arith, adopts-append s (v.channel parties.Master (parties.Server p)) (Report t ∷ []))) (λ e. refl))
 
-  outside : is_in v.master.chain x ≡ true → ⊥
+  outside : is_in (line v.master) x ≡ true → ⊥
   outside there = both_ways (is_in v.master.used x) unused (g.members x there)
 
-  same_last : (p : ℕ) → is_last v.master.chain p ≡ eqb t p
-  same_last p = go (is_last v.master.chain p) (eqb t p) refl refl where
-    go : (a b : Bool) → is_last v.master.chain p ≡ a → eqb t p ≡ b → a ≡ b
+  same_last : (p : ℕ) → is_last (line v.master) p ≡ eqb t p
+  same_last p = go (is_last (line v.master) p) (eqb t p) refl refl where
+    go : (a b : Bool) → is_last (line v.master) p ≡ a → eqb t p ≡ b → a ≡ b
     go true true e f = refl
     go false false e f = refl
-    go true false e f = absurd (both_ways (eqb t p) f (eq-eqb t p (last-one v.master.chain t p last e)))
-    go false true e f = absurd (both_ways (is_last v.master.chain p) e (subst (λ i. is_last v.master.chain i ≡ true) (eqb-true t p f) last))
+    go true false e f = absurd (both_ways (eqb t p) f (eq-eqb t p (last-one (line v.master) t p last e)))
+    go false true e f = absurd (both_ways (is_last (line v.master) p) e (subst (λ i. is_last (line v.master) i ≡ true) (eqb-true t p f) last))
 
   -- a pair with the new one had no token
   none_with : (p s : ℕ) → eqb x s ≡ true → tokens v p s ≡ 0
@@ -219,25 +219,25 @@ join_whole v c x t g k h unused last = record {
       )
 
   -- before and after
-  old_pair : (p s : ℕ) → eqb x s ≡ false → tokens v p s ≡ bit (stands_before p s v.master.chain)
-      → reports_of p (v.channel parties.Master (parties.Server s) ++ told_to s ((parties.Server x, Report t) ∷ [])) + (haves_of p (v.channel (parties.Server s) parties.Master) + links (v.server p).succ s (v.channel parties.Master (parties.Server p) ++ told_to p ((parties.Server x, Report t) ∷ []))) ≡ bit (stands_before p s (v.master.chain ++ x ∷ []))
-  old_pair p s other is = omega (arith, told_more p s, ap (λ b. bit (b && eqb t p)) (eqb_turned x s other), same_links p s, is, ap (λ b. bit b) (joined_behind p s x v.master.chain other))
+  old_pair : (p s : ℕ) → eqb x s ≡ false → tokens v p s ≡ bit (stands_before p s (line v.master))
+      → reports_of p (v.channel parties.Master (parties.Server s) ++ told_to s ((parties.Server x, Report t) ∷ [])) + (haves_of p (v.channel (parties.Server s) parties.Master) + links (v.server p).succ s (v.channel parties.Master (parties.Server p) ++ told_to p ((parties.Server x, Report t) ∷ []))) ≡ bit (stands_before p s (line v.master ++ x ∷ []))
+  old_pair p s other is = omega (arith, told_more p s, ap (λ b. bit (b && eqb t p)) (eqb_turned x s other), same_links p s, is, ap (λ b. bit b) (joined_behind p s x (line v.master) other))
 
-  token : (p s : ℕ) → (is_in v.master.chain p ≡ true) ⊎ (eqb x p ≡ true) → (is_in v.master.chain s ≡ true) ⊎ (eqb x s ≡ true)
-      → reports_of p (v.channel parties.Master (parties.Server s) ++ told_to s ((parties.Server x, Report t) ∷ [])) + (haves_of p (v.channel (parties.Server s) parties.Master) + links (v.server p).succ s (v.channel parties.Master (parties.Server p) ++ told_to p ((parties.Server x, Report t) ∷ []))) ≡ bit (stands_before p s (v.master.chain ++ x ∷ []))
+  token : (p s : ℕ) → (is_in (line v.master) p ≡ true) ⊎ (eqb x p ≡ true) → (is_in (line v.master) s ≡ true) ⊎ (eqb x s ≡ true)
+      → reports_of p (v.channel parties.Master (parties.Server s) ++ told_to s ((parties.Server x, Report t) ∷ [])) + (haves_of p (v.channel (parties.Server s) parties.Master) + links (v.server p).succ s (v.channel parties.Master (parties.Server p) ++ told_to p ((parties.Server x, Report t) ∷ []))) ≡ bit (stands_before p s (line v.master ++ x ∷ []))
   token p s a (inr new) = omega (
     arith,
     told_more p s,
     ap (λ b. bit (b && eqb t p)) (eq-eqb s x (sym (eqb-true x s new))),
     same_links p s,
     none_with p s new,
-    ap (λ i. bit (stands_before p i (v.master.chain ++ x ∷ []))) (sym (eqb-true x s new)),
-    ap (λ b. bit b) (joined_last p x v.master.chain outside ∙ same_last p),
+    ap (λ i. bit (stands_before p i (line v.master ++ x ∷ []))) (sym (eqb-true x s new)),
+    ap (λ b. bit b) (joined_last p x (line v.master) outside ∙ same_last p),
   )
   token p s (inl a) (inl b) = old_pair p s (elim (cases_Bool (eqb x s)) [ inl e ↦ absurd (strange s b (eq-eqb s x (sym (eqb-true x s e)))) | inr other ↦ other ]) (h.token p s a b)
   token p s (inr new) (inl b) = old_pair p s (elim (cases_Bool (eqb x s)) [ inl e ↦ absurd (strange s b (eq-eqb s x (sym (eqb-true x s e)))) | inr other ↦ other ]) (none_of p s new ∙ sym (ap (λ u. bit u) not_before)) where
-    not_before : stands_before p s v.master.chain ≡ false
-    not_before = elim (cases_Bool (stands_before p s v.master.chain)) [ inl before ↦ absurd (strange p (before-in p s v.master.chain before).0 (eq-eqb p x (sym (eqb-true x p new)))) | inr none ↦ none ]
+    not_before : stands_before p s (line v.master) ≡ false
+    not_before = elim (cases_Bool (stands_before p s (line v.master))) [ inl before ↦ absurd (strange p (before-in p s (line v.master) before).0 (eq-eqb p x (sym (eqb-true x p new)))) | inr none ↦ none ]
 
 -- A join keeps all sentences.
 pub joined-whole : (v : Sight) (c : List Entry) (x a : ℕ) (rest : List ℕ) → Prefixes v → Commits v c → Whole v c → is_in v.master.used x ≡ false → v.master.chain ≡ a ∷ rest → Whole (said v (joined x v.master).master (joined x v.master).said) c

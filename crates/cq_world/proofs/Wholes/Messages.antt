@@ -19,7 +19,7 @@ use Rattle.cq_world.proofs.Commits.Steps.{addressed-append, repair_news}
 use Rattle.cq_world.proofs.Eaches.{Each, each-append, each-follows, some_none}
 use Rattle.cq_world.proofs.Wholes.Feeding.{NoData, OfSnap, Feeds, data-snap, all-data-snap, feeds-none, feeds-append, no-snap, repair-feeds, repair-other, repair-snaps}
 use Rattle.cq_world.proofs.Settled.{IsSettled, is_settled, that_some}
-use Rattle.cq_world.proofs.Sights.{Sight}
+use Rattle.cq_world.proofs.Sights.{Sight, line}
 use Rattle.cq_world.proofs.Prefixes.Steps.{below-pred}
 use Rattle.cq_world.proofs.Wholes.{reports_of, haves_of, adopts_of, news, Ends, Known, HaveIs, AdoptIs, AckWithin, links, tokens, before-self}
 use Rattle.cq_world.proofs.Wholes.Steps.{Idle, idle_known, idle_have, idle_haves, feeds_still, own_link, calm-feeding, accepts_fwd, accepts_snap}
@@ -115,8 +115,8 @@ tail_feeding v c k least rest b at own = record {
   none_of : (x : ℕ) → None ≡ Some x → ⊥
   none_of x e = some_none x (sym e)
 
-  -- no member was its successor
-  unlinked : (x : ℕ) → is_in v.master.chain x ≡ true → is_that (v.server k).succ x ≡ false
+  -- no server of the line was its successor
+  unlinked : (x : ℕ) → is_in (line v.master) x ≡ true → is_that (v.server k).succ x ≡ false
   unlinked x there = elim (cases_Bool (is_that (v.server k).succ x)) [ inl link ↦ absurd (omega (arith, b.whole.follows k x b.member there link, ap news at)) | inr none ↦ none ]
 
   idle : Each Idle (addressed parties.Master (tailed least (v.server k)).sent)
@@ -168,14 +168,14 @@ adopt_feeding v c k succ have rest b at within = record {
   behind = λ q m. omega (arith, ap (λ ms. reports_of q ms) at, ap (λ ms. haves_of q ms) news_now);
   ahead = λ x there. sym (old_links x there) ∙ sym (ap (λ t. cond t 1 (adopts_of x (v.channel parties.Master (parties.Server k)))) (unlinked x there) ∙ ap (λ ms. adopts_of x ms) at);
   keeps_succ = λ x there is. absurd (both_ways (is_that (v.server k).succ x) (unlinked x there) is);
-  not_self = not_it (λ is. before-self k v.master.chain b.prefixes.apart (subst (λ i. stands_before k i v.master.chain ≡ true) is (pair (subst (λ i. is_in v.master.chain i ≡ true) (sym is) b.member))));
-  follows = λ x there is. (subst (λ ms. Ends v.master.chain ms) at (b.whole.ends k b.member)).0 (subst (λ i. is_in v.master.chain i ≡ true) (sym (eqb-true succ x is)) there);
+  not_self = not_it (λ is. before-self k (line v.master) b.prefixes.apart (subst (λ i. stands_before k i (line v.master) ≡ true) is (pair (subst (λ i. is_in (line v.master) i ≡ true) (sym is) b.member))));
+  follows = λ x there is. (subst (λ ms. Ends (line v.master) ms) at (b.whole.ends k b.member)).0 (subst (λ i. is_in (line v.master) i ≡ true) (sym (eqb-true succ x is)) there);
   counts = λ q before. each-append (HaveIs q (length (v.server k).entries)) (v.channel (parties.Server k) parties.Master) (addressed parties.Master (adopting succ have (v.server k)).sent) (b.whole.counts q k before) (subst (λ ms. Each (HaveIs q (length (v.server k).entries)) ms) (sym news_now) (tt, tt));
   adopts = λ q before not_link. b.whole.adopts q k before not_link;
   sent_data = λ x none. subst (λ ms. Each NoData ms) (sym (row x ∙ repair-other succ x have (v.server k) (eqb_turned succ x none))) tt;
   new_link = λ x there is was. omega (arith, token_one x there is, own_adopt x is, ap (λ t. cond t 1 (adopts_of x (v.channel parties.Master (parties.Server k)))) was);
   feeds_ahead = λ x there other is_pred link. subst (λ i. Feeds (length (v.server i).entries) (v.channel (parties.Server k) (parties.Server i) ++ addressed (parties.Server i) (adopting succ have (v.server k)).sent) (length (v.server k).entries)) (eqb-true succ x link)
-      (feeds (subst (λ i. is_in v.master.chain i ≡ true) (sym (eqb-true succ x link)) there) (subst (λ i. (v.server i).pred ≡ Some k) (sym (eqb-true succ x link)) is_pred));
+      (feeds (subst (λ i. is_in (line v.master) i ≡ true) (sym (eqb-true succ x link)) there) (subst (λ i. (v.server i).pred ≡ Some k) (sym (eqb-true succ x link)) is_pred));
   feeds_behind = λ q other is_pred link. b.whole.feed q k b.member is_pred link;
   snaps_ahead = λ x there other is_pred. subst (λ ms. Each (OfSnap (length (v.server x).entries < length c)) ms) (sym (row x)) (snaps x there (eqb succ x) refl);
   snaps_behind = λ q is_pred. each-follows (OfSnap (length (v.server k).entries < length c)) (OfSnap (length (v.server k).entries < length (longer c (acting_history (adopting succ have (v.server k)).server)))) (v.channel (parties.Server q) (parties.Server k)) more (b.whole.snap q k b.member is_pred);
@@ -190,20 +190,20 @@ adopt_feeding v c k succ have rest b at within = record {
   not_it : (succ ≡ k → ⊥) → eqb succ k ≡ false
   not_it h = elim (cases_Bool (eqb succ k)) [ inl e ↦ absurd (h (eqb-true succ k e)) | inr others ↦ others ]
 
-  unlinked : (x : ℕ) → is_in v.master.chain x ≡ true → is_that (v.server k).succ x ≡ false
+  unlinked : (x : ℕ) → is_in (line v.master) x ≡ true → is_that (v.server k).succ x ≡ false
   unlinked x there = elim (cases_Bool (is_that (v.server k).succ x)) [ inl link ↦ absurd (omega (arith, b.whole.follows k x b.member there link, ap news at)) | inr none ↦ none ]
 
   -- the pair that is made
-  pair : is_in v.master.chain succ ≡ true → stands_before k succ v.master.chain ≡ true
+  pair : is_in (line v.master) succ ≡ true → stands_before k succ (line v.master) ≡ true
   pair = (subst (λ ms. Each (Pairs v.master.chain k) ms) at (b.commits.pairs k b.member)).0
 
   own_adopt : (x : ℕ) → eqb succ x ≡ true → adopts_of x (v.channel parties.Master (parties.Server k)) ≡ suc (adopts_of x rest)
   own_adopt x e = ap (λ ms. adopts_of x ms) at ∙ ap (λ t. cond t (suc (adopts_of x rest)) (adopts_of x rest)) e
 
-  token_one : (x : ℕ) → is_in v.master.chain x ≡ true → eqb succ x ≡ true → tokens v k x ≡ 1
-  token_one x there e = b.whole.token k x b.member there ∙ ap (λ t. bit t) (subst (λ i. stands_before k i v.master.chain ≡ true) (eqb-true succ x e) (pair (subst (λ i. is_in v.master.chain i ≡ true) (sym (eqb-true succ x e)) there)))
+  token_one : (x : ℕ) → is_in (line v.master) x ≡ true → eqb succ x ≡ true → tokens v k x ≡ 1
+  token_one x there e = b.whole.token k x b.member there ∙ ap (λ t. bit t) (subst (λ i. stands_before k i (line v.master) ≡ true) (eqb-true succ x e) (pair (subst (λ i. is_in (line v.master) i ≡ true) (sym (eqb-true succ x e)) there)))
 
-  old_links : (x : ℕ) → is_in v.master.chain x ≡ true → cond (eqb succ x) (suc (adopts_of x rest)) (adopts_of x rest) ≡ cond (eqb succ x) 1 (adopts_of x rest)
+  old_links : (x : ℕ) → is_in (line v.master) x ≡ true → cond (eqb succ x) (suc (adopts_of x rest)) (adopts_of x rest) ≡ cond (eqb succ x) 1 (adopts_of x rest)
   old_links x there = go (eqb succ x) refl where
     go : (t : Bool) → eqb succ x ≡ t → cond t (suc (adopts_of x rest)) (adopts_of x rest) ≡ cond t 1 (adopts_of x rest)
     go true e = omega (arith, token_one x there e, own_adopt x e, ap (λ u. cond u 1 (adopts_of x (v.channel parties.Master (parties.Server k)))) (unlinked x there))
@@ -216,13 +216,13 @@ adopt_feeding v c k succ have rest b at within = record {
   row x = addressed-append (parties.Server x) (repair succ have (v.server k)) ((parties.Master, Adopted succ (length (v.server k).entries)) ∷ []) ∙ append-nil (addressed (parties.Server x) (repair succ have (v.server k)))
 
   -- what it says of the new successor's entries is so
-  have_is : is_in v.master.chain succ ≡ true → have ≡ length (v.server succ).entries
+  have_is : is_in (line v.master) succ ≡ true → have ≡ length (v.server succ).entries
   have_is there = (subst (λ ms. Each (AdoptIs succ (length (v.server succ).entries)) ms) at (b.whole.adopts k succ (pair there) (unlinked succ there))).0 (eq-eqb succ succ refl)
 
   below : (v.server succ).pred ≡ Some k → length (v.server succ).entries ≤ length (v.server k).entries
   below is_pred = let front = below-pred v succ k b.prefixes is_pred in omega (arith, ap length front.1, length-append (v.server succ).entries front.0)
 
-  feeds : is_in v.master.chain succ ≡ true → (v.server succ).pred ≡ Some k → Feeds (length (v.server succ).entries) (v.channel (parties.Server k) (parties.Server succ) ++ addressed (parties.Server succ) (adopting succ have (v.server k)).sent) (length (v.server k).entries)
+  feeds : is_in (line v.master) succ ≡ true → (v.server succ).pred ≡ Some k → Feeds (length (v.server succ).entries) (v.channel (parties.Server k) (parties.Server succ) ++ addressed (parties.Server succ) (adopting succ have (v.server k)).sent) (length (v.server k).entries)
   feeds there is_pred = feeds-none (length (v.server succ).entries) (v.channel (parties.Server k) (parties.Server succ)) (addressed (parties.Server succ) (adopting succ have (v.server k)).sent) (length (v.server k).entries) (b.whole.data_none k succ there (unlinked succ there))
       (subst (λ ms. Feeds (length (v.server succ).entries) ms (length (v.server k).entries)) (sym (row succ)) (subst (λ n. Feeds n (addressed (parties.Server succ) (repair succ have (v.server k))) (length (v.server k).entries)) (have_is there) (repair-feeds succ have (v.server k) (omega (arith, have_is there, below is_pred)))))
 

@@ -14,14 +14,14 @@ use Rattle.cq_world.proofs.Eaches.{Each}
 use Rattle.cq_world.proofs.Wholes.Feeding.{NoData, OfSnap, Feeds}
 use Rattle.cq_world.proofs.Prefixes.Orders.{told_to, one_told, eqb_turned}
 use Rattle.cq_world.proofs.Prefixes.{Prefixes}
-use Rattle.cq_world.proofs.Sights.{Sight, said, drained}
+use Rattle.cq_world.proofs.Sights.{Sight, line, said, drained}
 use Rattle.cq_world.proofs.Wholes.{Whole, reports_of, haves_of, adopts_of, news, Ends, Known, HaveIs, AdoptIs, AckWithin, links, tokens}
 use Rattle.cq_world.proofs.Wholes.Turns.{reports-append, adopts-append}
 
 -- ---- neighbours
 
 -- the one directly behind a server is one
-pub behind-one : (p s t : ℕ) (chain : List ℕ) → Apart chain → stands_before p s chain ≡ true → stands_before p t chain ≡ true → s ≡ t
+pub behind-one : (p s t : ℕ) (line : List ℕ) → Apart line → stands_before p s line ≡ true → stands_before p t line ≡ true → s ≡ t
 behind-one p s t [] apart h k = absurd (false≢true h)
 behind-one p s t (a ∷ []) apart h k = absurd (false≢true h)
 behind-one p s t (a ∷ b ∷ rest) apart h k = elim (or_cases (eqb a p && eqb b s) (stands_before p s (b ∷ rest)) h) [
@@ -37,10 +37,10 @@ behind-one p s t (a ∷ b ∷ rest) apart h k = elim (or_cases (eqb a p && eqb b
   not_later : eqb a p ≡ true → is_in (b ∷ rest) p ≡ true → ⊥
   not_later is member = apart-out a (b ∷ rest) apart.0 (subst (λ i. is_in (b ∷ rest) i ≡ true) (sym (eqb-true a p is)) member)
 
--- who has a token with a member stands before it
-pub token-before : (v : Sight) (c : List Entry) (p s : ℕ) → Whole v c → is_in v.master.chain p ≡ true → is_in v.master.chain s ≡ true → 1 ≤ tokens v p s → stands_before p s v.master.chain ≡ true
-token-before v c p s h m there some = go (stands_before p s v.master.chain) refl where
-  go : (t : Bool) → stands_before p s v.master.chain ≡ t → t ≡ true
+-- who has a token with a server of the line stands before it
+pub token-before : (v : Sight) (c : List Entry) (p s : ℕ) → Whole v c → is_in (line v.master) p ≡ true → is_in (line v.master) s ≡ true → 1 ≤ tokens v p s → stands_before p s (line v.master) ≡ true
+token-before v c p s h m there some = go (stands_before p s (line v.master)) refl where
+  go : (t : Bool) → stands_before p s (line v.master) ≡ t → t ≡ true
   go true e = refl
   go false e = absurd (omega (arith, some, h.token p s m there, ap (λ b. bit b) e))
 
@@ -54,11 +54,11 @@ adopt-token v p s some = go (is_that (v.server p).succ s) refl where
   go true e = linked-token v p s e
   go false e = omega (arith, some, ap (λ t. cond t 1 (adopts_of s (v.channel parties.Master (parties.Server p)))) e)
 
--- where no member is named as successor, more may be told
-pub ends-more : (chain : List ℕ) (xs : List Message) (word : Message) → ((s : ℕ) → is_in chain s ≡ true → adopts_of s xs ≡ 0) → Ends chain (word ∷ []) → Ends chain (xs ++ word ∷ [])
-ends-more chain [] word none h = h
-ends-more chain (m ∷ xs) word none h = step m none (λ k. ends-more chain xs word k h) where
-  step : (x : Message) → ((s : ℕ) → is_in chain s ≡ true → adopts_of s (x ∷ xs) ≡ 0) → (((s : ℕ) → is_in chain s ≡ true → adopts_of s xs ≡ 0) → Ends chain (xs ++ word ∷ [])) → Ends chain (x ∷ (xs ++ word ∷ []))
+-- where no server of the line is named as successor, more may be told
+pub ends-more : (line : List ℕ) (xs : List Message) (word : Message) → ((s : ℕ) → is_in line s ≡ true → adopts_of s xs ≡ 0) → Ends line (word ∷ []) → Ends line (xs ++ word ∷ [])
+ends-more line [] word none h = h
+ends-more line (m ∷ xs) word none h = step m none (λ k. ends-more line xs word k h) where
+  step : (x : Message) → ((s : ℕ) → is_in line s ≡ true → adopts_of s (x ∷ xs) ≡ 0) → (((s : ℕ) → is_in line s ≡ true → adopts_of s xs ≡ 0) → Ends line (xs ++ word ∷ [])) → Ends line (x ∷ (xs ++ word ∷ []))
   step (Adopt q n) k later = (
     (λ there. absurd (omega (arith, k q there, ap (λ t. cond t (suc (adopts_of q xs)) (adopts_of q xs)) (eq-eqb q q refl)))),
     later (λ s there. fewer s (eqb q s) (k s there)),
@@ -87,7 +87,7 @@ aside v from rest p s = go (eqb p from) where
 
 -- a word that tells of no predecessor that counts
 drained_whole : (v : Sight) (c : List Entry) (from : ℕ) (word : Message) (rest : List Message) → Whole v c → v.channel (parties.Server from) parties.Master ≡ word ∷ rest
-    → ((p : ℕ) → is_in v.master.chain p ≡ true → is_in v.master.chain from ≡ true → haves_of p rest ≡ haves_of p (word ∷ rest)) → Whole (drained v (parties.Server from) parties.Master rest) c
+    → ((p : ℕ) → is_in (line v.master) p ≡ true → is_in (line v.master) from ≡ true → haves_of p rest ≡ haves_of p (word ∷ rest)) → Whole (drained v (parties.Server from) parties.Master rest) c
 drained_whole v c from word rest h at same = record {
   pred_known = h.pred_known;
   succ_known = h.succ_known;
@@ -108,13 +108,13 @@ drained_whole v c from word rest h at same = record {
   acks = λ p s. subst (λ ms. Each (AckWithin (length c)) ms) (sym (aside v from rest p s)) (h.acks p s);
   floors = h.floors;
 } where
-  same_haves : (p s : ℕ) → is_in v.master.chain p ≡ true → is_in v.master.chain s ≡ true → (t : Bool) → eqb s from ≡ t → haves_of p (cond t rest (v.channel (parties.Server s) parties.Master)) ≡ haves_of p (v.channel (parties.Server s) parties.Master)
-  same_haves p s m there true e = same p m (subst (λ i. is_in v.master.chain i ≡ true) (eqb-true s from e) there) ∙ ap (λ ms. haves_of p ms) (sym at ∙ ap (λ i. v.channel (parties.Server i) parties.Master) (sym (eqb-true s from e)))
+  same_haves : (p s : ℕ) → is_in (line v.master) p ≡ true → is_in (line v.master) s ≡ true → (t : Bool) → eqb s from ≡ t → haves_of p (cond t rest (v.channel (parties.Server s) parties.Master)) ≡ haves_of p (v.channel (parties.Server s) parties.Master)
+  same_haves p s m there true e = same p m (subst (λ i. is_in (line v.master) i ≡ true) (eqb-true s from e) there) ∙ ap (λ ms. haves_of p ms) (sym at ∙ ap (λ i. v.channel (parties.Server i) parties.Master) (sym (eqb-true s from e)))
   same_haves p s m there false e = refl
 
 -- ---- a new successor is told
 
-have_whole : (v : Sight) (c : List Entry) (from p count : ℕ) (rest : List Message) → Prefixes v → Whole v c → v.channel (parties.Server from) parties.Master ≡ Have p count ∷ rest → stands_before p from v.master.chain ≡ true
+have_whole : (v : Sight) (c : List Entry) (from p count : ℕ) (rest : List Message) → Prefixes v → Whole v c → v.channel (parties.Server from) parties.Master ≡ Have p count ∷ rest → stands_before p from (line v.master) ≡ true
     → Whole (said (drained v (parties.Server from) parties.Master rest) v.master ((parties.Server p, Adopt from count) ∷ [])) c
 have_whole v c from p count rest g h at before = record {
   pred_known = h.pred_known;
@@ -123,7 +123,7 @@ have_whole v c from p count rest g h at before = record {
   reports_known = λ j. left_one v from (Have p count) rest (Known v.master.used) j at (h.reports_known j);
   unheard = λ a id unused. subst (λ ms. Each NoData ms) (sym (aside v from rest a id)) (h.unheard a id unused);
   token = λ a s m there. token a s m there (eqb a p) (eqb s from) refl refl;
-  ends = λ a m. one_more a p word (λ ms. Ends v.master.chain ms) (v.channel parties.Master (parties.Server a)) (λ e. subst (λ i. Ends v.master.chain (v.channel parties.Master (parties.Server i) ++ word ∷ [])) (sym (eqb-true a p e)) (ends-more v.master.chain (v.channel parties.Master (parties.Server p)) word none_told ((λ there. refl), tt))) (λ e. h.ends a m);
+  ends = λ a m. one_more a p word (λ ms. Ends (line v.master) ms) (v.channel parties.Master (parties.Server a)) (λ e. subst (λ i. Ends (line v.master) (v.channel parties.Master (parties.Server i) ++ word ∷ [])) (sym (eqb-true a p e)) (ends-more (line v.master) (v.channel parties.Master (parties.Server p)) word none_told ((λ there. refl), tt))) (λ e. h.ends a m);
   follows = λ a s m there link. one_more a p word (λ ms. news ms ≡ 0) (v.channel parties.Master (parties.Server a)) (λ e. absurd (unlinked s there (subst (λ i. is_that (v.server i).succ s ≡ true) (eqb-true a p e) link))) (λ e. h.follows a s m there link);
   counts = λ a s is. left_one v from (Have p count) rest (HaveIs a (length (v.server s).entries)) s at (h.counts a s is);
   adopts = λ a s is none. each_one (AdoptIs s (length (v.server s).entries)) a p word (v.channel parties.Master (parties.Server a)) (h.adopts a s is none) (λ e same. so ∙ ap (λ i. length (v.server i).entries) (eqb-true from s same));
@@ -139,8 +139,8 @@ have_whole v c from p count rest g h at before = record {
   word : Message
   word = Adopt from count
 
-  members : (is_in v.master.chain p ≡ true) × (is_in v.master.chain from ≡ true)
-  members = before-in p from v.master.chain before
+  members : (is_in (line v.master) p ≡ true) × (is_in (line v.master) from ≡ true)
+  members = before-in p from (line v.master) before
 
   told_none : (a s : ℕ) → reports_of a (v.channel parties.Master (parties.Server s)) ≡ 0 → reports_of a (v.channel parties.Master (parties.Server s) ++ told_to s ((parties.Server p, Adopt from count) ∷ [])) ≡ 0
   told_none a s none = one_more s p (Adopt from count) (λ ms. reports_of a ms ≡ 0) (v.channel parties.Master (parties.Server s)) (λ e. omega (arith, reports-append a (v.channel parties.Master (parties.Server s)) (Adopt from count ∷ []), none)) (λ e. none)
@@ -165,16 +165,16 @@ have_whole v c from p count rest g h at before = record {
   unadopted : adopts_of from (v.channel parties.Master (parties.Server p)) ≡ 0
   unadopted = omega (arith, free_link, ap (λ u. cond u 1 (adopts_of from (v.channel parties.Master (parties.Server p)))) (no_link (is_that (v.server p).succ from) refl))
 
-  none_told : (s : ℕ) → is_in v.master.chain s ≡ true → adopts_of s (v.channel parties.Master (parties.Server p)) ≡ 0
+  none_told : (s : ℕ) → is_in (line v.master) s ≡ true → adopts_of s (v.channel parties.Master (parties.Server p)) ≡ 0
   none_told s there = go (adopts_of s (v.channel parties.Master (parties.Server p))) refl where
     go : (n : ℕ) → adopts_of s (v.channel parties.Master (parties.Server p)) ≡ n → n ≡ 0
     go zero e = refl
-    go (suc n) e = let same = behind-one p s from v.master.chain g.apart (token-before v c p s h members.0 there (adopt-token v p s (omega (arith, e)))) before in
+    go (suc n) e = let same = behind-one p s from (line v.master) g.apart (token-before v c p s h members.0 there (adopt-token v p s (omega (arith, e)))) before in
         absurd (omega (arith, e, ap (λ i. adopts_of i (v.channel parties.Master (parties.Server p))) same, unadopted))
 
-  unlinked : (s : ℕ) → is_in v.master.chain s ≡ true → is_that (v.server p).succ s ≡ true → ⊥
+  unlinked : (s : ℕ) → is_in (line v.master) s ≡ true → is_that (v.server p).succ s ≡ true → ⊥
   unlinked s there link =
-      let same = behind-one p s from v.master.chain g.apart (token-before v c p s h members.0 there (linked-token v p s link)) before in
+      let same = behind-one p s from (line v.master) g.apart (token-before v c p s h members.0 there (linked-token v p s link)) before in
       both_ways (is_that (v.server p).succ from) (no_link (is_that (v.server p).succ from) refl) (subst (λ i. is_that (v.server p).succ i ≡ true) same link)
 
   so : count ≡ length (v.server from).entries
@@ -195,7 +195,7 @@ have_whole v c from p count rest g h at before = record {
   one_adopt s false e = ap (λ b. cond b (suc (adopts_of s [])) (adopts_of s [])) e
 
   -- what is told of successors
-  more_links : (a s : ℕ) → is_in v.master.chain s ≡ true → (u t : Bool) → eqb a p ≡ u → eqb s from ≡ t → links (v.server a).succ s (v.channel parties.Master (parties.Server a) ++ told_to a ((parties.Server p, Adopt from count) ∷ [])) ≡ links (v.server a).succ s (v.channel parties.Master (parties.Server a)) + bit (u && t)
+  more_links : (a s : ℕ) → is_in (line v.master) s ≡ true → (u t : Bool) → eqb a p ≡ u → eqb s from ≡ t → links (v.server a).succ s (v.channel parties.Master (parties.Server a) ++ told_to a ((parties.Server p, Adopt from count) ∷ [])) ≡ links (v.server a).succ s (v.channel parties.Master (parties.Server a)) + bit (u && t)
   more_links a s there false t e f = omega (arith, ap (λ ms. links (v.server a).succ s ms) (ap (λ us. v.channel parties.Master (parties.Server a) ++ us) (one_told a p (Adopt from count) false e) ∙ append-nil (v.channel parties.Master (parties.Server a))))
   more_links a s there true true e f =
       let none = subst (λ i. is_that (v.server i).succ s ≡ false) (sym (eqb-true a p e)) (subst (λ i. is_that (v.server p).succ i ≡ false) (sym (eqb-true s from f)) (no_link (is_that (v.server p).succ from) refl)) in
@@ -211,16 +211,16 @@ have_whole v c from p count rest g h at before = record {
     plus_none : (n : ℕ) → n + 0 ≡ n
     plus_none n = omega arith
 
-  token : (a s : ℕ) → is_in v.master.chain a ≡ true → is_in v.master.chain s ≡ true → (u t : Bool) → eqb a p ≡ u → eqb s from ≡ t
+  token : (a s : ℕ) → is_in (line v.master) a ≡ true → is_in (line v.master) s ≡ true → (u t : Bool) → eqb a p ≡ u → eqb s from ≡ t
       → reports_of a (v.channel parties.Master (parties.Server s) ++ told_to s ((parties.Server p, Adopt from count) ∷ [])) + (haves_of a ((drained v (parties.Server from) parties.Master rest).channel (parties.Server s) parties.Master) + links (v.server a).succ s (v.channel parties.Master (parties.Server a) ++ told_to a ((parties.Server p, Adopt from count) ∷ [])))
-      ≡ bit (stands_before a s v.master.chain)
+      ≡ bit (stands_before a s (line v.master))
   token a s m there u t e f = omega (arith, same_told a s, left_haves a s t f u e, more_links a s there u t e f, h.token a s m there)
 
 -- ---- the last one is told
 
--- where another member is told, it has no member for a successor
-pub tail_whole : (v : Sight) (c : List Entry) (z count : ℕ) (m : Master) → Prefixes v → Whole v c → is_last v.master.chain z ≡ true → m.chain ≡ v.master.chain → m.used ≡ v.master.used → Whole (said v m ((parties.Server z, BeTail count) ∷ [])) c
-tail_whole v c z count m g h last chain used = record {
+-- where another one is told, it has no server of the line for a successor
+pub tail_whole : (v : Sight) (c : List Entry) (z count : ℕ) (m : Master) → Prefixes v → Whole v c → is_last (line v.master) z ≡ true → line m ≡ line v.master → m.chain ≡ v.master.chain → m.used ≡ v.master.used → Whole (said v m ((parties.Server z, BeTail count) ∷ [])) c
+tail_whole v c z count m g h last stays chain used = record {
   pred_known = λ id p is. subst (λ us. is_in us p ≡ true) (sym used) (h.pred_known id p is);
   succ_known = λ id s is. subst (λ us. is_in us s ≡ true) (sym used) (h.succ_known id s is);
   orders_known = λ j. subst (λ us. Each (Known us) (v.channel parties.Master (parties.Server j) ++ told_to j ((parties.Server z, word) ∷ []))) (sym used) (each_one (Known v.master.used) j z word (v.channel parties.Master (parties.Server j)) (h.orders_known j) (λ e. tt));
@@ -228,26 +228,29 @@ tail_whole v c z count m g h last chain used = record {
   unheard = λ p id unused. h.unheard p id (subst (λ us. is_in us id ≡ false) used unused);
   token = λ p s a b. ap (λ n. n + (haves_of p (v.channel (parties.Server s) parties.Master) + links (v.server p).succ s (v.channel parties.Master (parties.Server p) ++ told_to p ((parties.Server z, word) ∷ [])))) (same_told p s)
       ∙ ap (λ n. reports_of p (v.channel parties.Master (parties.Server s)) + (haves_of p (v.channel (parties.Server s) parties.Master) + cond (is_that (v.server p).succ s) 1 n)) (same_adopts p s)
-      ∙ h.token p s (was p a) (was s b) ∙ ap (λ us. bit (stands_before p s us)) (sym chain);
-  ends = λ p a. subst (λ us. Ends us (v.channel parties.Master (parties.Server p) ++ told_to p ((parties.Server z, word) ∷ []))) (sym chain)
-      (one_more p z word (λ ms. Ends v.master.chain ms) (v.channel parties.Master (parties.Server p)) (λ e. subst (λ i. Ends v.master.chain (v.channel parties.Master (parties.Server i) ++ word ∷ [])) (sym (eqb-true p z e)) (ends-more v.master.chain (v.channel parties.Master (parties.Server z)) word none_told tt)) (λ e. h.ends p (was p a)));
+      ∙ h.token p s (was p a) (was s b) ∙ ap (λ us. bit (stands_before p s us)) (sym stays);
+  ends = λ p a. subst (λ us. Ends us (v.channel parties.Master (parties.Server p) ++ told_to p ((parties.Server z, word) ∷ []))) (sym stays)
+      (one_more p z word (λ ms. Ends (line v.master) ms) (v.channel parties.Master (parties.Server p)) (λ e. subst (λ i. Ends (line v.master) (v.channel parties.Master (parties.Server i) ++ word ∷ [])) (sym (eqb-true p z e)) (ends-more (line v.master) (v.channel parties.Master (parties.Server z)) word none_told tt)) (λ e. h.ends p (was p a)));
   follows = λ p s a b link. one_more p z word (λ ms. news ms ≡ 0) (v.channel parties.Master (parties.Server p)) (λ e. absurd (behind s (was s b) (linked-token v z s (subst (λ i. is_that (v.server i).succ s ≡ true) (eqb-true p z e) link)))) (λ e. h.follows p s (was p a) (was s b) link);
-  counts = λ p s before. h.counts p s (subst (λ us. stands_before p s us ≡ true) chain before);
-  adopts = λ p s before none. each_one (AdoptIs s (length (v.server s).entries)) p z word (v.channel parties.Master (parties.Server p)) (h.adopts p s (subst (λ us. stands_before p s us ≡ true) chain before) none) (λ e. tt);
+  counts = λ p s before. h.counts p s (subst (λ us. stands_before p s us ≡ true) stays before);
+  adopts = λ p s before none. each_one (AdoptIs s (length (v.server s).entries)) p z word (v.channel parties.Master (parties.Server p)) (h.adopts p s (subst (λ us. stands_before p s us ≡ true) stays before) none) (λ e. tt);
   data_none = λ p s a none. h.data_none p s (was s a) none;
   linked_told = λ p s a link. same_told p s ∙ h.linked_told p s (was s a) link;
   feed = λ p s a is_pred link. h.feed p s (was s a) is_pred link;
-  snap = λ p s a is_pred. h.snap p s (was s a) is_pred;
-  young_succ = λ id a young. h.young_succ id (was id a) young;
+  snap = λ p s a is_pred. h.snap p s (was_member s a) is_pred;
+  young_succ = λ id a young. h.young_succ id (was_member id a) young;
   acked = h.acked;
   acks = h.acks;
-  floors = λ id a full. h.floors id (was id a) full;
+  floors = λ id a full. h.floors id (was_member id a) full;
 } where
   word : Message
   word = BeTail count
 
-  was : (j : ℕ) → is_in m.chain j ≡ true → is_in v.master.chain j ≡ true
-  was j a = subst (λ us. is_in us j ≡ true) chain a
+  was : (j : ℕ) → is_in (line m) j ≡ true → is_in (line v.master) j ≡ true
+  was j a = subst (λ us. is_in us j ≡ true) stays a
+
+  was_member : (j : ℕ) → is_in m.chain j ≡ true → is_in v.master.chain j ≡ true
+  was_member j a = subst (λ us. is_in us j ≡ true) chain a
 
   same_told : (p s : ℕ) → reports_of p (v.channel parties.Master (parties.Server s) ++ told_to s ((parties.Server z, BeTail count) ∷ [])) ≡ reports_of p (v.channel parties.Master (parties.Server s))
   same_told p s = one_more s z (BeTail count) (λ ms. reports_of p ms ≡ reports_of p (v.channel parties.Master (parties.Server s))) (v.channel parties.Master (parties.Server s)) (λ e. omega (arith, reports-append p (v.channel parties.Master (parties.Server s)) (BeTail count ∷ []))) (λ e. refl)
@@ -255,10 +258,10 @@ tail_whole v c z count m g h last chain used = record {
   same_adopts : (p s : ℕ) → adopts_of s (v.channel parties.Master (parties.Server p) ++ told_to p ((parties.Server z, BeTail count) ∷ [])) ≡ adopts_of s (v.channel parties.Master (parties.Server p))
   same_adopts p s = one_more p z (BeTail count) (λ ms. adopts_of s ms ≡ adopts_of s (v.channel parties.Master (parties.Server p))) (v.channel parties.Master (parties.Server p)) (λ e. omega (arith, adopts-append s (v.channel parties.Master (parties.Server p)) (BeTail count ∷ []))) (λ e. refl)
 
-  behind : (s : ℕ) → is_in v.master.chain s ≡ true → 1 ≤ tokens v z s → ⊥
-  behind s there some = before-last z s v.master.chain g.apart (token-before v c z s h (last-in v.master.chain z last) there some) last
+  behind : (s : ℕ) → is_in (line v.master) s ≡ true → 1 ≤ tokens v z s → ⊥
+  behind s there some = before-last z s (line v.master) g.apart (token-before v c z s h (last-in (line v.master) z last) there some) last
 
-  none_told : (s : ℕ) → is_in v.master.chain s ≡ true → adopts_of s (v.channel parties.Master (parties.Server z)) ≡ 0
+  none_told : (s : ℕ) → is_in (line v.master) s ≡ true → adopts_of s (v.channel parties.Master (parties.Server z)) ≡ 0
   none_told s there = go (adopts_of s (v.channel parties.Master (parties.Server z))) refl where
     go : (n : ℕ) → adopts_of s (v.channel parties.Master (parties.Server z)) ≡ n → n ≡ 0
     go zero e = refl
@@ -266,30 +269,33 @@ tail_whole v c z count m g h last chain used = record {
 
 -- ---- all that is heard
 
--- the chain is as it was where only what the master knows of the last one changes
-known_whole : (v : Sight) (c : List Entry) (m : Master) → m.chain ≡ v.master.chain → m.used ≡ v.master.used → Whole v c → Whole (record v { master = m }) c
-known_whole v c m chain used h = record {
+-- the line is as it was where only what the master knows of the last one changes
+known_whole : (v : Sight) (c : List Entry) (m : Master) → line m ≡ line v.master → m.chain ≡ v.master.chain → m.used ≡ v.master.used → Whole v c → Whole (record v { master = m }) c
+known_whole v c m stays chain used h = record {
   pred_known = λ id p is. subst (λ us. is_in us p ≡ true) (sym used) (h.pred_known id p is);
   succ_known = λ id s is. subst (λ us. is_in us s ≡ true) (sym used) (h.succ_known id s is);
   orders_known = λ j. subst (λ us. Each (Known us) (v.channel parties.Master (parties.Server j))) (sym used) (h.orders_known j);
   reports_known = λ j. subst (λ us. Each (Known us) (v.channel (parties.Server j) parties.Master)) (sym used) (h.reports_known j);
   unheard = λ p id unused. h.unheard p id (subst (λ us. is_in us id ≡ false) used unused);
-  token = λ p s a b. h.token p s (was p a) (was s b) ∙ ap (λ us. bit (stands_before p s us)) (sym chain);
-  ends = λ p a. subst (λ us. Ends us (v.channel parties.Master (parties.Server p))) (sym chain) (h.ends p (was p a));
+  token = λ p s a b. h.token p s (was p a) (was s b) ∙ ap (λ us. bit (stands_before p s us)) (sym stays);
+  ends = λ p a. subst (λ us. Ends us (v.channel parties.Master (parties.Server p))) (sym stays) (h.ends p (was p a));
   follows = λ p s a b link. h.follows p s (was p a) (was s b) link;
-  counts = λ p s before. h.counts p s (subst (λ us. stands_before p s us ≡ true) chain before);
-  adopts = λ p s before none. h.adopts p s (subst (λ us. stands_before p s us ≡ true) chain before) none;
+  counts = λ p s before. h.counts p s (subst (λ us. stands_before p s us ≡ true) stays before);
+  adopts = λ p s before none. h.adopts p s (subst (λ us. stands_before p s us ≡ true) stays before) none;
   data_none = λ p s a none. h.data_none p s (was s a) none;
   linked_told = λ p s a link. h.linked_told p s (was s a) link;
   feed = λ p s a is_pred link. h.feed p s (was s a) is_pred link;
-  snap = λ p s a is_pred. h.snap p s (was s a) is_pred;
-  young_succ = λ id a young. h.young_succ id (was id a) young;
+  snap = λ p s a is_pred. h.snap p s (was_member s a) is_pred;
+  young_succ = λ id a young. h.young_succ id (was_member id a) young;
   acked = h.acked;
   acks = h.acks;
-  floors = λ id a full. h.floors id (was id a) full;
+  floors = λ id a full. h.floors id (was_member id a) full;
 } where
-  was : (j : ℕ) → is_in m.chain j ≡ true → is_in v.master.chain j ≡ true
-  was j a = subst (λ us. is_in us j ≡ true) chain a
+  was : (j : ℕ) → is_in (line m) j ≡ true → is_in (line v.master) j ≡ true
+  was j a = subst (λ us. is_in us j ≡ true) stays a
+
+  was_member : (j : ℕ) → is_in m.chain j ≡ true → is_in v.master.chain j ≡ true
+  was_member j a = subst (λ us. is_in us j ≡ true) chain a
 
 -- Whatever the master hears, its order keeps all sentences.
 pub heard-whole : (v : Sight) (c : List Entry) (from : ℕ) (word : Message) (rest : List Message) → Prefixes v → Prefixes (drained v (parties.Server from) parties.Master rest) → Commits v c → Whole v c → v.channel (parties.Server from) parties.Master ≡ word ∷ rest
@@ -300,7 +306,7 @@ heard-whole v c from (Have p count) rest g d_prefixes k h at = go (stands_before
   d = drained v (parties.Server from) parties.Master rest
 
   -- a predecessor that isn't one any more counts for nobody
-  uncounted : stands_before p from v.master.chain ≡ false → (q : ℕ) → is_in v.master.chain q ≡ true → is_in v.master.chain from ≡ true → haves_of q rest ≡ cond (eqb p q) (suc (haves_of q rest)) (haves_of q rest)
+  uncounted : stands_before p from v.master.chain ≡ false → (q : ℕ) → is_in (line v.master) q ≡ true → is_in (line v.master) from ≡ true → haves_of q rest ≡ cond (eqb p q) (suc (haves_of q rest)) (haves_of q rest)
   uncounted e q m there = by_name (eqb p q) refl where
     by_name : (t : Bool) → eqb p q ≡ t → haves_of q rest ≡ cond t (suc (haves_of q rest)) (haves_of q rest)
     by_name false f = refl
@@ -318,7 +324,7 @@ heard-whole v c from (Adopted s count) rest g d_prefixes k h at = go (is_last v.
   quiet = drained_whole v c from (Adopted s count) rest h at (λ q m there. refl)
 
   go : (t : Bool) → (is_last v.master.chain s && not v.master.told) ≡ t → Whole (said d (cond t (record { master = record v.master { told = true }; said = (parties.Server s, BeTail count) ∷ [] }) (no_order v.master)).master (cond t (record { master = record v.master { told = true }; said = (parties.Server s, BeTail count) ∷ [] }) (no_order v.master)).said) c
-  go true e = tail_whole d c s count (record v.master { told = true }) d_prefixes quiet (and_parts (is_last v.master.chain s) (not v.master.told) e).0 refl refl
+  go true e = tail_whole d c s count (record v.master { told = true }) d_prefixes quiet (and_parts (is_last v.master.chain s) (not v.master.told) e).0 refl refl refl
   go false e = subst (λ w. Whole w c) (sym (said_nothing d v.master)) quiet
 heard-whole v c from Ready rest g d_prefixes k h at = go (is_last v.master.chain from) where
   d : Sight
@@ -328,6 +334,6 @@ heard-whole v c from Ready rest g d_prefixes k h at = go (is_last v.master.chain
   quiet = drained_whole v c from Ready rest h at (λ q m there. refl)
 
   go : (t : Bool) → Whole (said d (cond t (record { master = record v.master { ready = true }; said = [] }) (no_order v.master)).master (cond t (record { master = record v.master { ready = true }; said = [] }) (no_order v.master)).said) c
-  go true = subst (λ w. Whole w c) (sym (said_nothing d (record v.master { ready = true }))) (known_whole d c (record v.master { ready = true }) refl refl quiet)
+  go true = subst (λ w. Whole w c) (sym (said_nothing d (record v.master { ready = true }))) (known_whole d c (record v.master { ready = true }) refl refl refl quiet)
   go false = subst (λ w. Whole w c) (sym (said_nothing d v.master)) quiet
 heard-whole v c from word rest g d_prefixes k h at = subst (λ w. Whole w c) (sym (said_nothing (drained v (parties.Server from) parties.Master rest) v.master)) (drained_whole v c from word rest h at (λ q m there. refl))

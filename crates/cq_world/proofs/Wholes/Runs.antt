@@ -28,7 +28,7 @@ use Rattle.cq_world.proofs.Wholes.Feeding.{NoData, OfSnap, Feeds}
 use Rattle.cq_world.proofs.First.{commits-first, in-numbers, numbers_apart, at_first, at_first_full, first_entries, last_size}
 use Rattle.cq_world.proofs.Prefixes.{Turn}
 use Rattle.cq_world.proofs.Running.{Good, onward, list-turned, drained_keeps, sight_ordered, first_speaks, detect_parts, join_parts, chain_some}
-use Rattle.cq_world.proofs.Sights.{Sight, sight, turn, said, drained, sight-put, sight-given, sight-step, sight-taken, sight-without}
+use Rattle.cq_world.proofs.Sights.{Sight, line, sight, turn, said, drained, sight-put, sight-given, sight-step, sight-taken, sight-without}
 use Rattle.cq_world.proofs.Prefixes.Steps.{lives-member, take-turn, arrive-turn, ask-turn, crash-turn}
 use Rattle.cq_world.proofs.Unrefused.{known-parts, lives-parts, server-parts, at-head}
 use Rattle.cq_world.proofs.Wholes.{Whole, reports_of, haves_of, adopts_of, news, Ends, Known, HaveIs, AdoptIs, AckWithin, links}
@@ -155,7 +155,7 @@ aside_whole v c from to rest orders told between h = record {
   token = λ p s a b. ap (λ ms. reports_of p ms + (haves_of p ((drained v from to rest).channel (parties.Server s) parties.Master) + links (v.server p).succ s ((drained v from to rest).channel parties.Master (parties.Server p)))) (orders s)
       ∙ ap (λ ms. reports_of p (v.channel parties.Master (parties.Server s)) + (haves_of p ms + links (v.server p).succ s ((drained v from to rest).channel parties.Master (parties.Server p)))) (told s)
       ∙ ap (λ ms. reports_of p (v.channel parties.Master (parties.Server s)) + (haves_of p (v.channel (parties.Server s) parties.Master) + links (v.server p).succ s ms)) (orders p) ∙ h.token p s a b;
-  ends = λ p a. subst (λ ms. Ends v.master.chain ms) (sym (orders p)) (h.ends p a);
+  ends = λ p a. subst (λ ms. Ends (line v.master) ms) (sym (orders p)) (h.ends p a);
   follows = λ p s a b link. ap news (orders p) ∙ h.follows p s a b link;
   counts = λ p s before. subst (λ ms. Each (HaveIs p (length (v.server s).entries)) ms) (sym (told s)) (h.counts p s before);
   adopts = λ p s before none. subst (λ ms. Each (AdoptIs s (length (v.server s).entries)) ms) (sym (orders p)) (h.adopts p s before none);

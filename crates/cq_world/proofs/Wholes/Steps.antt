@@ -23,7 +23,7 @@ use Rattle.cq_world.proofs.Commits.{Commits, bit, longer-length}
 use Rattle.cq_world.proofs.Eaches.{Each, each-append, each-follows, cons_nil}
 use Rattle.cq_world.proofs.Wholes.Feeding.{NoData, OfSnap, Feeds, data-snap, all-data-snap, feeds-append, no-snap}
 use Rattle.cq_world.proofs.Prefixes.{Prefixes, master_after}
-use Rattle.cq_world.proofs.Sights.{Sight}
+use Rattle.cq_world.proofs.Sights.{Sight, line}
 use Rattle.cq_world.proofs.Prefixes.Steps.{below-pred}
 use Rattle.cq_world.proofs.Wholes.{Whole, reports_of, haves_of, adopts_of, news, Known, HaveIs, AdoptIs, AckWithin, links, tokens, before-self, last-pred, stage-past}
 use Rattle.cq_world.proofs.Wholes.Turns.{Feeding, left_between, left_each}
@@ -97,20 +97,20 @@ feeds_still n (m ∷ ms) h = step m h.0 (feeds_still n ms h.1) where
 
 -- ---- neighbours
 
--- a member isn't its own successor
-pub own_link : (v : Sight) (c : List Entry) (k : ℕ) → Prefixes v → Whole v c → is_in v.master.chain k ≡ true → is_that (v.server k).succ k ≡ false
-own_link v c k g h member = go (is_that (v.server k).succ k) (stands_before k k v.master.chain) refl refl where
-  go : (a b : Bool) → is_that (v.server k).succ k ≡ a → stands_before k k v.master.chain ≡ b → a ≡ false
+-- a server of the line isn't its own successor
+pub own_link : (v : Sight) (c : List Entry) (k : ℕ) → Prefixes v → Whole v c → is_in (line v.master) k ≡ true → is_that (v.server k).succ k ≡ false
+own_link v c k g h member = go (is_that (v.server k).succ k) (stands_before k k (line v.master)) refl refl where
+  go : (a b : Bool) → is_that (v.server k).succ k ≡ a → stands_before k k (line v.master) ≡ b → a ≡ false
   go false b e f = refl
-  go true true e f = absurd (before-self k v.master.chain g.apart f)
+  go true true e f = absurd (before-self k (line v.master) g.apart f)
   go true false e f = absurd (omega (arith, h.token k k member member, ap (λ x. bit x) f, ap (λ x. cond x 1 (adopts_of k (v.channel parties.Master (parties.Server k)))) e))
 
 -- a server that grows by what its predecessor sends: its neighbours' numbers say nothing of it
-pub linked_alone : (v : Sight) (c : List Entry) (p k : ℕ) → Prefixes v → Whole v c → is_in v.master.chain k ≡ true → (v.server k).pred ≡ Some p → is_that (v.server p).succ k ≡ true
-    → (q : ℕ) → stands_before q k v.master.chain ≡ true → (haves_of q (v.channel (parties.Server k) parties.Master) ≡ 0) × (is_that (v.server q).succ k ≡ false → adopts_of k (v.channel parties.Master (parties.Server q)) ≡ 0)
+pub linked_alone : (v : Sight) (c : List Entry) (p k : ℕ) → Prefixes v → Whole v c → is_in (line v.master) k ≡ true → (v.server k).pred ≡ Some p → is_that (v.server p).succ k ≡ true
+    → (q : ℕ) → stands_before q k (line v.master) ≡ true → (haves_of q (v.channel (parties.Server k) parties.Master) ≡ 0) × (is_that (v.server q).succ k ≡ false → adopts_of k (v.channel parties.Master (parties.Server q)) ≡ 0)
 linked_alone v c p k g h member is_pred link q before = by_reports (reports_of q (v.channel parties.Master (parties.Server k))) refl where
   one_token : tokens v q k ≡ 1
-  one_token = h.token q k (before-in q k v.master.chain before).0 member ∙ ap (λ b. bit b) before
+  one_token = h.token q k (before-in q k (line v.master) before).0 member ∙ ap (λ b. bit b) before
 
   same_some : (a b : ℕ) → Some a ≡ Some b → a ≡ b
   same_some a b e = cc
@@ -124,10 +124,10 @@ linked_alone v c p k g h member is_pred link q before = by_reports (reports_of q
       (omega (arith, one_token, ap (λ b. cond b 1 (adopts_of k (v.channel parties.Master (parties.Server q)))) linked), λ not_link. absurd (both_ways (is_that (v.server q).succ k) not_link linked))
 
 -- nobody stands before a head
-pub no_neighbour : (v : Sight) (p k : ℕ) → Prefixes v → is_in v.master.chain k ≡ true → (v.server k).head ≡ true → stands_before p k v.master.chain ≡ true → ⊥
+pub no_neighbour : (v : Sight) (p k : ℕ) → Prefixes v → is_in (line v.master) k ≡ true → (v.server k).head ≡ true → stands_before p k (line v.master) ≡ true → ⊥
 no_neighbour v p k g member is_head before = false≢true (sym (ap (λ us. is_last us p) (g.headless k member is_head)) ∙ last-pred v p k g before)
 
-pub no_pred : (v : Sight) (p k : ℕ) → Prefixes v → is_in v.master.chain k ≡ true → (v.server k).head ≡ true → (v.server k).pred ≡ Some p → ⊥
+pub no_pred : (v : Sight) (p k : ℕ) → Prefixes v → is_in (line v.master) k ≡ true → (v.server k).head ≡ true → (v.server k).pred ≡ Some p → ⊥
 no_pred v p k g member is_head is_pred = go (sym (ap (λ o. one o ++ reports (v.channel parties.Master (parties.Server k))) is_pred) ∙ g.headless k member is_head) where
   go : p ∷ reports (v.channel parties.Master (parties.Server k)) ≡ [] → ⊥
   go e = cons_nil p (reports (v.channel parties.Master (parties.Server k))) e
@@ -189,7 +189,7 @@ front_before : (xs zs before rest : List Entry) (e : Entry) → Front xs zs → 
 front_before xs zs before rest e h split long = sym (take-append_seam before (e ∷ rest)) ∙ ap (λ us. take (length before) us) (sym split ∙ h.1) ∙ ap (λ n. take n (xs ++ h.0)) long ∙ take-append_seam xs h.0
 
 -- a forwarded entry of a predecessor that is linked is the next one
-pub accepts_fwd : (v : Sight) (c : List Entry) (p k place : ℕ) (e : Entry) (rest : List Message) → Prefixes v → Whole v c → Stamped (v.server p).entries → is_in v.master.chain k ≡ true → (v.server k).pred ≡ Some p → is_that (v.server p).succ k ≡ true
+pub accepts_fwd : (v : Sight) (c : List Entry) (p k place : ℕ) (e : Entry) (rest : List Message) → Prefixes v → Whole v c → Stamped (v.server p).entries → is_in (line v.master) k ≡ true → (v.server k).pred ≡ Some p → is_that (v.server p).succ k ≡ true
     → v.channel (parties.Server p) (parties.Server k) ≡ Fwd place e ∷ rest → is_next (v.server k) p place e ≡ true
 unfolding last_moment
 accepts_fwd v c p k place e rest g h stamps member is_pred link at =

@@ -18,7 +18,7 @@ use Rattle.cq_world.proofs.Wholes.Feeding.{NoData, OfSnap, Feeds, data-snap, no-
 use Rattle.cq_world.proofs.Parties.{same-true}
 use Rattle.cq_world.proofs.Prefixes.{Prefixes, Turn, master_after, row_after, each-end}
 use Rattle.cq_world.proofs.Settled.{that_some}
-use Rattle.cq_world.proofs.Sights.{Sight, turn}
+use Rattle.cq_world.proofs.Sights.{Sight, line, turn}
 use Rattle.cq_world.proofs.Prefixes.Steps.{lives-member}
 use Rattle.cq_world.proofs.Wholes.{Whole, reports_of, haves_of, adopts_of, news, Ends, Known, HaveIs, AdoptIs, AckWithin, links, tokens, before-self}
 
@@ -32,18 +32,18 @@ pub record Feeding (v : Sight) (c : List Entry) (from : Party) (k : ℕ) (rest :
   pub succ_known : (x : ℕ) → s.succ ≡ Some x → is_in v.master.used x ≡ true
   pub reports_known : Each (Known v.master.used) (addressed parties.Master out)
   -- the making of pairs goes on
-  pub behind : (p : ℕ) → is_in v.master.chain p ≡ true → reports_of p (master_after v from k rest) + haves_of p (addressed parties.Master out) ≡ reports_of p (v.channel parties.Master (parties.Server k))
-  pub ahead : (x : ℕ) → is_in v.master.chain x ≡ true → links s.succ x (master_after v from k rest) ≡ links (v.server k).succ x (v.channel parties.Master (parties.Server k))
-  pub keeps_succ : (x : ℕ) → is_in v.master.chain x ≡ true → is_that (v.server k).succ x ≡ true → is_that s.succ x ≡ true
+  pub behind : (p : ℕ) → is_in (line v.master) p ≡ true → reports_of p (master_after v from k rest) + haves_of p (addressed parties.Master out) ≡ reports_of p (v.channel parties.Master (parties.Server k))
+  pub ahead : (x : ℕ) → is_in (line v.master) x ≡ true → links s.succ x (master_after v from k rest) ≡ links (v.server k).succ x (v.channel parties.Master (parties.Server k))
+  pub keeps_succ : (x : ℕ) → is_in (line v.master) x ≡ true → is_that (v.server k).succ x ≡ true → is_that s.succ x ≡ true
   pub not_self : is_that s.succ k ≡ false
-  pub follows : (x : ℕ) → is_in v.master.chain x ≡ true → is_that s.succ x ≡ true → news (master_after v from k rest) ≡ 0
+  pub follows : (x : ℕ) → is_in (line v.master) x ≡ true → is_that s.succ x ≡ true → news (master_after v from k rest) ≡ 0
   -- numbers
-  pub counts : (p : ℕ) → stands_before p k v.master.chain ≡ true → Each (HaveIs p (length s.entries)) (v.channel (parties.Server k) parties.Master ++ addressed parties.Master out)
-  pub adopts : (p : ℕ) → stands_before p k v.master.chain ≡ true → is_that (v.server p).succ k ≡ false → Each (AdoptIs k (length s.entries)) (v.channel parties.Master (parties.Server p))
+  pub counts : (p : ℕ) → stands_before p k (line v.master) ≡ true → Each (HaveIs p (length s.entries)) (v.channel (parties.Server k) parties.Master ++ addressed parties.Master out)
+  pub adopts : (p : ℕ) → stands_before p k (line v.master) ≡ true → is_that (v.server p).succ k ≡ false → Each (AdoptIs k (length s.entries)) (v.channel parties.Master (parties.Server p))
   -- entries
   pub sent_data : (x : ℕ) → is_that s.succ x ≡ false → Each NoData (addressed (parties.Server x) out)
-  pub new_link : (x : ℕ) → is_in v.master.chain x ≡ true → is_that s.succ x ≡ true → is_that (v.server k).succ x ≡ false → reports_of k (v.channel parties.Master (parties.Server x)) ≡ 0
-  pub feeds_ahead : (x : ℕ) → is_in v.master.chain x ≡ true → eqb x k ≡ false → (v.server x).pred ≡ Some k → is_that s.succ x ≡ true
+  pub new_link : (x : ℕ) → is_in (line v.master) x ≡ true → is_that s.succ x ≡ true → is_that (v.server k).succ x ≡ false → reports_of k (v.channel parties.Master (parties.Server x)) ≡ 0
+  pub feeds_ahead : (x : ℕ) → is_in (line v.master) x ≡ true → eqb x k ≡ false → (v.server x).pred ≡ Some k → is_that s.succ x ≡ true
       → Feeds (length (v.server x).entries) (v.channel (parties.Server k) (parties.Server x) ++ addressed (parties.Server x) out) (length s.entries)
   pub feeds_behind : (p : ℕ) → eqb p k ≡ false → s.pred ≡ Some p → is_that (v.server p).succ k ≡ true → Feeds (length s.entries) (left_between v from k rest p k) (length (v.server p).entries)
   pub snaps_ahead : (x : ℕ) → is_in v.master.chain x ≡ true → eqb x k ≡ false → (v.server x).pred ≡ Some k → Each (OfSnap (length (v.server x).entries < length c)) (addressed (parties.Server x) out)
@@ -95,10 +95,10 @@ news-append (m ∷ xs) ys = step m (news-append xs ys) where
   step x h = h
 
 -- of the end of a row
-pub ends-end : (chain : List ℕ) (xs ys : List Message) → Ends chain (xs ++ ys) → Ends chain ys
-ends-end chain [] ys h = h
-ends-end chain (m ∷ xs) ys h = ends-end chain xs ys (skip m h) where
-  skip : (x : Message) → Ends chain (x ∷ (xs ++ ys)) → Ends chain (xs ++ ys)
+pub ends-end : (line : List ℕ) (xs ys : List Message) → Ends line (xs ++ ys) → Ends line ys
+ends-end line [] ys h = h
+ends-end line (m ∷ xs) ys h = ends-end line xs ys (skip m h) where
+  skip : (x : Message) → Ends line (x ∷ (xs ++ ys)) → Ends line (xs ++ ys)
   skip (Adopt s n) g = g.1
   skip x g = g
 
@@ -133,8 +133,8 @@ whole_keep v c from k rest s out t = record {
   reports_known = λ id. by_report v from k rest s out (λ i ms. Each (Known v.master.used) ms) h.reports_known (λ g. each-append (Known v.master.used) (v.channel (parties.Server k) parties.Master) (addressed parties.Master out) g f.reports_known) id;
   unheard = λ p id unused. sent_row NoData p id (left_each v from k t.moves.front rest NoData p id t.moves.taken (h.unheard p id unused)) (f.sent_data id (unknown id unused));
   token = λ p x member there. tokens_same p x member there ∙ h.token p x member there;
-  ends = λ p. by_told v from k rest s out (λ i x ms. is_in v.master.chain i ≡ true → Ends v.master.chain ms) (λ m. ends-end v.master.chain left.0 (master_after v from k rest) (subst (λ ms. Ends v.master.chain ms) left.1 (h.ends k m))) (λ i other. h.ends i) p;
-  follows = λ p x. by_told v from k rest s out (λ i y ms. is_in v.master.chain i ≡ true → is_in v.master.chain x ≡ true → is_that y.succ x ≡ true → news ms ≡ 0) (λ m. f.follows x) (λ i other. h.follows i x) p;
+  ends = λ p. by_told v from k rest s out (λ i x ms. is_in (line v.master) i ≡ true → Ends (line v.master) ms) (λ m. ends-end (line v.master) left.0 (master_after v from k rest) (subst (λ ms. Ends (line v.master) ms) left.1 (h.ends k m))) (λ i other. h.ends i) p;
+  follows = λ p x. by_told v from k rest s out (λ i y ms. is_in (line v.master) i ≡ true → is_in (line v.master) x ≡ true → is_that y.succ x ≡ true → news ms ≡ 0) (λ m. f.follows x) (λ i other. h.follows i x) p;
   counts = λ p x before. counts p x before (eqb x k) refl;
   adopts = λ p x before. adopts p x before (eqb p k) (eqb x k) refl refl;
   data_none = λ p x there. data_none p x there (eqb p k) refl;
@@ -168,7 +168,7 @@ whole_keep v c from k rest s out t = record {
   end_of : (P : Message → Type 0) → Each P (v.channel parties.Master (parties.Server k)) → Each P (master_after v from k rest)
   end_of P g = each-end P left.0 (master_after v from k rest) (subst (λ ms. Each P ms) left.1 g)
 
-  member : is_in v.master.chain k ≡ true
+  member : is_in (line v.master) k ≡ true
   member = lives-member v k t.prefixes t.moves.known t.moves.lives
 
   -- what is on the way from a server after the turn
@@ -198,7 +198,7 @@ whole_keep v c from k rest s out t = record {
     | inr not ↦ not
   ]
 
-  tokens_same : (p x : ℕ) → is_in v.master.chain p ≡ true → is_in v.master.chain x ≡ true → tokens (turn v from k rest s out) p x ≡ tokens v p x
+  tokens_same : (p x : ℕ) → is_in (line v.master) p ≡ true → is_in (line v.master) x ≡ true → tokens (turn v from k rest s out) p x ≡ tokens v p x
   tokens_same p x m there = omega (arith, second (eqb x k) refl, first (eqb p k) refl) where
     w : Sight
     w = turn v from k rest s out
@@ -214,30 +214,30 @@ whole_keep v c from k rest s out t = record {
         omega (arith, ap (λ ms. reports_of p ms) told, ap (λ ms. haves_of p ms) said, haves-append p (v.channel (parties.Server x) parties.Master) (addressed parties.Master out), t.feeding.behind p m, ap (λ i. reports_of p (v.channel parties.Master (parties.Server i))) (eqb-true x k e))
     second false e = omega (arith, ap (λ ms. reports_of p ms) (row_after v from k rest s out x false e), ap (λ ms. haves_of p ms) (report_row v from k rest s out x ∙ if_false (eqb x k) (v.channel (parties.Server x) parties.Master ++ addressed parties.Master out) (v.channel (parties.Server x) parties.Master) e))
 
-  counts : (p x : ℕ) → stands_before p x v.master.chain ≡ true → (b : Bool) → eqb x k ≡ b → Each (HaveIs p (length (set_at v.server k s x).entries)) ((turn v from k rest s out).channel (parties.Server x) parties.Master)
+  counts : (p x : ℕ) → stands_before p x (line v.master) ≡ true → (b : Bool) → eqb x k ≡ b → Each (HaveIs p (length (set_at v.server k s x).entries)) ((turn v from k rest s out).channel (parties.Server x) parties.Master)
   counts p x before true e = subst (λ ms. Each (HaveIs p (length (set_at v.server k s x).entries)) ms) (sym (report_row v from k rest s out x ∙ if_true (eqb x k) (v.channel (parties.Server x) parties.Master ++ addressed parties.Master out) (v.channel (parties.Server x) parties.Master) e ∙ ap (λ i. v.channel (parties.Server i) parties.Master ++ addressed parties.Master out) (eqb-true x k e)))
-      (subst (λ y. Each (HaveIs p (length y.entries)) (v.channel (parties.Server k) parties.Master ++ addressed parties.Master out)) (sym (own_server x e)) (t.feeding.counts p (subst (λ i. stands_before p i v.master.chain ≡ true) (eqb-true x k e) before)))
+      (subst (λ y. Each (HaveIs p (length y.entries)) (v.channel (parties.Server k) parties.Master ++ addressed parties.Master out)) (sym (own_server x e)) (t.feeding.counts p (subst (λ i. stands_before p i (line v.master) ≡ true) (eqb-true x k e) before)))
   counts p x before false e = subst (λ ms. Each (HaveIs p (length (set_at v.server k s x).entries)) ms) (sym (report_row v from k rest s out x ∙ if_false (eqb x k) (v.channel (parties.Server x) parties.Master ++ addressed parties.Master out) (v.channel (parties.Server x) parties.Master) e))
       (subst (λ y. Each (HaveIs p (length y.entries)) (v.channel (parties.Server x) parties.Master)) (sym (other_server x e)) (t.whole.counts p x before))
 
-  -- who isn't the successor any more wasn't it before, if it is a member
-  was_not : (x : ℕ) → is_in v.master.chain x ≡ true → is_that s.succ x ≡ false → is_that (v.server k).succ x ≡ false
+  -- who isn't the successor any more wasn't it before, if it is in the line
+  was_not : (x : ℕ) → is_in (line v.master) x ≡ true → is_that s.succ x ≡ false → is_that (v.server k).succ x ≡ false
   was_not x there not_now = elim (cases_Bool (is_that (v.server k).succ x)) [ inl was ↦ absurd (both_ways (is_that s.succ x) not_now (t.feeding.keeps_succ x there was)) | inr no_link ↦ no_link ]
 
-  adopts : (p x : ℕ) → stands_before p x v.master.chain ≡ true → (a b : Bool) → eqb p k ≡ a → eqb x k ≡ b → is_that (set_at v.server k s p).succ x ≡ false → Each (AdoptIs x (length (set_at v.server k s x).entries)) ((turn v from k rest s out).channel parties.Master (parties.Server p))
-  adopts p x before true true e g no_link = absurd (before-self k v.master.chain t.prefixes.apart (subst (λ i. stands_before i k v.master.chain ≡ true) (eqb-true p k e) (subst (λ i. stands_before p i v.master.chain ≡ true) (eqb-true x k g) before)))
+  adopts : (p x : ℕ) → stands_before p x (line v.master) ≡ true → (a b : Bool) → eqb p k ≡ a → eqb x k ≡ b → is_that (set_at v.server k s p).succ x ≡ false → Each (AdoptIs x (length (set_at v.server k s x).entries)) ((turn v from k rest s out).channel parties.Master (parties.Server p))
+  adopts p x before true true e g no_link = absurd (before-self k (line v.master) t.prefixes.apart (subst (λ i. stands_before i k (line v.master) ≡ true) (eqb-true p k e) (subst (λ i. stands_before p i (line v.master) ≡ true) (eqb-true x k g) before)))
   adopts p x before true false e g no_link = subst (λ ms. Each (AdoptIs x (length (set_at v.server k s x).entries)) ms) (sym (row_after v from k rest s out p true e))
       (subst (λ y. Each (AdoptIs x (length y.entries)) (master_after v from k rest)) (sym (other_server x g))
-      (end_of (AdoptIs x (length (v.server x).entries)) (t.whole.adopts k x (subst (λ i. stands_before i x v.master.chain ≡ true) (eqb-true p k e) before)
-      (was_not x (before-in p x v.master.chain before).1 (sym (ap (λ y. is_that y.succ x) (own_server p e)) ∙ no_link)))))
+      (end_of (AdoptIs x (length (v.server x).entries)) (t.whole.adopts k x (subst (λ i. stands_before i x (line v.master) ≡ true) (eqb-true p k e) before)
+      (was_not x (before-in p x (line v.master) before).1 (sym (ap (λ y. is_that y.succ x) (own_server p e)) ∙ no_link)))))
   adopts p x before false true e g no_link = subst (λ ms. Each (AdoptIs x (length (set_at v.server k s x).entries)) ms) (sym (row_after v from k rest s out p false e))
       (subst (λ y. Each (AdoptIs x (length y.entries)) (v.channel parties.Master (parties.Server p))) (sym (own_server x g))
-      (subst (λ i. Each (AdoptIs i (length s.entries)) (v.channel parties.Master (parties.Server p))) (sym (eqb-true x k g)) (t.feeding.adopts p (subst (λ i. stands_before p i v.master.chain ≡ true) (eqb-true x k g) before)
+      (subst (λ i. Each (AdoptIs i (length s.entries)) (v.channel parties.Master (parties.Server p))) (sym (eqb-true x k g)) (t.feeding.adopts p (subst (λ i. stands_before p i (line v.master) ≡ true) (eqb-true x k g) before)
       (subst (λ i. is_that (v.server p).succ i ≡ false) (eqb-true x k g) (sym (ap (λ y. is_that y.succ x) (other_server p e)) ∙ no_link)))))
   adopts p x before false false e g no_link = subst (λ ms. Each (AdoptIs x (length (set_at v.server k s x).entries)) ms) (sym (row_after v from k rest s out p false e))
       (subst (λ y. Each (AdoptIs x (length y.entries)) (v.channel parties.Master (parties.Server p))) (sym (other_server x g)) (t.whole.adopts p x before (sym (ap (λ y. is_that y.succ x) (other_server p e)) ∙ no_link)))
 
-  data_none : (p x : ℕ) → is_in v.master.chain x ≡ true → (b : Bool) → eqb p k ≡ b → is_that (set_at v.server k s p).succ x ≡ false → Each NoData ((turn v from k rest s out).channel (parties.Server p) (parties.Server x))
+  data_none : (p x : ℕ) → is_in (line v.master) x ≡ true → (b : Bool) → eqb p k ≡ b → is_that (set_at v.server k s p).succ x ≡ false → Each NoData ((turn v from k rest s out).channel (parties.Server p) (parties.Server x))
   data_none p x there true e no_link =
       let none = sym (ap (λ y. is_that y.succ x) (own_server p e)) ∙ no_link in
       sent_row NoData p x (left_each v from k t.moves.front rest NoData p x t.moves.taken (t.whole.data_none p x there (subst (λ i. is_that (v.server i).succ x ≡ false) (sym (eqb-true p k e)) (was_not x there none)))) (t.feeding.sent_data x none)
@@ -250,7 +250,7 @@ whole_keep v c from k rest s out t = record {
     go true e = omega (arith, ap (λ ms. reports_of p ms) (row_after v from k rest s out x true e), ap (λ ms. reports_of p ms) left.1, reports-append p left.0 (master_after v from k rest), ap (λ i. reports_of p (v.channel parties.Master (parties.Server i))) (sym (eqb-true x k e)), none)
     go false e = ap (λ ms. reports_of p ms) (row_after v from k rest s out x false e) ∙ none
 
-  linked_told : (p x : ℕ) → is_in v.master.chain x ≡ true → (b : Bool) → eqb p k ≡ b → is_that (set_at v.server k s p).succ x ≡ true → reports_of p ((turn v from k rest s out).channel parties.Master (parties.Server x)) ≡ 0
+  linked_told : (p x : ℕ) → is_in (line v.master) x ≡ true → (b : Bool) → eqb p k ≡ b → is_that (set_at v.server k s p).succ x ≡ true → reports_of p ((turn v from k rest s out).channel parties.Master (parties.Server x)) ≡ 0
   linked_told p x there true e link =
       let own = sym (ap (λ y. is_that y.succ x) (own_server p e)) ∙ link in
       fewer p x (subst (λ i. reports_of i (v.channel parties.Master (parties.Server x)) ≡ 0) (sym (eqb-true p k e)) (elim (cases_Bool (is_that (v.server k).succ x)) [
@@ -259,7 +259,7 @@ whole_keep v c from k rest s out t = record {
       ]))
   linked_told p x there false e link = fewer p x (t.whole.linked_told p x there (sym (ap (λ y. is_that y.succ x) (other_server p e)) ∙ link))
 
-  feed : (p x : ℕ) → is_in v.master.chain x ≡ true → (a b : Bool) → eqb p k ≡ a → eqb x k ≡ b → (set_at v.server k s x).pred ≡ Some p → is_that (set_at v.server k s p).succ x ≡ true
+  feed : (p x : ℕ) → is_in (line v.master) x ≡ true → (a b : Bool) → eqb p k ≡ a → eqb x k ≡ b → (set_at v.server k s x).pred ≡ Some p → is_that (set_at v.server k s p).succ x ≡ true
       → Feeds (length (set_at v.server k s x).entries) ((turn v from k rest s out).channel (parties.Server p) (parties.Server x)) (length (set_at v.server k s p).entries)
   feed p x there true true e g is_pred link = absurd (both_ways (is_that s.succ k) t.feeding.not_self (subst (λ i. is_that s.succ i ≡ true) (eqb-true x k g) (sym (ap (λ y. is_that y.succ x) (own_server p e)) ∙ link)))
   feed p x there true false e g is_pred link = subst (λ ms. Feeds (length (set_at v.server k s x).entries) ms (length (set_at v.server k s p).entries)) (sym (own_row p x e ∙ ap (λ us. us ++ addressed (parties.Server x) out) (left_other v from k rest p x g ∙ ap (λ i. v.channel (parties.Server i) (parties.Server x)) (eqb-true p k e))))
