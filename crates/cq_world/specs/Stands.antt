@@ -1,17 +1,20 @@
--- What has to be kept of the world.
-use Rattle.std.specs.Prelude.{◌≡◌, ◌≤◌, ◌<◌, ◌⊎◌, ℕ, List, [], Bool, true, false, Option, None, Some}
+-- What has to be kept of the world, and what it means that a call is an event.
+use Rattle.std.specs.Prelude.{◌≡◌, ◌≤◌, ◌<◌, ◌⊎◌, ℕ, List, [], Bool, true, false, Option, None, Some, Result, IfOk, IfErr}
 use Rattle.std.specs.Vec.{vec_len, vec_capacity}
 use Rattle.cq_base.specs.declared.party.Party.{Party}
 use Rattle.cq_base.specs.declared.party.Party.TheVariants as parties
 use Rattle.cq_chain.specs.declared.fault.WorldFault.{WorldFault}
 use Rattle.cq_chain.specs.declared.message.Answer.{Answer}
 use Rattle.cq_chain.specs.declared.server.Server as rust_server
+use Rattle.cq_chain.specs.Faults.{IsRefusal}
 use Rattle.cq_chain.specs.Messages.{Message}
 use Rattle.cq_chain.specs.Servers.{Server, joining}
 use Rattle.cq_chain.specs.Stands as chain
 use Rattle.cq_chain.specs.Stands.{AllMean}
+use Rattle.cq_world.specs.Events.{refusal_of, next, given_by}
 use Rattle.cq_world.specs.within.Kept.{server_at, messages_at}
 use Rattle.cq_world.specs.Worlds.{World, is_in}
+use Rattle.cq_world.specs.declared.event.Event.{Event}
 use Rattle.cq_world.specs.declared.ran.Ran.{Ran}
 use Rattle.cq_world.specs.declared.sim.Sim.{Sim}
 
@@ -31,6 +34,24 @@ pub record Holds (sim : Sim) (w : World) : Type 0 where
 -- the same, as a word for those who call
 unfoldable pub StandsFor : Sim → World → Type 0
 StandsFor sim w = Holds sim w
+
+-- That holds of whatever world the sim stands for.
+abbrev pub Shows : Sim → (World → Type 0) → Type 0
+Shows sim P = (w : World) → StandsFor sim w → P w
+
+-- Whatever world it stood for, it now stands for the one after that.
+abbrev pub Happens : Sim → Sim → (World → World) → Type 0
+Happens old new step = (w : World) → StandsFor old w → StandsFor new (step w)
+
+-- Where the call succeeds, nothing refused the event, the answer is what it gives, and the sim stands for the next world.
+abbrev pub Gives : Sim → Sim → Event → Result (Option Answer) WorldFault → Type 0
+Gives old new event result = (w : World) → StandsFor old w
+    → IfOk result (λ given. (refusal_of w event ≡ None) × (given ≡ given_by w event) × StandsFor new (next w event))
+
+-- Where the call fails, the fault is the first refusal of the event, and the sim stands for the world as it was.
+abbrev pub IsRefused : {A : Type 0} → Sim → Sim → Event → Result A WorldFault → Type 0
+IsRefused old new event result = (w : World) → StandsFor old w
+    → IfErr result (λ fault. IsRefusal fault (refusal_of w event) × StandsFor new w)
 
 -- what is found under a number stands for the server of that number, and nothing is found if there is none
 abbrev pub IsFound : World → ℕ → Option rust_server.Server → Type 0

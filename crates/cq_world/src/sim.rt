@@ -1,16 +1,15 @@
 //! The world in memory: its parts, single events, and runs.
-ghost use Rattle.std.specs.Prelude.{◌≡◌, ◌&&◌, ◌≤◌, ◌<◌, ◌+◌, ◌^◌, ◌++◌, ℕ, List, true, false, length, take, slice_get, option_map, Err, Some, IsSome, IfOk, IfErr, IfNone, OnOk, OnErr};
+ghost use Rattle.std.specs.Prelude.{◌≡◌, ◌&&◌, ◌≤◌, ◌<◌, ◌+◌, ◌^◌, ◌++◌, ℕ, List, true, false, length, take, slice_get, option_map, Err, Some, IsSome, IfOk, IfNone, OnOk, OnErr};
 ghost use Rattle.cq_base.specs.declared.party.Party.TheVariants as parties;
 ghost use Rattle.cq_base.specs.Relations.{Among};
-ghost use Rattle.cq_chain.specs.Faults.{IsRefusal};
 ghost use Rattle.cq_chain.specs.Stands.{IsMaster};
 ghost use Rattle.cq_chain.specs.declared.fault.WorldFault.TheVariants as faults;
 ghost use Rattle.cq_chain.specs.declared.message.Answer.{Answer};
-ghost use Rattle.cq_world.specs.Events.{knows, is_down, refusal_of, next, after, given_by};
+ghost use Rattle.cq_world.specs.Events.{knows, is_down, refusal_of, after};
 ghost use Rattle.cq_world.specs.Laws.{Headline, IsOfTheObject};
 ghost use Rattle.cq_world.specs.Runs.{world_after, given_from, refused_from, given_if, numbered};
-ghost use Rattle.cq_world.specs.Stands.{StandsFor, IsFound, HasRoomFor, WantsMemory};
-ghost use Rattle.cq_world.specs.Worlds.{World, first_world};
+ghost use Rattle.cq_world.specs.Stands.{StandsFor, Shows, Happens, Gives, IsRefused, IsFound, HasRoomFor, WantsMemory};
+ghost use Rattle.cq_world.specs.Worlds.{first_world};
 ghost use Rattle.cq_world.specs.declared.event.Event.{Event};
 ghost use Rattle.cq_world.specs.declared.event.Event.TheVariants.{Crash};
 
@@ -61,22 +60,21 @@ impl Sim {
 
     /// The server of that number: O(1).
     pub fn server(&self, id: ServerId) -> Option<&Server>
-        ensures { (w : World) → StandsFor self.now w → IsFound w id (option_map (λ s. s.now) result) }
+        ensures { Shows self.now (λ w. IsFound w id (option_map (λ s. s.now) result)) }
     {
         self.servers.get(&id)
     }
 
     /// The master: O(1).
     pub fn master(&self) -> &Master
-        ensures { (w : World) → StandsFor self.now w → IsMaster result.now w.master (w.outbox parties.Master) }
+        ensures { Shows self.now (λ w. IsMaster result.now w.master (w.outbox parties.Master)) }
     {
         &self.master
     }
 
     /// How many messages from one party wait for the other, and how many stand in the link between them: O(1).
     pub fn waiting(&self, from: Party, to: Party) -> (u64, u64)
-        ensures { (w : World) → StandsFor self.now w
-            → (result.0 ≡ length (w.outbox from to)) × (result.1 ≡ length (w.link from to)) }
+        ensures { Shows self.now (λ w. (result.0 ≡ length (w.outbox from to)) × (result.1 ≡ length (w.link from to))) }
     {
         let pair = Pair { from, to };
         (self.outbox_count(&pair), self.links.waiting(&pair))
@@ -84,7 +82,7 @@ impl Sim {
 
     /// How many messages of a server wait for the party.
     fn server_count(&self, at: ServerId, to: Party) -> u64
-        ensures { (w : World) → StandsFor self.now w → result ≡ length (w.outbox (parties.Server at) to) }
+        ensures { Shows self.now (λ w. result ≡ length (w.outbox (parties.Server at) to)) }
     {
         match self.servers.get(&at) {
             Some(server) => server.waiting(to),
@@ -94,7 +92,7 @@ impl Sim {
 
     /// How many messages of the master wait for the party.
     fn master_count(&self, to: Party) -> u64
-        ensures { (w : World) → StandsFor self.now w → result ≡ length (w.outbox parties.Master to) }
+        ensures { Shows self.now (λ w. result ≡ length (w.outbox parties.Master to)) }
     {
         match to {
             Party::Server(id) => self.master.waiting(id),
@@ -104,7 +102,7 @@ impl Sim {
 
     /// How many messages from one party wait for the other.
     fn outbox_count(&self, pair: &Pair) -> u64
-        ensures { (w : World) → StandsFor self.now w → result ≡ length (w.outbox pair.now.from pair.now.to) }
+        ensures { Shows self.now (λ w. result ≡ length (w.outbox pair.now.from pair.now.to)) }
     {
         match pair.from {
             Party::Server(at) => self.server_count(at, pair.to),
@@ -115,7 +113,7 @@ impl Sim {
 
     /// The party is the master, the clients, or a server that there is.
     fn knows(&self, party: &Party) -> bool
-        ensures { (w : World) → StandsFor self.now w → result ≡ knows w party.now }
+        ensures { Shows self.now (λ w. result ≡ knows w party.now) }
     {
         match party {
             Party::Server(id) => self.servers.contains_key(id),
@@ -125,15 +123,14 @@ impl Sim {
 
     /// Both ends of a link are known.
     fn knows_both(&self, pair: &Pair) -> bool
-        ensures { (w : World) → StandsFor self.now w
-            → result ≡ (knows w pair.now.from && knows w pair.now.to) }
+        ensures { Shows self.now (λ w. result ≡ (knows w pair.now.from && knows w pair.now.to)) }
     {
         self.knows(&pair.from) && self.knows(&pair.to)
     }
 
     /// The party is a server that has crashed.
     fn is_down(&self, party: &Party) -> bool
-        ensures { (w : World) → StandsFor self.now w → knows w party.now ≡ true → result ≡ is_down w party.now }
+        ensures { Shows self.now (λ w. knows w party.now ≡ true → result ≡ is_down w party.now) }
     {
         match party {
             Party::Server(id) => match self.servers.get(id) {
@@ -150,10 +147,8 @@ impl Sim {
     /// NoMemory (20) only where nothing else refuses. O(1), and what the server or the master takes for it; a crash
     /// takes O(servers).
     pub fn step(&mut self, event: &Event) -> Result<Option<Answer>, WorldFault>
-        ensures ok { (w : World) → StandsFor self.old w → IfOk result (λ given. (refusal_of w event.now ≡ None)
-            × (given ≡ given_by w event.now) × StandsFor self.new (next w event.now)) }
-        ensures err { (w : World) → StandsFor self.old w → IfErr result (λ fault.
-            IsRefusal fault (refusal_of w event.now) × StandsFor self.new w) }
+        ensures ok { Gives self.old self.new event.now result }
+        ensures err { IsRefused self.old self.new event.now result }
         ensures crash { (id : ℕ) → event.now ≡ Crash id → ¬ (result ≡ Err faults.NoMemory) }
     {
         match event {
@@ -193,9 +188,9 @@ impl Sim {
 
     /// Whether the event gives what waits for the clients, which isn't refused: O(1).
     fn gives(&self, next: &Event) -> bool
-        ensures allowed { (w : World) → StandsFor self.now w → result ≡ true → refusal_of w next.now ≡ None }
-        ensures silent { (w : World) → StandsFor self.now w → result ≡ false
-            → given_if w next.now (refusal_of w next.now) ≡ None }
+        ensures allowed { Shows self.now (λ w. result ≡ true → refusal_of w next.now ≡ None) }
+        ensures silent { Shows self.now (λ w. result ≡ false
+            → given_if w next.now (refusal_of w next.now) ≡ None) }
     {
         match next {
             Event::Put { from, to } => match to {
@@ -215,9 +210,9 @@ impl Sim {
         ensures given { ran.new.given.items ≡ ran.old.given.items }
         ensures refused { ran.new.refused ≡ ran.old.refused }
         ensures stop { ran.new.stop ≡ ran.old.stop }
-        ensures room { (w : World) → StandsFor self.now w → OnOk result
-            (HasRoomFor (given_if w event.now (refusal_of w event.now)) ran.new) }
-        ensures err { (w : World) → StandsFor self.now w → OnErr result (refusal_of w event.now ≡ None) }
+        ensures room { Shows self.now (λ w. OnOk result
+            (HasRoomFor (given_if w event.now (refusal_of w event.now)) ran.new)) }
+        ensures err { Shows self.now (λ w. OnErr result (refusal_of w event.now ≡ None)) }
     {
         if self.gives(event) {
             ran.reserve()
@@ -230,18 +225,18 @@ impl Sim {
     /// is told also where there is no room for an answer.
     fn run_event(&mut self, ran: &mut Ran, event: &Event) -> Result<(), NoMemory>
         requires { ran.old.done < 2 ^ 63 }
-        ensures ok { (w : World) → StandsFor self.old w → OnOk result (StandsFor self.new (after w event.now)) }
+        ensures ok { Shows self.old (λ w. OnOk result (StandsFor self.new (after w event.now))) }
         ensures done { OnOk result (ran.new.done ≡ ran.old.done + 1) }
         ensures stop { ran.new.stop ≡ ran.old.stop }
-        ensures given { (w : World) → StandsFor self.old w → OnOk result (ran.new.given.items
-            ≡ ran.old.given.items ++ numbered (ran.old.done + 1) (given_if w event.now (refusal_of w event.now))) }
-        ensures refused { (w : World) → StandsFor self.old w → OnOk result (ran.new.refused.items
-            ≡ ran.old.refused.items ++ numbered (ran.old.done + 1) (refusal_of w event.now)) }
-        ensures err { (w : World) → StandsFor self.old w → OnErr result (StandsFor self.new w) }
+        ensures given { Shows self.old (λ w. OnOk result (ran.new.given.items
+            ≡ ran.old.given.items ++ numbered (ran.old.done + 1) (given_if w event.now (refusal_of w event.now)))) }
+        ensures refused { Shows self.old (λ w. OnOk result (ran.new.refused.items
+            ≡ ran.old.refused.items ++ numbered (ran.old.done + 1) (refusal_of w event.now))) }
+        ensures err { Shows self.old (λ w. OnErr result (StandsFor self.new w)) }
         ensures same_done { OnErr result (ran.new.done ≡ ran.old.done) }
         ensures same_given { OnErr result (ran.new.given.items ≡ ran.old.given.items) }
         ensures same_refused { OnErr result (ran.new.refused.items ≡ ran.old.refused.items) }
-        ensures wants { (w : World) → StandsFor self.old w → OnErr result (WantsMemory (refusal_of w event.now) ran.new) }
+        ensures wants { Shows self.old (λ w. OnErr result (WantsMemory (refusal_of w event.now) ran.new)) }
     {
         self.make_room(ran, event)?;
         match self.step(event) {
@@ -260,14 +255,14 @@ impl Sim {
     /// From the first world on, with any events before these, the headline holds: every answer is one queue object's
     /// over one growing list of requests.
     pub fn run(&mut self, events: &[Event]) -> Ran
-        ensures world { (w : World) → StandsFor self.old w → StandsFor self.new (world_after w (take result.done events.now)) }
-        ensures given { (w : World) → StandsFor self.old w → result.given.items ≡ given_from 1 w (take result.done events.now) }
-        ensures refused { (w : World) → StandsFor self.old w → result.refused.items ≡ refused_from 1 w (take result.done events.now) }
+        ensures world { Happens self.old self.new (λ w. world_after w (take result.done events.now)) }
+        ensures given { Shows self.old (λ w. result.given.items ≡ given_from 1 w (take result.done events.now)) }
+        ensures refused { Shows self.old (λ w. result.refused.items ≡ refused_from 1 w (take result.done events.now)) }
         ensures within { result.done ≤ length events.now }
         ensures whole { IfNone result.stop (result.done ≡ length events.now) }
         ensures early { IsSome result.stop → result.done < length events.now }
-        ensures stop { (w : World) → StandsFor self.old w → IsSome result.stop → (event : Event) → slice_get events.now result.done ≡ Some event
-            → WantsMemory (refusal_of (world_after w (take result.done events.now)) event) result }
+        ensures stop { Shows self.old (λ w. IsSome result.stop → (event : Event) → slice_get events.now result.done ≡ Some event
+            → WantsMemory (refusal_of (world_after w (take result.done events.now)) event) result) }
         ensures headline { (size : ℕ) (before : List Event) → 1 ≤ size → StandsFor self.old (world_after (first_world size) before)
             → Headline size (before ++ take result.done events.now) }
         ensures answers { (size : ℕ) (before : List Event) → 1 ≤ size → StandsFor self.old (world_after (first_world size) before)

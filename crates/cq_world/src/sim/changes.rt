@@ -1,15 +1,15 @@
 //! Crashes, detections and joins.
-ghost use Rattle.std.specs.Prelude.{◌≡◌, ◌&&◌, ◌<◌, [], not, None, Err, IfOk, IfErr, OnOk, OnErr};
+ghost use Rattle.std.specs.Prelude.{◌≡◌, ◌&&◌, ◌<◌, [], not, Err, IfOk, OnOk};
 ghost use Rattle.indexmap.specs.IndexMap.{spare};
-ghost use Rattle.cq_chain.specs.Faults.{IsRefusal};
 ghost use Rattle.cq_chain.specs.Masters.{refusal_of_join};
 ghost use Rattle.cq_chain.specs.Servers.{joining};
 ghost use Rattle.cq_chain.specs.Stands as chain;
 ghost use Rattle.cq_chain.specs.Stands.{IsRefusedBy};
 ghost use Rattle.cq_chain.specs.declared.fault.WorldFault.TheVariants as faults;
-ghost use Rattle.cq_world.specs.Events.{refusal_of, another_full, next};
-ghost use Rattle.cq_world.specs.Stands.{StandsFor};
-ghost use Rattle.cq_world.specs.Worlds.{World, is_in};
+ghost use Rattle.cq_world.specs.Events.{another_full};
+ghost use Rattle.cq_world.specs.Stands.{StandsFor, Shows, IsRefused};
+ghost use Rattle.cq_world.specs.within.Calls.{IsDone};
+ghost use Rattle.cq_world.specs.Worlds.{is_in};
 ghost use Rattle.cq_world.specs.declared.event.Event.TheVariants as events;
 
 use super::Sim;
@@ -19,8 +19,7 @@ use cq_chain::{Server, WorldFault};
 impl Sim {
     /// The server is there, is full, and lives: O(1).
     fn serves(&self, id: &ServerId) -> bool
-        ensures { (w : World) → StandsFor self.now w
-            → result ≡ (is_in w.master.used id.now && (w.server id.now).full && not (w.server id.now).down) }
+        ensures { Shows self.now (λ w. result ≡ (is_in w.master.used id.now && (w.server id.now).full && not (w.server id.now).down)) }
     {
         match self.servers.get(id) {
             Some(server) => server.is_full() && !server.is_down(),
@@ -30,7 +29,7 @@ impl Sim {
 
     /// Another server than that one is full and lives: O(servers).
     fn has_another_full(&self, id: ServerId) -> bool
-        ensures { (w : World) → StandsFor self.now w → result ≡ another_full w id }
+        ensures { Shows self.now (λ w. result ≡ another_full w id) }
     {
         for other in self.servers.keys().as_slice() {
             if *other != id && self.serves(other) {
@@ -43,10 +42,8 @@ impl Sim {
     /// A server crashes, unless it is the last one that is full and lives (a choice of this project). It takes no
     /// memory: O(servers).
     pub(super) fn crash(&mut self, id: ServerId) -> Result<(), WorldFault>
-        ensures ok { (w : World) → StandsFor self.old w → OnOk result ((refusal_of w (events.Crash id) ≡ None)
-            × StandsFor self.new (next w (events.Crash id))) }
-        ensures err { (w : World) → StandsFor self.old w → IfErr result (λ fault.
-            IsRefusal fault (refusal_of w (events.Crash id)) × StandsFor self.new w) }
+        ensures ok { IsDone self.old self.new (events.Crash id) result }
+        ensures err { IsRefused self.old self.new (events.Crash id) result }
         ensures memory { ¬ (result ≡ Err faults.NoMemory) }
     {
         let is_last = !self.has_another_full(id);
@@ -67,10 +64,8 @@ impl Sim {
 
     /// The master learns that a server has crashed.
     pub(super) fn detect(&mut self, id: ServerId) -> Result<(), WorldFault>
-        ensures ok { (w : World) → StandsFor self.old w → OnOk result ((refusal_of w (events.Detect id) ≡ None)
-            × StandsFor self.new (next w (events.Detect id))) }
-        ensures err { (w : World) → StandsFor self.old w → IfErr result (λ fault.
-            IsRefusal fault (refusal_of w (events.Detect id)) × StandsFor self.new w) }
+        ensures ok { IsDone self.old self.new (events.Detect id) result }
+        ensures err { IsRefused self.old self.new (events.Detect id) result }
     {
         match self.servers.get(&id) {
             Some(server) => {
@@ -85,7 +80,7 @@ impl Sim {
 
     /// Why a join is refused, if it is: O(1).
     fn check_join(&self, id: ServerId) -> Result<(), WorldFault>
-        ensures { (w : World) → StandsFor self.now w → IsRefusedBy (refusal_of_join id w.master) result }
+        ensures { Shows self.now (λ w. IsRefusedBy (refusal_of_join id w.master) result) }
     {
         if self.servers.contains_key(&id) {
             return Err(WorldFault::IdUsed);
@@ -101,7 +96,7 @@ impl Sim {
 
     /// A server that joins under that number, with room for it in the map.
     fn make_joining(&mut self, id: ServerId) -> Result<Server, NoMemory>
-        ensures same { (w : World) → StandsFor self.old w → StandsFor self.new w }
+        ensures same { Shows self.old (λ w. StandsFor self.new w) }
         ensures server { IfOk result (λ server. chain.StandsFor server joining (λ _. [])) }
         ensures room { OnOk result (0 < spare self.new.servers) }
     {
@@ -111,10 +106,8 @@ impl Sim {
 
     /// A new server joins. It and its place are made before the master learns of it.
     pub(super) fn join(&mut self, id: ServerId) -> Result<(), WorldFault>
-        ensures ok { (w : World) → StandsFor self.old w → OnOk result ((refusal_of w (events.Join id) ≡ None)
-            × StandsFor self.new (next w (events.Join id))) }
-        ensures err { (w : World) → StandsFor self.old w → IfErr result (λ fault.
-            IsRefusal fault (refusal_of w (events.Join id)) × StandsFor self.new w) }
+        ensures ok { IsDone self.old self.new (events.Join id) result }
+        ensures err { IsRefused self.old self.new (events.Join id) result }
     {
         self.check_join(id)?;
         let server = self.make_joining(id)?;

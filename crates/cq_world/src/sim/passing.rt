@@ -1,14 +1,15 @@
 //! Messages on their way: put on links, given to clients, and taken.
-ghost use Rattle.std.specs.Prelude.{◌≡◌, ◌≢◌, [], ◌∷◌, is_none, None, true, IfOk, IfErr, OnOk};
+ghost use Rattle.std.specs.Prelude.{◌≡◌, ◌≢◌, [], ◌∷◌, is_none, true, IfErr, OnOk};
 ghost use Rattle.cq_base.specs.declared.party.Party.TheVariants as parties;
 ghost use Rattle.cq_chain.specs.Faults.{IsRefusal};
 ghost use Rattle.cq_chain.specs.Messages as told;
 ghost use Rattle.cq_chain.specs.declared.fault.WorldFault.TheVariants as faults;
 ghost use Rattle.cq_chain.specs.Stands.{IsFirst, Means};
-ghost use Rattle.cq_world.specs.Events.{refusal_of, refusal_of_put, refusal_of_take, next, without_first, answers_in, head_of, given_by};
+ghost use Rattle.cq_world.specs.Events.{refusal_of, refusal_of_take, without_first, answers_in, head_of};
 ghost use Rattle.cq_world.specs.within.Kept.{IsFilled, after_drawing};
-ghost use Rattle.cq_world.specs.Stands.{StandsFor};
-ghost use Rattle.cq_world.specs.Worlds.{World, is_in};
+ghost use Rattle.cq_world.specs.Stands.{StandsFor, Shows, Happens, Gives, IsRefused};
+ghost use Rattle.cq_world.specs.within.Calls.{IsDone, IsPut, IsPutRefused, IsTaken, IsTakeRefused};
+ghost use Rattle.cq_world.specs.Worlds.{is_in};
 ghost use Rattle.cq_world.specs.declared.event.Event.TheVariants as events;
 
 use super::Sim;
@@ -29,8 +30,8 @@ fn answer_in(message: Message) -> Option<Answer>
 impl Sim {
     /// The first message that waits at a server for a party leaves its outbox.
     fn draw_at(&mut self, id: ServerId, to: Party) -> Option<Message>
-        ensures first { (w : World) → StandsFor self.old w → IsFirst result (w.outbox (parties.Server id) to) }
-        ensures drawn { (w : World) → StandsFor self.old w → StandsFor self.new (after_drawing w (parties.Server id) to) }
+        ensures first { Shows self.old (λ w. IsFirst result (w.outbox (parties.Server id) to)) }
+        ensures drawn { Happens self.old self.new (λ w. after_drawing w (parties.Server id) to) }
         ensures links { self.new.links ≡ self.old.links }
     {
         match self.servers.get_mut(&id) {
@@ -41,8 +42,8 @@ impl Sim {
 
     /// The first message that waits at the master for a party leaves its outbox.
     fn draw_of_master(&mut self, to: Party) -> Option<Message>
-        ensures first { (w : World) → StandsFor self.old w → IsFirst result (w.outbox parties.Master to) }
-        ensures drawn { (w : World) → StandsFor self.old w → StandsFor self.new (after_drawing w parties.Master to) }
+        ensures first { Shows self.old (λ w. IsFirst result (w.outbox parties.Master to)) }
+        ensures drawn { Happens self.old self.new (λ w. after_drawing w parties.Master to) }
         ensures links { self.new.links ≡ self.old.links }
     {
         match to {
@@ -53,8 +54,8 @@ impl Sim {
 
     /// The first message that waits at one party for another leaves its outbox.
     fn draw(&mut self, pair: &Pair) -> Option<Message>
-        ensures first { (w : World) → StandsFor self.old w → IsFirst result (w.outbox pair.now.from pair.now.to) }
-        ensures drawn { (w : World) → StandsFor self.old w → StandsFor self.new (after_drawing w pair.now.from pair.now.to) }
+        ensures first { Shows self.old (λ w. IsFirst result (w.outbox pair.now.from pair.now.to)) }
+        ensures drawn { Happens self.old self.new (λ w. after_drawing w pair.now.from pair.now.to) }
         ensures links { self.new.links ≡ self.old.links }
     {
         match pair.from {
@@ -67,12 +68,8 @@ impl Sim {
     /// The first message that waits for the clients is given to them.
     fn give(&mut self, pair: &Pair) -> Result<Option<Answer>, WorldFault>
         requires { pair.now.to ≡ parties.Clients }
-        ensures ok { (w : World) → StandsFor self.old w → IfOk result (λ given.
-            (refusal_of_put (w.outbox pair.now.from pair.now.to) ≡ None)
-            × (given ≡ given_by w (events.Put pair.now.from pair.now.to))
-            × StandsFor self.new (next w (events.Put pair.now.from pair.now.to))) }
-        ensures err { (w : World) → StandsFor self.old w → IfErr result (λ fault.
-            IsRefusal fault (refusal_of_put (w.outbox pair.now.from pair.now.to)) × StandsFor self.new w) }
+        ensures ok { IsPut self.old self.new pair.now result }
+        ensures err { IsPutRefused self.old self.new pair.now result }
     {
         match self.draw(pair) {
             Some(message) => Ok(answer_in(message)),
@@ -83,12 +80,8 @@ impl Sim {
     /// The first message that waits is put on its link. Its room is made before it leaves the outbox.
     fn post(&mut self, pair: &Pair) -> Result<Option<Answer>, WorldFault>
         requires { pair.now.to ≢ parties.Clients }
-        ensures ok { (w : World) → StandsFor self.old w → IfOk result (λ given.
-            (refusal_of_put (w.outbox pair.now.from pair.now.to) ≡ None)
-            × (given ≡ given_by w (events.Put pair.now.from pair.now.to))
-            × StandsFor self.new (next w (events.Put pair.now.from pair.now.to))) }
-        ensures err { (w : World) → StandsFor self.old w → IfErr result (λ fault.
-            IsRefusal fault (refusal_of_put (w.outbox pair.now.from pair.now.to)) × StandsFor self.new w) }
+        ensures ok { IsPut self.old self.new pair.now result }
+        ensures err { IsPutRefused self.old self.new pair.now result }
     {
         if self.outbox_count(pair) == 0 {
             return Err(WorldFault::OutboxEmpty);
@@ -105,8 +98,7 @@ impl Sim {
 
     /// Whether a put isn't refused, but maybe for want of memory: O(1).
     pub(super) fn may_put(&self, pair: &Pair) -> bool
-        ensures { (w : World) → StandsFor self.now w
-            → result ≡ is_none (refusal_of w (events.Put pair.now.from pair.now.to)) }
+        ensures { Shows self.now (λ w. result ≡ is_none (refusal_of w (events.Put pair.now.from pair.now.to))) }
     {
         if !self.knows_both(pair) {
             return false;
@@ -120,12 +112,8 @@ impl Sim {
 
     /// What waits is put on its link, or given.
     pub(super) fn put(&mut self, pair: &Pair) -> Result<Option<Answer>, WorldFault>
-        ensures ok { (w : World) → StandsFor self.old w → IfOk result (λ given.
-            (refusal_of w (events.Put pair.now.from pair.now.to) ≡ None)
-            × (given ≡ given_by w (events.Put pair.now.from pair.now.to))
-            × StandsFor self.new (next w (events.Put pair.now.from pair.now.to))) }
-        ensures err { (w : World) → StandsFor self.old w → IfErr result (λ fault.
-            IsRefusal fault (refusal_of w (events.Put pair.now.from pair.now.to)) × StandsFor self.new w) }
+        ensures ok { Gives self.old self.new (events.Put pair.now.from pair.now.to) result }
+        ensures err { IsRefused self.old self.new (events.Put pair.now.from pair.now.to) result }
     {
         if !self.knows_both(pair) {
             return Err(WorldFault::NoSuchServer);
@@ -142,12 +130,10 @@ impl Sim {
     /// A server takes the first message of a link. The message leaves the link only if the server takes it.
     fn take_at(&mut self, pair: &Pair, id: ServerId) -> Result<(), WorldFault>
         requires { pair.now.to ≡ parties.Server id }
-        ensures ok { (w : World) → StandsFor self.old w → OnOk result
-            ((refusal_of_take w pair.now.from pair.now.to (w.link pair.now.from pair.now.to) ≡ None)
-            × StandsFor self.new (next w (events.Take pair.now.from pair.now.to))) }
-        ensures err { (w : World) → StandsFor self.old w → is_in w.master.used id ≡ true → IfErr result (λ fault.
+        ensures ok { IsTaken self.old self.new pair.now result }
+        ensures err { Shows self.old (λ w. is_in w.master.used id ≡ true → IfErr result (λ fault.
             IsRefusal fault (refusal_of_take w pair.now.from pair.now.to (w.link pair.now.from pair.now.to))
-            × StandsFor self.new w) }
+            × StandsFor self.new w)) }
     {
         match self.links.first(pair) {
             Some(message) => match self.servers.get_mut(&id) {
@@ -166,12 +152,8 @@ impl Sim {
     fn hear(&mut self, pair: &Pair, id: ServerId) -> Result<(), WorldFault>
         requires from { pair.now.from ≡ parties.Server id }
         requires to { pair.now.to ≡ parties.Master }
-        ensures ok { (w : World) → StandsFor self.old w → OnOk result
-            ((refusal_of_take w pair.now.from pair.now.to (w.link pair.now.from pair.now.to) ≡ None)
-            × StandsFor self.new (next w (events.Take pair.now.from pair.now.to))) }
-        ensures err { (w : World) → StandsFor self.old w → IfErr result (λ fault.
-            IsRefusal fault (refusal_of_take w pair.now.from pair.now.to (w.link pair.now.from pair.now.to))
-            × StandsFor self.new w) }
+        ensures ok { IsTaken self.old self.new pair.now result }
+        ensures err { IsTakeRefused self.old self.new pair.now result }
     {
         match self.links.first(pair) {
             Some(message) => {
@@ -185,10 +167,10 @@ impl Sim {
 
     /// The first message of a link leaves it.
     fn drop_first(&mut self, pair: &Pair) -> Result<(), WorldFault>
-        ensures ok { (w : World) → StandsFor self.old w → OnOk result
-            (IsFilled (w.link pair.now.from pair.now.to) × StandsFor self.new (without_first w pair.now.from pair.now.to)) }
-        ensures err { (w : World) → StandsFor self.old w → IfErr result (λ fault.
-            (fault ≡ faults.LinkEmpty) × (w.link pair.now.from pair.now.to ≡ []) × StandsFor self.new w) }
+        ensures ok { Shows self.old (λ w. OnOk result
+            (IsFilled (w.link pair.now.from pair.now.to) × StandsFor self.new (without_first w pair.now.from pair.now.to))) }
+        ensures err { Shows self.old (λ w. IfErr result (λ fault.
+            (fault ≡ faults.LinkEmpty) × (w.link pair.now.from pair.now.to ≡ []) × StandsFor self.new w)) }
     {
         if self.links.waiting(pair) == 0 {
             return Err(WorldFault::LinkEmpty);
@@ -200,12 +182,8 @@ impl Sim {
     /// The master takes the first message of a link. It hears servers alone.
     fn take_by_master(&mut self, pair: &Pair) -> Result<(), WorldFault>
         requires { pair.now.to ≡ parties.Master }
-        ensures ok { (w : World) → StandsFor self.old w → OnOk result
-            ((refusal_of_take w pair.now.from pair.now.to (w.link pair.now.from pair.now.to) ≡ None)
-            × StandsFor self.new (next w (events.Take pair.now.from pair.now.to))) }
-        ensures err { (w : World) → StandsFor self.old w → IfErr result (λ fault.
-            IsRefusal fault (refusal_of_take w pair.now.from pair.now.to (w.link pair.now.from pair.now.to))
-            × StandsFor self.new w) }
+        ensures ok { IsTaken self.old self.new pair.now result }
+        ensures err { IsTakeRefused self.old self.new pair.now result }
     {
         match pair.from {
             Party::Server(id) => self.hear(pair, id),
@@ -215,11 +193,8 @@ impl Sim {
 
     /// The first message of a link is taken. The clients do nothing with it.
     pub(super) fn take(&mut self, pair: &Pair) -> Result<(), WorldFault>
-        ensures ok { (w : World) → StandsFor self.old w → OnOk result
-            ((refusal_of w (events.Take pair.now.from pair.now.to) ≡ None)
-            × StandsFor self.new (next w (events.Take pair.now.from pair.now.to))) }
-        ensures err { (w : World) → StandsFor self.old w → IfErr result (λ fault.
-            IsRefusal fault (refusal_of w (events.Take pair.now.from pair.now.to)) × StandsFor self.new w) }
+        ensures ok { IsDone self.old self.new (events.Take pair.now.from pair.now.to) result }
+        ensures err { IsRefused self.old self.new (events.Take pair.now.from pair.now.to) result }
     {
         if !self.knows_both(pair) {
             return Err(WorldFault::NoSuchServer);

@@ -1,9 +1,6 @@
 //! Requests and queries that come to servers.
-ghost use Rattle.std.specs.Prelude.{◌≡◌, None, IfErr, OnOk};
-ghost use Rattle.cq_chain.specs.Faults.{IsRefusal};
-ghost use Rattle.cq_world.specs.Events.{refusal_of, next};
-ghost use Rattle.cq_world.specs.Stands.{StandsFor};
-ghost use Rattle.cq_world.specs.Worlds.{World};
+ghost use Rattle.cq_world.specs.Stands.{IsRefused};
+ghost use Rattle.cq_world.specs.within.Calls.{IsDone};
 ghost use Rattle.cq_world.specs.declared.event.Event.TheVariants as events;
 
 use super::Sim;
@@ -18,10 +15,8 @@ impl Sim {
         clock: Moment,
         request: &Request,
     ) -> Result<(), WorldFault>
-        ensures ok { (w : World) → StandsFor self.old w → OnOk result ((refusal_of w (events.Arrive at clock request.now) ≡ None)
-            × StandsFor self.new (next w (events.Arrive at clock request.now))) }
-        ensures err { (w : World) → StandsFor self.old w → IfErr result (λ fault.
-            IsRefusal fault (refusal_of w (events.Arrive at clock request.now)) × StandsFor self.new w) }
+        ensures ok { IsDone self.old self.new (events.Arrive at clock request.now) result }
+        ensures err { IsRefused self.old self.new (events.Arrive at clock request.now) result }
     {
         match self.servers.get_mut(&at) {
             Some(server) => {
@@ -36,10 +31,8 @@ impl Sim {
 
     /// A query comes to a server.
     pub(super) fn ask(&mut self, at: ServerId, query: &Query) -> Result<(), WorldFault>
-        ensures ok { (w : World) → StandsFor self.old w → OnOk result ((refusal_of w (events.Ask at query.now) ≡ None)
-            × StandsFor self.new (next w (events.Ask at query.now))) }
-        ensures err { (w : World) → StandsFor self.old w → IfErr result (λ fault.
-            IsRefusal fault (refusal_of w (events.Ask at query.now)) × StandsFor self.new w) }
+        ensures ok { IsDone self.old self.new (events.Ask at query.now) result }
+        ensures err { IsRefused self.old self.new (events.Ask at query.now) result }
     {
         match self.servers.get_mut(&at) {
             Some(server) => {
