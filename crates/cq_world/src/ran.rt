@@ -1,6 +1,7 @@
 //! What came of a run.
-ghost use Rattle.std.specs.Prelude.{◌≡◌, ◌<◌, ◌≤◌, ◌+◌, ◌^◌, ◌++◌, [], ◌∷◌, None, IsOk, OnOk, OnErr};
+ghost use Rattle.std.specs.Prelude.{◌≡◌, ◌<◌, ◌≤◌, ◌+◌, ◌++◌, [], ◌∷◌, None, IsOk, OnOk, OnErr};
 ghost use Rattle.std.specs.Vec.{vec_len, vec_capacity};
+ghost use Rattle.cq_base.specs.declared.limits.TheConstants.{SLICE_LIMIT};
 ghost use Rattle.cq_world.specs.Runs.{numbered};
 
 use cq_base::NoMemory;
@@ -50,7 +51,7 @@ impl Ran {
 
     /// One more event, which wasn't refused, and gave that. Only an answer takes room.
     pub(crate) fn pass(&mut self, given: Option<Answer>) -> Result<(), NoMemory>
-        requires { self.old.done < 2 ^ 63 }
+        requires { self.old.done < SLICE_LIMIT }
         ensures done { OnOk result (self.new.done ≡ self.old.done + 1) }
         ensures given { OnOk result (self.new.given.items ≡ self.old.given.items ++ numbered (self.old.done + 1) given) }
         ensures refused { self.new.refused ≡ self.old.refused }
@@ -70,7 +71,7 @@ impl Ran {
 
     /// One more event, which was refused.
     pub(crate) fn refuse(&mut self, fault: WorldFault) -> Result<(), NoMemory>
-        requires { self.old.done < 2 ^ 63 }
+        requires { self.old.done < SLICE_LIMIT }
         ensures done { OnOk result (self.new.done ≡ self.old.done + 1) }
         ensures given { self.new.given.items ≡ self.old.given.items }
         ensures refused { OnOk result (self.new.refused.items ≡ self.old.refused.items ++ (self.old.done + 1, fault) ∷ []) }

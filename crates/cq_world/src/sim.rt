@@ -1,5 +1,6 @@
 //! The world in memory: its parts, single events, and runs.
-ghost use Rattle.std.specs.Prelude.{◌≡◌, ◌&&◌, ◌≤◌, ◌<◌, ◌+◌, ◌^◌, ◌++◌, ℕ, List, true, false, length, take, slice_get, option_map, Err, Some, IsSome, IfOk, IfNone, OnOk, OnErr};
+ghost use Rattle.std.specs.Prelude.{◌≡◌, ◌&&◌, ◌≤◌, ◌<◌, ◌+◌, ◌++◌, ℕ, List, true, false, length, take, slice_get, option_map, Err, Some, IsSome, IfOk, IfNone, OnOk, OnErr};
+ghost use Rattle.cq_base.specs.declared.limits.TheConstants.{SLICE_LIMIT};
 ghost use Rattle.cq_base.specs.declared.party.Party.TheVariants as parties;
 ghost use Rattle.cq_base.specs.Relations.{Among};
 ghost use Rattle.cq_chain.specs.Stands.{IsMaster};
@@ -224,7 +225,7 @@ impl Sim {
     /// One event of a run, and what came of it. Room for an answer is made before the event that gives it; a refusal
     /// is told also where there is no room for an answer.
     fn run_event(&mut self, ran: &mut Ran, event: &Event) -> Result<(), NoMemory>
-        requires { ran.old.done < 2 ^ 63 }
+        requires { ran.old.done < SLICE_LIMIT }
         ensures ok { Shows self.old (λ w. OnOk result (StandsFor self.new (after w event.now))) }
         ensures done { OnOk result (ran.new.done ≡ ran.old.done + 1) }
         ensures stop { ran.new.stop ≡ ran.old.stop }
