@@ -1,0 +1,155 @@
+-- Summaries stay so where one block changes.
+use Rattle.std.proofs.Common.{◌≡◌, ◌≢◌, ℕ, ◌+◌, ◌*◌, ◌/◌, ◌<◌, ◌≤◌, ◌∙◌, ◌⊎◌, sym, subst, List, [], ◌∷◌, ◌++◌, length, get_or, set, arith, refl, inl, inr, ◌%◌}
+use Rattle.cq_least.specs.declared.blocks.TheConstants.{BLOCK}
+use Rattle.std.proofs.lemmas.Bool.{cases_eq, cases_lt}
+use Rattle.std.proofs.lemmas.List.{length-set, length_push, get_or-set_same, get_or-set_other, get_or_append_left, get_or_push, get_or_past}
+use Rattle.cq_least.specs.Summaries.{IsSummary, IsLeastOf, IsBegun}
+
+-- The lists `low'` and `high'` differ from `low` and `high` in the block b alone.
+pub record IsElsewhere (low high low' high' : List ℕ) (b : ℕ) : Type 0 where
+  pub shorter : (k : ℕ) → k / BLOCK ≢ b → k < length low' → k < length low
+  pub longer : (k : ℕ) → k / BLOCK ≢ b → k < length low → k < length low'
+  pub same_low : (k : ℕ) → k / BLOCK ≢ b → k < length low → get_or low' k 0 ≡ get_or low k 0
+  pub same_high : (j : ℕ) → j ≢ b → get_or high' j 0 ≡ get_or high j 0
+
+-- The block b of `low'` has its least number in `high'`.
+pub record IsHere (low' high' : List ℕ) (b : ℕ) : Type 0 where
+  pub long : length low' ≤ BLOCK * length high'
+  pub short : BLOCK * length high' ≤ length low' + BLOCK
+  pub below : (k : ℕ) → k / BLOCK ≡ b → k < length low' → get_or high' b 0 ≤ get_or low' k 0
+  pub reached : BLOCK * b < length low' → (k : ℕ) × IsLeastOf low' b (get_or high' b 0) k
+
+below_in : (low high low' high' : List ℕ) (b : ℕ) → IsSummary low high → IsElsewhere low high low' high' b → IsHere low' high' b
+    → (k : ℕ) → (k / BLOCK ≡ b) ⊎ (k / BLOCK ≡ b → ⊥) → k < length low' → get_or high' (k / BLOCK) 0 ≤ get_or low' k 0
+below_in low high low' high' b was there here k (inl e) h = subst (λ j. get_or high' j 0 ≤ get_or low' k 0) (sym e) (here.below k e h)
+below_in low high low' high' b was there here k (inr n) h =
+    let in_low : k < length low = there.shorter k n h in
+    omega (arith, there.same_high (k / BLOCK) n, there.same_low k n in_low, was.below k in_low)
+
+reached_in : (low high low' high' : List ℕ) (b : ℕ) → IsSummary low high → IsElsewhere low high low' high' b → IsHere low' high' b
+    → (j : ℕ) → (j ≡ b) ⊎ (j ≡ b → ⊥) → BLOCK * j < length low' → (k : ℕ) × IsLeastOf low' j (get_or high' j 0) k
+reached_in low high low' high' b was there here j (inl e) h = subst (λ i. (k : ℕ) × IsLeastOf low' i (get_or high' i 0) k) (sym e) (here.reached (subst (λ i. BLOCK * i < length low') e h))
+reached_in low high low' high' b was there here j (inr n) h =
+    let at : BLOCK * j / BLOCK ≡ j = omega arith in
+    let r = was.reached j (there.shorter (BLOCK * j) (λ e. n (sym at ∙ e)) h) in
+    let k = r.0 in
+    let w : IsLeastOf low j (get_or high j 0) k = r.1 in
+    let other : k / BLOCK ≡ b → ⊥ = λ e. n (sym w.inside ∙ e) in (
+      k,
+      record {
+        inside = w.inside;
+        within = there.longer k other w.within;
+        is = there.same_low k other w.within ∙ w.is ∙ sym (there.same_high j n);
+      },
+    )
+
+pub summary-change : (low high low' high' : List ℕ) (b : ℕ) → IsSummary low high → IsElsewhere low high low' high' b → IsHere low' high' b → IsSummary low' high'
+summary-change low high low' high' b was there here = record {
+  long = here.long;
+  short = here.short;
+  below = λ k. below_in low high low' high' b was there here k (cases_eq (k / BLOCK) b);
+  reached = λ j. reached_in low high low' high' b was there here j (cases_eq j b);
+}
+
+other_place : (i k b : ℕ) → i / BLOCK ≡ b → k / BLOCK ≢ b → k ≢ i
+other_place i k b e n same = n (subst (λ m. m / BLOCK ≡ b) (sym same) e)
+
+-- a number is written, and the least of its block
+pub summary-set : (low high : List ℕ) (i v least from end : ℕ) → IsSummary low high → i < length low → from ≡ BLOCK * (i / BLOCK) → end ≤ from + BLOCK → ((k : ℕ) → k / BLOCK ≡ i / BLOCK → k < length low → k < end)
+    → ((k : ℕ) → from ≤ k → k < end → least ≤ get_or (set low i v) k 0)
+    → ((k : ℕ) × ((from ≤ k) × ((k < end) × (get_or (set low i v) k 0 ≡ least)))) → end ≤ length low
+    → IsSummary (set low i v) (set high (i / BLOCK) least)
+summary-set low high i v least from end was h from_is end_is reach below reached fits =
+    let b = i / BLOCK in
+    let in_high : b < length high = omega (arith, was.long) in
+    let at : get_or (set high b least) b 0 ≡ least = get_or-set_same high b least 0 in_high in
+    summary-change low high (set low i v) (set high b least) b was
+    (record {
+      shorter = λ k n l. omega (arith, length-set low i v);
+      longer = λ k n l. omega (arith, length-set low i v);
+      same_low = λ k n l. get_or-set_other low i k v 0 (other_place i k b refl n);
+      same_high = λ j n. get_or-set_other high b j least 0 n;
+    })
+    (record {
+      long = omega (arith, length-set low i v, length-set high b least, was.long);
+      short = omega (arith, length-set low i v, length-set high b least, was.short);
+      below = λ k e l. let small : k < length low = omega (arith, length-set low i v) in let low_end : k < end = reach k e small in omega (arith, at, below k (omega arith) low_end);
+      reached = λ l. (reached.0, record { inside = omega (arith, reached.1); within = omega (arith, length-set low i v, reached.1); is = reached.1.1.1 ∙ sym at });
+    })
+
+-- one number more leaves the earlier ones as they are
+push_other : (low : List ℕ) (n k : ℕ) → k < length low → get_or (low ++ n ∷ []) k 0 ≡ get_or low k 0
+push_other low n k h = get_or_append_left low (n ∷ []) 0 k h
+
+pub push_beside : (high : List ℕ) (n b j : ℕ) → length high ≡ b → j ≢ b → get_or (high ++ n ∷ []) j 0 ≡ get_or high j 0
+push_beside high n b j e other = beside (cases_lt j b)
+  where
+    beside : (j < b) ⊎ (b ≤ j) → get_or (high ++ n ∷ []) j 0 ≡ get_or high j 0
+    beside (inl l) = get_or_append_left high (n ∷ []) 0 j (omega arith)
+    beside (inr m) = let past : b < j = strict (cases_lt b j) in get_or_past (high ++ n ∷ []) j 0 (omega (arith, length_push high n)) ∙ sym (get_or_past high j 0 (omega arith))
+      where
+        strict : (b < j) ⊎ (j ≤ b) → b < j
+        strict (inl l) = l
+        strict (inr m') = absurd (other (omega arith))
+
+-- Where a block begins, its number may stand above before it stands below.
+pub summary-start : (low high high' : List ℕ) (n b : ℕ) → IsSummary low high → length low ≡ BLOCK * b → IsBegun high high' b n → IsSummary low high'
+summary-start low high high' n b was e begun = summary-change low high low high' b was
+    (record { shorter = λ k n' l. l; longer = λ k n' l. l; same_low = λ k n' l. refl; same_high = begun.same })
+    (record {
+      long = omega (arith, begun.long);
+      short = omega (arith, begun.long);
+      below = λ k e' l. absurd (omega arith);
+      reached = λ l. absurd (omega arith);
+    })
+
+pub summary-first : (low high high' : List ℕ) (n b : ℕ) → IsSummary low high → length low ≡ BLOCK * b → IsBegun high high' b n → IsSummary (low ++ n ∷ []) high'
+summary-first low high high' n b was e begun =
+    let last : get_or (low ++ n ∷ []) (BLOCK * b) 0 ≡ n = get_or_push low n 0 (BLOCK * b) e in
+    let one : length (low ++ n ∷ []) ≡ length low + 1 = length_push low n in
+    summary-change low high (low ++ n ∷ []) high' b was
+    (record {
+      shorter = λ k n' l. let differs : k ≢ BLOCK * b = λ e'. n' (omega arith) in omega (arith, differs);
+      longer = λ k n' l. omega arith;
+      same_low = λ k n' l. push_other low n k l;
+      same_high = begun.same;
+    })
+    (record {
+      long = omega (arith, begun.long);
+      short = omega (arith, begun.long);
+      below = λ k e' l. let is : k ≡ BLOCK * b = omega arith in subst (λ i. get_or high' b 0 ≤ get_or (low ++ n ∷ []) i 0) (sym is) (omega (arith, begun.at));
+      reached = λ l. (BLOCK * b, record { inside = omega arith; within = omega arith; is = last ∙ sym begun.at });
+    })
+
+-- Where a block goes on, the least of it is the new number or the least before.
+pub summary-next : (low high high' : List ℕ) (n b : ℕ) → IsSummary low high → length low / BLOCK ≡ b → (length low % BLOCK ≡ 0 → ⊥) → length high' ≡ length high
+    → ((j : ℕ) → j ≢ b → get_or high' j 0 ≡ get_or high j 0) → get_or high' b 0 ≤ n → get_or high' b 0 ≤ get_or high b 0
+    → (get_or high' b 0 ≡ n) ⊎ (get_or high' b 0 ≡ get_or high b 0) → IsSummary (low ++ n ∷ []) high'
+summary-next low high high' n b was e inner long same below_n below_old from =
+    let last : get_or (low ++ n ∷ []) (length low) 0 ≡ n = get_or_push low n 0 (length low) refl in
+    let one : length (low ++ n ∷ []) ≡ length low + 1 = length_push low n in
+    summary-change low high (low ++ n ∷ []) high' b was
+    (record {
+      shorter = λ k n' l. let differs : k ≢ length low = λ e'. n' (subst (λ i. i / BLOCK ≡ b) (sym e') e) in omega (arith, differs);
+      longer = λ k n' l. omega arith;
+      same_low = λ k n' l. push_other low n k l;
+      same_high = same;
+    })
+    (record {
+      long = omega (arith, was.long, inner);
+      short = omega (arith, was.short);
+      below = λ k e' l. under k e' (cases_lt k (length low)) l;
+      reached = λ l. there from;
+    })
+  where
+    under : (k : ℕ) → k / BLOCK ≡ b → (k < length low) ⊎ (length low ≤ k) → k < length (low ++ n ∷ []) → get_or high' b 0 ≤ get_or (low ++ n ∷ []) k 0
+    under k e' (inl small) l = let at = was.below k small in let same' = push_other low n k small in omega (arith, subst (λ j. get_or high j 0 ≤ get_or low k 0) e' at)
+    under k e' (inr big) l = let is : k ≡ length low = omega (arith, length_push low n) in subst (λ i. get_or high' b 0 ≤ get_or (low ++ n ∷ []) i 0) (sym is) (omega (arith, get_or_push low n 0 (length low) refl))
+
+    there : (get_or high' b 0 ≡ n) ⊎ (get_or high' b 0 ≡ get_or high b 0) → (k : ℕ) × IsLeastOf (low ++ n ∷ []) b (get_or high' b 0) k
+    there (inl new) = (length low, record { inside = e; within = omega (arith, length_push low n); is = get_or_push low n 0 (length low) refl ∙ sym new })
+    there (inr old) =
+        let r = was.reached b (omega (arith, inner)) in
+        let k = r.0 in
+        let w : IsLeastOf low b (get_or high b 0) k = r.1 in
+        (k, record { inside = w.inside; within = omega (arith, w.within, length_push low n); is = push_other low n k w.within ∙ w.is ∙ sym old })

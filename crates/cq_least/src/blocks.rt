@@ -1,0 +1,130 @@
+//! A list in blocks, with the least number of each block in a list above it.
+ghost use Rattle.std.specs.Prelude.{◌≡◌, ℕ, ◌+◌, ◌*◌, ◌/◌, ◌<◌, ◌≤◌, List, [], length, slice_index, OnOk, OnErr};
+ghost use Rattle.cq_least.specs.Summaries.{IsSummary, IsBegun};
+
+use crate::flat::scan;
+use crate::leasts::Leasts;
+use std::alloc::{AllocError, Global};
+use std::marker::Model;
+
+/// How many numbers of a list have one number above them.
+pub const BLOCK: usize = 32;
+
+/// A list in blocks, and above it the least number of each block. A search reads the rest of one block, asks the list
+/// above for the next block that has a number small enough, and reads that one. A write reads one block, and writes
+/// one number above.
+#[derive(Drop)]
+pub struct Blocks<T: Leasts> {
+    low: Vec<u64>,
+    high: T,
+}
+
+impl<T: Leasts> Model for Blocks<T> {
+    ghost Value = { List ℕ };
+
+    ghost view = { λ b. b.low.items };
+
+    ghost invariant = { λ b. IsSummary b.low.items (T.numbers b.high) };
+}
+
+/// The least of the numbers from `from` up to `end`: O(end - from).
+fn least_of(numbers: &[u64], from: usize, end: usize) -> u64
+    requires order { from < end }
+    requires within { end ≤ length numbers.now }
+    ensures below { (k : ℕ) → from ≤ k → k < end → result ≤ slice_index numbers.now k }
+    ensures reached { (k : ℕ) × ((from ≤ k) × ((k < end) × (slice_index numbers.now k ≡ result))) }
+{
+    let mut least = numbers[from];
+    for i in from + 1..end {
+        if numbers[i] < least {
+            least = numbers[i];
+        }
+    }
+    least
+}
+
+/// Writes the first number of a new block above, in a place of its own or in one that stands there already: a push
+/// that got no memory below leaves one.
+fn begin_block<T: Leasts>(high: &mut T, block: usize, number: u64) -> Result<(), AllocError>
+    requires least { block ≤ length (T.numbers high.old) }
+    requires most { length (T.numbers high.old) ≤ block + 1 }
+    ensures ok { OnOk result (IsBegun (T.numbers high.old) (T.numbers high.new) block number) }
+    ensures err { OnErr result (T.numbers high.new ≡ T.numbers high.old) }
+{
+    if high.len() == block {
+        high.push(number)?;
+    } else {
+        high.set(block, number);
+    }
+    Ok(())
+}
+
+impl<T: Leasts> Blocks<T> {
+    /// No number, over a list with no number.
+    pub fn new(alloc: Global, high: T) -> Blocks<T>
+        requires { T.numbers high ≡ [] }
+        ensures { result ≡ [] }
+    {
+        Blocks {
+            low: Vec::new(alloc),
+            high,
+        }
+    }
+}
+
+impl<T: Leasts> Leasts for Blocks<T> {
+    ghost numbers = { λ b. b };
+
+    fn len(&self) -> usize {
+        self.low.len()
+    }
+
+    fn get(&self, at: usize) -> u64 {
+        self.low[at]
+    }
+
+    fn set(&mut self, at: usize, number: u64) {
+        self.low[at] = number;
+        let block = at / BLOCK;
+        let from = block * BLOCK;
+        let end = self.low.len().min(from + BLOCK);
+        let least = least_of(&self.low, from, end);
+        self.high.set(block, least);
+    }
+
+    fn push(&mut self, number: u64) -> Result<(), AllocError> {
+        let len = self.low.len();
+        let block = len / BLOCK;
+        if len % BLOCK == 0 {
+            begin_block(&mut self.high, block, number)?;
+            self.low.push(number)?;
+        } else {
+            self.low.push(number)?;
+            if number < self.high.get(block) {
+                self.high.set(block, number);
+            }
+        }
+        Ok(())
+    }
+
+    fn first_at_most(&self, from: usize, limit: u64) -> Option<usize> {
+        let len = self.low.len();
+        if from >= len {
+            return None;
+        }
+        let next = from / BLOCK + 1;
+        let end = len.min(next * BLOCK);
+        let i = scan(&self.low, from, end, limit);
+        if i < end {
+            return Some(i);
+        }
+        let block = self.high.first_at_most(next, limit)?;
+        let start = block * BLOCK;
+        if start >= len {
+            return None;
+        }
+        let end = len.min(start + BLOCK);
+        let i = scan(&self.low, start, end, limit);
+        if i < end { Some(i) } else { None }
+    }
+}
