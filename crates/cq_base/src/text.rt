@@ -207,6 +207,16 @@ impl Eq for GroupId {
     ghost laws = { Prim.search (comparing, rules) };
 }
 
+impl Hash for GroupId {
+    ghost hash_input = { λ t. fed.str t };
+
+    ghost respects_eq = { Prim.search (hashing, comparing, rules) };
+
+    fn hash<H: Hasher>(&self, state: &mut H) {
+        self.text.as_str().hash(state);
+    }
+}
+
 impl fmt::Display for GroupId {
     ghost output = { λ t. Some t };
 
@@ -275,6 +285,16 @@ impl PartialEq for DedupId {
 
 impl Eq for DedupId {
     ghost laws = { Prim.search (comparing, rules) };
+}
+
+impl Hash for DedupId {
+    ghost hash_input = { λ t. fed.str t };
+
+    ghost respects_eq = { Prim.search (hashing, comparing, rules) };
+
+    fn hash<H: Hasher>(&self, state: &mut H) {
+        self.text.as_str().hash(state);
+    }
 }
 
 impl fmt::Display for DedupId {

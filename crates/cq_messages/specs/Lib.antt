@@ -1,0 +1,6 @@
+pub mod Groups
+pub mod Indexed
+pub mod Changes
+pub mod Opened
+pub mod Slots
+pub mod Touched

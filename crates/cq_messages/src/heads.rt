@@ -1,0 +1,77 @@
+//! The oldest message of a group, and how long the group is busy.
+ghost use Rattle.std.specs.Prelude.{◌≡◌, ◌≤◌, ◌<◌, [], max, length, get_or, set, ℕ, IfSome, IsNone};
+ghost use Rattle.cq_base.specs.Relations.{Among};
+ghost use Rattle.cq_base.specs.Messages as object;
+ghost use Rattle.cq_messages.specs.Indexed.{AreNumbers, AreHanded};
+ghost use Rattle.cq_messages.specs.Slots.{live, gone, busy, in_group, IsAscending};
+ghost use Rattle.cq_messages.specs.Touched.{IsHead};
+
+use crate::groups::Groups;
+use crate::places::place_of;
+use crate::slot::Slot;
+use cq_base::GroupId;
+use cq_least::{Leasts, Tower};
+
+/// The place of the oldest message of a group. O(log places).
+pub fn head_of(slots: &[Slot], groups: &Groups, group: &GroupId) -> Option<usize>
+    requires ascending { IsAscending 0 slots.now }
+    requires groups { AreNumbers slots.now groups.now }
+    ensures some { IfSome result (IsHead slots.now group.now) }
+    ensures none { IsNone result → in_group group.now (live slots.now) ≡ [] }
+{
+    match groups.get(group) {
+        Some(kept) if kept.len() != 0 => place_of(slots, kept.number(0)),
+        _ => None,
+    }
+}
+
+/// When the timeout of the message of that sequence number ends; 0 if there is none.
+fn until_at(slots: &[Slot], sequence: u64) -> u64
+    requires ascending { IsAscending 0 slots.now }
+    ensures { (m : object.Message) → Among m (live slots.now) → m.sequence ≡ sequence → result ≡ m.until }
+{
+    match place_of(slots, sequence) {
+        Some(place) => match &slots[place].message {
+            Some(message) => message.until,
+            None => 0,
+        },
+        None => 0,
+    }
+}
+
+/// When the last of the timeouts of a group's messages ends. O(messages of the group that were handed out,
+/// each log places).
+pub fn busy_of(slots: &[Slot], groups: &Groups, group: &GroupId) -> u64
+    requires ascending { IsAscending 0 slots.now }
+    requires groups { AreNumbers slots.now groups.now }
+    requires handed { AreHanded slots.now groups.now }
+    ensures { result ≡ busy (in_group group.now (live slots.now)) }
+{
+    let mut most: u64 = 0;
+    if let Some(kept) = groups.get(group) {
+        for i in 0..kept.len() {
+            if kept.number(i) > kept.handed() {
+                return most;
+            }
+            most = most.max(until_at(slots, kept.number(i)));
+        }
+    }
+    most
+}
+
+/// Writes beside a group's oldest message when the last of its timeouts ends. O(messages of the group that
+/// were handed out, each log places).
+pub fn refresh(slots: &[Slot], waits: &mut Tower, groups: &Groups, group: &GroupId)
+    requires ascending { IsAscending 0 slots.now }
+    requires groups { AreNumbers slots.now groups.now }
+    requires handed { AreHanded slots.now groups.now }
+    requires long { length slots.now ≤ length waits.old }
+    ensures head { (h : ℕ) → IsHead slots.now group.now h
+        → waits.new ≡ set waits.old h (busy (in_group group.now (live slots.now))) }
+    ensures none { in_group group.now (live slots.now) ≡ [] → waits.new ≡ waits.old }
+{
+    if let Some(head) = head_of(slots, groups, group) {
+        let busy = busy_of(slots, groups, group);
+        waits.set(head, busy);
+    }
+}

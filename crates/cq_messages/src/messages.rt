@@ -1,0 +1,270 @@
+//! The messages of an incarnation, and what is kept beside them to find those that are wanted.
+ghost use Rattle.std.specs.List.{list_any, All};
+ghost use Rattle.std.specs.Prelude.{◌≡◌, ℕ, ◌≢◌, ◌+◌, ◌==◌, ◌++◌, [], ◌∷◌, ◌<◌, ◌≤◌, map, filter, cond, length, get_or, take, set, IfOk, IfSome, OnOk, OnErr, Some, None};
+ghost use Rattle.std.specs.Option.{option_map};
+ghost use Rattle.cq_base.specs.declared.limits.TheConstants.{HISTORY_LIMIT};
+ghost use Rattle.cq_base.specs.Effects.{message_at};
+ghost use Rattle.cq_base.specs.Messages as object;
+ghost use Rattle.cq_base.specs.Relations.{Among};
+ghost use Rattle.cq_messages.specs.Groups.{numbers_at};
+ghost use Rattle.cq_messages.specs.Indexed.{IsIndexed};
+ghost use Rattle.cq_messages.specs.Changes.{marked, hidden_until, is_other, numbers_to_hand, handed_at_until};
+ghost use Rattle.cq_messages.specs.declared.slot.TheConstants.{NEVER};
+ghost use Rattle.cq_messages.specs.Slots.{live, gone, IsAscending};
+ghost use Rattle.cq_messages.specs.Touched.{retimed};
+
+use crate::groups::Groups;
+use crate::heads::refresh;
+use crate::message::Message;
+use crate::open::{self, Numbers};
+use crate::places::place_of;
+use crate::retime::retime;
+use crate::slot::{NEVER, Slot};
+use cq_base::{BatchSize, GroupId, Moment, NoMemory};
+use cq_least::{Leasts, Tower, new_tower};
+use std::alloc::Global;
+use std::marker::Model;
+
+/// The messages of an incarnation that aren't deleted, in order of sending. Contracts see the list of them.
+#[derive(Drop)]
+pub struct Messages {
+    /// In order of sequence numbers. A message that is deleted leaves its slot behind.
+    slots: Vec<Slot>,
+    /// Beside each slot the moment from which its message is the oldest of an open group, if it can be.
+    waits: Tower,
+    /// Beside each slot a number that is the smaller, the later its message's timeout ends.
+    flights: Tower,
+    groups: Groups,
+}
+
+impl Model for Messages {
+    ghost use Rattle.std.specs.Prelude.{List};
+    ghost use Rattle.cq_base.specs.Messages as object;
+    ghost use Rattle.cq_messages.specs.Slots.{live};
+    ghost use Rattle.cq_messages.specs.Indexed.{IsIndexed};
+
+    ghost Value = { List object.Message };
+
+    ghost view = { λ m. live m.slots.items };
+
+    ghost invariant = { λ m. IsIndexed m.slots.items m.waits m.flights m.groups };
+}
+
+/// The message of that sequence number.
+fn message_in(slots: &[Slot], sequence: u64) -> Option<&Message>
+    requires { IsAscending 0 slots.now }
+    ensures { option_map (λ x. x.now) result ≡ message_at sequence (live slots.now) }
+{
+    match place_of(slots, sequence) {
+        Some(place) => slots[place].message.as_ref(),
+        None => None,
+    }
+}
+
+impl Messages {
+    /// No message. It takes no memory: O(1).
+    pub fn new(alloc: Global) -> Messages
+        ensures { result ≡ [] }
+    {
+        Messages {
+            slots: Vec::new(alloc),
+            waits: new_tower(alloc),
+            flights: new_tower(alloc),
+            groups: Groups::new(alloc),
+        }
+    }
+
+    /// The message of that sequence number, if it isn't deleted: O(log n).
+    pub fn get(&self, sequence: u64) -> Option<&Message>
+        ensures { option_map (λ x. x.now) result ≡ message_at sequence self.now }
+    {
+        message_in(&self.slots, sequence)
+    }
+
+    /// The sequence numbers of the messages that a receive of that size hands out, in order. It takes no memory.
+    /// O(size log n).
+    pub fn numbers_to_hand(&self, moment: Moment, size: BatchSize) -> Numbers
+        ensures { result.items ≡ numbers_to_hand size moment self.now }
+    {
+        open::numbers_to_hand(&self.slots, &self.waits, &self.groups, moment, size)
+    }
+
+    /// Hides the message of that sequence number up to `end`, in milliseconds. It takes no memory. O(log n) for each
+    /// message of its group that was handed out and isn't deleted.
+    pub fn hide(&mut self, sequence: u64, end: u64)
+        ensures { self.new ≡ map (hidden_until sequence end) self.old }
+    {
+        if let Some(place) = place_of(&self.slots, sequence) {
+            if let Some(message) = &self.slots[place].message {
+                let handings = message.handings;
+                let handed_at = message.handed_at;
+                retime(
+                    &mut self.slots,
+                    &mut self.waits,
+                    &mut self.flights,
+                    &mut self.groups,
+                    place,
+                    handings,
+                    handed_at,
+                    end,
+                );
+            }
+        }
+    }
+
+    /// Hands out the message of that sequence number at that moment, and hides it up to `end`: as `hide`.
+    fn hand_one(&mut self, sequence: u64, moment: Moment, end: u64)
+        requires { (m : object.Message) → Among m self.old → m.sequence ≡ sequence → m.handings < HISTORY_LIMIT }
+        ensures { self.new ≡ map (marked moment end (sequence ∷ [])) self.old }
+    {
+        if let Some(place) = place_of(&self.slots, sequence) {
+            if let Some(message) = &self.slots[place].message {
+                let handings = message.handings + 1;
+                retime(
+                    &mut self.slots,
+                    &mut self.waits,
+                    &mut self.flights,
+                    &mut self.groups,
+                    place,
+                    handings,
+                    moment,
+                    end,
+                );
+            }
+        }
+    }
+
+    /// Hands out those of the messages whose sequence numbers are given, at that moment, and hides them up to `end`. It
+    /// takes no memory. As `hide` for each of them.
+    pub fn mark(&mut self, moment: Moment, end: u64, numbers: &[u64])
+        requires { All (λ m. m.handings < HISTORY_LIMIT) self.old }
+        ensures { self.new ≡ map (marked moment end numbers.now) self.old }
+    {
+        for i in 0..numbers.len() {
+            if !is_before(numbers, i) {
+                self.hand_one(numbers[i], moment, end);
+            }
+        }
+    }
+
+    /// Takes out the message of that sequence number. It takes no memory. As `hide`, and O(n) for the place of its
+    /// number among those of its group, which is near the front where groups are received in order.
+    pub fn take_out(&mut self, sequence: u64)
+        ensures { self.new ≡ filter (is_other sequence) self.old }
+    {
+        if let Some(place) = place_of(&self.slots, sequence) {
+            empty(
+                &mut self.slots,
+                &mut self.waits,
+                &mut self.flights,
+                &mut self.groups,
+                place,
+            );
+        }
+    }
+
+    /// Adds a message that was never handed out, behind all others. After `NoMemory` the messages are as before.
+    /// Amortized O(log n).
+    pub fn push(&mut self, message: Message) -> Result<(), NoMemory>
+        requires fresh { message.until ≡ 0 }
+        requires order { (m : object.Message) → Among m self.old → m.sequence < message.sequence }
+        ensures ok { OnOk result (self.new ≡ self.old ++ message ∷ []) }
+        ensures err { OnErr result (self.new ≡ self.old) }
+    {
+        trim(&mut self.slots);
+        self.slots.reserve(1)?;
+        let place = self.slots.len();
+        make_room(&mut self.waits, place)?;
+        make_room(&mut self.flights, place)?;
+        let wait = first_wait(has_none(&self.groups, &message.group));
+        let alloc = *self.slots.allocator();
+        self.groups.add(alloc, &message.group, message.sequence)?;
+        let sequence = message.sequence;
+        self.slots.push_reserved(Slot {
+            sequence,
+            message: Some(message),
+        });
+        self.waits.set(place, wait);
+        self.flights.set(place, NEVER);
+        Ok(())
+    }
+}
+
+/// Takes the slots of deleted messages from the end.
+fn trim(slots: &mut Vec<Slot>)
+    ensures front { slots.new.items ≡ take (length slots.new.items) slots.old.items }
+    ensures same { live slots.new.items ≡ live slots.old.items }
+    ensures last { (k : ℕ) → k + 1 ≡ length slots.new.items → (get_or slots.new.items k gone).message ≢ None }
+{
+    let mut len = slots.len();
+    while len > 0 && slots[len - 1].message.is_none() {
+        slots.truncate(len - 1);
+        len -= 1;
+    }
+}
+
+/// Takes out the message at that place.
+fn empty(
+    slots: &mut Vec<Slot>,
+    waits: &mut Tower,
+    flights: &mut Tower,
+    groups: &mut Groups,
+    place: usize,
+)
+    requires place { place < length slots.old.items }
+    requires indexed { IsIndexed slots.old.items waits.old flights.old groups.old }
+    ensures slots { slots.new.items ≡ set slots.old.items place
+        (record { sequence = (get_or slots.old.items place gone).sequence; message = None }) }
+    ensures indexed { IsIndexed slots.new.items waits.new flights.new groups.new }
+{
+    let taken = slots[place].message.take();
+    if let Some(message) = taken {
+        waits.set(place, NEVER);
+        flights.set(place, NEVER);
+        groups.take_out(&message.group, message.sequence);
+        refresh(slots, waits, groups, &message.group);
+    }
+}
+
+/// Makes the tree longer than that place. What stands at earlier places stays, with memory or without.
+fn make_room(tree: &mut Tower, place: usize) -> Result<(), NoMemory>
+    requires { place ≤ length tree.old }
+    ensures ok { OnOk result (place < length tree.new) }
+    ensures long { place ≤ length tree.new }
+    ensures same { (k : ℕ) → k < place → get_or tree.new k 0 ≡ get_or tree.old k 0 }
+{
+    if tree.len() == place {
+        tree.push(NEVER)?;
+    }
+    Ok(())
+}
+
+/// Whether a group has no message.
+fn has_none(groups: &Groups, group: &GroupId) -> bool
+    ensures { result ≡ (length (numbers_at groups.now group.now) == 0) }
+{
+    match groups.get(group) {
+        Some(kept) => kept.len() == 0,
+        None => true,
+    }
+}
+
+/// From when on a new message of a group leads it, if its group is open.
+fn first_wait(is_first: bool) -> u64
+    ensures { result ≡ cond is_first 0 NEVER }
+{
+    if is_first { 0 } else { NEVER }
+}
+
+/// Whether the number at that place stands at an earlier one, too.
+fn is_before(numbers: &[u64], place: usize) -> bool
+    requires { place < length numbers.now }
+    ensures { result ≡ list_any (λ n. n == get_or numbers.now place 0) (take place numbers.now) }
+{
+    for i in 0..place {
+        if numbers[i] == numbers[place] {
+            return true;
+        }
+    }
+    false
+}
