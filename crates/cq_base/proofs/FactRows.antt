@@ -21,20 +21,20 @@ use Rattle.cq_base.proofs.Rows.{entry, numbered, name, created, create, remove, 
 -- Each queue has its own messages, ids, groups, receipts and visibility timeout, and is removed alone.
 abbrev two_queues_entries : List Entry
 two_queues_entries =
-    entry 0 1 1 (Create name 30)
-    ∷ entry 0 1 2 (Create (codes "r.fifo") 10)
-    ∷ entry 0 1 3 (Send name (codes "a") (codes "x") (codes "x"))
-    ∷ entry 0 1 4 (Send (codes "r.fifo") (codes "a") (codes "x") (codes "x"))
+    entry 0 1 1 (Create name 30 false)
+    ∷ entry 0 1 2 (Create (codes "r.fifo") 10 false)
+    ∷ entry 0 1 3 (Send name (codes "a") (Some (codes "x")) (codes "x"))
+    ∷ entry 0 1 4 (Send (codes "r.fifo") (codes "a") (Some (codes "x")) (codes "x"))
     ∷ entry 1 1 5 (Receive name 1 None)
     ∷ entry 1 1 6 (Receive (codes "r.fifo") 1 None)
     ∷ entry 10001 1 7 (Receive name 1 None)
     ∷ entry 10001 1 8 (Receive (codes "r.fifo") 1 None)
     ∷ entry 10002 1 9 (Delete name (receipt 1 1))
     ∷ entry 10003 1 10 (Remove (codes "r.fifo"))
-    ∷ entry 10004 1 11 (Send name (codes "a") (codes "y") (codes "y"))
+    ∷ entry 10004 1 11 (Send name (codes "a") (Some (codes "y")) (codes "y"))
     ∷ entry 10004 1 12 (Receive (codes "r.fifo") 1 None)
-    ∷ entry 10004 1 13 (Create (codes "r.fifo") 10)
-    ∷ entry 10004 1 14 (Create name 30)
+    ∷ entry 10004 1 13 (Create (codes "r.fifo") 10 false)
+    ∷ entry 10004 1 14 (Create name 30 false)
     ∷ []
 
 abbrev two_queues_replies : List Reply
@@ -62,18 +62,18 @@ two_queues = refl
 -- A repeat has the reply of its number, also a refusal, whatever it asks itself; numbers are each client's own and may be left out.
 abbrev repeats_of_other_asks_entries : List Entry
 repeats_of_other_asks_entries =
-    entry 0 1 1 (Create name 30)
-    ∷ entry 0 1 2 (Send name (codes "a") (codes "x") (codes "x"))
+    entry 0 1 1 (Create name 30 false)
+    ∷ entry 0 1 2 (Send name (codes "a") (Some (codes "x")) (codes "x"))
     ∷ entry 1 1 2 (Remove name)
     ∷ entry 2 1 1 (Remove name)
-    ∷ entry 3 2 5 (Create name 31)
+    ∷ entry 3 2 5 (Create name 31 false)
     ∷ entry 3 2 4 (Receive name 1 None)
     ∷ entry 4 1 9 (Remove name)
     ∷ entry 5 2 5 (Receive name 1 None)
-    ∷ entry 5 1 2 (Send name (codes "a") (codes "x") (codes "x"))
-    ∷ entry 6 1 9 (Create name 30)
+    ∷ entry 5 1 2 (Send name (codes "a") (Some (codes "x")) (codes "x"))
+    ∷ entry 6 1 9 (Create name 30 false)
     ∷ entry 7 3 5 (Receive name 1 None)
-    ∷ entry 8 3 4 (Create name 30)
+    ∷ entry 8 3 4 (Create name 30 false)
     ∷ []
 
 abbrev repeats_of_other_asks_replies : List Reply
@@ -100,14 +100,14 @@ repeats_of_other_asks = refl
 abbrev no_queue_entries : List Entry
 no_queue_entries =
     entry 0 1 1 (Remove name)
-    ∷ entry 0 1 2 (Send name (codes "a") (codes "x") (codes "x"))
+    ∷ entry 0 1 2 (Send name (codes "a") (Some (codes "x")) (codes "x"))
     ∷ entry 0 1 3 (Receive name 1 None)
     ∷ entry 0 1 4 (Delete name (receipt 1 1))
     ∷ entry 0 1 5 (Change name (receipt 1 1) 0)
-    ∷ entry 0 1 6 (Create name 30)
+    ∷ entry 0 1 6 (Create name 30 false)
     ∷ entry 1 1 7 (Remove name)
     ∷ entry 2 1 8 (Remove name)
-    ∷ entry 2 1 9 (Send name (codes "a") (codes "x") (codes "x"))
+    ∷ entry 2 1 9 (Send name (codes "a") (Some (codes "x")) (codes "x"))
     ∷ entry 2 1 10 (Receive name 1 None)
     ∷ entry 2 1 11 (Delete name (receipt 1 1))
     ∷ entry 2 1 12 (Change name (receipt 1 1) 0)
@@ -160,7 +160,7 @@ unfolding about on of_client is_fresh is_stale kept_reply live creations removed
 counts_after_a_delete = refl
 
 -- of the queue that the query names
-counts_of_another_queue : counts_after (one_in_the_air ++ entry 2 1 5 (Create (codes "r.fifo") 30) ∷ []) (codes "r.fifo") ≡ Counts 0 0
+counts_of_another_queue : counts_after (one_in_the_air ++ entry 2 1 5 (Create (codes "r.fifo") 30 false) ∷ []) (codes "r.fifo") ≡ Counts 0 0
 unfolding about on of_client is_fresh is_stale kept_reply live creations removed_lately messages duplicate is_sent hands touches until is_deleted message_of standing in_turn to_hand effect_on effect_off effect_of fresh_fact reply_again fact_of history last_moment counts_after
 counts_of_another_queue = refl
 
@@ -236,7 +236,7 @@ abbrev coming_entries : List Entry
 coming_entries = numbered 1 (create 0 10 ∷ send 1 (codes "a") (codes "x") ∷ send 2 (codes "a") (codes "x") ∷ receive 3 1 ∷ delete 3 2 1 ∷ receive 3 1 ∷ [])
 
 abbrev lifetime_of : List (ℕ × Ask) → List Fact
-lifetime_of asks = lifetime 1 10 (coming_entries ++ numbered 7 asks)
+lifetime_of asks = lifetime 1 (record { visibility = 10; content = false }) (coming_entries ++ numbered 7 asks)
 
 lifetime_replies : map (λ f. f.reply) (lifetime_of (receive 10002 1 ∷ receive 10003 1 ∷ [])) ≡ Created 1 ∷ Sent 1 ∷ Sent 1 ∷ Received (handed (codes "a") (codes "x") 1 1 ∷ []) ∷ Refused ReceiptHandleIsInvalid ∷ nothing ∷ nothing ∷ Received (handed (codes "a") (codes "x") 1 2 ∷ []) ∷ []
 unfolding messages duplicate is_sent hands touches until is_deleted message_of standing in_turn to_hand effect_on lifetime

@@ -1,4 +1,5 @@
 pub mod Among
+pub mod ContentRows
 pub mod Deletes
 pub mod Ends
 pub mod FactRows
@@ -7,6 +8,7 @@ pub mod Finds
 pub mod HandleTexts
 pub mod Histories
 pub mod Lists
+pub mod MadeIds
 pub mod Numbers
 pub mod Pairs
 pub mod Rows

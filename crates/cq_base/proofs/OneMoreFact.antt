@@ -7,9 +7,9 @@ use Rattle.cq_base.specs.declared.ask.Ask.TheVariants.{Create, Remove, Send, Rec
 use Rattle.cq_base.specs.declared.ask.Entry.{Entry}
 use Rattle.cq_base.specs.declared.limits.TheConstants.{SECOND, FLIGHT_LIMIT}
 use Rattle.cq_base.specs.declared.reply.Reply.TheVariants.{Created, Deleted, Changed, Refused}
-use Rattle.cq_base.specs.declared.reply.Refusal.TheVariants.{QueueNameExists, QueueDeletedRecently, ReceiptHandleIsInvalid, MessageNotInflight, VisibilityBeyondLimit}
-use Rattle.cq_base.specs.Asks.{dedup_of}
-use Rattle.cq_base.specs.Effects.{Effect, only_replies, takes_effect, create_again, send, message_at, is_own, fits, delete_sent, delete, change_sent, change, create, effect_on, effect_off}
+use Rattle.cq_base.specs.declared.reply.Refusal.TheVariants.{QueueNameExists, QueueDeletedRecently, ReceiptHandleIsInvalid, MessageNotInflight, VisibilityBeyondLimit, MissingDedupId}
+use Rattle.cq_base.specs.Asks.{Attributes, are_same, dedup_or_made, is_given_or_made, dedup_of}
+use Rattle.cq_base.specs.Effects.{Effect, only_replies, takes_effect, create_again, send, send_if, message_at, is_own, fits, delete_sent, delete, change_sent, change, create, effect_on, effect_off}
 use Rattle.cq_base.specs.Facts.{Fact}
 use Rattle.cq_base.specs.Handle.{Handle}
 use Rattle.cq_base.specs.History.{fact_with}
@@ -84,47 +84,52 @@ changed_handed moment visibility receipt (Some x) =
     (chosen_handed beyond (only_replies (Refused VisibilityBeyondLimit)) (takes_effect x.sequence Changed) refl refl))
 
 -- what the fact of a fresh entry hands out while its queue lives
-pub hands-on : (incarnation own : ℕ) (xs : List Fact) (moment client number : ℕ) (ask : Ask) → IsHanding own xs (fact_with (asked moment client number ask) incarnation (effect_on incarnation own moment xs ask))
+pub hands-on : (incarnation : ℕ) (own : Attributes) (xs : List Fact) (moment client number : ℕ) (ask : Ask) → IsHanding own.visibility xs (fact_with (asked moment client number ask) incarnation (effect_on incarnation own moment xs ask))
 unfolding effect_on
-hands-on incarnation own xs moment client number (Create queue visibility) = no_handing own xs _ (chosen_handed (eqb visibility own) (only_replies (Created incarnation)) (only_replies (Refused QueueNameExists)) refl refl)
-hands-on incarnation own xs moment client number (Remove queue) = no_handing own xs _ refl
-hands-on incarnation own xs moment client number (Send queue group dedup body) = no_handing own xs _ (sent_handed (length (messages xs) + 1) (duplicate dedup moment xs))
+hands-on incarnation own xs moment client number (Create queue visibility content) = no_handing own.visibility xs _ (chosen_handed (are_same (record { visibility = visibility; content = content }) own) (only_replies (Created incarnation)) (only_replies (Refused QueueNameExists)) refl refl)
+hands-on incarnation own xs moment client number (Remove queue) = no_handing own.visibility xs _ refl
+hands-on incarnation own xs moment client number (Send queue group dedup body) = no_handing own.visibility xs _ (chosen_handed (is_given_or_made own.content dedup) (send (length (messages xs) + 1) (duplicate (dedup_or_made body dedup) moment xs)) (only_replies (Refused MissingDedupId)) (sent_handed (length (messages xs) + 1) (duplicate (dedup_or_made body dedup) moment xs)) refl)
 hands-on incarnation own xs moment client number (Receive queue size visibility) = record { size = size; handed = refl }
-hands-on incarnation own xs moment client number (Delete queue receipt) = no_handing own xs _ (chosen_handed (is_own incarnation xs receipt) (delete_sent receipt (message_at receipt.sequence (standing own xs))) (only_replies (Refused ReceiptHandleIsInvalid)) (deleted_handed receipt (message_at receipt.sequence (standing own xs))) refl)
-hands-on incarnation own xs moment client number (Change queue receipt visibility) = no_handing own xs _ (chosen_handed (is_own incarnation xs receipt) (change_sent moment visibility receipt (message_at receipt.sequence (standing own xs))) (only_replies (Refused ReceiptHandleIsInvalid)) (changed_handed moment visibility receipt (message_at receipt.sequence (standing own xs))) refl)
+hands-on incarnation own xs moment client number (Delete queue receipt) = no_handing own.visibility xs _ (chosen_handed (is_own incarnation xs receipt) (delete_sent receipt (message_at receipt.sequence (standing own.visibility xs))) (only_replies (Refused ReceiptHandleIsInvalid)) (deleted_handed receipt (message_at receipt.sequence (standing own.visibility xs))) refl)
+hands-on incarnation own xs moment client number (Change queue receipt visibility) = no_handing own.visibility xs _ (chosen_handed (is_own incarnation xs receipt) (change_sent moment visibility receipt (message_at receipt.sequence (standing own.visibility xs))) (only_replies (Refused ReceiptHandleIsInvalid)) (changed_handed moment visibility receipt (message_at receipt.sequence (standing own.visibility xs))) refl)
 
 -- a send is accepted only if it repeats none
 accepted_new : (e : Entry) (n : ℕ) (earlier : Option Fact) (xs : List Fact) → duplicate (dedup_of e.request.ask) e.moment xs ≡ earlier → is_accepted (fact_with e n (send (length (messages xs) + 1) earlier)) ≡ true → IsNext xs (fact_with e n (send (length (messages xs) + 1) earlier))
 accepted_new e n None xs new accepted = record { number = refl; new = new; handed = refl }
 accepted_new e n (Some y) xs old accepted = absurd (both_ways _ refl accepted)
 
+-- and only if it has a deduplication id
+accepted_if : (has : Bool) (e : Entry) (n : ℕ) (earlier : Option Fact) (xs : List Fact) → duplicate (dedup_of e.request.ask) e.moment xs ≡ earlier → is_accepted (fact_with e n (send_if has (length (messages xs) + 1) earlier)) ≡ true → IsNext xs (fact_with e n (send_if has (length (messages xs) + 1) earlier))
+accepted_if true e n earlier xs same accepted = accepted_new e n earlier xs same accepted
+accepted_if false e n earlier xs same accepted = absurd (both_ways _ refl accepted)
+
 -- what is no send isn't accepted
 no_accept : {X : Type 0} (b : Bool) → (b && false) ≡ true → X
 no_accept b h = absurd (both_ways _ (not_both b) h)
 
 -- what the fact of a fresh entry accepts while its queue lives
-accepts_on : (incarnation own : ℕ) (xs : List Fact) (moment client number : ℕ) (ask : Ask) → is_accepted (fact_with (asked moment client number ask) incarnation (effect_on incarnation own moment xs ask)) ≡ true → IsNext xs (fact_with (asked moment client number ask) incarnation (effect_on incarnation own moment xs ask))
+accepts_on : (incarnation : ℕ) (own : Attributes) (xs : List Fact) (moment client number : ℕ) (ask : Ask) → is_accepted (fact_with (asked moment client number ask) incarnation (effect_on incarnation own moment xs ask)) ≡ true → IsNext xs (fact_with (asked moment client number ask) incarnation (effect_on incarnation own moment xs ask))
 unfolding effect_on
-accepts_on incarnation own xs moment client number (Create queue visibility) h = no_accept (create_again incarnation own visibility).effective h
+accepts_on incarnation own xs moment client number (Create queue visibility content) h = no_accept (create_again incarnation own (record { visibility = visibility; content = content })).effective h
 accepts_on incarnation own xs moment client number (Remove queue) h = no_accept true h
-accepts_on incarnation own xs moment client number (Send queue group dedup body) h = accepted_new (asked moment client number (Send queue group dedup body)) incarnation (duplicate dedup moment xs) xs refl h
+accepts_on incarnation own xs moment client number (Send queue group dedup body) h = accepted_if (is_given_or_made own.content dedup) (asked moment client number (Send queue group dedup body)) incarnation (duplicate (dedup_or_made body dedup) moment xs) xs refl h
 accepts_on incarnation own xs moment client number (Receive queue size visibility) h = no_accept false h
-accepts_on incarnation own xs moment client number (Delete queue receipt) h = no_accept (delete incarnation xs (standing own xs) receipt).effective h
-accepts_on incarnation own xs moment client number (Change queue receipt visibility) h = no_accept (change incarnation moment visibility xs (standing own xs) receipt).effective h
+accepts_on incarnation own xs moment client number (Delete queue receipt) h = no_accept (delete incarnation xs (standing own.visibility xs) receipt).effective h
+accepts_on incarnation own xs moment client number (Change queue receipt visibility) h = no_accept (change incarnation moment visibility xs (standing own.visibility xs) receipt).effective h
 
 -- what the fact of a fresh entry deletes while its queue lives was handed out
-deletes_on : (incarnation own : ℕ) (xs : List Fact) (moment client number : ℕ) (ask : Ask) (sequence : ℕ) → deletes_it sequence (fact_with (asked moment client number ask) incarnation (effect_on incarnation own moment xs ask)) ≡ true → WasHanded sequence xs
+deletes_on : (incarnation : ℕ) (own : Attributes) (xs : List Fact) (moment client number : ℕ) (ask : Ask) (sequence : ℕ) → deletes_it sequence (fact_with (asked moment client number ask) incarnation (effect_on incarnation own moment xs ask)) ≡ true → WasHanded sequence xs
 unfolding effect_on
-deletes_on incarnation own xs moment client number (Create queue visibility) sequence h none = no_delete (create_again incarnation own visibility).effective _ h
+deletes_on incarnation own xs moment client number (Create queue visibility content) sequence h none = no_delete (create_again incarnation own (record { visibility = visibility; content = content })).effective _ h
 deletes_on incarnation own xs moment client number (Remove queue) sequence h none = false≢true h
-deletes_on incarnation own xs moment client number (Send queue group dedup body) sequence h none = no_delete (send (length (messages xs) + 1) (duplicate dedup moment xs)).effective _ h
+deletes_on incarnation own xs moment client number (Send queue group dedup body) sequence h none = no_delete (send_if (is_given_or_made own.content dedup) (length (messages xs) + 1) (duplicate (dedup_or_made body dedup) moment xs)).effective _ h
 deletes_on incarnation own xs moment client number (Receive queue size visibility) sequence h none = false≢true h
-deletes_on incarnation own xs moment client number (Delete queue receipt) sequence h none = deleted_handed_out incarnation own xs receipt sequence h none
-deletes_on incarnation own xs moment client number (Change queue receipt visibility) sequence h none = no_delete (change incarnation moment visibility xs (standing own xs) receipt).effective _ h
+deletes_on incarnation own xs moment client number (Delete queue receipt) sequence h none = deleted_handed_out incarnation own.visibility xs receipt sequence h none
+deletes_on incarnation own xs moment client number (Change queue receipt visibility) sequence h none = no_delete (change incarnation moment visibility xs (standing own.visibility xs) receipt).effective _ h
 
 -- the fact of a fresh entry while its queue lives
-pub step-on : (incarnation own : ℕ) (xs : List Fact) (moment client number : ℕ) (ask : Ask) → IsStep xs (fact_with (asked moment client number ask) incarnation (effect_on incarnation own moment xs ask))
-step-on incarnation own xs moment client number ask = record { accepts = accepts_on incarnation own xs moment client number ask; visibility = own; hands = hands-on incarnation own xs moment client number ask; deletes = deletes_on incarnation own xs moment client number ask }
+pub step-on : (incarnation : ℕ) (own : Attributes) (xs : List Fact) (moment client number : ℕ) (ask : Ask) → IsStep xs (fact_with (asked moment client number ask) incarnation (effect_on incarnation own moment xs ask))
+step-on incarnation own xs moment client number ask = record { accepts = accepts_on incarnation own xs moment client number ask; visibility = own.visibility; hands = hands-on incarnation own xs moment client number ask; deletes = deletes_on incarnation own xs moment client number ask }
 
 -- a fact that neither accepts nor hands out nor deletes
 no_step : (xs : List Fact) (f : Fact) → is_accepted f ≡ false → f.handed ≡ [] → is_delete_done f ≡ false → IsStep xs f
@@ -133,7 +138,7 @@ no_step xs f rejected h keeps = record { accepts = λ accepted. absurd (both_way
 -- the fact of a fresh entry while its queue doesn't live
 pub step-off : (own xs : List Fact) (n moment client number : ℕ) (ask : Ask) → IsStep xs (fact_with (asked moment client number ask) n (effect_off moment own ask))
 unfolding effect_off
-step-off own xs n moment client number (Create queue visibility) = no_step xs _ (not_both (create (removed_lately moment own) (creations own + 1)).effective) (chosen_handed (removed_lately moment own) (only_replies (Refused QueueDeletedRecently)) (takes_effect (creations own + 1) (Created (creations own + 1))) refl refl) (not_both (create (removed_lately moment own) (creations own + 1)).effective)
+step-off own xs n moment client number (Create queue visibility content) = no_step xs _ (not_both (create (removed_lately moment own) (creations own + 1)).effective) (chosen_handed (removed_lately moment own) (only_replies (Refused QueueDeletedRecently)) (takes_effect (creations own + 1) (Created (creations own + 1))) refl refl) (not_both (create (removed_lately moment own) (creations own + 1)).effective)
 step-off own xs n moment client number (Remove queue) = no_step xs _ refl refl refl
 step-off own xs n moment client number (Send queue group dedup body) = no_step xs _ refl refl refl
 step-off own xs n moment client number (Receive queue size visibility) = no_step xs _ refl refl refl

@@ -31,21 +31,21 @@ name = codes "q.fifo"
 
 -- the asks after the creation of the queue at moment 0, with a visibility timeout of 30 s
 abbrev pub created : List (ℕ × Ask) → List Entry
-created asks = entry 0 1 1 (Create name 30) ∷ numbered 2 asks
+created asks = entry 0 1 1 (Create name 30 false) ∷ numbered 2 asks
 
 abbrev pub create : ℕ → ℕ → ℕ × Ask
-create moment visibility = (moment, Create name visibility)
+create moment visibility = (moment, Create name visibility false)
 
 abbrev pub remove : ℕ → ℕ × Ask
 remove moment = (moment, Remove name)
 
 -- a body is its own deduplication id
 abbrev pub send : ℕ → List ℕ → List ℕ → ℕ × Ask
-send moment group body = (moment, Send name group body body)
+send moment group body = (moment, Send name group (Some body) body)
 
 -- a send whose body is another text than its deduplication id
 abbrev send_as : ℕ → List ℕ → List ℕ → List ℕ → ℕ × Ask
-send_as moment group dedup body = (moment, Send name group dedup body)
+send_as moment group dedup body = (moment, Send name group (Some dedup) body)
 
 abbrev pub receive : ℕ → ℕ → ℕ × Ask
 receive moment size = (moment, Receive name size None)
@@ -391,8 +391,8 @@ order_after_a_delete = refl
 -- A repeat has the kept reply of its number and hands out nothing; a smaller number is stale.
 abbrev repeats_entries : List Entry
 repeats_entries =
-    entry 0 1 1 (Create name 30)
-    ∷ entry 0 1 2 (Send name (codes "a") (codes "x") (codes "x"))
+    entry 0 1 1 (Create name 30 false)
+    ∷ entry 0 1 2 (Send name (codes "a") (Some (codes "x")) (codes "x"))
     ∷ entry 10 1 3 (Receive name 1 None)
     ∷ entry 60000 1 3 (Receive name 1 None)
     ∷ entry 60000 1 2 (Receive name 1 None)
@@ -422,13 +422,13 @@ repeats = refl
 abbrev lifetimes_entries : List Entry
 lifetimes_entries =
     entry 0 1 0 (Receive name 1 None)
-    ∷ entry 1 1 2 (Create name 30)
-    ∷ entry 2 1 3 (Create name 30)
-    ∷ entry 3 1 4 (Create name 31)
-    ∷ entry 4 1 5 (Send (codes "r.fifo") (codes "a") (codes "x") (codes "x"))
+    ∷ entry 1 1 2 (Create name 30 false)
+    ∷ entry 2 1 3 (Create name 30 false)
+    ∷ entry 3 1 4 (Create name 31 false)
+    ∷ entry 4 1 5 (Send (codes "r.fifo") (codes "a") (Some (codes "x")) (codes "x"))
     ∷ entry 4 1 6 (Delete name (receipt 1 1))
     ∷ entry 4 1 7 (Change name (receipt 1 1) 0)
-    ∷ entry 5 1 0 (Create name 30)
+    ∷ entry 5 1 0 (Create name 30 false)
     ∷ []
 
 abbrev lifetimes_replies : List Reply

@@ -4,10 +4,10 @@ use Rattle.std.specs.List.{filter, find}
 use Rattle.cq_base.specs.declared.ask.Ask.{Ask}
 use Rattle.cq_base.specs.declared.ask.Ask.TheVariants.{Create, Remove, Send, Receive, Delete, Change}
 use Rattle.cq_base.specs.declared.limits.TheConstants.{SECOND, FLIGHT_LIMIT}
-use Rattle.cq_base.specs.declared.reply.Refusal.TheVariants.{QueueDoesNotExist, QueueNameExists, QueueDeletedRecently, ReceiptHandleIsInvalid, MessageNotInflight, VisibilityBeyondLimit}
+use Rattle.cq_base.specs.declared.reply.Refusal.TheVariants.{QueueDoesNotExist, QueueNameExists, QueueDeletedRecently, ReceiptHandleIsInvalid, MessageNotInflight, VisibilityBeyondLimit, MissingDedupId}
 use Rattle.cq_base.specs.declared.reply.Reply.{Reply}
 use Rattle.cq_base.specs.declared.reply.Reply.TheVariants.{Created, Removed, Sent, Received, Deleted, Changed, Counts, Refused}
-use Rattle.cq_base.specs.Asks.{visibility_of}
+use Rattle.cq_base.specs.Asks.{Attributes, attributes_of, are_same, dedup_or_made, is_given_or_made}
 use Rattle.cq_base.specs.Facts.{Fact, on}
 use Rattle.cq_base.specs.Handle.{Handle}
 use Rattle.cq_base.specs.Lifetimes.{live, creations, removed_lately}
@@ -29,10 +29,10 @@ only_replies reply = record { effective = false; count = 0; handed = []; reply =
 abbrev pub takes_effect : ℕ → Reply → Effect
 takes_effect count reply = record { effective = true; count = count; handed = []; reply = reply }
 
--- A creation of a queue that lives as that incarnation, with `own` for its visibility timeout, changes
--- nothing; with another timeout it is refused (SQS API Reference, "CreateQueue").
-abbrev pub create_again : ℕ → ℕ → ℕ → Effect
-create_again incarnation own visibility = if visibility == own then only_replies (Created incarnation) else only_replies (Refused QueueNameExists)
+-- A creation of a queue that lives as that incarnation, with `own` for its attributes, changes nothing; with
+-- another of either attribute it is refused (SQS API Reference, "CreateQueue").
+abbrev pub create_again : ℕ → Attributes → Attributes → Effect
+create_again incarnation own given = if are_same given own then only_replies (Created incarnation) else only_replies (Refused QueueNameExists)
 
 -- A send is accepted with that sequence number, unless it repeats an earlier one: then it is answered
 -- with that message's number, and nothing is added (SQS API Reference, "SendMessage",
@@ -40,6 +40,11 @@ create_again incarnation own visibility = if visibility == own then only_replies
 abbrev pub send : ℕ → Option Fact → Effect
 send sequence None = takes_effect sequence (Sent sequence)
 send sequence (Some earlier) = only_replies (Sent earlier.count)
+
+-- The same of any send, if it has a deduplication id, given or made; else it is refused (SQS API Reference,
+-- "SendMessage", `MessageDeduplicationId`; the refusal's name is this project's).
+abbrev pub send_if : Bool → ℕ → Option Fact → Effect
+send_if has sequence earlier = if has then send sequence earlier else only_replies (Refused MissingDedupId)
 
 -- a receive hands out these messages, each under the receipt of its next handing
 abbrev pub hand : ℕ → List Message → Effect
@@ -95,15 +100,15 @@ change_sent moment visibility receipt (Some x) = change_standing moment visibili
 abbrev pub change : ℕ → ℕ → ℕ → List Fact → List Message → Handle → Effect
 change incarnation moment visibility facts messages receipt = if is_own incarnation facts receipt then change_sent moment visibility receipt (message_at receipt.sequence messages) else only_replies (Refused ReceiptHandleIsInvalid)
 
--- What an ask does to a queue that lives as that incarnation, with `own` for its visibility timeout. The
--- facts are those on the incarnation. A removal takes effect at once (SQS API Reference, "DeleteQueue").
-unfoldable pub effect_on : ℕ → ℕ → ℕ → List Fact → Ask → Effect
-effect_on incarnation own moment facts (Create queue visibility) = create_again incarnation own visibility
+-- What an ask does to a queue that lives as that incarnation, with `own` for its attributes. The facts are
+-- those on the incarnation. A removal takes effect at once (SQS API Reference, "DeleteQueue").
+unfoldable pub effect_on : ℕ → Attributes → ℕ → List Fact → Ask → Effect
+effect_on incarnation own moment facts (Create queue visibility content) = create_again incarnation own (record { visibility = visibility; content = content })
 effect_on incarnation own moment facts (Remove queue) = takes_effect incarnation Removed
-effect_on incarnation own moment facts (Send queue group dedup body) = send (length (messages facts) + 1) (duplicate dedup moment facts)
-effect_on incarnation own moment facts (Receive queue size visibility) = hand incarnation (to_hand size moment (standing own facts))
-effect_on incarnation own moment facts (Delete queue receipt) = delete incarnation facts (standing own facts) receipt
-effect_on incarnation own moment facts (Change queue receipt visibility) = change incarnation moment visibility facts (standing own facts) receipt
+effect_on incarnation own moment facts (Send queue group dedup body) = send_if (is_given_or_made own.content dedup) (length (messages facts) + 1) (duplicate (dedup_or_made body dedup) moment facts)
+effect_on incarnation own moment facts (Receive queue size visibility) = hand incarnation (to_hand size moment (standing own.visibility facts))
+effect_on incarnation own moment facts (Delete queue receipt) = delete incarnation facts (standing own.visibility facts) receipt
+effect_on incarnation own moment facts (Change queue receipt visibility) = change incarnation moment visibility facts (standing own.visibility facts) receipt
 
 -- a creation of a queue that doesn't live, with this number for its incarnation
 abbrev pub create : Bool → ℕ → Effect
@@ -112,21 +117,25 @@ create removed incarnation = if removed then only_replies (Refused QueueDeletedR
 -- What an ask does to a queue that doesn't live: a creation takes effect, unless the queue was removed
 -- less than a minute before, and all else is refused. The facts are those about the queue.
 unfoldable pub effect_off : ℕ → List Fact → Ask → Effect
-effect_off moment facts (Create queue visibility) = create (removed_lately moment facts) (creations facts + 1)
+effect_off moment facts (Create queue visibility content) = create (removed_lately moment facts) (creations facts + 1)
 effect_off moment facts (Remove queue) = only_replies (Refused QueueDoesNotExist)
 effect_off moment facts (Send queue group dedup body) = only_replies (Refused QueueDoesNotExist)
 effect_off moment facts (Receive queue size visibility) = only_replies (Refused QueueDoesNotExist)
 effect_off moment facts (Delete queue receipt) = only_replies (Refused QueueDoesNotExist)
 effect_off moment facts (Change queue receipt visibility) = only_replies (Refused QueueDoesNotExist)
 
--- the visibility timeout of the queue that the creation began
+-- the attributes of the queue that the creation began
+abbrev pub attributes_by : Fact → Attributes
+attributes_by creation = attributes_of creation.entry.request.ask
+
+-- its visibility timeout, in seconds
 abbrev pub visibility_by : Fact → ℕ
-visibility_by creation = visibility_of creation.entry.request.ask
+visibility_by creation = (attributes_by creation).visibility
 
 -- the same, by the creation by which the queue lives, if any
 abbrev pub effect_by : Option Fact → ℕ → List Fact → Ask → Effect
 effect_by None moment facts ask = effect_off moment facts ask
-effect_by (Some creation) moment facts ask = effect_on creation.count (visibility_by creation) moment (on creation.count facts) ask
+effect_by (Some creation) moment facts ask = effect_on creation.count (attributes_by creation) moment (on creation.count facts) ask
 
 -- What a fresh entry does, by the facts about its queue.
 unfoldable pub effect_of : ℕ → List Fact → Ask → Effect

@@ -4,20 +4,20 @@ use Rattle.std.specs.List.{filter, find, fold, last_or}
 use Rattle.std.specs.Str.{bytes_eq}
 use Rattle.cq_base.specs.declared.limits.TheConstants.{DEDUPLICATION_WINDOW}
 use Rattle.cq_base.specs.declared.ask.Entry.{Entry}
-use Rattle.cq_base.specs.Asks.{is_send, is_receive, is_change}
+use Rattle.cq_base.specs.Asks.{Attributes, is_send, is_receive, is_change}
 use Rattle.cq_base.specs.Effects.{effect_on}
 use Rattle.cq_base.specs.Facts.{Fact}
 use Rattle.cq_base.specs.History.{fact_with}
 use Rattle.cq_base.specs.Messages.{Message, messages, duplicate, standing, moment_of}
 
 -- what an entry does that comes to an incarnation, by what those before it did
-abbrev pub coming : ℕ → ℕ → List Fact → Entry → Fact
+abbrev pub coming : ℕ → Attributes → List Fact → Entry → Fact
 coming incarnation own facts e = fact_with e incarnation (effect_on incarnation own e.moment facts e.request.ask)
 
--- What happens to the incarnation of that number, with `own` for its visibility timeout: what the entries
--- do that come to it, in order. It is the part of a history that is on the incarnation, made of the
+-- What happens to the incarnation of that number, with `own` for its attributes: what the entries do
+-- that come to it, in order. It is the part of a history that is on the incarnation, made of the
 -- entries of that part alone.
-unfoldable pub lifetime : ℕ → ℕ → List Entry → List Fact
+unfoldable pub lifetime : ℕ → Attributes → List Entry → List Fact
 lifetime incarnation own entries = fold (λ facts e. facts ++ coming incarnation own facts e ∷ []) [] entries
 
 -- An accepted send, as far as its deduplication id goes.
@@ -39,8 +39,8 @@ repeated id moment accepted = option_map (λ a. a.sequence) (find (counts_for id
 pub record Incarnation : Type 0 where
   -- its number
   pub number : ℕ
-  -- its visibility timeout, in seconds
-  pub visibility : ℕ
+  -- the attributes with which it was created
+  pub attributes : Attributes
   -- how many sends it has accepted
   pub sent : ℕ
   -- the messages that aren't deleted, in order of sending
@@ -62,7 +62,7 @@ is_clocked f = is_use f || f.effective && is_change f.entry.request.ask
 
 -- What happened to an incarnation, by what is kept of it and the entries that came to it.
 abbrev pub told_of : Incarnation → List Entry → List Fact
-told_of kept entries = lifetime kept.number kept.visibility entries
+told_of kept entries = lifetime kept.number kept.attributes entries
 
 -- What is kept stands for the entries that came to the incarnation. Of the accepted sends only those have
 -- to be kept that a later send can repeat: for each deduplication id, and each moment from the last one on,
@@ -70,7 +70,7 @@ told_of kept entries = lifetime kept.number kept.visibility entries
 -- of the others only how they stand.
 pub record IncarnationStands (kept : Incarnation) (entries : List Entry) : Type 0 where
   pub sent : kept.sent ≡ length (messages (told_of kept entries))
-  pub messages : kept.messages ≡ standing kept.visibility (told_of kept entries)
+  pub messages : kept.messages ≡ standing kept.attributes.visibility (told_of kept entries)
   pub window : (id : List ℕ) (moment : ℕ) → kept.last ≤ moment
       → repeated id moment kept.accepted ≡ option_map (λ f. f.count) (duplicate id moment (told_of kept entries))
   pub last : kept.last ≡ moment_of (last_or None (filter is_clocked (told_of kept entries)))

@@ -19,7 +19,7 @@ messages facts = filter is_accepted facts
 abbrev pub is_duplicated_by : List ℕ → ℕ → Fact → Bool
 is_duplicated_by id moment f = bytes_eq (dedup_of f.entry.request.ask) id && nat_lt moment (f.entry.moment + DEDUPLICATION_WINDOW)
 
--- The accepted send of the same deduplication id less than five minutes before, whatever its group and
+-- The accepted send of the same deduplication id, given or made, less than five minutes before, whatever its group and
 -- its body, and whether or not its message is deleted (SQS API Reference, "SendMessage",
 -- `MessageDeduplicationId`).
 unfoldable pub duplicate : List ℕ → ℕ → List Fact → Option Fact

@@ -1,7 +1,7 @@
 -- The numbers and names under which requests are refused.
 use Rattle.std.specs.Prelude.{ℕ, List, codes}
 use Rattle.cq_base.specs.declared.reply.Refusal.{Refusal}
-use Rattle.cq_base.specs.declared.reply.Refusal.TheVariants.{QueueDoesNotExist, QueueNameExists, QueueDeletedRecently, ReceiptHandleIsInvalid, MessageNotInflight, VisibilityBeyondLimit, StaleNumber}
+use Rattle.cq_base.specs.declared.reply.Refusal.TheVariants.{QueueDoesNotExist, QueueNameExists, QueueDeletedRecently, ReceiptHandleIsInvalid, MessageNotInflight, VisibilityBeyondLimit, StaleNumber, MissingDedupId}
 
 -- the number of a refusal
 abbrev pub refusal_code : Refusal → ℕ
@@ -12,6 +12,7 @@ refusal_code ReceiptHandleIsInvalid = 4
 refusal_code MessageNotInflight = 5
 refusal_code VisibilityBeyondLimit = 6
 refusal_code StaleNumber = 7
+refusal_code MissingDedupId = 8
 
 -- its name
 abbrev pub refusal_name : Refusal → List ℕ
@@ -22,3 +23,4 @@ refusal_name ReceiptHandleIsInvalid = codes "ReceiptHandleIsInvalid"
 refusal_name MessageNotInflight = codes "MessageNotInflight"
 refusal_name VisibilityBeyondLimit = codes "VisibilityBeyondLimit"
 refusal_name StaleNumber = codes "StaleNumber"
+refusal_name MissingDedupId = codes "MissingDedupId"

@@ -3,6 +3,8 @@ use Rattle.std.specs.Prelude.{ℕ, ◌-◌, ◌&&◌, ◌||◌, ◌==◌, Bool, 
 use Rattle.std.specs.List.{list_all, ends_with}
 use Rattle.std.specs.Str.{chars}
 use Rattle.cq_base.specs.declared.limits.TheConstants.{NAME_LIMIT, ID_LIMIT, FIRST_ID_BYTE, LAST_ID_BYTE, BODY_LIMIT}
+use Rattle.hex.specs.Hex.{encode_lower}
+use Rattle.sha2.specs.Sha256.{sha256}
 
 -- n is from low to high
 abbrev pub is_within : ℕ → ℕ → ℕ → Bool
@@ -45,3 +47,9 @@ has_body_length bytes = is_within 1 BODY_LIMIT (length bytes)
 -- a message body
 abbrev pub is_body : List ℕ → Bool
 is_body bytes = has_body_characters bytes && has_body_length bytes
+
+-- The deduplication id that is made of a body: the SHA-256 of its bytes, as 64 lower-case hex digits (SQS
+-- API Reference, "CreateQueue", `ContentBasedDeduplication`; that the digits are hex, and lower case, is a
+-- choice of this project).
+abbrev pub made_id : List ℕ → List ℕ
+made_id body = encode_lower (sha256 body)

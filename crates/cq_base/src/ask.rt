@@ -14,16 +14,20 @@ pub enum Ask {
     Create {
         queue: QueueName,
         visibility: Seconds,
+        /// Whether the queue makes the deduplication id of a send that has none, of its body (SQS API
+        /// Reference, "CreateQueue", `ContentBasedDeduplication`).
+        content: bool,
     },
     /// Ends the queue and its messages at once (SQS API Reference, "DeleteQueue").
     Remove {
         queue: QueueName,
     },
-    /// Adds a message to the end of its group (SQS API Reference, "SendMessage").
+    /// Adds a message to the end of its group (SQS API Reference, "SendMessage"). Without a deduplication
+    /// id it has the one that the queue makes of its body, or is refused.
     Send {
         queue: QueueName,
         group: GroupId,
-        dedup: DedupId,
+        dedup: Option<DedupId>,
         body: Body,
     },
     /// Hands out messages of open groups (SQS API Reference, "ReceiveMessage"). Without a visibility
@@ -67,9 +71,14 @@ impl Ask {
         ensures { IfOk result (λ copy. copy ≡ self.now) }
     {
         Ok(match self {
-            Ask::Create { queue, visibility } => Ask::Create {
+            Ask::Create {
+                queue,
+                visibility,
+                content,
+            } => Ask::Create {
                 queue: queue.try_copy()?,
                 visibility: *visibility,
+                content: *content,
             },
             Ask::Remove { queue } => Ask::Remove {
                 queue: queue.try_copy()?,
@@ -82,7 +91,7 @@ impl Ask {
             } => Ask::Send {
                 queue: queue.try_copy()?,
                 group: group.try_copy()?,
-                dedup: dedup.try_copy()?,
+                dedup: copy_of(dedup)?,
                 body: body.try_copy()?,
             },
             Ask::Receive {
@@ -108,6 +117,16 @@ impl Ask {
                 visibility: *visibility,
             },
         })
+    }
+}
+
+/// The same id, if there is one. It shares the text: O(1).
+fn copy_of(dedup: &Option<DedupId>) -> Result<Option<DedupId>, NoMemory>
+    ensures { IfOk result (λ copy. copy ≡ dedup.now) }
+{
+    match dedup {
+        Some(dedup) => Ok(Some(dedup.try_copy()?)),
+        None => Ok(None),
     }
 }
 

@@ -93,8 +93,8 @@ pub enum Refusal {
     /// No queue of this name lives (SQS API Reference, "SendMessage" and "ReceiveMessage",
     /// `QueueDoesNotExist`).
     QueueDoesNotExist,
-    /// A queue of this name lives with another visibility timeout (SQS API Reference, "CreateQueue",
-    /// `QueueNameExists`).
+    /// A queue of this name lives with another visibility timeout, or makes ids where the creation asks for
+    /// none, or the other way round (SQS API Reference, "CreateQueue", `QueueNameExists`).
     QueueNameExists,
     /// The queue was removed less than 60,000 ms before (SQS API Reference, "CreateQueue",
     /// `QueueDeletedRecently`).
@@ -110,6 +110,9 @@ pub enum Refusal {
     VisibilityBeyondLimit,
     /// The client has used a larger number already (a rule of this project).
     StaleNumber,
+    /// The send has no deduplication id, and the queue makes none (SQS API Reference, "SendMessage",
+    /// `MessageDeduplicationId`; the name is this project's).
+    MissingDedupId,
 }
 
 impl Refusal {
@@ -125,6 +128,7 @@ impl Refusal {
             Refusal::MessageNotInflight => 5,
             Refusal::VisibilityBeyondLimit => 6,
             Refusal::StaleNumber => 7,
+            Refusal::MissingDedupId => 8,
         }
     }
 
@@ -140,6 +144,7 @@ impl Refusal {
             Refusal::MessageNotInflight => "MessageNotInflight",
             Refusal::VisibilityBeyondLimit => "VisibilityBeyondLimit",
             Refusal::StaleNumber => "StaleNumber",
+            Refusal::MissingDedupId => "MissingDedupId",
         }
     }
 }

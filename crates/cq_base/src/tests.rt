@@ -104,6 +104,42 @@ fn bodies_end_where_the_rule_says(rt: HostRuntime) -> Result<(), Fail> {
     Ok(())
 }
 
+/// The id that is made of a body of that text.
+fn made(alloc: Global, text: &str) -> Result<DedupId, Fail> {
+    Ok(DedupId::of_body(&Body::new(alloc, text)?)?)
+}
+
+#[test]
+fn ids_are_made_as_sha256sum_makes_them(rt: HostRuntime) -> Result<(), Fail> {
+    let alloc = rt.alloc();
+    let longest = letters(alloc, 262_144, "")?;
+    for (text, id) in [
+        (
+            "abc",
+            "ba7816bf8f01cfea414140de5dae2223b00361a396177a9cb410ff61f20015ad",
+        ),
+        (
+            "hello",
+            "2cf24dba5fb0a30e26e83b2ac5b9e29e1b161e5c1fa7425e73043362938b9824",
+        ),
+        (
+            " ",
+            "36a9e7f1c95b82ffb99743e0c5c4ce95d83c9a430aac59f84ef3cbfab6145068",
+        ),
+        (
+            longest.as_str(),
+            "dd3dde87623d9a6b354c68c943d189c89c63652d945e7bbdf0986cae91a49521",
+        ),
+        (
+            "ä€𝄞",
+            "8119dd09487f1de241b90065fcb5b9f07e04d877b9593da1a9eff9688d9093aa",
+        ),
+    ] {
+        assert_eq!(rt; made(alloc, text)?.as_str(), id);
+    }
+    Ok(())
+}
+
 #[test]
 fn numbers_end_where_the_rules_say(rt: HostRuntime) {
     let largest = 1_152_921_504_606_846_976;
@@ -189,47 +225,52 @@ fn entry(alloc: Global, kind: u8) -> Result<Entry, Fail> {
     Ok(Entry { moment, request })
 }
 
-fn send(alloc: Global, queue: QueueName) -> Result<Ask, Fail> {
+fn send(alloc: Global, queue: QueueName, dedup: Option<DedupId>) -> Result<Ask, Fail> {
     Ok(Ask::Send {
         queue,
         group: GroupId::new(alloc, "a")?,
-        dedup: DedupId::new(alloc, "d")?,
+        dedup,
         body: Body::new(alloc, "hello")?,
     })
 }
 
-/// An ask of each kind, from 0 to 5.
+/// An ask of each kind, from 0 to 6; of sends, one with an id and one without.
 fn ask(alloc: Global, kind: u8) -> Result<Ask, Fail> {
     let queue = QueueName::new(alloc, "q.fifo")?;
     let visibility = Seconds::new(30).ok_or("no timeout")?;
     let size = BatchSize::new(3).ok_or("no size")?;
     let receipt = Receipt::new(1, 2, 3).ok_or("a zero")?;
     match kind {
-        0 => Ok(Ask::Create { queue, visibility }),
+        0 => Ok(Ask::Create {
+            queue,
+            visibility,
+            content: true,
+        }),
         1 => Ok(Ask::Remove { queue }),
-        2 => send(alloc, queue),
+        2 => send(alloc, queue, Some(DedupId::new(alloc, "d")?)),
         3 => Ok(Ask::Receive {
             queue,
             size,
             visibility: Some(visibility),
         }),
         4 => Ok(Ask::Delete { queue, receipt }),
-        _ => Ok(Ask::Change {
+        5 => Ok(Ask::Change {
             queue,
             receipt,
             visibility,
         }),
+        _ => send(alloc, queue, None),
     }
 }
 
 #[test]
 fn copies_of_asks_are_equal(rt: HostRuntime) -> Result<(), Fail> {
     let alloc = rt.alloc();
-    for kind in 0..6 {
+    for kind in 0..7 {
         let original = entry(alloc, kind)?;
         assert_eq!(rt; original.request.ask.queue().as_str(), "q.fifo");
         assert_eq!(rt; original.try_copy()?, original);
-        let other = ask(alloc, (kind + 1) % 6)?;
+        let other = ask(alloc, (kind + 1) % 7)?;
         assert!(rt; original.request.ask != other);
     }
     Ok(())
@@ -300,12 +341,12 @@ fn deliveries_are_a_vector(rt: HostRuntime) -> Result<(), Fail> {
 #[test]
 fn refusals_and_faults_are_shown_by_name(rt: HostRuntime) -> Result<(), Fail> {
     let alloc = rt.alloc();
-    let refusal = Refusal::StaleNumber;
+    let refusal = Refusal::MissingDedupId;
     let fault = BaseFault::BadGroup;
     let no_memory = NoMemory;
     let shown = format!(in alloc; "{refusal} {fault} {no_memory}")?;
-    assert_eq!(rt; shown.as_str(), "StaleNumber BadGroup NoMemory");
-    assert_eq!(rt; refusal.code(), 7);
+    assert_eq!(rt; shown.as_str(), "MissingDedupId BadGroup NoMemory");
+    assert_eq!(rt; refusal.code(), 8);
     assert_eq!(rt; fault.code(), 12);
     Ok(())
 }

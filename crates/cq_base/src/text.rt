@@ -6,10 +6,11 @@ ghost use Rattle.std.specs.Str.{bytes_eq};
 ghost use Rattle.std.specs.Hash as fed;
 ghost use Rattle.std.specs.Cmp.Rules.{comparing, hashing};
 ghost use Rattle.std.proofs.Common.{rules};
-ghost use Rattle.cq_base.specs.Texts.{is_name_byte, is_queue_name, is_id_byte, is_id, is_body_character, has_body_characters, has_body_length, is_body};
+ghost use Rattle.cq_base.specs.Texts.{is_name_byte, is_queue_name, is_id_byte, is_id, is_body_character, has_body_characters, has_body_length, is_body, made_id};
 
 use crate::fault::{BaseFault, NoMemory};
 use crate::limits::{BODY_LIMIT, FIRST_ID_BYTE, ID_LIMIT, LAST_ID_BYTE, NAME_LIMIT};
+use sha2::{Digest, Sha256};
 use std::alloc::Global;
 use std::fmt;
 use std::hash::{Hash, Hasher};
@@ -255,6 +256,18 @@ impl DedupId {
         })
     }
 
+    /// The id that is made of a body: the SHA-256 of its bytes, as 64 lower-case hex digits (SQS API
+    /// Reference, "CreateQueue", `ContentBasedDeduplication`). O(length of the body).
+    pub fn of_body(body: &Body) -> Result<DedupId, NoMemory>
+        ensures { IfOk result (λ made. made ≡ made_id body.now) }
+    {
+        let digest = Sha256::digest(body.as_str());
+        let text = hex::encode(body.alloc, digest)?;
+        Ok(DedupId {
+            text: ArcStr::from_string(text)?,
+        })
+    }
+
     pub fn as_str(&self) -> &str
         ensures text { result.now ≡ self.now }
         ensures valid { is_id self.now ≡ true }
@@ -309,6 +322,8 @@ impl fmt::Display for DedupId {
 #[derive(Debug, Drop)]
 pub struct Body {
     text: ArcStr,
+    /// Where an id that is made of it takes its memory.
+    alloc: Global,
 }
 
 impl Model for Body {
@@ -338,6 +353,7 @@ impl Body {
         }
         Ok(Body {
             text: ArcStr::from_str(alloc, text)?,
+            alloc,
         })
     }
 
@@ -355,6 +371,7 @@ impl Body {
     {
         Ok(Body {
             text: self.text.clone()?,
+            alloc: self.alloc,
         })
     }
 }
