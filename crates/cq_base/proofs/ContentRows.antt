@@ -6,7 +6,6 @@ use Rattle.hex.specs.Hex.{encode_with}
 use Rattle.sha2.specs.Sha256.{first_words, schedule, rounds, compress, hash_after, digest_bytes, sha256}
 use Rattle.cq_base.specs.declared.ask.Ask.{Ask}
 use Rattle.cq_base.specs.declared.ask.Ask.TheVariants.{Create, Send}
-use Rattle.cq_base.specs.declared.ask.Entry.{Entry}
 use Rattle.cq_base.specs.declared.reply.Refusal.TheVariants.{QueueDoesNotExist, QueueNameExists, MissingDedupId}
 use Rattle.cq_base.specs.declared.reply.Reply.{Reply}
 use Rattle.cq_base.specs.declared.reply.Reply.TheVariants.{Created, Sent, Refused}

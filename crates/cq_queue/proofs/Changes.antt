@@ -28,9 +28,9 @@ use Rattle.cq_queue.proofs.Told.{IsTold, told-lifetime}
 
 -- what a change does, by what is kept
 alteration-kept : (kept : Incarnation) (xs : List Fact) (moment : ℕ) (receipt : Handle) (visibility : ℕ) → StandsFor kept xs → IsTold xs → 0 < receipt.sequence
-    → change kept.number moment visibility xs (standing kept.visibility xs) receipt ≡ alteration moment visibility kept receipt
+    → change kept.number moment visibility xs (standing kept.attributes.visibility xs) receipt ≡ alteration moment visibility kept receipt
 alteration-kept kept xs moment receipt visibility stands told positive =
-    ap (λ b. cond b (change_sent moment visibility receipt (message_at receipt.sequence (standing kept.visibility xs))) (only_replies (Refused ReceiptHandleIsInvalid))) (own-receipt kept xs receipt stands told positive)
+    ap (λ b. cond b (change_sent moment visibility receipt (message_at receipt.sequence (standing kept.attributes.visibility xs))) (only_replies (Refused ReceiptHandleIsInvalid))) (own-receipt kept xs receipt stands told positive)
     ∙ ap (λ ms. cond (is_receipt_of kept receipt) (change_sent moment visibility receipt (message_at receipt.sequence ms)) (only_replies (Refused ReceiptHandleIsInvalid))) (sym stands.messages)
 
 -- the fact of a change
@@ -39,7 +39,7 @@ changing_fact kept moment e queue receipt visibility effect = fact_with (asked m
 
 -- what a change does
 coming-changed : (kept : Incarnation) (xs : List Fact) (moment : ℕ) (e : Entry) (queue : List ℕ) (receipt : Handle) (visibility : ℕ) → StandsFor kept xs → IsTold xs → 0 < receipt.sequence
-    → coming kept.number kept.visibility xs (asked moment e (Change queue receipt visibility)) ≡ changing_fact kept moment e queue receipt visibility (alteration moment visibility kept receipt)
+    → coming kept.number kept.attributes xs (asked moment e (Change queue receipt visibility)) ≡ changing_fact kept moment e queue receipt visibility (alteration moment visibility kept receipt)
 unfolding effect_on
 coming-changed kept xs moment e queue receipt visibility stands told positive = ap (changing_fact kept moment e queue receipt visibility) (alteration-kept kept xs moment receipt visibility stands told positive)
 
@@ -87,7 +87,7 @@ stands_timeout : (kept : Incarnation) (xs : List Fact) (moment : ℕ) (e : Entry
     → StandsFor (with_timeout moment receipt.sequence visibility kept) (xs ++ changing_fact kept moment e queue receipt visibility (takes_effect receipt.sequence Changed) ∷ [])
 stands_timeout kept xs moment e queue receipt visibility stands before =
     let f = changing_fact kept moment e queue receipt visibility (takes_effect receipt.sequence Changed) in
-    let own = kept.visibility in
+    let own = kept.attributes.visibility in
     let hide = hidden_until receipt.sequence (moment + SECOND * visibility) in
     record {
       sent = stands.sent ∙ sent-same xs f refl;
@@ -108,7 +108,7 @@ stands_quiet kept xs moment e queue receipt visibility effect stands idle handed
     let rejects = not_both effect.effective in
     record {
       sent = stands.sent ∙ sent-same xs f rejects;
-      messages = stands.messages ∙ sym (standing-quiet kept.visibility xs f (record { rejects = rejects; handed = handed; changes = λ n. ap (λ b. (b && true) && eqb effect.count n) idle; deletes = λ n. no_change effect.effective (eqb effect.count n) }));
+      messages = stands.messages ∙ sym (standing-quiet kept.attributes.visibility xs f (record { rejects = rejects; handed = handed; changes = λ n. ap (λ b. (b && true) && eqb effect.count n) idle; deletes = λ n. no_change effect.effective (eqb effect.count n) }));
       window = window-same kept xs f kept.last stands rejects (omega arith);
       last = stands.last ∙ clocked-same xs f (ap (λ b. b && true) idle);
       used = stands.used ∙ used-same xs f refl;
@@ -145,7 +145,7 @@ stands_changed kept xs moment e queue receipt visibility stands before =
 
 -- with the entry itself
 changed_more : (done : Bool) (moment sequence visibility : ℕ) (kept : Incarnation) (entries : List Entry) (e : Entry)
-    → StandsFor (cond done (with_timeout moment sequence visibility kept) kept) (told_of kept entries ++ coming kept.number kept.visibility (told_of kept entries) e ∷ [])
+    → StandsFor (cond done (with_timeout moment sequence visibility kept) kept) (told_of kept entries ++ coming kept.number kept.attributes (told_of kept entries) e ∷ [])
     → IncarnationStands (cond done (with_timeout moment sequence visibility kept) kept) (entries ++ e ∷ [])
 changed_more true moment sequence visibility kept entries e h = stands-more (with_timeout moment sequence visibility kept) entries e h
 changed_more false moment sequence visibility kept entries e h = stands-more kept entries e h
@@ -155,17 +155,17 @@ pub stands-changed : (kept : Incarnation) (moment : ℕ) (receipt : Handle) (vis
 stands-changed kept moment receipt visibility positive before entries e stands is =
     let xs = told_of kept entries in
     let for = stands-told kept entries stands in
-    let told = told-lifetime kept.number kept.visibility entries in
+    let told = told-lifetime kept.number kept.attributes entries in
     changed_more (alteration moment visibility kept receipt).effective moment receipt.sequence visibility kept entries e
-    (subst (λ f. StandsFor (after_change moment visibility receipt kept) (xs ++ f ∷ [])) (sym (ap (coming kept.number kept.visibility xs) (entry-asked e moment _ is.at_moment is.asks) ∙ coming-changed kept xs moment e is.queue receipt visibility for told positive))
+    (subst (λ f. StandsFor (after_change moment visibility receipt kept) (xs ++ f ∷ [])) (sym (ap (coming kept.number kept.attributes xs) (entry-asked e moment _ is.at_moment is.asks) ∙ coming-changed kept xs moment e is.queue receipt visibility for told positive))
     (stands_changed kept xs moment e is.queue receipt visibility for before))
 
 -- its reply
 pub reply-changed : (kept : Incarnation) (moment : ℕ) (receipt : Handle) (visibility : ℕ) → 0 < receipt.sequence → IsAnswered (IsChange moment receipt visibility) kept (alteration moment visibility kept receipt).reply
 reply-changed kept moment receipt visibility positive entries e stands is =
     let xs = told_of kept entries in
-    let told = told-lifetime kept.number kept.visibility entries in
-    ap (λ f. f.reply) (ap (coming kept.number kept.visibility xs) (entry-asked e moment _ is.at_moment is.asks) ∙ coming-changed kept xs moment e is.queue receipt visibility (stands-told kept entries stands) told positive)
+    let told = told-lifetime kept.number kept.attributes entries in
+    ap (λ f. f.reply) (ap (coming kept.number kept.attributes xs) (entry-asked e moment _ is.at_moment is.asks) ∙ coming-changed kept xs moment e is.queue receipt visibility (stands-told kept entries stands) told positive)
 
 -- a change that takes effect
 pub stands-changing : (kept : Incarnation) (moment : ℕ) (receipt : Handle) (visibility : ℕ) → 0 < receipt.sequence → kept.last ≤ moment → true ≡ (alteration moment visibility kept receipt).effective → StandsAfter (IsChange moment receipt visibility) kept (with_timeout moment receipt.sequence visibility kept)

@@ -4,6 +4,7 @@ use Rattle.cq_base.specs.declared.ask.Ask.TheVariants.{Create}
 use Rattle.cq_base.specs.declared.ask.Entry.{Entry}
 use Rattle.cq_base.specs.declared.reply.Refusal.TheVariants.{QueueNameExists}
 use Rattle.cq_base.specs.declared.reply.Reply.TheVariants.{Created, Refused}
+use Rattle.cq_base.specs.Asks.{Attributes, are_same}
 use Rattle.cq_base.specs.Effects.{Effect, only_replies, create_again, effect_on}
 use Rattle.cq_base.specs.Facts.{Fact}
 use Rattle.cq_base.specs.History.{fact_with}
@@ -15,37 +16,37 @@ use Rattle.cq_queue.proofs.Standing.{standing-quiet}
 use Rattle.cq_queue.proofs.Stands.{StandsFor, stands-told, stands-more, asked, entry-asked, clocked-same, used-same, sent-same, window-same}
 
 -- the fact of a creation
-abbrev creating_fact : Incarnation → Entry → List ℕ → ℕ → Effect → Fact
-creating_fact kept e queue visibility effect = fact_with (asked e.moment e (Create queue visibility)) kept.number effect
+abbrev creating_fact : Incarnation → Entry → List ℕ → Attributes → Effect → Fact
+creating_fact kept e queue given effect = fact_with (asked e.moment e (Create queue given.visibility given.content)) kept.number effect
 
 -- what is kept after it
-stands_quiet : (kept : Incarnation) (xs : List Fact) (e : Entry) (queue : List ℕ) (visibility : ℕ) (effect : Effect) → StandsFor kept xs → effect.handed ≡ []
-    → StandsFor kept (xs ++ creating_fact kept e queue visibility effect ∷ [])
-stands_quiet kept xs e queue visibility effect stands handed =
-    let f = creating_fact kept e queue visibility effect in
+stands_quiet : (kept : Incarnation) (xs : List Fact) (e : Entry) (queue : List ℕ) (given : Attributes) (effect : Effect) → StandsFor kept xs → effect.handed ≡ []
+    → StandsFor kept (xs ++ creating_fact kept e queue given effect ∷ [])
+stands_quiet kept xs e queue given effect stands handed =
+    let f = creating_fact kept e queue given effect in
     let rejects = not_both effect.effective in
     record {
       sent = stands.sent ∙ sent-same xs f rejects;
-      messages = stands.messages ∙ sym (standing-quiet kept.visibility xs f (record { rejects = rejects; handed = handed; changes = λ n. no_change effect.effective (eqb effect.count n); deletes = λ n. no_change effect.effective (eqb effect.count n) }));
+      messages = stands.messages ∙ sym (standing-quiet kept.attributes.visibility xs f (record { rejects = rejects; handed = handed; changes = λ n. no_change effect.effective (eqb effect.count n); deletes = λ n. no_change effect.effective (eqb effect.count n) }));
       window = window-same kept xs f kept.last stands rejects (omega arith);
       last = stands.last ∙ clocked-same xs f rejects;
       used = stands.used ∙ used-same xs f refl;
     }
 
 -- what it does
-coming-created : (kept : Incarnation) (xs : List Fact) (e : Entry) (queue : List ℕ) (visibility : ℕ) → coming kept.number kept.visibility xs (asked e.moment e (Create queue visibility)) ≡ creating_fact kept e queue visibility (create_again kept.number kept.visibility visibility)
+coming-created : (kept : Incarnation) (xs : List Fact) (e : Entry) (queue : List ℕ) (given : Attributes) → coming kept.number kept.attributes xs (asked e.moment e (Create queue given.visibility given.content)) ≡ creating_fact kept e queue given (create_again kept.number kept.attributes given)
 unfolding effect_on
-coming-created kept xs e queue visibility = refl
+coming-created kept xs e queue given = refl
 
 -- it changes nothing
-pub stands-created : (kept : Incarnation) (visibility : ℕ) → StandsAfter (IsCreate visibility) kept kept
-stands-created kept visibility entries e stands is =
+pub stands-created : (kept : Incarnation) (given : Attributes) → StandsAfter (IsCreate given) kept kept
+stands-created kept given entries e stands is =
     let xs = told_of kept entries in
-    let handed = chosen_handed (eqb visibility kept.visibility) (only_replies (Created kept.number)) (only_replies (Refused QueueNameExists)) refl refl in
-    stands-more kept entries e (subst (λ f. StandsFor kept (xs ++ f ∷ [])) (sym (ap (coming kept.number kept.visibility xs) (entry-asked e e.moment _ refl is.asks) ∙ coming-created kept xs e is.queue visibility))
-    (stands_quiet kept xs e is.queue visibility (create_again kept.number kept.visibility visibility) (stands-told kept entries stands) handed))
+    let handed = chosen_handed (are_same given kept.attributes) (only_replies (Created kept.number)) (only_replies (Refused QueueNameExists)) refl refl in
+    stands-more kept entries e (subst (λ f. StandsFor kept (xs ++ f ∷ [])) (sym (ap (coming kept.number kept.attributes xs) (entry-asked e e.moment _ refl is.asks) ∙ coming-created kept xs e is.queue given))
+    (stands_quiet kept xs e is.queue given (create_again kept.number kept.attributes given) (stands-told kept entries stands) handed))
 
 -- its reply
-pub reply-created : (kept : Incarnation) (visibility : ℕ) → IsAnswered (IsCreate visibility) kept (create_again kept.number kept.visibility visibility).reply
-reply-created kept visibility entries e stands is =
-    ap (λ f. f.reply) (ap (coming kept.number kept.visibility (told_of kept entries)) (entry-asked e e.moment _ refl is.asks) ∙ coming-created kept (told_of kept entries) e is.queue visibility)
+pub reply-created : (kept : Incarnation) (given : Attributes) → IsAnswered (IsCreate given) kept (create_again kept.number kept.attributes given).reply
+reply-created kept given entries e stands is =
+    ap (λ f. f.reply) (ap (coming kept.number kept.attributes (told_of kept entries)) (entry-asked e e.moment _ refl is.asks) ∙ coming-created kept (told_of kept entries) e is.queue given)

@@ -31,9 +31,9 @@ pub own-receipt : (kept : Incarnation) (xs : List Fact) (receipt : Handle) → S
 own-receipt kept xs receipt stands told positive = ap (λ b. eqb receipt.incarnation kept.number && b) (told.sent receipt.sequence positive ∙ ap (nat_le receipt.sequence) (sym stands.sent))
 
 -- what a delete does, by what is kept
-deletion-kept : (kept : Incarnation) (xs : List Fact) (receipt : Handle) → StandsFor kept xs → IsTold xs → 0 < receipt.sequence → delete kept.number xs (standing kept.visibility xs) receipt ≡ deletion kept receipt
+deletion-kept : (kept : Incarnation) (xs : List Fact) (receipt : Handle) → StandsFor kept xs → IsTold xs → 0 < receipt.sequence → delete kept.number xs (standing kept.attributes.visibility xs) receipt ≡ deletion kept receipt
 deletion-kept kept xs receipt stands told positive =
-    ap (λ b. cond b (delete_sent receipt (message_at receipt.sequence (standing kept.visibility xs))) (only_replies (Refused ReceiptHandleIsInvalid))) (own-receipt kept xs receipt stands told positive)
+    ap (λ b. cond b (delete_sent receipt (message_at receipt.sequence (standing kept.attributes.visibility xs))) (only_replies (Refused ReceiptHandleIsInvalid))) (own-receipt kept xs receipt stands told positive)
     ∙ ap (λ ms. cond (is_receipt_of kept receipt) (delete_sent receipt (message_at receipt.sequence ms)) (only_replies (Refused ReceiptHandleIsInvalid))) (sym stands.messages)
 
 -- the fact of a delete
@@ -42,7 +42,7 @@ deleting_fact kept e queue receipt effect = fact_with (asked e.moment e (Delete 
 
 -- what a delete does
 coming-deleted : (kept : Incarnation) (xs : List Fact) (e : Entry) (queue : List ℕ) (receipt : Handle) → StandsFor kept xs → IsTold xs → 0 < receipt.sequence
-    → coming kept.number kept.visibility xs (asked e.moment e (Delete queue receipt)) ≡ deleting_fact kept e queue receipt (deletion kept receipt)
+    → coming kept.number kept.attributes xs (asked e.moment e (Delete queue receipt)) ≡ deleting_fact kept e queue receipt (deletion kept receipt)
 unfolding effect_on
 coming-deleted kept xs e queue receipt stands told positive = ap (deleting_fact kept e queue receipt) (deletion-kept kept xs receipt stands told positive)
 
@@ -55,7 +55,7 @@ stands_without : (kept : Incarnation) (xs : List Fact) (e : Entry) (queue : List
     → StandsFor (without_message receipt.sequence kept) (xs ++ deleting_fact kept e queue receipt (takes_effect receipt.sequence (Deleted true)) ∷ [])
 stands_without kept xs e queue receipt stands =
     let f = deleting_fact kept e queue receipt (takes_effect receipt.sequence (Deleted true)) in
-    let own = kept.visibility in
+    let own = kept.attributes.visibility in
     let other = is_other receipt.sequence in
     record {
       sent = stands.sent ∙ sent-same xs f refl;
@@ -76,7 +76,7 @@ stands_quiet kept xs e queue receipt effect stands idle handed =
     let rejects = not_both effect.effective in
     record {
       sent = stands.sent ∙ sent-same xs f rejects;
-      messages = stands.messages ∙ sym (standing-quiet kept.visibility xs f (record { rejects = rejects; handed = handed; changes = λ n. no_change effect.effective (eqb effect.count n); deletes = λ n. ap (λ b. (b && true) && eqb effect.count n) idle }));
+      messages = stands.messages ∙ sym (standing-quiet kept.attributes.visibility xs f (record { rejects = rejects; handed = handed; changes = λ n. no_change effect.effective (eqb effect.count n); deletes = λ n. ap (λ b. (b && true) && eqb effect.count n) idle }));
       window = window-same kept xs f kept.last stands rejects (omega arith);
       last = stands.last ∙ clocked-same xs f rejects;
       used = stands.used ∙ used-same xs f refl;
@@ -96,7 +96,7 @@ stands_deleted kept xs e queue receipt stands told positive =
     let same = deletion-kept kept xs receipt stands told positive in
     elim (cases_Bool effect.effective) [
       | inl done ↦
-          let ms = standing kept.visibility xs in
+          let ms = standing kept.attributes.visibility xs in
           let found = deleting kept.number xs ms receipt (ap (λ x. x.effective) same ∙ done) in
           let made : effect ≡ takes_effect receipt.sequence (Deleted true) = sym same ∙ found.made ∙ ap (λ n. takes_effect n (Deleted true)) found.number in
           subst (λ b. StandsFor (cond b (without_message receipt.sequence kept) kept) (xs ++ deleting_fact kept e queue receipt effect ∷ [])) (sym done)
@@ -109,7 +109,7 @@ stands_deleted kept xs e queue receipt stands told positive =
 
 -- with the entry itself
 deleted_more : (done : Bool) (sequence : ℕ) (kept : Incarnation) (entries : List Entry) (e : Entry)
-    → StandsFor (cond done (without_message sequence kept) kept) (told_of kept entries ++ coming kept.number kept.visibility (told_of kept entries) e ∷ [])
+    → StandsFor (cond done (without_message sequence kept) kept) (told_of kept entries ++ coming kept.number kept.attributes (told_of kept entries) e ∷ [])
     → IncarnationStands (cond done (without_message sequence kept) kept) (entries ++ e ∷ [])
 deleted_more true sequence kept entries e h = stands-more (without_message sequence kept) entries e h
 deleted_more false sequence kept entries e h = stands-more kept entries e h
@@ -119,17 +119,17 @@ pub stands-deleted : (kept : Incarnation) (receipt : Handle) → 0 < receipt.seq
 stands-deleted kept receipt positive entries e stands is =
     let xs = told_of kept entries in
     let for = stands-told kept entries stands in
-    let told = told-lifetime kept.number kept.visibility entries in
+    let told = told-lifetime kept.number kept.attributes entries in
     deleted_more (deletion kept receipt).effective receipt.sequence kept entries e
-    (subst (λ f. StandsFor (after_delete receipt kept) (xs ++ f ∷ [])) (sym (ap (coming kept.number kept.visibility xs) (entry-asked e e.moment _ refl is.asks) ∙ coming-deleted kept xs e is.queue receipt for told positive))
+    (subst (λ f. StandsFor (after_delete receipt kept) (xs ++ f ∷ [])) (sym (ap (coming kept.number kept.attributes xs) (entry-asked e e.moment _ refl is.asks) ∙ coming-deleted kept xs e is.queue receipt for told positive))
     (stands_deleted kept xs e is.queue receipt for told positive))
 
 -- its reply
 pub reply-deleted : (kept : Incarnation) (receipt : Handle) → 0 < receipt.sequence → IsAnswered (IsDelete receipt) kept (deletion kept receipt).reply
 reply-deleted kept receipt positive entries e stands is =
     let xs = told_of kept entries in
-    let told = told-lifetime kept.number kept.visibility entries in
-    ap (λ f. f.reply) (ap (coming kept.number kept.visibility xs) (entry-asked e e.moment _ refl is.asks) ∙ coming-deleted kept xs e is.queue receipt (stands-told kept entries stands) told positive)
+    let told = told-lifetime kept.number kept.attributes entries in
+    ap (λ f. f.reply) (ap (coming kept.number kept.attributes xs) (entry-asked e e.moment _ refl is.asks) ∙ coming-deleted kept xs e is.queue receipt (stands-told kept entries stands) told positive)
 
 -- a delete that takes effect
 pub stands-deleting : (kept : Incarnation) (receipt : Handle) → 0 < receipt.sequence → true ≡ (deletion kept receipt).effective → StandsAfter (IsDelete receipt) kept (without_message receipt.sequence kept)

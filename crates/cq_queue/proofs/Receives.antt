@@ -28,10 +28,10 @@ chosen_mark own f false m = refl
 
 -- how the messages stand after a receive
 standing-handed : (kept : Incarnation) (xs : List Fact) (moment : ℕ) (e : Entry) (queue : List ℕ) (size : ℕ) (visibility : Option ℕ) → StandsFor kept xs
-    → (handed_out moment size visibility kept).messages ≡ standing kept.visibility (xs ++ handing_fact kept moment e queue size visibility ∷ [])
+    → (handed_out moment size visibility kept).messages ≡ standing kept.attributes.visibility (xs ++ handing_fact kept moment e queue size visibility ∷ [])
 standing-handed kept xs moment e queue size visibility stands =
     let f = handing_fact kept moment e queue size visibility in
-    let own = kept.visibility in
+    let own = kept.attributes.visibility in
     let mark = marked moment (moment + SECOND * timeout_or own visibility) (numbers_to_hand size moment kept.messages) in
     ap (map mark) stands.messages
     ∙ map-agrees mark (after_fact own f) (standing own xs) (λ m. sym (chosen_mark own f (hands_it m.sequence f) m))
@@ -53,7 +53,7 @@ stands_handed kept xs moment e queue size visibility stands before =
 
 -- what a receive does
 coming-handed : (kept : Incarnation) (xs : List Fact) (moment : ℕ) (e : Entry) (queue : List ℕ) (size : ℕ) (visibility : Option ℕ) → StandsFor kept xs
-    → coming kept.number kept.visibility xs (asked moment e (Receive queue size visibility)) ≡ handing_fact kept moment e queue size visibility
+    → coming kept.number kept.attributes xs (asked moment e (Receive queue size visibility)) ≡ handing_fact kept moment e queue size visibility
 unfolding effect_on
 coming-handed kept xs moment e queue size visibility stands = ap (λ ms. fact_with (asked moment e (Receive queue size visibility)) kept.number (hand kept.number (to_hand size moment ms))) (sym stands.messages)
 
@@ -63,17 +63,17 @@ stands-handed kept moment size visibility before entries e stands is =
     let xs = told_of kept entries in
     let now = handed_out moment size visibility kept in
     let for = stands-told kept entries stands in
-    stands-more now entries e (subst (λ f. StandsFor now (xs ++ f ∷ [])) (sym (ap (coming kept.number kept.visibility xs) (entry-asked e moment _ is.at_moment is.asks) ∙ coming-handed kept xs moment e is.queue size visibility for))
+    stands-more now entries e (subst (λ f. StandsFor now (xs ++ f ∷ [])) (sym (ap (coming kept.number kept.attributes xs) (entry-asked e moment _ is.at_moment is.asks) ∙ coming-handed kept xs moment e is.queue size visibility for))
     (stands_handed kept xs moment e is.queue size visibility for before))
 
 -- its reply
 pub reply-handed : (kept : Incarnation) (moment size : ℕ) (visibility : Option ℕ) → IsAnswered (IsReceive moment size visibility) kept (Received (map (delivery_of kept.number) (to_hand size moment kept.messages)))
 reply-handed kept moment size visibility entries e stands is =
     let xs = told_of kept entries in
-    ap (λ f. f.reply) (ap (coming kept.number kept.visibility xs) (entry-asked e moment _ is.at_moment is.asks) ∙ coming-handed kept xs moment e is.queue size visibility (stands-told kept entries stands))
+    ap (λ f. f.reply) (ap (coming kept.number kept.attributes xs) (entry-asked e moment _ is.at_moment is.asks) ∙ coming-handed kept xs moment e is.queue size visibility (stands-told kept entries stands))
 
 -- a receive with the timeout that it gives, or else the queue's
-pub stands-handed_with : (kept : Incarnation) (moment size timeout : ℕ) (visibility : Option ℕ) → kept.last ≤ moment → timeout ≡ timeout_or kept.visibility visibility → StandsAfter (IsReceive moment size visibility) kept (handed_out moment size (Some timeout) kept)
+pub stands-handed_with : (kept : Incarnation) (moment size timeout : ℕ) (visibility : Option ℕ) → kept.last ≤ moment → timeout ≡ timeout_or kept.attributes.visibility visibility → StandsAfter (IsReceive moment size visibility) kept (handed_out moment size (Some timeout) kept)
 stands-handed_with kept moment size timeout visibility before same = subst (λ t. StandsAfter (IsReceive moment size visibility) kept (record kept {
   messages = map (marked moment (moment + 1000 * t) (numbers_to_hand size moment kept.messages)) kept.messages;
   last = moment;

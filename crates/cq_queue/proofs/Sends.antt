@@ -10,15 +10,18 @@ use Rattle.std.proofs.lemmas.List.Folds.{find-append}
 use Rattle.cq_base.specs.declared.ask.Ask.TheVariants.{Send}
 use Rattle.cq_base.specs.declared.ask.Entry.{Entry}
 use Rattle.cq_base.specs.declared.limits.TheConstants.{DEDUPLICATION_WINDOW}
-use Rattle.cq_base.specs.declared.reply.Reply.TheVariants.{Sent}
-use Rattle.cq_base.specs.Effects.{takes_effect, only_replies, send, effect_on}
+use Rattle.cq_base.specs.declared.reply.Refusal.TheVariants.{MissingDedupId}
+use Rattle.cq_base.specs.declared.reply.Reply.{Reply}
+use Rattle.cq_base.specs.declared.reply.Reply.TheVariants.{Sent, Refused}
+use Rattle.cq_base.specs.Asks.{Attributes, dedup_or_made, is_given_or_made}
+use Rattle.cq_base.specs.Effects.{takes_effect, only_replies, send, send_if, effect_on}
 use Rattle.cq_base.specs.Facts.{Fact}
 use Rattle.cq_base.specs.History.{fact_with}
-use Rattle.cq_base.specs.Incarnations.{Accepted, Incarnation, coming, told_of, repeated, counts_for}
+use Rattle.cq_base.specs.Incarnations.{Accepted, Incarnation, IncarnationStands, coming, told_of, repeated, counts_for}
 use Rattle.cq_base.specs.Messages.{messages, duplicate, is_duplicated_by}
 use Rattle.cq_base.proofs.Numbers.{messages-next}
 use Rattle.cq_queue.specs.within.Kept.{used_at, is_recent, new_message, with_message}
-use Rattle.cq_queue.specs.Entries.{IsSend, StandsAfter, IsAnswered}
+use Rattle.cq_queue.specs.Entries.{IsSend, IsSendAs, StandsAfter, IsAnswered}
 use Rattle.cq_queue.proofs.Maps.{option_map-or, find-kept}
 use Rattle.cq_queue.proofs.Standing.{standing-quiet, standing-next}
 use Rattle.cq_queue.proofs.Stands.{StandsFor, stands-told, stands-more, asked, entry-asked, clocked-next, used-next, sent-same, window-same}
@@ -53,17 +56,17 @@ unfolding duplicate
 duplicate-next id moment xs sends f h = ap (find (is_duplicated_by id moment)) h ∙ find-append (is_duplicated_by id moment) sends (f ∷ [])
 
 -- the fact of a send that is accepted
-abbrev accepted_fact : Incarnation → ℕ → Entry → List ℕ → List ℕ → List ℕ → List ℕ → Fact
-accepted_fact kept moment e queue group dedup body = fact_with (asked moment e (Send queue group dedup body)) kept.number (takes_effect (kept.sent + 1) (Sent (kept.sent + 1)))
+abbrev accepted_fact : Incarnation → ℕ → Entry → List ℕ → List ℕ → Option (List ℕ) → List ℕ → Fact
+accepted_fact kept moment e queue group given body = fact_with (asked moment e (Send queue group given body)) kept.number (takes_effect (kept.sent + 1) (Sent (kept.sent + 1)))
 
 -- the window after an accepted send
-window_next : (kept : Incarnation) (xs : List Fact) (moment : ℕ) (e : Entry) (queue group dedup body : List ℕ) → StandsFor kept xs → kept.last ≤ moment → (id : List ℕ) (later : ℕ) → moment ≤ later
-    → repeated id later (with_message moment group dedup body kept).accepted ≡ option_map (λ f. f.count) (duplicate id later (xs ++ accepted_fact kept moment e queue group dedup body ∷ []))
+window_next : (kept : Incarnation) (xs : List Fact) (moment : ℕ) (e : Entry) (queue group : List ℕ) (given : Option (List ℕ)) (body : List ℕ) → StandsFor kept xs → kept.last ≤ moment → (id : List ℕ) (later : ℕ) → moment ≤ later
+    → repeated id later (with_message moment group (dedup_or_made body given) body kept).accepted ≡ option_map (λ f. f.count) (duplicate id later (xs ++ accepted_fact kept moment e queue group given body ∷ []))
 unfolding duplicate
-window_next kept xs moment e queue group dedup body stands before id later after =
-    let f = accepted_fact kept moment e queue group dedup body in
+window_next kept xs moment e queue group given body stands before id later after =
+    let f = accepted_fact kept moment e queue group given body in
     let from : kept.last ≤ later = omega arith in
-    let a : Accepted = record { dedup = dedup; moment = moment; sequence = kept.sent + 1 } in
+    let a : Accepted = record { dedup = dedup_or_made body given; moment = moment; sequence = kept.sent + 1 } in
     repeated-next id moment later kept.accepted a after
     ∙ ap (λ o. option_or o (option_map (λ y. y.sequence) (cond (counts_for id later a) (Some a) None))) (stands.window id later from)
     ∙ ap (option_or (option_map (λ y. y.count) (duplicate id later xs))) (chosen_image (λ y. y.sequence) (λ y. y.count) (counts_for id later a) a f refl)
@@ -71,43 +74,44 @@ window_next kept xs moment e queue group dedup body stands before id later after
     ∙ ap (option_map (λ y. y.count)) (sym (duplicate-next id later (xs ++ f ∷ []) (messages xs) f (messages-next xs f refl)))
 
 -- what is kept after an accepted send
-stands_accepted : (kept : Incarnation) (xs : List Fact) (moment : ℕ) (e : Entry) (queue group dedup body : List ℕ) → StandsFor kept xs → IsTold xs → kept.last ≤ moment → StandsFor (with_message moment group dedup body kept) (xs ++ accepted_fact kept moment e queue group dedup body ∷ [])
-stands_accepted kept xs moment e queue group dedup body stands told before =
-    let f = accepted_fact kept moment e queue group dedup body in
+stands_accepted : (kept : Incarnation) (xs : List Fact) (moment : ℕ) (e : Entry) (queue group : List ℕ) (given : Option (List ℕ)) (body : List ℕ) → StandsFor kept xs → IsTold xs → kept.last ≤ moment → StandsFor (with_message moment group (dedup_or_made body given) body kept) (xs ++ accepted_fact kept moment e queue group given body ∷ [])
+stands_accepted kept xs moment e queue group given body stands told before =
+    let f = accepted_fact kept moment e queue group given body in
     let sent = stands.sent in
     let above : length (messages xs) < kept.sent + 1 = omega arith in
     record {
       sent = ap (λ n. n + 1) stands.sent ∙ sym (ap length (messages-next xs f refl) ∙ length-append (messages xs) (f ∷ []));
-      messages = ap (λ ms. ms ++ new_message (kept.sent + 1) group body ∷ []) stands.messages ∙ sym (standing-next kept.visibility xs f refl refl (λ n. refl) (λ n. refl) (told.new (kept.sent + 1) above));
-      window = window_next kept xs moment e queue group dedup body stands before;
+      messages = ap (λ ms. ms ++ new_message (kept.sent + 1) group body ∷ []) stands.messages ∙ sym (standing-next kept.attributes.visibility xs f refl refl (λ n. refl) (λ n. refl) (told.new (kept.sent + 1) above));
+      window = window_next kept xs moment e queue group given body stands before;
       last = clocked-next xs f refl;
       used = ap (λ n. n + 1) stands.used ∙ used-next xs f refl;
     }
 
--- the fact of a send that repeats one
-abbrev repeating_fact : Incarnation → ℕ → Entry → List ℕ → List ℕ → List ℕ → List ℕ → ℕ → Fact
-repeating_fact kept moment e queue group dedup body n = fact_with (asked moment e (Send queue group dedup body)) kept.number (only_replies (Sent n))
+-- the fact of a send that repeats one, or is refused
+abbrev idle_fact : Incarnation → ℕ → Entry → List ℕ → List ℕ → Option (List ℕ) → List ℕ → Reply → Fact
+idle_fact kept moment e queue group given body reply = fact_with (asked moment e (Send queue group given body)) kept.number (only_replies reply)
 
--- what is kept after a repeated send
-stands_repeated : (kept : Incarnation) (xs : List Fact) (moment : ℕ) (e : Entry) (queue group dedup body : List ℕ) (n : ℕ) → StandsFor kept xs → kept.last ≤ moment → StandsFor (used_at moment kept) (xs ++ repeating_fact kept moment e queue group dedup body n ∷ [])
-stands_repeated kept xs moment e queue group dedup body n stands before =
-    let f = repeating_fact kept moment e queue group dedup body n in
+-- what is kept after such a send
+stands_idle : (kept : Incarnation) (xs : List Fact) (moment : ℕ) (e : Entry) (queue group : List ℕ) (given : Option (List ℕ)) (body : List ℕ) (reply : Reply) → StandsFor kept xs → kept.last ≤ moment → StandsFor (used_at moment kept) (xs ++ idle_fact kept moment e queue group given body reply ∷ [])
+stands_idle kept xs moment e queue group given body reply stands before =
+    let f = idle_fact kept moment e queue group given body reply in
     record {
       sent = stands.sent ∙ sent-same xs f refl;
-      messages = stands.messages ∙ sym (standing-quiet kept.visibility xs f (record { rejects = refl; handed = refl; changes = λ k. refl; deletes = λ k. refl }));
+      messages = stands.messages ∙ sym (standing-quiet kept.attributes.visibility xs f (record { rejects = refl; handed = refl; changes = λ k. refl; deletes = λ k. refl }));
       window = window-same kept xs f moment stands refl before;
       last = clocked-next xs f refl;
       used = ap (λ k. k + 1) stands.used ∙ used-next xs f refl;
     }
 
 -- a send that repeats none is accepted
-coming-accepted : (kept : Incarnation) (xs : List Fact) (moment : ℕ) (e : Entry) (queue group dedup body : List ℕ) → StandsFor kept xs → kept.last ≤ moment → repeated dedup moment kept.accepted ≡ None
-    → coming kept.number kept.visibility xs (asked moment e (Send queue group dedup body)) ≡ accepted_fact kept moment e queue group dedup body
+coming-accepted : (kept : Incarnation) (xs : List Fact) (moment : ℕ) (e : Entry) (queue group : List ℕ) (given : Option (List ℕ)) (body : List ℕ) → StandsFor kept xs → kept.last ≤ moment → is_given_or_made kept.attributes.content given ≡ true → repeated (dedup_or_made body given) moment kept.accepted ≡ None
+    → coming kept.number kept.attributes xs (asked moment e (Send queue group given body)) ≡ accepted_fact kept moment e queue group given body
 unfolding effect_on
-coming-accepted kept xs moment e queue group dedup body stands before none =
-    let new : duplicate dedup moment xs ≡ None = image_none (λ f. f.count) (duplicate dedup moment xs) (sym (stands.window dedup moment before) ∙ none) in
-    ap (λ earlier. fact_with (asked moment e (Send queue group dedup body)) kept.number (send (length (messages xs) + 1) earlier)) new
-    ∙ ap (λ n. fact_with (asked moment e (Send queue group dedup body)) kept.number (takes_effect (n + 1) (Sent (n + 1)))) (sym stands.sent)
+coming-accepted kept xs moment e queue group given body stands before has none =
+    let new : duplicate (dedup_or_made body given) moment xs ≡ None = image_none (λ f. f.count) (duplicate (dedup_or_made body given) moment xs) (sym (stands.window (dedup_or_made body given) moment before) ∙ none) in
+    ap (λ b. fact_with (asked moment e (Send queue group given body)) kept.number (send_if b (length (messages xs) + 1) (duplicate (dedup_or_made body given) moment xs))) has
+    ∙ ap (λ earlier. fact_with (asked moment e (Send queue group given body)) kept.number (send (length (messages xs) + 1) earlier)) new
+    ∙ ap (λ n. fact_with (asked moment e (Send queue group given body)) kept.number (takes_effect (n + 1) (Sent (n + 1)))) (sym stands.sent)
 
 -- what a send does that repeats one
 found_reply : (n next : ℕ) (o : Option Fact) → option_map (λ f. f.count) o ≡ Some n → send next o ≡ only_replies (Sent n)
@@ -118,38 +122,70 @@ found_reply n next None h = absurd (none_is n h)
 found_reply n next (Some f) h = let same : f.count ≡ n = cc in ap (λ k. only_replies (Sent k)) same
 
 -- a send that repeats one is answered with its number
-coming-repeated : (kept : Incarnation) (xs : List Fact) (moment : ℕ) (e : Entry) (queue group dedup body : List ℕ) (n : ℕ) → StandsFor kept xs → kept.last ≤ moment → repeated dedup moment kept.accepted ≡ Some n
-    → coming kept.number kept.visibility xs (asked moment e (Send queue group dedup body)) ≡ repeating_fact kept moment e queue group dedup body n
+coming-repeated : (kept : Incarnation) (xs : List Fact) (moment : ℕ) (e : Entry) (queue group : List ℕ) (given : Option (List ℕ)) (body : List ℕ) (n : ℕ) → StandsFor kept xs → kept.last ≤ moment → is_given_or_made kept.attributes.content given ≡ true → repeated (dedup_or_made body given) moment kept.accepted ≡ Some n
+    → coming kept.number kept.attributes xs (asked moment e (Send queue group given body)) ≡ idle_fact kept moment e queue group given body (Sent n)
 unfolding effect_on
-coming-repeated kept xs moment e queue group dedup body n stands before found =
-    ap (fact_with (asked moment e (Send queue group dedup body)) kept.number) (found_reply n (length (messages xs) + 1) (duplicate dedup moment xs) (sym (stands.window dedup moment before) ∙ found))
+coming-repeated kept xs moment e queue group given body n stands before has found =
+    ap (λ b. fact_with (asked moment e (Send queue group given body)) kept.number (send_if b (length (messages xs) + 1) (duplicate (dedup_or_made body given) moment xs))) has
+    ∙ ap (fact_with (asked moment e (Send queue group given body)) kept.number) (found_reply n (length (messages xs) + 1) (duplicate (dedup_or_made body given) moment xs) (sym (stands.window (dedup_or_made body given) moment before) ∙ found))
+
+-- a send that has no id, and gets none, is refused
+coming-refused : (kept : Incarnation) (xs : List Fact) (moment : ℕ) (e : Entry) (queue group : List ℕ) (given : Option (List ℕ)) (body : List ℕ) → is_given_or_made kept.attributes.content given ≡ false
+    → coming kept.number kept.attributes xs (asked moment e (Send queue group given body)) ≡ idle_fact kept moment e queue group given body (Refused MissingDedupId)
+unfolding effect_on
+coming-refused kept xs moment e queue group given body lacks =
+    ap (λ b. fact_with (asked moment e (Send queue group given body)) kept.number (send_if b (length (messages xs) + 1) (duplicate (dedup_or_made body given) moment xs))) lacks
+
+-- an id that isn't found isn't under its other name
+repeated_as : (kept : Incarnation) (moment : ℕ) (id dedup : List ℕ) (found : Option ℕ) → id ≡ dedup → repeated dedup moment kept.accepted ≡ found → repeated id moment kept.accepted ≡ found
+repeated_as kept moment id dedup found same h = ap (λ i. repeated i moment kept.accepted) same ∙ h
 
 -- a send that repeats none
-pub stands-accepted : (kept : Incarnation) (moment : ℕ) (group dedup body : List ℕ) → kept.last ≤ moment → repeated dedup moment kept.accepted ≡ None → StandsAfter (IsSend moment group dedup body) kept (with_message moment group dedup body kept)
+pub stands-accepted : (kept : Incarnation) (moment : ℕ) (group dedup body : List ℕ) → kept.last ≤ moment → repeated dedup moment kept.accepted ≡ None → StandsAfter (IsSendAs kept.attributes moment group dedup body) kept (with_message moment group dedup body kept)
 stands-accepted kept moment group dedup body before none entries e stands is =
     let xs = told_of kept entries in
-    let now = with_message moment group dedup body kept in
+    let id = dedup_or_made body is.given in
+    let now = with_message moment group id body kept in
     let for = stands-told kept entries stands in
-    stands-more now entries e (subst (λ f. StandsFor now (xs ++ f ∷ [])) (sym (ap (coming kept.number kept.visibility xs) (entry-asked e moment _ is.at_moment is.asks) ∙ coming-accepted kept xs moment e is.queue group dedup body for before none))
-    (stands_accepted kept xs moment e is.queue group dedup body for (told-lifetime kept.number kept.visibility entries) before))
+    let new = repeated_as kept moment id dedup None is.same none in
+    subst (λ i. IncarnationStands (with_message moment group i body kept) (entries ++ e ∷ [])) is.same
+    (stands-more now entries e (subst (λ f. StandsFor now (xs ++ f ∷ [])) (sym (ap (coming kept.number kept.attributes xs) (entry-asked e moment _ is.at_moment is.asks) ∙ coming-accepted kept xs moment e is.queue group is.given body for before is.has new))
+    (stands_accepted kept xs moment e is.queue group is.given body for (told-lifetime kept.number kept.attributes entries) before)))
 
 -- its reply
-pub reply-accepted : (kept : Incarnation) (moment : ℕ) (group dedup body : List ℕ) → kept.last ≤ moment → repeated dedup moment kept.accepted ≡ None → IsAnswered (IsSend moment group dedup body) kept (Sent (kept.sent + 1))
+pub reply-accepted : (kept : Incarnation) (moment : ℕ) (group dedup body : List ℕ) → kept.last ≤ moment → repeated dedup moment kept.accepted ≡ None → IsAnswered (IsSendAs kept.attributes moment group dedup body) kept (Sent (kept.sent + 1))
 reply-accepted kept moment group dedup body before none entries e stands is =
     let xs = told_of kept entries in
-    ap (λ f. f.reply) (ap (coming kept.number kept.visibility xs) (entry-asked e moment _ is.at_moment is.asks) ∙ coming-accepted kept xs moment e is.queue group dedup body (stands-told kept entries stands) before none)
+    let new = repeated_as kept moment (dedup_or_made body is.given) dedup None is.same none in
+    ap (λ f. f.reply) (ap (coming kept.number kept.attributes xs) (entry-asked e moment _ is.at_moment is.asks) ∙ coming-accepted kept xs moment e is.queue group is.given body (stands-told kept entries stands) before is.has new)
 
 -- a send that repeats one
-pub stands-repeated : (kept : Incarnation) (moment : ℕ) (group dedup body : List ℕ) (n : ℕ) → kept.last ≤ moment → repeated dedup moment kept.accepted ≡ Some n → StandsAfter (IsSend moment group dedup body) kept (used_at moment kept)
+pub stands-repeated : (kept : Incarnation) (moment : ℕ) (group dedup body : List ℕ) (n : ℕ) → kept.last ≤ moment → repeated dedup moment kept.accepted ≡ Some n → StandsAfter (IsSendAs kept.attributes moment group dedup body) kept (used_at moment kept)
 stands-repeated kept moment group dedup body n before found entries e stands is =
     let xs = told_of kept entries in
     let now = used_at moment kept in
     let for = stands-told kept entries stands in
-    stands-more now entries e (subst (λ f. StandsFor now (xs ++ f ∷ [])) (sym (ap (coming kept.number kept.visibility xs) (entry-asked e moment _ is.at_moment is.asks) ∙ coming-repeated kept xs moment e is.queue group dedup body n for before found))
-    (stands_repeated kept xs moment e is.queue group dedup body n for before))
+    let old = repeated_as kept moment (dedup_or_made body is.given) dedup (Some n) is.same found in
+    stands-more now entries e (subst (λ f. StandsFor now (xs ++ f ∷ [])) (sym (ap (coming kept.number kept.attributes xs) (entry-asked e moment _ is.at_moment is.asks) ∙ coming-repeated kept xs moment e is.queue group is.given body n for before is.has old))
+    (stands_idle kept xs moment e is.queue group is.given body (Sent n) for before))
 
 -- its reply
-pub reply-repeated : (kept : Incarnation) (moment : ℕ) (group dedup body : List ℕ) (n : ℕ) → kept.last ≤ moment → repeated dedup moment kept.accepted ≡ Some n → IsAnswered (IsSend moment group dedup body) kept (Sent n)
+pub reply-repeated : (kept : Incarnation) (moment : ℕ) (group dedup body : List ℕ) (n : ℕ) → kept.last ≤ moment → repeated dedup moment kept.accepted ≡ Some n → IsAnswered (IsSendAs kept.attributes moment group dedup body) kept (Sent n)
 reply-repeated kept moment group dedup body n before found entries e stands is =
     let xs = told_of kept entries in
-    ap (λ f. f.reply) (ap (coming kept.number kept.visibility xs) (entry-asked e moment _ is.at_moment is.asks) ∙ coming-repeated kept xs moment e is.queue group dedup body n (stands-told kept entries stands) before found)
+    let old = repeated_as kept moment (dedup_or_made body is.given) dedup (Some n) is.same found in
+    ap (λ f. f.reply) (ap (coming kept.number kept.attributes xs) (entry-asked e moment _ is.at_moment is.asks) ∙ coming-repeated kept xs moment e is.queue group is.given body n (stands-told kept entries stands) before is.has old)
+
+-- a send that has no id, and gets none
+pub stands-refused : (kept : Incarnation) (moment : ℕ) (group body : List ℕ) → kept.last ≤ moment → kept.attributes.content ≡ false → StandsAfter (IsSend moment group None body) kept (used_at moment kept)
+stands-refused kept moment group body before lacks entries e stands is =
+    let xs = told_of kept entries in
+    let now = used_at moment kept in
+    stands-more now entries e (subst (λ f. StandsFor now (xs ++ f ∷ [])) (sym (ap (coming kept.number kept.attributes xs) (entry-asked e moment _ is.at_moment is.asks) ∙ coming-refused kept xs moment e is.queue group None body lacks))
+    (stands_idle kept xs moment e is.queue group None body (Refused MissingDedupId) (stands-told kept entries stands) before))
+
+-- its reply
+pub reply-refused : (kept : Incarnation) (moment : ℕ) (group body : List ℕ) → kept.attributes.content ≡ false → IsAnswered (IsSend moment group None body) kept (Refused MissingDedupId)
+reply-refused kept moment group body lacks entries e stands is =
+    let xs = told_of kept entries in
+    ap (λ f. f.reply) (ap (coming kept.number kept.attributes xs) (entry-asked e moment _ is.at_moment is.asks) ∙ coming-refused kept xs moment e is.queue group None body lacks)

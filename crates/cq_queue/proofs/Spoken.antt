@@ -7,7 +7,8 @@ use Rattle.cq_base.specs.declared.ask.Ask.TheVariants.{Create, Remove, Send, Rec
 use Rattle.cq_base.specs.declared.limits.TheConstants.{SECOND, FLIGHT_LIMIT}
 use Rattle.cq_base.specs.declared.reply.Reply.TheVariants.{Changed, Refused}
 use Rattle.cq_base.specs.declared.reply.Refusal.TheVariants.{ReceiptHandleIsInvalid, MessageNotInflight, VisibilityBeyondLimit}
-use Rattle.cq_base.specs.Effects.{Effect, only_replies, takes_effect, create_again, send, message_at, is_own, fits, delete, change_standing, change_sent, effect_on}
+use Rattle.cq_base.specs.Asks.{Attributes, dedup_or_made, is_given_or_made}
+use Rattle.cq_base.specs.Effects.{Effect, only_replies, takes_effect, create_again, send_if, message_at, is_own, fits, delete, change_standing, change_sent, effect_on}
 use Rattle.cq_base.specs.Facts.{Fact}
 use Rattle.cq_base.specs.Handle.{Handle}
 use Rattle.cq_base.specs.History.{fact_with}
@@ -80,13 +81,13 @@ pub no_change : (b c : Bool) → ((b && false) && c) ≡ false
 no_change b c = ap (λ a. a && c) (not_both b)
 
 -- a number above those of the sends is changed by none
-pub changes-on : (n incarnation own : ℕ) (xs : List Fact) (moment client number : ℕ) (ask : Ask) → IsNumbered (messages xs) → length (messages xs) < n → changes_it n (fact_with (record { moment = moment; request = record { client = client; number = number; ask = ask } }) incarnation (effect_on incarnation own moment xs ask)) ≡ false
+pub changes-on : (n incarnation : ℕ) (own : Attributes) (xs : List Fact) (moment client number : ℕ) (ask : Ask) → IsNumbered (messages xs) → length (messages xs) < n → changes_it n (fact_with (record { moment = moment; request = record { client = client; number = number; ask = ask } }) incarnation (effect_on incarnation own moment xs ask)) ≡ false
 unfolding effect_on
-changes-on n incarnation own xs moment client number (Create queue visibility) numbered above = no_change (create_again incarnation own visibility).effective _
+changes-on n incarnation own xs moment client number (Create queue visibility content) numbered above = no_change (create_again incarnation own (record { visibility = visibility; content = content })).effective _
 changes-on n incarnation own xs moment client number (Remove queue) numbered above = refl
-changes-on n incarnation own xs moment client number (Send queue group dedup body) numbered above = no_change (send (length (messages xs) + 1) (duplicate dedup moment xs)).effective _
+changes-on n incarnation own xs moment client number (Send queue group dedup body) numbered above = no_change (send_if (is_given_or_made own.content dedup) (length (messages xs) + 1) (duplicate (dedup_or_made body dedup) moment xs)).effective _
 changes-on n incarnation own xs moment client number (Receive queue size visibility) numbered above = refl
-changes-on n incarnation own xs moment client number (Delete queue receipt) numbered above = no_change (delete incarnation xs (standing own xs) receipt).effective _
+changes-on n incarnation own xs moment client number (Delete queue receipt) numbered above = no_change (delete incarnation xs (standing own.visibility xs) receipt).effective _
 changes-on n incarnation own xs moment client number (Change queue receipt visibility) numbered above =
-    chosen_not n (is_own incarnation xs receipt) (change_sent moment visibility receipt (message_at receipt.sequence (standing own xs))) (only_replies (Refused ReceiptHandleIsInvalid))
-    (change_not_found n moment visibility receipt (standing own xs) (message_at receipt.sequence (standing own xs)) refl (λ m at. let within = standing-within own xs m numbered at in omega arith)) refl
+    chosen_not n (is_own incarnation xs receipt) (change_sent moment visibility receipt (message_at receipt.sequence (standing own.visibility xs))) (only_replies (Refused ReceiptHandleIsInvalid))
+    (change_not_found n moment visibility receipt (standing own.visibility xs) (message_at receipt.sequence (standing own.visibility xs)) refl (λ m at. let within = standing-within own.visibility xs m numbered at in omega arith)) refl

@@ -4,6 +4,7 @@ use Rattle.std.specs.List.{filter, find, last_or}
 use Rattle.std.specs.Option.{option_map}
 use Rattle.cq_base.specs.declared.ask.Ask.{Ask}
 use Rattle.cq_base.specs.declared.ask.Entry.{Entry}
+use Rattle.cq_base.specs.Asks.{Attributes}
 use Rattle.cq_base.specs.Facts.{Fact}
 use Rattle.cq_base.specs.Incarnations.{Incarnation, IncarnationStands, coming, told_of, repeated, is_use, is_clocked}
 use Rattle.cq_base.specs.Messages.{messages, is_accepted, duplicate, is_duplicated_by, moment_of, standing}
@@ -15,7 +16,7 @@ use Rattle.cq_queue.proofs.Maps.{last_or-more}
 -- What is kept stands for what happened.
 pub record StandsFor (kept : Incarnation) (xs : List Fact) : Type 0 where
   pub sent : kept.sent ≡ length (messages xs)
-  pub messages : kept.messages ≡ standing kept.visibility xs
+  pub messages : kept.messages ≡ standing kept.attributes.visibility xs
   pub window : (id : List ℕ) (moment : ℕ) → kept.last ≤ moment → repeated id moment kept.accepted ≡ option_map (λ f. f.count) (duplicate id moment xs)
   pub last : kept.last ≡ moment_of (last_or None (filter is_clocked xs))
   pub used : kept.used ≡ length (filter is_use xs)
@@ -29,8 +30,8 @@ told-stands : (kept : Incarnation) (entries : List Entry) → StandsFor kept (to
 told-stands kept entries h = record { sent = h.sent; messages = h.messages; window = h.window; last = h.last; used = h.used }
 
 -- the same with one more entry
-pub stands-more : (kept : Incarnation) (entries : List Entry) (e : Entry) → StandsFor kept (told_of kept entries ++ coming kept.number kept.visibility (told_of kept entries) e ∷ []) → IncarnationStands kept (entries ++ e ∷ [])
-stands-more kept entries e h = told-stands kept (entries ++ e ∷ []) (subst (StandsFor kept) (sym (lifetime-more kept.number kept.visibility entries e)) h)
+pub stands-more : (kept : Incarnation) (entries : List Entry) (e : Entry) → StandsFor kept (told_of kept entries ++ coming kept.number kept.attributes (told_of kept entries) e ∷ []) → IncarnationStands kept (entries ++ e ∷ [])
+stands-more kept entries e h = told-stands kept (entries ++ e ∷ []) (subst (StandsFor kept) (sym (lifetime-more kept.number kept.attributes entries e)) h)
 
 -- the entry of a client's ask at that moment
 abbrev pub asked : ℕ → Entry → Ask → Entry
@@ -69,14 +70,14 @@ window-same kept xs f last stands rejected later id moment from =
     stands.window id moment from_last ∙ ap (λ ys. option_map (λ y. y.count) (find (is_duplicated_by id moment) ys)) (sym (messages-same xs f rejected))
 
 -- what is kept of an incarnation to which nothing came
-abbrev empty : ℕ → ℕ → Incarnation
-empty number visibility = record { number = number; visibility = visibility; sent = 0; messages = []; accepted = []; last = 0; used = 0 }
+abbrev empty : ℕ → Attributes → Incarnation
+empty number attributes = record { number = number; attributes = attributes; sent = 0; messages = []; accepted = []; last = 0; used = 0 }
 
 -- nothing happened
-nothing_told : (number visibility : ℕ) → StandsFor (empty number visibility) []
+nothing_told : (number : ℕ) (attributes : Attributes) → StandsFor (empty number attributes) []
 unfolding messages duplicate standing
-nothing_told number visibility = record { sent = refl; messages = refl; window = λ id moment later. refl; last = refl; used = refl }
+nothing_told number attributes = record { sent = refl; messages = refl; window = λ id moment later. refl; last = refl; used = refl }
 
 -- it stands for no entries
-pub stands-none : (number visibility : ℕ) → IncarnationStands (empty number visibility) []
-stands-none number visibility = told-stands (empty number visibility) [] (subst (StandsFor (empty number visibility)) (sym (lifetime-none number visibility)) (nothing_told number visibility))
+pub stands-none : (number : ℕ) (attributes : Attributes) → IncarnationStands (empty number attributes) []
+stands-none number attributes = told-stands (empty number attributes) [] (subst (StandsFor (empty number attributes)) (sym (lifetime-none number attributes)) (nothing_told number attributes))

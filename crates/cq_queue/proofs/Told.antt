@@ -6,6 +6,7 @@ use Rattle.std.proofs.lemmas.Bool.{cases_Bool}
 use Rattle.std.proofs.lemmas.Bool.Decides.{nat_tests}
 use Rattle.std.proofs.lemmas.List.Folds.{list_any-append}
 use Rattle.cq_base.specs.declared.ask.Entry.{Entry}
+use Rattle.cq_base.specs.Asks.{Attributes}
 use Rattle.cq_base.specs.Facts.{Fact}
 use Rattle.cq_base.specs.Incarnations.{coming, lifetime}
 use Rattle.cq_base.specs.Messages.{messages, is_accepted, is_numbered, is_sent, hands, hands_it, changes_it, touches, touches_it, deletes_it, is_deleted}
@@ -70,7 +71,7 @@ told_none = record {
 }
 
 -- one more entry
-told_more : (incarnation own : ℕ) (xs : List Fact) (e : Entry) → IsTold xs → IsTold (xs ++ coming incarnation own xs e ∷ [])
+told_more : (incarnation : ℕ) (own : Attributes) (xs : List Fact) (e : Entry) → IsTold xs → IsTold (xs ++ coming incarnation own xs e ∷ [])
 told_more incarnation own xs e h =
     let f = coming incarnation own xs e in
     let step = step-on incarnation own xs e.moment e.request.client e.request.number e.request.ask in
@@ -82,11 +83,11 @@ told_more incarnation own xs e h =
           let above_all : length (messages xs) < n = omega arith in
           let new = h.new n above_all in
           new_more n xs f
-          (none-handed n own xs f h.numbered above_all (hands-on incarnation own xs e.moment e.request.client e.request.number e.request.ask))
+          (none-handed n own.visibility xs f h.numbered above_all (hands-on incarnation own xs e.moment e.request.client e.request.number e.request.ask))
           (changes-on n incarnation own xs e.moment e.request.client e.request.number e.request.ask h.numbered above_all)
           (not_deleted n xs f step new.handed) new;
     }
 
 -- all that happens to an incarnation is so
-pub told-lifetime : (incarnation own : ℕ) (entries : List Entry) → IsTold (lifetime incarnation own entries)
+pub told-lifetime : (incarnation : ℕ) (own : Attributes) (entries : List Entry) → IsTold (lifetime incarnation own entries)
 told-lifetime incarnation own entries = by_lifetime IsTold incarnation own told_none (told_more incarnation own) entries

@@ -1,11 +1,12 @@
 -- What comes to an incarnation, whatever the client, the number and the name of the queue, and what is said
 -- of one more entry.
-use Rattle.std.specs.Prelude.{◌≡◌, ℕ, List, [], ◌∷◌, ◌++◌, map, Option, None}
+use Rattle.std.specs.Prelude.{◌≡◌, ℕ, List, [], ◌∷◌, ◌++◌, map, true, Option, None}
 use Rattle.cq_base.specs.declared.ask.Ask.TheVariants.{Create, Send, Receive, Delete, Change}
 use Rattle.cq_base.specs.declared.ask.Entry.{Entry}
 use Rattle.cq_base.specs.declared.reply.Delivery.{Delivery}
 use Rattle.cq_base.specs.declared.reply.Reply.{Reply}
 use Rattle.cq_base.specs.declared.reply.Reply.TheVariants.{Counts}
+use Rattle.cq_base.specs.Asks.{Attributes, dedup_or_made, is_given_or_made}
 use Rattle.cq_base.specs.Effects.{counts_of}
 use Rattle.cq_base.specs.Handle.{Handle}
 use Rattle.cq_base.specs.Incarnations.{Incarnation, IncarnationStands, coming, told_of}
@@ -13,15 +14,25 @@ use Rattle.cq_base.specs.Messages.{duplicate, standing}
 use Rattle.cq_base.specs.Receiving.{to_hand, delivery_of}
 
 -- the entry is a creation of the queue, which lives, at any moment
-pub record IsCreate (visibility : ℕ) (e : Entry) : Type 0 where
+pub record IsCreate (given : Attributes) (e : Entry) : Type 0 where
   pub queue : List ℕ
-  pub asks : e.request.ask ≡ Create queue visibility
+  pub asks : e.request.ask ≡ Create queue given.visibility given.content
 
--- the entry is such a send at that moment
-pub record IsSend (moment : ℕ) (group dedup body : List ℕ) (e : Entry) : Type 0 where
+-- the entry is such a send at that moment, with that deduplication id or none
+pub record IsSend (moment : ℕ) (group : List ℕ) (dedup : Option (List ℕ)) (body : List ℕ) (e : Entry) : Type 0 where
   pub queue : List ℕ
   pub at_moment : e.moment ≡ moment
   pub asks : e.request.ask ≡ Send queue group dedup body
+
+-- The entry is a send at that moment that has this deduplication id, given or made, on a queue of these
+-- attributes.
+pub record IsSendAs (own : Attributes) (moment : ℕ) (group dedup body : List ℕ) (e : Entry) : Type 0 where
+  pub queue : List ℕ
+  pub given : Option (List ℕ)
+  pub at_moment : e.moment ≡ moment
+  pub asks : e.request.ask ≡ Send queue group given body
+  pub same : dedup_or_made body given ≡ dedup
+  pub has : is_given_or_made own.content given ≡ true
 
 -- the entry is such a receive at that moment
 pub record IsReceive (moment size : ℕ) (visibility : Option ℕ) (e : Entry) : Type 0 where
@@ -48,24 +59,24 @@ StandsAfter IsSuch old new = (entries : List Entry) (e : Entry) → IncarnationS
 -- Whatever entries `kept` stands for, one more of this kind is answered with that reply.
 abbrev pub IsAnswered : (Entry → Type 0) → Incarnation → Reply → Type 0
 IsAnswered IsSuch kept reply = (entries : List Entry) (e : Entry) → IncarnationStands kept entries → IsSuch e
-    → (coming kept.number kept.visibility (told_of kept entries) e).reply ≡ reply
+    → (coming kept.number kept.attributes (told_of kept entries) e).reply ≡ reply
 
 -- Whatever entries `kept` stands for, a send of that deduplication id at that moment repeats none of them.
 abbrev pub IsNoRepeat : List ℕ → ℕ → Incarnation → Type 0
 IsNoRepeat dedup moment kept = (entries : List Entry) → IncarnationStands kept entries
     → duplicate dedup moment (told_of kept entries) ≡ None
 
--- it is the same incarnation, with the same visibility timeout
+-- it is the same incarnation, with the same attributes
 pub record IsSameQueue (old new : Incarnation) : Type 0 where
   pub number : new.number ≡ old.number
-  pub visibility : new.visibility ≡ old.visibility
+  pub attributes : new.attributes ≡ old.attributes
 
 -- Whatever entries `kept` stands for, these are what a receive of that size hands out after them.
 abbrev pub AreOffered : Incarnation → ℕ → ℕ → List Delivery → Type 0
 AreOffered kept moment size deliveries = (entries : List Entry) → IncarnationStands kept entries
-    → deliveries ≡ map (delivery_of kept.number) (to_hand size moment (standing kept.visibility (told_of kept entries)))
+    → deliveries ≡ map (delivery_of kept.number) (to_hand size moment (standing kept.attributes.visibility (told_of kept entries)))
 
 -- Whatever entries `kept` stands for, these are the counts of its messages after them.
 abbrev pub AreCounted : Incarnation → ℕ → ℕ → ℕ → Type 0
 AreCounted kept moment visible in_flight = (entries : List Entry) → IncarnationStands kept entries
-    → counts_of moment (standing kept.visibility (told_of kept entries)) ≡ Counts visible in_flight
+    → counts_of moment (standing kept.attributes.visibility (told_of kept entries)) ≡ Counts visible in_flight

@@ -1,10 +1,12 @@
 //! The queue, and the calls that change it.
-ghost use Rattle.std.specs.Prelude.{◌≡◌, ◌+◌, ◌*◌, ◌<◌, ◌≤◌, ℕ, [], false, IsOk, IsErr, IfOk, IfErr, OnOk, OnErr, Some};
+ghost use Rattle.std.specs.Prelude.{◌≡◌, ◌+◌, ◌*◌, ◌<◌, ◌≤◌, ℕ, [], false, IsOk, IsErr, IfOk, IfErr, IfSome, OnOk, OnErr, Some, None};
+ghost use Rattle.std.specs.Option.{option_copied};
 ghost use Rattle.cq_base.specs.declared.limits.TheConstants.{HISTORY_LIMIT};
 ghost use Rattle.cq_base.specs.declared.reply.Reply.TheVariants.{Sent, Deleted, Changed, Refused};
+ghost use Rattle.cq_base.specs.declared.reply.Refusal.TheVariants.{MissingDedupId};
 ghost use Rattle.cq_base.specs.Incarnations.{IncarnationStands, repeated};
-ghost use Rattle.cq_queue.specs.within.Answers.{delete_reply, is_deleting, change_reply, is_changing};
-ghost use Rattle.cq_queue.specs.Entries.{IsSend, IsReceive, IsDelete, IsChange, StandsAfter, IsAnswered, IsNoRepeat, IsSameQueue};
+ghost use Rattle.cq_queue.specs.within.Answers.{send_reply, delete_reply, is_deleting, change_reply, is_changing};
+ghost use Rattle.cq_queue.specs.Entries.{IsSend, IsSendAs, IsReceive, IsDelete, IsChange, StandsAfter, IsAnswered, IsNoRepeat, IsSameQueue};
 ghost use Rattle.cq_queue.specs.within.Kept.{used_at, with_message, handed_out, is_receipt_of, without_message, deletion, with_timeout, alteration};
 
 mod reads;
@@ -24,6 +26,8 @@ use std::marker::Model;
 pub struct Queue {
     number: u64,
     visibility: Seconds,
+    /// Whether it makes the deduplication ids of sends that have none, of their bodies.
+    content: bool,
     /// How many sends it has accepted.
     sent: u64,
     /// The messages that aren't deleted, in order of sending.
@@ -43,7 +47,7 @@ impl Model for Queue {
 
     ghost view = { λ q. record {
       number = q.number;
-      visibility = q.visibility;
+      attributes = record { visibility = q.visibility; content = q.content };
       sent = q.sent;
       messages = q.messages.items;
       accepted = q.accepted.items;
@@ -56,18 +60,25 @@ impl Model for Queue {
 
 impl Queue {
     /// The queue to which nothing came. It takes no memory before the first send. O(1).
-    pub fn new(alloc: Global, incarnation: u64, visibility: Seconds) -> Result<Queue, NoMemory>
+    pub fn new(
+        alloc: Global,
+        incarnation: u64,
+        visibility: Seconds,
+        content: bool,
+    ) -> Result<Queue, NoMemory>
         requires { 0 < incarnation }
         ensures made { IsOk result }
         ensures stands { IfOk result (λ queue. IncarnationStands queue []) }
         ensures number { IfOk result (λ queue. queue.number ≡ incarnation) }
-        ensures visibility { IfOk result (λ queue. queue.visibility ≡ visibility) }
+        ensures attributes { IfOk result (λ queue.
+            queue.attributes ≡ record { visibility = visibility; content = content }) }
         ensures last { IfOk result (λ queue. queue.last ≡ 0) }
         ensures used { IfOk result (λ queue. queue.used ≡ 0) }
     {
         Ok(Queue {
             number: incarnation,
             visibility,
+            content,
             sent: 0,
             messages: Vec::new(alloc),
             accepted: Vec::new(alloc),
@@ -126,10 +137,8 @@ impl Queue {
         Ok(sequence)
     }
 
-    /// A send that comes at that moment. It is answered with the message's sequence number: a new one, or
-    /// that of the message that it repeats. One that repeats takes no memory. After `NoMemory` the queue is as
-    /// before. O(accepted sends that are kept), and amortized O(1) for the message.
-    pub fn send(
+    /// A send that comes at that moment and has that deduplication id, given or made.
+    fn send_as(
         &mut self,
         moment: Moment,
         group: &GroupId,
@@ -139,9 +148,9 @@ impl Queue {
         requires order { self.old.last ≤ moment }
         requires room { self.old.used < HISTORY_LIMIT }
         ensures stands { OnOk result
-            (StandsAfter (IsSend moment group.now dedup.now body.now) self.old self.new) }
+            (StandsAfter (IsSendAs self.old.attributes moment group.now dedup.now body.now) self.old self.new) }
         ensures reply { IfOk result (λ sequence.
-            IsAnswered (IsSend moment group.now dedup.now body.now) self.old (Sent sequence)) }
+            IsAnswered (IsSendAs self.old.attributes moment group.now dedup.now body.now) self.old (Sent sequence)) }
         ensures last { OnOk result (self.new.last ≡ moment) }
         ensures used { OnOk result (self.new.used ≡ self.old.used + 1) }
         ensures memory { IsErr result → IsNoRepeat dedup.now moment self.old }
@@ -151,6 +160,74 @@ impl Queue {
         match self.repeated(dedup, moment) {
             Some(sequence) => Ok(self.count_repeat(moment, sequence)),
             None => self.accept(moment, group, dedup, body),
+        }
+    }
+
+    /// Counts a send that has no deduplication id, and gets none.
+    fn refuse(&mut self, moment: Moment) -> Refusal
+        requires { self.old.used < HISTORY_LIMIT }
+        ensures refusal { result ≡ MissingDedupId }
+        ensures used { self.new ≡ used_at moment self.old }
+    {
+        self.used += 1;
+        self.last = moment;
+        Refusal::MissingDedupId
+    }
+
+    /// A send that comes at that moment without a deduplication id.
+    fn send_without(
+        &mut self,
+        moment: Moment,
+        group: &GroupId,
+        body: &Body,
+    ) -> Result<Result<u64, Refusal>, NoMemory>
+        requires order { self.old.last ≤ moment }
+        requires room { self.old.used < HISTORY_LIMIT }
+        ensures stands { OnOk result
+            (StandsAfter (IsSend moment group.now None body.now) self.old self.new) }
+        ensures reply { IfOk result (λ answer.
+            IsAnswered (IsSend moment group.now None body.now) self.old (send_reply answer)) }
+        ensures last { OnOk result (self.new.last ≡ moment) }
+        ensures used { OnOk result (self.new.used ≡ self.old.used + 1) }
+        ensures refused { IfOk result (λ answer. OnErr answer (self.new.accepted ≡ self.old.accepted)) }
+        ensures err { OnErr result (self.new ≡ self.old) }
+        ensures same { IsSameQueue self.old self.new }
+    {
+        if !self.content {
+            return Ok(Err(self.refuse(moment)));
+        }
+        let made = DedupId::of_body(body)?;
+        Ok(Ok(self.send_as(moment, group, &made, body)?))
+    }
+
+    /// A send that comes at that moment. It is answered with the message's sequence number: a new one, or
+    /// that of the message that it repeats. Without a deduplication id it has the one that is made of its
+    /// body, if the queue makes ids, and is refused else; a refused one leaves the accepted sends as they are.
+    /// One that has an id and repeats takes no memory. After `NoMemory` the queue is as before. O(accepted
+    /// sends that are kept), amortized O(1) for the message, and O(length of the body) for a made id.
+    pub fn send(
+        &mut self,
+        moment: Moment,
+        group: &GroupId,
+        dedup: Option<&DedupId>,
+        body: &Body,
+    ) -> Result<Result<u64, Refusal>, NoMemory>
+        requires order { self.old.last ≤ moment }
+        requires room { self.old.used < HISTORY_LIMIT }
+        ensures stands { OnOk result
+            (StandsAfter (IsSend moment group.now (option_copied dedup.entry) body.now) self.old self.new) }
+        ensures reply { IfOk result (λ answer.
+            IsAnswered (IsSend moment group.now (option_copied dedup.entry) body.now) self.old (send_reply answer)) }
+        ensures last { OnOk result (self.new.last ≡ moment) }
+        ensures used { OnOk result (self.new.used ≡ self.old.used + 1) }
+        ensures refused { IfOk result (λ answer. OnErr answer (self.new.accepted ≡ self.old.accepted)) }
+        ensures memory { IsErr result → IfSome (option_copied dedup.entry) (λ id. IsNoRepeat id moment self.old) }
+        ensures err { OnErr result (self.new ≡ self.old) }
+        ensures same { IsSameQueue self.old self.new }
+    {
+        match dedup {
+            Some(dedup) => Ok(Ok(self.send_as(moment, group, dedup, body)?)),
+            None => self.send_without(moment, group, body),
         }
     }
 

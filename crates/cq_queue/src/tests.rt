@@ -7,11 +7,15 @@ use std::alloc::Global;
 use std::process::Abort;
 use std::test::Fail;
 
-/// What comes to the incarnation 1. A message's body is its deduplication id, too.
+/// What comes to the incarnation 1.
 #[derive(Clone, Copy)]
 enum Row {
-    /// The group and the body.
+    /// The group and the body, which is the deduplication id too.
     Send(&'static str, &'static str),
+    /// The body of a send in group a without a deduplication id.
+    SendWithout(&'static str),
+    /// The deduplication id and the body of a send in group a.
+    SendAs(&'static str, &'static str),
     Receive(u8),
     /// The size, and the visibility timeout in seconds.
     ReceiveFor(u8, u32),
@@ -62,14 +66,16 @@ fn send(
     queue: &mut Queue,
     moment: Moment,
     group: &str,
+    dedup: Option<&DedupId>,
     body: &str,
 ) -> Result<String, Fail> {
     let group = GroupId::new(alloc, group)?;
-    let dedup = DedupId::new(alloc, body)?;
     let body = Body::new(alloc, body)?;
     expect_order(rt, queue, moment);
-    let sequence = queue.send(moment, &group, &dedup, &body)?;
-    Ok(format!(in alloc; "sent {sequence}")?)
+    match queue.send(moment, &group, dedup, &body)? {
+        Ok(sequence) => Ok(format!(in alloc; "sent {sequence}")?),
+        Err(refusal) => refused(alloc, refusal),
+    }
 }
 
 fn receive(
@@ -125,7 +131,15 @@ fn answer(
 ) -> Result<String, Fail> {
     let moment = Moment::new(moment).ok_or("no moment")?;
     match row {
-        Row::Send(group, body) => send(rt, alloc, queue, moment, group, body),
+        Row::Send(group, body) => {
+            let dedup = DedupId::new(alloc, body)?;
+            send(rt, alloc, queue, moment, group, Some(&dedup), body)
+        }
+        Row::SendWithout(body) => send(rt, alloc, queue, moment, "a", None, body),
+        Row::SendAs(dedup, body) => {
+            let dedup = DedupId::new(alloc, dedup)?;
+            send(rt, alloc, queue, moment, "a", Some(&dedup), body)
+        }
         Row::Receive(size) => receive(rt, alloc, queue, moment, size, None),
         Row::ReceiveFor(size, visibility) => {
             receive(rt, alloc, queue, moment, size, Some(seconds(visibility)?))
@@ -141,8 +155,13 @@ fn answer(
 
 /// What comes to a queue with a visibility timeout of 30 s, each with its moment and answer. A copy of the
 /// queue as it was just before gives the same answer.
-fn check(rt: &impl Abort, alloc: Global, rows: &[(u64, Row, &'static str)]) -> Result<(), Fail> {
-    let mut queue = Queue::new(alloc, 1, seconds(30)?)?;
+fn check(
+    rt: &impl Abort,
+    alloc: Global,
+    content: bool,
+    rows: &[(u64, Row, &'static str)],
+) -> Result<(), Fail> {
+    let mut queue = Queue::new(alloc, 1, seconds(30)?, content)?;
     for (moment, row, want) in rows {
         let mut copy = queue.try_copy()?;
         let got = answer(rt, alloc, &mut queue, *moment, *row)?;
@@ -155,9 +174,10 @@ fn check(rt: &impl Abort, alloc: Global, rows: &[(u64, Row, &'static str)]) -> R
 
 #[test]
 fn a_new_queue_has_nothing(rt: HostRuntime) -> Result<(), Fail> {
-    let queue = Queue::new(rt.alloc(), 7, seconds(30)?)?;
+    let queue = Queue::new(rt.alloc(), 7, seconds(30)?, true)?;
     assert_eq!(&rt; queue.incarnation(), 7);
     assert_eq!(&rt; queue.visibility().get(), 30);
+    assert_eq!(&rt; queue.content(), true);
     assert_eq!(&rt; queue.last().get(), 0);
     assert_eq!(&rt; queue.used(), 0);
     Ok(())
@@ -185,7 +205,7 @@ fn each_call_is_answered(rt: HostRuntime) -> Result<(), Fail> {
         (8, Row::Send("a", "a3"), "sent 3"),
         (8, Row::Counts, "counts 1 1"),
     ];
-    check(&rt, rt.alloc(), &rows)
+    check(&rt, rt.alloc(), false, &rows)
 }
 
 /// Each group hands out all it has before the next.
@@ -211,5 +231,34 @@ fn groups_go_by_their_oldest_message(rt: HostRuntime) -> Result<(), Fail> {
         ),
         (1, Row::Receive(10), "received"),
     ];
-    check(&rt, rt.alloc(), &rows)
+    check(&rt, rt.alloc(), false, &rows)
+}
+
+/// A queue that makes ids takes the one that is given before the one that it would make, and knows a made one
+/// by the same id given.
+#[test]
+fn ids_are_made_where_none_is_given(rt: HostRuntime) -> Result<(), Fail> {
+    let abc = "ba7816bf8f01cfea414140de5dae2223b00361a396177a9cb410ff61f20015ad";
+    let rows = [
+        (0, Row::SendWithout("abc"), "sent 1"),
+        (1, Row::SendAs(abc, "abc"), "sent 1"),
+        (2, Row::SendAs("x", "abc"), "sent 2"),
+        (3, Row::SendWithout("abd"), "sent 3"),
+        (300_000, Row::SendWithout("abc"), "sent 4"),
+    ];
+    check(&rt, rt.alloc(), true, &rows)
+}
+
+/// A queue that makes no ids refuses a send without one, which renews and frees no id.
+#[test]
+fn a_missing_id_is_refused(rt: HostRuntime) -> Result<(), Fail> {
+    let abc = "ba7816bf8f01cfea414140de5dae2223b00361a396177a9cb410ff61f20015ad";
+    let rows = [
+        (0, Row::SendAs(abc, "abc"), "sent 1"),
+        (1, Row::SendWithout("abc"), "refused 8"),
+        (299_999, Row::SendAs(abc, "abc"), "sent 1"),
+        (299_999, Row::SendWithout("abc"), "refused 8"),
+        (300_000, Row::SendAs(abc, "abc"), "sent 2"),
+    ];
+    check(&rt, rt.alloc(), false, &rows)
 }

@@ -1,8 +1,13 @@
 -- What a queue's calls answer, as replies.
-use Rattle.std.specs.Prelude.{Bool, true, false, Result, Ok, Err}
+use Rattle.std.specs.Prelude.{ℕ, Bool, true, false, Result, Ok, Err}
 use Rattle.cq_base.specs.declared.reply.Refusal.{Refusal}
 use Rattle.cq_base.specs.declared.reply.Reply.{Reply}
-use Rattle.cq_base.specs.declared.reply.Reply.TheVariants.{Deleted, Changed, Refused}
+use Rattle.cq_base.specs.declared.reply.Reply.TheVariants.{Sent, Deleted, Changed, Refused}
+
+-- the reply to a send
+abbrev pub send_reply : Result ℕ Refusal → Reply
+send_reply (Ok sequence) = Sent sequence
+send_reply (Err refusal) = Refused refusal
 
 -- the reply to a delete
 abbrev pub delete_reply : Result Bool Refusal → Reply

@@ -17,9 +17,16 @@ impl Queue {
 
     /// The visibility timeout that the queue gives. O(1).
     pub fn visibility(&self) -> Seconds
-        ensures { result ≡ self.now.visibility }
+        ensures { result ≡ self.now.attributes.visibility }
     {
         self.visibility
+    }
+
+    /// Whether the queue makes the deduplication ids of sends that have none, of their bodies. O(1).
+    pub fn content(&self) -> bool
+        ensures { result ≡ self.now.attributes.content }
+    {
+        self.content
     }
 
     /// The moment of the last send, receive or effective change; 0 before the first. O(1).
@@ -63,6 +70,7 @@ impl Queue {
         Ok(Queue {
             number: self.number,
             visibility: self.visibility,
+            content: self.content,
             sent: self.sent,
             messages: message::copies(alloc, &self.messages)?,
             accepted: accepted::copies(alloc, &self.accepted)?,

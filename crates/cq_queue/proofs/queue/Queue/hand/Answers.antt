@@ -11,4 +11,4 @@ own_timeout own (Some timeout) = refl
 
 pub returns-clause-stands : goal.returns-clause-stands
 returns-clause-stands c = rw c.mark.ensures (stands-handed_with c.args.self.now c.args.moment c.args.size c.unwrap_or-timeout.result c.args.visibility c.requires.order
-    (c.unwrap_or-timeout.ensures ∙ ap (unwrap_or c.args.visibility) c.visibility.ensures ∙ own_timeout c.args.self.now.visibility c.args.visibility))
+    (c.unwrap_or-timeout.ensures ∙ ap (unwrap_or c.args.visibility) c.visibility.ensures ∙ own_timeout c.args.self.now.attributes.visibility c.args.visibility))

@@ -2,10 +2,10 @@
 use Rattle.std.proofs.Common.{◌≡◌, ◌+◌, ◌∙◌, sym, subst}
 use Rattle.std.proofs.lemmas.Result.{on_ok_weaker, IfOk-weaker}
 use Rattle.cq_base.specs.declared.reply.Reply.TheVariants.{Sent}
-use Rattle.cq_queue.specs.Entries.{IsSend, IsAnswered}
+use Rattle.cq_queue.specs.Entries.{IsSendAs, IsAnswered}
 use Rattle.cq_queue.specs.within.Kept.{with_message}
 use Rattle.cq_queue.proofs.Sends.{stands-accepted, reply-accepted, stands-repeated, reply-repeated}
-use Rattle.cq_queue.proofs.queue.Queue.send.Goals as goal
+use Rattle.cq_queue.proofs.queue.Queue.send_as.Goals as goal
 
 pub returns-in-Some-clause-stands : goal.returns-in-Some-clause-stands
 returns-in-Some-clause-stands c = rw c.count_repeat.ensures.used (stands-repeated c.args.self.now c.args.moment c.args.group.now c.args.dedup.now c.args.body.now c.in-Some.sequence c.requires.order (sym c.in-Some.ensures))
@@ -21,5 +21,5 @@ returns-in-None-clause-stands c =
 pub returns-in-None-clause-reply : goal.returns-in-None-clause-reply
 returns-in-None-clause-reply c =
     let kept = c.args.self.now in
-    let kind = IsSend c.args.moment c.args.group.now c.args.dedup.now c.args.body.now in
+    let kind = IsSendAs kept.attributes c.args.moment c.args.group.now c.args.dedup.now c.args.body.now in
     IfOk-weaker c.accept.result (λ n. n ≡ kept.sent + 1) (λ n. IsAnswered kind kept (Sent n)) (λ n h. subst (λ k. IsAnswered kind kept (Sent k)) (sym h) (reply-accepted kept c.args.moment c.args.group.now c.args.dedup.now c.args.body.now c.requires.order (sym c.repeated.ensures ∙ c.in-None.is))) c.accept.ensures.sequence
