@@ -1,5 +1,5 @@
 -- Asks about a name, and how they are answered.
-use Rattle.std.proofs.Common.{◌≡◌, ℕ, ◌+◌, ◌≤◌, ◌∙◌, ◌&&◌, ap, sym, List, [], ◌∷◌, ◌++◌, map, Option, Some, None, true, false, arith, subst, refl}
+use Rattle.std.proofs.Common.{◌≡◌, ℕ, ◌+◌, ◌≤◌, ◌∙◌, ◌&&◌, ap, sym, List, [], ◌∷◌, ◌++◌, map, Option, Some, None, Bool, true, false, arith, subst, refl}
 use Rattle.std.proofs.lemmas.Bool.{both_ways, false≢true}
 use Rattle.cq_base.specs.declared.ask.Ask.{Ask}
 use Rattle.cq_base.specs.declared.ask.Ask.TheVariants.{Create, Remove, Send, Receive, Delete, Change}
@@ -7,8 +7,8 @@ use Rattle.cq_base.specs.declared.ask.Entry.{Entry}
 use Rattle.cq_base.specs.declared.reply.Reply.{Reply}
 use Rattle.cq_base.specs.declared.reply.Reply.TheVariants.{Created, Removed, Refused}
 use Rattle.cq_base.specs.declared.reply.Refusal.TheVariants.{QueueDoesNotExist, QueueDeletedRecently}
-use Rattle.cq_base.specs.Asks.{queue_of, is_create, is_remove, visibility_of}
-use Rattle.cq_base.specs.Effects.{counts_of, counts_by, takes_effect, create_again, create, effect_on, effect_off, visibility_by}
+use Rattle.cq_base.specs.Asks.{queue_of, is_create, is_remove, attributes_of}
+use Rattle.cq_base.specs.Effects.{counts_of, counts_by, takes_effect, create_again, create, effect_on, effect_off, attributes_by}
 use Rattle.cq_base.specs.Facts.{Fact, about, on}
 use Rattle.cq_base.specs.History.{fact_with, fresh_fact, history}
 use Rattle.cq_base.specs.Incarnations.{Incarnation, IncarnationStands, told_of}
@@ -41,23 +41,23 @@ abbrev IsAnswered-after : NameKept → List Fact → Entry → Reply → Type 0
 IsAnswered-after new own e reply = ((fresh_fact e own).reply ≡ reply) × NameStands e.moment new (own ++ fresh_fact e own ∷ [])
 
 -- an entry that comes to the incarnation, by the creation by which the queue lives
-came_by : (IsSuch : Entry → Type 0) (old : NameKept) (p q : Incarnation) (last : ℕ) (own : List Fact) (e : Entry) (reply : Reply) (living : Option Fact) → old.living ≡ Some p → q.number ≡ p.number → q.visibility ≡ p.visibility
+came_by : (IsSuch : Entry → Type 0) (old : NameKept) (p q : Incarnation) (last : ℕ) (own : List Fact) (e : Entry) (reply : Reply) (living : Option Fact) → old.living ≡ Some p → q.number ≡ p.number → q.attributes ≡ p.attributes
     → StandsAfter IsSuch p q → IsAnswered IsSuch p reply → IsSuch e → is_removal (fresh_fact e own) ≡ false → IsAlone own → last ≤ e.moment → NameStands last old own → live own ≡ living
     → IsAnswered-after (with_incarnation old q) own e reply
-came_by IsSuch old p q last own e reply None is_p number visibility after answered such stays alone more h dead = absurd (subst (λ k. IsLiving k None own) is_p (subst (λ o. IsLiving old.living o own) dead h.living))
-came_by IsSuch old p q last own e reply (Some creation) is_p number visibility after answered such stays alone more h lives =
+came_by IsSuch old p q last own e reply None is_p number attributes after answered such stays alone more h dead = absurd (subst (λ k. IsLiving k None own) is_p (subst (λ o. IsLiving old.living o own) dead h.living))
+came_by IsSuch old p q last own e reply (Some creation) is_p number attributes after answered such stays alone more h lives =
     let as_p : LivesAs p creation own = subst (λ k. IsLiving k (Some creation) own) is_p (subst (λ o. IsLiving old.living o own) lives h.living) in
     let es = map (λ f. f.entry) (on creation.count own) in (
       ap (λ f. f.reply) (comes-to own creation p e alone lives as_p) ∙ answered es e as_p.stands such,
-      name-living last old own creation e p q more lives is_p stays number visibility (after es e as_p.stands such) h,
+      name-living last old own creation e p q more lives is_p stays number attributes (after es e as_p.stands such) h,
     )
 
 -- An ask that comes to the incarnation as which the queue lives, where that answers it.
-pub came : (IsSuch : Entry → Type 0) (old : NameKept) (p q : Incarnation) (moment : ℕ) (ask : Ask) (reply : Reply) → old.living ≡ Some p → q.number ≡ p.number → q.visibility ≡ p.visibility
+pub came : (IsSuch : Entry → Type 0) (old : NameKept) (p q : Incarnation) (moment : ℕ) (ask : Ask) (reply : Reply) → old.living ≡ Some p → q.number ≡ p.number → q.attributes ≡ p.attributes
     → StandsAfter IsSuch p q → IsAnswered IsSuch p reply → ((e : Entry) → e.moment ≡ moment → e.request.ask ≡ ask → IsSuch e) → is_remove ask ≡ false
     → IsAnswer old (with_incarnation old q) moment ask reply
-came IsSuch old p q moment ask reply is_p number visibility after answered such other entries last e more at asks h = let own = own_facts entries ask in
-    let made = came_by IsSuch old p q last own e reply (live own) is_p number visibility after answered (such e at asks) (no_removal e own ask asks other) (alone (queue_of ask) entries) (omega (arith, more, at)) h refl in
+came IsSuch old p q moment ask reply is_p number attributes after answered such other entries last e more at asks h = let own = own_facts entries ask in
+    let made = came_by IsSuch old p q last own e reply (live own) is_p number attributes after answered (such e at asks) (no_removal e own ask asks other) (alone (queue_of ask) entries) (omega (arith, more, at)) h refl in
     (made.0, subst (λ m. NameStands m (with_incarnation old q) (own ++ fresh_fact e own ∷ [])) at made.1)
 
 -- nothing lives where nothing is kept as living
@@ -72,7 +72,7 @@ fact-dead own e dead = sym (fresh-dead e own dead)
 -- an ask that is no creation is refused there
 off_refused : (moment : ℕ) (own : List Fact) (ask : Ask) → is_create ask ≡ false → (effect_off moment own ask).reply ≡ Refused QueueDoesNotExist
 unfolding effect_off
-off_refused moment own (Create queue visibility) other = absurd (both_ways _ other refl)
+off_refused moment own (Create queue visibility content) other = absurd (both_ways _ other refl)
 off_refused moment own (Remove queue) other = refl
 off_refused moment own (Send queue group dedup body) other = refl
 off_refused moment own (Receive queue size visibility) other = refl
@@ -88,39 +88,39 @@ refused old moment ask none other entries last e more at asks h = let own = own_
     )
 
 -- a creation of a queue that doesn't live
-fact-created : (own : List Fact) (e : Entry) (queue : List ℕ) (visibility : ℕ) → live own ≡ None → e.request.ask ≡ Create queue visibility → fresh_fact e own ≡ fact_with e 0 (create (removed_lately e.moment own) (creations own + 1))
+fact-created : (own : List Fact) (e : Entry) (queue : List ℕ) (visibility : ℕ) (content : Bool) → live own ≡ None → e.request.ask ≡ Create queue visibility content → fresh_fact e own ≡ fact_with e 0 (create (removed_lately e.moment own) (creations own + 1))
 unfolding effect_off
-fact-created own e queue visibility dead asks = fact-dead own e dead ∙ ap (λ a. fact_with e 0 (effect_off e.moment own a)) asks
+fact-created own e queue visibility content dead asks = fact-dead own e dead ∙ ap (λ a. fact_with e 0 (effect_off e.moment own a)) asks
 
 -- A creation while the name rests.
-pub resting : (old : NameKept) (moment : ℕ) (queue : List ℕ) (visibility : ℕ) → old.living ≡ None → is_resting old.removed moment ≡ true → IsAnswer old old moment (Create queue visibility) (Refused QueueDeletedRecently)
-resting old moment queue visibility none rests entries last e more at asks h = let own = own_facts entries (Create queue visibility) in
+pub resting : (old : NameKept) (moment : ℕ) (queue : List ℕ) (visibility : ℕ) (content : Bool) → old.living ≡ None → is_resting old.removed moment ≡ true → IsAnswer old old moment (Create queue visibility content) (Refused QueueDeletedRecently)
+resting old moment queue visibility content none rests entries last e more at asks h = let own = own_facts entries (Create queue visibility content) in
     let dead = dead_own old last own (live own) none h refl in
     let lately : removed_lately e.moment own ≡ true = ap (λ m. removed_lately m own) at ∙ sym (h.removed moment more) ∙ rests in
-    let made = fact-created own e queue visibility dead asks ∙ ap (λ b. fact_with e 0 (create b (creations own + 1))) lately in (
+    let made = fact-created own e queue visibility content dead asks ∙ ap (λ b. fact_with e 0 (create b (creations own + 1))) lately in (
       ap (λ f. f.reply) made,
       subst (λ m. NameStands m old (own ++ fresh_fact e own ∷ [])) at (name-dead last old own e (omega (arith, more, at)) dead (ap (λ f. is_creation f) made) h),
     )
 
 -- A creation that takes effect.
-pub created : (old : NameKept) (moment : ℕ) (queue : List ℕ) (visibility : ℕ) (q : Incarnation) → old.living ≡ None → is_resting old.removed moment ≡ false
-    → q.number ≡ old.creations + 1 → q.visibility ≡ visibility → IncarnationStands q [] → IsAnswer old (with_creation old q) moment (Create queue visibility) (Created (old.creations + 1))
-created old moment queue visibility q none awake number timeout stands entries last e more at asks h = let own = own_facts entries (Create queue visibility) in
+pub created : (old : NameKept) (moment : ℕ) (queue : List ℕ) (visibility : ℕ) (content : Bool) (q : Incarnation) → old.living ≡ None → is_resting old.removed moment ≡ false
+    → q.number ≡ old.creations + 1 → q.attributes ≡ record { visibility = visibility; content = content } → IncarnationStands q [] → IsAnswer old (with_creation old q) moment (Create queue visibility content) (Created (old.creations + 1))
+created old moment queue visibility content q none awake number given stands entries last e more at asks h = let own = own_facts entries (Create queue visibility content) in
     let dead = dead_own old last own (live own) none h refl in
     let free : removed_lately e.moment own ≡ false = ap (λ m. removed_lately m own) at ∙ sym (h.removed moment more) ∙ awake in
-    let made = fact-created own e queue visibility dead asks ∙ ap (λ b. fact_with e 0 (create b (creations own + 1))) free in
+    let made = fact-created own e queue visibility content dead asks ∙ ap (λ b. fact_with e 0 (create b (creations own + 1))) free in
     let count : (fresh_fact e own).count ≡ creations own + 1 = ap (λ f. f.count) made in
     let creates : is_creation (fresh_fact e own) ≡ true = ap (λ f. is_creation f) made ∙ ap (λ a. true && is_create a) asks in
-    let asked = ap (λ a. visibility_of a) (ap (λ d. d.request.ask) (entry-fresh e own) ∙ asks) in (
+    let asked = ap (λ a. attributes_of a) (ap (λ d. d.request.ask) (entry-fresh e own) ∙ asks) in (
       ap (λ f. f.reply) made ∙ ap (λ n. Created (n + 1)) (sym h.creations),
       subst (λ m. NameStands m (with_creation old q) (own ++ fresh_fact e own ∷ [])) at
-          (name-created last old own e q (alone queue entries) (omega (arith, more, at)) creates (no_removal e own (Create queue visibility) asks refl) (number ∙ ap (λ n. n + 1) h.creations ∙ sym count) (timeout ∙ sym asked) stands h),
+          (name-created last old own e q (alone queue entries) (omega (arith, more, at)) creates (no_removal e own (Create queue visibility content) asks refl) (number ∙ ap (λ n. n + 1) h.creations ∙ sym count) (given ∙ sym asked) stands h),
     )
 
 -- a removal of a queue that lives
 fact-removed : (own : List Fact) (e : Entry) (queue : List ℕ) (creation : Fact) → live own ≡ Some creation → e.request.ask ≡ Remove queue → fresh_fact e own ≡ fact_with e creation.count (takes_effect creation.count Removed)
 unfolding effect_on
-fact-removed own e queue creation lives asks = sym (fresh-live e own creation lives) ∙ ap (λ a. fact_with e creation.count (effect_on creation.count (visibility_by creation) e.moment (on creation.count own) a)) asks
+fact-removed own e queue creation lives asks = sym (fresh-live e own creation lives) ∙ ap (λ a. fact_with e creation.count (effect_on creation.count (attributes_by creation) e.moment (on creation.count own) a)) asks
 
 -- what it does, by the creation by which the queue lives
 removed_by : (old : NameKept) (p : Incarnation) (last : ℕ) (own : List Fact) (e : Entry) (queue : List ℕ) (living : Option Fact) → old.living ≡ Some p → e.request.ask ≡ Remove queue → last ≤ e.moment → NameStands last old own → live own ≡ living
@@ -149,7 +149,7 @@ pub came_seen : (IsSuch : Entry → Type 0) (inside now : NameKept) (p q : Incar
 came_seen IsSuch inside now p q moment ask given reply view same_reply is_p same after answered such other =
     subst (λ k. IsAnswer k (with_incarnation inside q) moment ask given) view
     (subst (λ r. IsAnswer inside (with_incarnation inside q) moment ask r) (sym same_reply)
-    (came IsSuch inside p q moment ask reply is_p same.number same.visibility after answered such other))
+    (came IsSuch inside p q moment ask reply is_p same.number same.attributes after answered such other))
 
 -- the same of an ask about a queue that doesn't live
 pub refused_seen : (inside now : NameKept) (moment : ℕ) (ask : Ask) (given : Reply) → inside ≡ now → given ≡ Refused QueueDoesNotExist → inside.living ≡ None → is_create ask ≡ false → IsAnswer now inside moment ask given
@@ -161,17 +161,17 @@ refused_seen inside now moment ask given view same_reply none other =
 pub offered : (kept : Incarnation) (moment size : ℕ) (visibility : Option ℕ) (deliveries : List Delivery) → AreOffered kept moment size deliveries → IsAnswered (IsReceive moment size visibility) kept (Received deliveries)
 unfolding effect_on
 offered kept moment size visibility deliveries are entries e stands is =
-    ap (λ a. (effect_on kept.number kept.visibility e.moment (told_of kept entries) a).reply) is.asks
-    ∙ ap (λ m. Received (map (delivery_of kept.number) (to_hand size m (standing kept.visibility (told_of kept entries))))) is.at_moment
+    ap (λ a. (effect_on kept.number kept.attributes e.moment (told_of kept entries) a).reply) is.asks
+    ∙ ap (λ m. Received (map (delivery_of kept.number) (to_hand size m (standing kept.attributes.visibility (told_of kept entries))))) is.at_moment
     ∙ ap Received (sym (are entries stands))
 
 -- the same of a creation of a queue that lives
-pub again_seen : (inside now : NameKept) (p : Incarnation) (moment : ℕ) (queue : List ℕ) (visibility : ℕ) (given : Reply) → inside ≡ now → given ≡ (create_again p.number p.visibility visibility).reply → inside.living ≡ Some p
-    → IsAnswer now now moment (Create queue visibility) given
-again_seen inside now p moment queue visibility given view same_reply is_p =
-    subst (λ k. IsAnswer k k moment (Create queue visibility) given) (whole inside p is_p ∙ view)
-    (came_seen (IsCreate visibility) inside (with_incarnation inside p) p p moment (Create queue visibility) given (create_again p.number p.visibility visibility).reply (sym (whole inside p is_p)) same_reply is_p (record { number = refl; visibility = refl })
-    (stands-created p visibility) (reply-created p visibility) (λ e at asks. record { queue = queue; asks = asks }) refl)
+pub again_seen : (inside now : NameKept) (p : Incarnation) (moment : ℕ) (queue : List ℕ) (visibility : ℕ) (content : Bool) (given : Reply) → inside ≡ now → given ≡ (create_again p.number p.attributes (record { visibility = visibility; content = content })).reply → inside.living ≡ Some p
+    → IsAnswer now now moment (Create queue visibility content) given
+again_seen inside now p moment queue visibility content given view same_reply is_p =
+    subst (λ k. IsAnswer k k moment (Create queue visibility content) given) (whole inside p is_p ∙ view)
+    (came_seen (IsCreate (record { visibility = visibility; content = content })) inside (with_incarnation inside p) p p moment (Create queue visibility content) given (create_again p.number p.attributes (record { visibility = visibility; content = content })).reply (sym (whole inside p is_p)) same_reply is_p (record { number = refl; attributes = refl })
+    (stands-created p (record { visibility = visibility; content = content })) (reply-created p (record { visibility = visibility; content = content })) (λ e at asks. record { queue = queue; asks = asks }) refl)
 
 -- whether a queue lives
 pub no_living : (living : Option Incarnation) → is_some living ≡ false → living ≡ None
@@ -193,8 +193,8 @@ counted_by : (kept : NameKept) (p : Incarnation) (moment visible in_flight last 
 counted_by kept p moment visible in_flight last own None is_p counted alone h dead = absurd (subst (λ k. IsLiving k None own) is_p (subst (λ o. IsLiving kept.living o own) dead h.living))
 counted_by kept p moment visible in_flight last own (Some creation) is_p counted alone h lives =
     let as_p : LivesAs p creation own = subst (λ k. IsLiving k (Some creation) own) is_p (subst (λ o. IsLiving kept.living o own) lives h.living) in
-    ap (λ v. counts_of moment (standing v (on creation.count own))) (sym as_p.visibility)
-    ∙ ap (λ fs. counts_of moment (standing p.visibility fs)) (sym (told-on own creation p alone lives as_p))
+    ap (λ a. counts_of moment (standing a.visibility (on creation.count own))) (sym as_p.attributes)
+    ∙ ap (λ fs. counts_of moment (standing p.attributes.visibility fs)) (sym (told-on own creation p alone lives as_p))
     ∙ counted (map (λ f. f.entry) (on creation.count own)) as_p.stands
 
 -- The counts of a queue that lives.
@@ -217,8 +217,8 @@ pub unknown_refused : (before : Option NameKept) (moment : ℕ) (ask : Ask) (giv
 unknown_refused before moment ask given none same_reply other = subst (λ o. IsAnswer (or_unknown o) (or_unknown o) moment ask given) (sym none) (refused_seen unknown unknown moment ask given refl same_reply refl other)
 
 -- an ask of which no case is a creation is none
-pub not_create : (ask : Ask) → ((queue : List ℕ) (visibility : ℕ) → ask ≡ Create queue visibility → ⊥) → is_create ask ≡ false
-not_create (Create queue visibility) other = absurd (other queue visibility refl)
+pub not_create : (ask : Ask) → ((queue : List ℕ) (visibility : ℕ) (content : Bool) → ask ≡ Create queue visibility content → ⊥) → is_create ask ≡ false
+not_create (Create queue visibility content) other = absurd (other queue visibility content refl)
 not_create (Remove queue) other = refl
 not_create (Send queue group dedup body) other = refl
 not_create (Receive queue size visibility) other = refl

@@ -7,7 +7,7 @@ use Rattle.std.proofs.lemmas.List.{map-append}
 use Rattle.std.proofs.lemmas.List.Folds.{list_any-append}
 use Rattle.cq_base.specs.declared.limits.TheConstants.{REMOVAL_DELAY}
 use Rattle.cq_base.specs.declared.ask.Entry.{Entry}
-use Rattle.cq_base.specs.Effects.{visibility_by}
+use Rattle.cq_base.specs.Effects.{attributes_by}
 use Rattle.cq_base.specs.Facts.{Fact, on}
 use Rattle.cq_base.specs.History.{fresh_fact}
 use Rattle.cq_base.specs.Incarnations.{Incarnation, IncarnationStands, coming, told_of, lifetime}
@@ -92,15 +92,15 @@ none-new own e alone creates = let f = fresh_fact e own in
 
 -- A creation gives the name an incarnation to which nothing has come.
 pub name-created : (last : ℕ) (kept : NameKept) (own : List Fact) (e : Entry) (q : Incarnation) → IsAlone own → last ≤ e.moment → is_creation (fresh_fact e own) ≡ true → is_removal (fresh_fact e own) ≡ false
-    → q.number ≡ (fresh_fact e own).count → q.visibility ≡ visibility_by (fresh_fact e own) → IncarnationStands q []
+    → q.number ≡ (fresh_fact e own).count → q.attributes ≡ attributes_by (fresh_fact e own) → IncarnationStands q []
     → NameStands last kept own → NameStands e.moment (with_creation kept q) (own ++ fresh_fact e own ∷ [])
-name-created last kept own e q alone more creates stays number visibility stands h = let f = fresh_fact e own in record {
+name-created last kept own e q alone more creates stays number attributes stands h = let f = fresh_fact e own in record {
   creations = ap (λ n. n + 1) h.creations ∙ sym (creations-more own f creates);
   past = past-later kept.removed last e.moment more h.past;
   removed = λ moment after. let before : last ≤ moment = omega (arith, more, after) in h.removed moment before ∙ sym (lately-same moment own f stays);
   living = subst (λ o. IsLiving (Some q) o (own ++ f ∷ [])) (sym (live-created own f creates)) (record {
     number = number;
-    visibility = visibility;
+    attributes = attributes;
     stands = subst (λ fs. IncarnationStands q (map (λ g. g.entry) fs)) (sym (none-new own e alone creates)) stands;
   });
 }
@@ -130,17 +130,17 @@ with_incarnation kept q = record { creations = kept.creations; removed = kept.re
 -- the facts of an incarnation are those of what is kept of it
 pub told-on : (own : List Fact) (creation : Fact) (q : Incarnation) → IsAlone own → live own ≡ Some creation → LivesAs q creation own → told_of q (map (λ f. f.entry) (on creation.count own)) ≡ on creation.count own
 told-on own creation q alone lives as_it = let at = among-filter is_creation creation own (live-among own creation lives) in
-    ap (λ n. lifetime n q.visibility (map (λ f. f.entry) (on creation.count own))) as_it.number
-    ∙ ap (λ v. lifetime creation.count v (map (λ f. f.entry) (on creation.count own))) as_it.visibility
+    ap (λ n. lifetime n q.attributes (map (λ f. f.entry) (on creation.count own))) as_it.number
+    ∙ ap (λ v. lifetime creation.count v (map (λ f. f.entry) (on creation.count own))) as_it.attributes
     ∙ sym (alone.alone creation at.0 at.1)
 
 -- what a fresh entry does is what comes to the incarnation
-pub comes-to : (own : List Fact) (creation : Fact) (q : Incarnation) (e : Entry) → IsAlone own → live own ≡ Some creation → LivesAs q creation own → fresh_fact e own ≡ coming q.number q.visibility (told_of q (map (λ f. f.entry) (on creation.count own))) e
+pub comes-to : (own : List Fact) (creation : Fact) (q : Incarnation) (e : Entry) → IsAlone own → live own ≡ Some creation → LivesAs q creation own → fresh_fact e own ≡ coming q.number q.attributes (told_of q (map (λ f. f.entry) (on creation.count own))) e
 comes-to own creation q e alone lives as_it =
     sym (fresh-live e own creation lives)
-    ∙ ap (λ fs. coming creation.count (visibility_by creation) fs e) (sym (told-on own creation q alone lives as_it))
-    ∙ ap (λ n. coming n (visibility_by creation) (told_of q (map (λ f. f.entry) (on creation.count own))) e) (sym as_it.number)
-    ∙ ap (λ v. coming q.number v (told_of q (map (λ f. f.entry) (on creation.count own))) e) (sym as_it.visibility)
+    ∙ ap (λ fs. coming creation.count (attributes_by creation) fs e) (sym (told-on own creation q alone lives as_it))
+    ∙ ap (λ n. coming n (attributes_by creation) (told_of q (map (λ f. f.entry) (on creation.count own))) e) (sym as_it.number)
+    ∙ ap (λ v. coming q.number v (told_of q (map (λ f. f.entry) (on creation.count own))) e) (sym as_it.attributes)
 
 -- the entries that came to an incarnation, with one more
 on-told : (own : List Fact) (creation : Fact) (e : Entry) → live own ≡ Some creation → map (λ f. f.entry) (on creation.count (own ++ fresh_fact e own ∷ [])) ≡ map (λ f. f.entry) (on creation.count own) ++ e ∷ []
@@ -152,9 +152,9 @@ on-told own creation e lives = let f = fresh_fact e own in
 
 -- An entry that neither creates nor removes comes to the incarnation as which the queue lives.
 pub name-living : (last : ℕ) (kept : NameKept) (own : List Fact) (creation : Fact) (e : Entry) (p q : Incarnation) → last ≤ e.moment → live own ≡ Some creation → kept.living ≡ Some p → is_removal (fresh_fact e own) ≡ false
-    → q.number ≡ p.number → q.visibility ≡ p.visibility → IncarnationStands q (map (λ f. f.entry) (on creation.count own) ++ e ∷ [])
+    → q.number ≡ p.number → q.attributes ≡ p.attributes → IncarnationStands q (map (λ f. f.entry) (on creation.count own) ++ e ∷ [])
     → NameStands last kept own → NameStands e.moment (with_incarnation kept q) (own ++ fresh_fact e own ∷ [])
-name-living last kept own creation e p q more lives is_p stays number visibility stands h = let f = fresh_fact e own in
+name-living last kept own creation e p q more lives is_p stays number attributes stands h = let f = fresh_fact e own in
     let other : is_creation f ≡ false = false_from_ne_true (is_creation f) (λ creates. some_none creation (sym lives ∙ ((turn own e).creates creates).0)) in
     let as_p : LivesAs p creation own = subst (λ k. IsLiving k (Some creation) own) is_p (subst (λ o. IsLiving kept.living o own) lives h.living) in
     record {
@@ -163,7 +163,7 @@ name-living last kept own creation e p q more lives is_p stays number visibility
       removed = λ moment after. let before : last ≤ moment = omega (arith, more, after) in h.removed moment before ∙ sym (lately-same moment own f stays);
       living = subst (λ o. IsLiving (Some q) o (own ++ f ∷ [])) (sym (live-same own f other stays ∙ lives)) (record {
         number = number ∙ as_p.number;
-        visibility = visibility ∙ as_p.visibility;
+        attributes = attributes ∙ as_p.attributes;
         stands = subst (λ es. IncarnationStands q es) (sym (on-told own creation e lives)) stands;
       });
     }

@@ -28,10 +28,10 @@ name = codes "q.fifo"
 
 -- a body is its own deduplication id
 abbrev send : List ℕ → List ℕ → Ask
-send group body = Send name group body body
+send group body = Send name group (Some body) body
 
 abbrev creation_entry : Entry
-creation_entry = entry 0 1 1 (Create name 30)
+creation_entry = entry 0 1 1 (Create name 30 false)
 
 -- The messages 1, 3 and 4 are of the group a, and 2 of b. The first receive hands out 1 and 3, the second 2.
 -- One entry repeats it, one is stale, and one names another queue.
@@ -47,7 +47,7 @@ entries =
     ∷ entry 4 1 8 (Receive name 10 None)
     ∷ entry 5 1 8 (Receive name 10 None)
     ∷ entry 5 1 2 (Receive name 10 None)
-    ∷ entry 6 2 8 (Create (codes "r.fifo") 30)
+    ∷ entry 6 2 8 (Create (codes "r.fifo") 30 false)
     ∷ []
 
 -- what came to the queue, and what comes next

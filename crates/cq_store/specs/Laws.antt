@@ -6,13 +6,13 @@ use Rattle.std.specs.Str.{bytes_eq}
 use Rattle.cq_base.specs.declared.ask.Entry.{Entry}
 use Rattle.cq_base.specs.declared.reply.Reply.TheVariants.{Sent, Received}
 use Rattle.cq_base.specs.Clients.{of_client, is_fresh, is_stale, is_fresh_with}
-use Rattle.cq_base.specs.Asks.{queue_of, is_send, group_of, dedup_of}
+use Rattle.cq_base.specs.Asks.{queue_of, is_send, group_of, dedup_of, has_dedup}
 use Rattle.cq_base.specs.Facts.{Fact, about, on}
 use Rattle.cq_base.specs.Lifetimes.{is_creation, is_removal, live}
 use Rattle.cq_base.specs.Incarnations.{lifetime}
 use Rattle.cq_base.specs.declared.ask.Ask.TheVariants.{Receive}
 use Rattle.cq_base.specs.declared.reply.Delivery.{Delivery}
-use Rattle.cq_base.specs.Effects.{visibility_by}
+use Rattle.cq_base.specs.Effects.{attributes_by, visibility_by}
 use Rattle.cq_base.specs.Messages.{messages, hands, is_deleted, until}
 use Rattle.cq_base.specs.History.{fact_of, history, reply_to, last_moment, counts_after}
 use Rattle.cq_base.specs.Relations.{Among, Pairwise, Front}
@@ -91,7 +91,7 @@ EachReplyAlone = (entries : List Entry) (e : Entry) → EachReplyAloneAt entries
 -- What entries do on an incarnation follows from these entries alone: it is the lifetime that they make.
 abbrev pub EachIncarnationAloneIn : List Entry → Type 0
 EachIncarnationAloneIn entries = (queue : List ℕ) (creation : Fact) → Among creation (about queue (history entries)) → is_creation creation ≡ true
-    → on creation.count (about queue (history entries)) ≡ lifetime creation.count (visibility_by creation) (map (λ f. f.entry) (on creation.count (about queue (history entries))))
+    → on creation.count (about queue (history entries)) ≡ lifetime creation.count (attributes_by creation) (map (λ f. f.entry) (on creation.count (about queue (history entries))))
 
 -- the same, for every list of entries
 abbrev pub EachIncarnationAlone : Type 0
@@ -191,6 +191,7 @@ counts_at id moment y = bytes_eq (dedup_of y.entry.request.ask) id && nat_lt mom
 abbrev pub OneAcceptancePerWindowAt : List Entry → Entry → Type 0
 OneAcceptancePerWindowAt entries e = (creation earlier : Fact) → Stamped (entries ++ e ∷ []) → IsFresh entries e → LivesBy entries e creation
     → is_send e.request.ask ≡ true
+    → has_dedup (attributes_by creation) e.request.ask ≡ true
     → Among earlier (messages (so_far entries e creation)) → dedup_of earlier.entry.request.ask ≡ dedup_of e.request.ask → e.moment < earlier.entry.moment + 300000
     → ((fact_of (history entries) e).effective ≡ false)
     × (reply_to entries e ≡ Sent earlier.count)
@@ -205,6 +206,7 @@ OneAcceptancePerWindow = (entries : List Entry) (e : Entry) → OneAcceptancePer
 abbrev pub OthersAreAcceptedAt : List Entry → Entry → Type 0
 OthersAreAcceptedAt entries e = (creation : Fact) → IsFresh entries e → LivesBy entries e creation
     → is_send e.request.ask ≡ true
+    → has_dedup (attributes_by creation) e.request.ask ≡ true
     → ((y : Fact) → Among y (messages (so_far entries e creation)) → dedup_of y.entry.request.ask ≡ dedup_of e.request.ask → y.entry.moment + 300000 ≤ e.moment)
     → ((fact_of (history entries) e).effective ≡ true)
     × ((fact_of (history entries) e).count ≡ length (messages (so_far entries e creation)) + 1)

@@ -6,7 +6,7 @@ use Rattle.cq_base.specs.declared.ask.Entry.{Entry}
 use Rattle.cq_base.specs.declared.limits.TheConstants.{REMOVAL_DELAY}
 use Rattle.cq_base.specs.declared.reply.Reply.{Reply}
 use Rattle.cq_base.specs.Clients.{of_client, is_fresh, is_stale, kept_reply}
-use Rattle.cq_base.specs.Effects.{visibility_by}
+use Rattle.cq_base.specs.Effects.{attributes_by}
 use Rattle.cq_base.specs.Facts.{Fact, about, on}
 use Rattle.cq_base.specs.History.{history, last_moment}
 use Rattle.cq_base.specs.Incarnations.{Incarnation, IncarnationStands}
@@ -53,7 +53,7 @@ IsPast (Some removed) last = removed ≤ last
 -- What is kept of the incarnation as which a queue lives stands for the entries that came to it.
 pub record LivesAs (kept : Incarnation) (creation : Fact) (facts : List Fact) : Type 0 where
   pub number : kept.number ≡ creation.count
-  pub visibility : kept.visibility ≡ visibility_by creation
+  pub attributes : kept.attributes ≡ attributes_by creation
   pub stands : IncarnationStands kept (map (λ f. f.entry) (on creation.count facts))
 
 -- the same by what is kept, if the queue lives, and by the creation by which it does

@@ -1,5 +1,6 @@
 //! What is kept of one name of queues, and what each ask does to it.
 ghost use Rattle.std.specs.Prelude.{◌≡◌, ◌<◌, ◌≤◌, ◌+◌, ◌-◌, ℕ, List, None, Some, IfOk, OnErr};
+ghost use Rattle.std.specs.Option.{option_copied};
 ghost use Rattle.cq_base.specs.declared.limits.TheConstants.{HISTORY_LIMIT};
 ghost use Rattle.cq_base.specs.declared.ask.Ask.TheVariants as asks;
 ghost use Rattle.cq_base.specs.Effects.{create_again};
@@ -63,11 +64,12 @@ impl NameKept {
         alloc: Global,
         moment: Moment,
         visibility: Seconds,
+        content: bool,
     ) -> Result<Answered, NoMemory>
         requires dead { self.old.living ≡ None }
         requires room { IsWithin (HISTORY_LIMIT - 1) moment self.old }
         ensures ok { IfOk result (λ answered. (queue : List ℕ) →
-            IsAnswer self.old self.new moment (asks.Create queue visibility) answered.reply) }
+            IsAnswer self.old self.new moment (asks.Create queue visibility content) answered.reply) }
         ensures kept { IfOk result (λ answered. answered.kept ≡ answered.reply) }
         ensures within { (count : ℕ) → IsWithin count moment self.old → IsWithin (count + 1) moment self.new }
         ensures err { OnErr result (self.new ≡ self.old) }
@@ -76,17 +78,18 @@ impl NameKept {
             return Ok(Answered::refused(Refusal::QueueDeletedRecently));
         }
         let incarnation = self.creations + 1;
-        self.living = Some(Queue::new(alloc, incarnation, visibility)?);
+        self.living = Some(Queue::new(alloc, incarnation, visibility, content)?);
         self.creations = incarnation;
         Ok(Answered::created(incarnation))
     }
 
     /// A creation of a queue that lives.
-    fn again(&self, queue: &Queue, visibility: Seconds) -> Answered
-        ensures reply { result.reply ≡ (create_again queue.now.number queue.now.visibility visibility).reply }
+    fn again(&self, queue: &Queue, visibility: Seconds, content: bool) -> Answered
+        ensures reply { result.reply ≡ (create_again queue.now.number queue.now.attributes
+            (record { visibility = visibility; content = content })).reply }
         ensures kept { result.kept ≡ result.reply }
     {
-        if visibility == queue.visibility() {
+        if visibility == queue.visibility() && content == queue.content() {
             Answered::created(queue.incarnation())
         } else {
             Answered::refused(Refusal::QueueNameExists)
@@ -99,17 +102,18 @@ impl NameKept {
         alloc: Global,
         moment: Moment,
         visibility: Seconds,
+        content: bool,
     ) -> Result<Answered, NoMemory>
         requires room { IsWithin (HISTORY_LIMIT - 1) moment self.old }
         ensures ok { IfOk result (λ answered. (queue : List ℕ) →
-            IsAnswer self.old self.new moment (asks.Create queue visibility) answered.reply) }
+            IsAnswer self.old self.new moment (asks.Create queue visibility content) answered.reply) }
         ensures kept { IfOk result (λ answered. answered.kept ≡ answered.reply) }
         ensures within { (count : ℕ) → IsWithin count moment self.old → IsWithin (count + 1) moment self.new }
         ensures err { OnErr result (self.new ≡ self.old) }
     {
         match &self.living {
-            Some(queue) => Ok(self.again(queue, visibility)),
-            None => self.begin(alloc, moment, visibility),
+            Some(queue) => Ok(self.again(queue, visibility, content)),
+            None => self.begin(alloc, moment, visibility, content),
         }
     }
 
@@ -133,18 +137,21 @@ impl NameKept {
         &mut self,
         moment: Moment,
         group: &GroupId,
-        dedup: &DedupId,
+        dedup: Option<&DedupId>,
         body: &Body,
     ) -> Result<Answered, NoMemory>
         requires room { IsWithin (HISTORY_LIMIT - 1) moment self.old }
         ensures ok { IfOk result (λ answered. (queue : List ℕ) →
-            IsAnswer self.old self.new moment (asks.Send queue group.now dedup.now body.now) answered.reply) }
+            IsAnswer self.old self.new moment (asks.Send queue group.now (option_copied dedup.entry) body.now) answered.reply) }
         ensures kept { IfOk result (λ answered. answered.kept ≡ answered.reply) }
         ensures within { (count : ℕ) → IsWithin count moment self.old → IsWithin (count + 1) moment self.new }
         ensures err { OnErr result (self.new ≡ self.old) }
     {
         match &mut self.living {
-            Some(queue) => Ok(Answered::sent(queue.send(moment, group, dedup, body)?)),
+            Some(queue) => match queue.send(moment, group, dedup, body)? {
+                Ok(sequence) => Ok(Answered::sent(sequence)),
+                Err(refusal) => Ok(Answered::refused(refusal)),
+            },
             None => Ok(Answered::refused(Refusal::QueueDoesNotExist)),
         }
     }
@@ -216,14 +223,18 @@ impl NameKept {
         ensures err { OnErr result (self.new ≡ self.old) }
     {
         match ask {
-            Ask::Create { visibility, .. } => self.create(alloc, moment, *visibility),
+            Ask::Create {
+                visibility,
+                content,
+                ..
+            } => self.create(alloc, moment, *visibility, *content),
             Ask::Remove { .. } => Ok(self.remove(moment)),
             Ask::Send {
                 group,
                 dedup,
                 body,
                 ..
-            } => self.send(moment, group, dedup, body),
+            } => self.send(moment, group, dedup.as_ref(), body),
             Ask::Receive {
                 size,
                 visibility,

@@ -15,17 +15,23 @@ use std::test::Fail;
 /// The moment, the client and its number, the ask, and the answer.
 type Line = (u64, u32, u64, Row, &'static str);
 
-/// An ask, about `q.fifo` if it names no other queue. A message's body is its deduplication id, too.
+/// An ask, about `q.fifo` if it names no other queue.
 #[derive(Clone, Copy)]
 enum Row {
     /// With a visibility timeout of 30 s.
     Create,
+    /// The same of a queue that makes deduplication ids.
+    CreateMaking,
     /// Of another queue, with a visibility timeout of 30 s.
     CreateOther(&'static str),
     Remove,
-    /// The group and the body.
+    /// The group and the body, which is the deduplication id too.
     Send(&'static str, &'static str),
-    /// The queue, the group and the body.
+    /// The body of a send in group a without a deduplication id.
+    SendWithout(&'static str),
+    /// The deduplication id and the body of a send in group a.
+    SendAs(&'static str, &'static str),
+    /// The queue, and then as `Send`.
     SendTo(&'static str, &'static str, &'static str),
     Receive(u8),
     /// A message of the first incarnation, and the handing of the receipt.
@@ -42,14 +48,27 @@ fn receipt(sequence: u64, handing: u64) -> Result<Receipt, Fail> {
     Ok(Receipt::new(1, sequence, handing).ok_or("no receipt")?)
 }
 
-fn create(queue: QueueName) -> Result<Ask, Fail> {
+fn create(queue: QueueName, content: bool) -> Result<Ask, Fail> {
     let visibility = seconds(30)?;
-    Ok(Ask::Create { queue, visibility })
+    Ok(Ask::Create {
+        queue,
+        visibility,
+        content,
+    })
 }
 
-fn send(alloc: Global, queue: QueueName, group: &str, body: &str) -> Result<Ask, Fail> {
+fn send(
+    alloc: Global,
+    queue: QueueName,
+    group: &str,
+    dedup: Option<&'static str>,
+    body: &str,
+) -> Result<Ask, Fail> {
     let group = GroupId::new(alloc, group)?;
-    let dedup = DedupId::new(alloc, body)?;
+    let dedup = match dedup {
+        Some(dedup) => Some(DedupId::new(alloc, dedup)?),
+        None => None,
+    };
     let body = Body::new(alloc, body)?;
     Ok(Ask::Send {
         queue,
@@ -86,11 +105,16 @@ fn change(queue: QueueName, sequence: u64, handing: u64, visibility: u32) -> Res
 fn ask_of(alloc: Global, row: Row) -> Result<Ask, Fail> {
     let queue = QueueName::new(alloc, "q.fifo")?;
     match row {
-        Row::Create => create(queue),
-        Row::CreateOther(name) => create(QueueName::new(alloc, name)?),
+        Row::Create => create(queue, false),
+        Row::CreateMaking => create(queue, true),
+        Row::CreateOther(name) => create(QueueName::new(alloc, name)?, false),
         Row::Remove => Ok(Ask::Remove { queue }),
-        Row::Send(group, body) => send(alloc, queue, group, body),
-        Row::SendTo(name, group, body) => send(alloc, QueueName::new(alloc, name)?, group, body),
+        Row::Send(group, body) => send(alloc, queue, group, Some(body), body),
+        Row::SendWithout(body) => send(alloc, queue, "a", None, body),
+        Row::SendAs(dedup, body) => send(alloc, queue, "a", Some(dedup), body),
+        Row::SendTo(name, group, body) => {
+            send(alloc, QueueName::new(alloc, name)?, group, Some(body), body)
+        }
         Row::Receive(size) => receive(queue, size),
         Row::Delete(sequence, handing) => delete(queue, sequence, handing),
         Row::Change(sequence, handing, visibility) => change(queue, sequence, handing, visibility),
@@ -275,6 +299,49 @@ fn each_ask_is_answered(rt: HostRuntime) -> Result<(), Fail> {
         (60_003, 1, 7, Row::Delete(1, 2), "deleted true"),
         (60_004, 1, 8, Row::Remove, "removed"),
         (60_005, 1, 9, Row::Receive(1), "refused 1"),
+    ];
+    check(&rt, rt.alloc(), &rows)?;
+    Ok(())
+}
+
+/// The SHA-256 of `abc`.
+const ABC: &'static str = "ba7816bf8f01cfea414140de5dae2223b00361a396177a9cb410ff61f20015ad";
+
+/// A queue that makes ids: the same id made and given, another one given, and a body that repeats.
+const MAKING: [Line; 6] = [
+    (0, 1, 1, Row::CreateMaking, "created 1"),
+    (0, 1, 2, Row::SendWithout("abc"), "sent 1"),
+    (1, 1, 3, Row::SendAs(ABC, "abc"), "sent 1"),
+    (2, 1, 4, Row::SendAs("x", "abc"), "sent 2"),
+    (3, 1, 5, Row::SendWithout("abd"), "sent 3"),
+    (300_000, 1, 6, Row::SendWithout("abc"), "sent 4"),
+];
+
+/// A queue keeps both attributes of its creation, and so does a copy.
+#[test]
+fn a_queue_makes_ids(rt: HostRuntime) -> Result<(), Fail> {
+    let next = [
+        (300_000, 1, 7, Row::Create, "refused 2"),
+        (300_000, 1, 8, Row::CreateMaking, "created 1"),
+        (300_000, 1, 9, Row::SendAs(ABC, "x"), "sent 4"),
+    ];
+    check_copy(&rt, rt.alloc(), &MAKING, &next)
+}
+
+/// A send without an id is refused where no queue lives, and where the queue makes none, also where its body's
+/// id was given before. A repeat of the refused send is refused again.
+#[test]
+fn a_missing_id_is_refused(rt: HostRuntime) -> Result<(), Fail> {
+    let rows = [
+        (0, 1, 1, Row::SendWithout("abc"), "refused 1"),
+        (0, 1, 2, Row::Create, "created 1"),
+        (0, 1, 3, Row::SendWithout("abc"), "refused 8"),
+        (0, 1, 4, Row::SendAs(ABC, "abc"), "sent 1"),
+        (1, 1, 5, Row::SendWithout("abc"), "refused 8"),
+        (1, 1, 5, Row::SendAs(ABC, "abc"), "refused 8"),
+        (299_999, 1, 6, Row::SendAs(ABC, "abc"), "sent 1"),
+        (300_000, 1, 7, Row::SendAs(ABC, "abc"), "sent 2"),
+        (300_000, 1, 8, Row::CreateMaking, "refused 2"),
     ];
     check(&rt, rt.alloc(), &rows)?;
     Ok(())

@@ -5,7 +5,8 @@ use Rattle.std.proofs.lemmas.Bool.{cases_Bool, eqb-true, ne_eqb}
 use Rattle.std.proofs.lemmas.List.{map-append}
 use Rattle.std.proofs.lemmas.List.Sums.{fold-append}
 use Rattle.cq_base.specs.declared.ask.Entry.{Entry}
-use Rattle.cq_base.specs.Effects.{visibility_by}
+use Rattle.cq_base.specs.Asks.{Attributes}
+use Rattle.cq_base.specs.Effects.{attributes_by}
 use Rattle.cq_base.specs.Facts.{Fact, about, is_on, on}
 use Rattle.cq_base.specs.History.{fresh_fact, history}
 use Rattle.cq_base.specs.Incarnations.{coming, lifetime}
@@ -21,7 +22,7 @@ use Rattle.cq_store.proofs.OfLaws.Lives.{turn, by_own, Lived, lived-none, lived-
 use Rattle.cq_store.proofs.FreshFacts.{fresh-live}
 
 -- one entry more that comes to the incarnation
-pub lifetime-more : (incarnation own : ℕ) (entries : List Entry) (e : Entry) → lifetime incarnation own (entries ++ e ∷ []) ≡ lifetime incarnation own entries ++ coming incarnation own (lifetime incarnation own entries) e ∷ []
+pub lifetime-more : (incarnation : ℕ) (own : Attributes) (entries : List Entry) (e : Entry) → lifetime incarnation own (entries ++ e ∷ []) ≡ lifetime incarnation own entries ++ coming incarnation own (lifetime incarnation own entries) e ∷ []
 unfolding lifetime
 lifetime-more incarnation own entries e = fold-append (λ facts d. facts ++ coming incarnation own facts d ∷ []) [] entries (e ∷ [])
 
@@ -53,22 +54,22 @@ pub record IsAlone (xs : List Fact) : Type 0 where
   pub lived : Lived xs
   pub numbered : IsNumbered (filter is_creation xs)
   pub positive : (c : Fact) → Among c xs → is_creation c ≡ true → 0 < c.count
-  pub alone : (c : Fact) → Among c xs → is_creation c ≡ true → on c.count xs ≡ lifetime c.count (visibility_by c) (map (λ f. f.entry) (on c.count xs))
+  pub alone : (c : Fact) → Among c xs → is_creation c ≡ true → on c.count xs ≡ lifetime c.count (attributes_by c) (map (λ f. f.entry) (on c.count xs))
 
 -- the facts on an incarnation are the lifetime that their entries make
 abbrev Alone : Fact → List Fact → Type 0
-Alone c xs = on c.count xs ≡ lifetime c.count (visibility_by c) (map (λ f. f.entry) (on c.count xs))
+Alone c xs = on c.count xs ≡ lifetime c.count (attributes_by c) (map (λ f. f.entry) (on c.count xs))
 
 -- one more that comes to it
-alone_on : (c f : Fact) (xs : List Fact) → on c.count (xs ++ f ∷ []) ≡ on c.count xs ++ f ∷ [] → f ≡ coming c.count (visibility_by c) (on c.count xs) f.entry → Alone c xs → Alone c (xs ++ f ∷ [])
+alone_on : (c f : Fact) (xs : List Fact) → on c.count (xs ++ f ∷ []) ≡ on c.count xs ++ f ∷ [] → f ≡ coming c.count (attributes_by c) (on c.count xs) f.entry → Alone c xs → Alone c (xs ++ f ∷ [])
 alone_on c f xs more made h = let own = on c.count xs in
     let entries = map (λ g. g.entry) own in
     let joined : map (λ g. g.entry) (on c.count (xs ++ f ∷ [])) ≡ entries ++ f.entry ∷ [] = ap (λ fs. map (λ g. g.entry) fs) more ∙ map-append (λ g. g.entry) own (f ∷ []) in
     more
     ∙ ap (λ g. own ++ g ∷ []) made
-    ∙ ap (λ fs. fs ++ coming c.count (visibility_by c) fs f.entry ∷ []) h
-    ∙ sym (lifetime-more c.count (visibility_by c) entries f.entry)
-    ∙ ap (λ es. lifetime c.count (visibility_by c) es) (sym joined)
+    ∙ ap (λ fs. fs ++ coming c.count (attributes_by c) fs f.entry ∷ []) h
+    ∙ sym (lifetime-more c.count (attributes_by c) entries f.entry)
+    ∙ ap (λ es. lifetime c.count (attributes_by c) es) (sym joined)
 
 -- one more that doesn't
 alone_other : (c f : Fact) (xs : List Fact) → on c.count (xs ++ f ∷ []) ≡ on c.count xs → Alone c xs → Alone c (xs ++ f ∷ [])
@@ -80,7 +81,7 @@ comes xs None c e found numbered some at same = absurd (omega (arith, same, some
 comes xs (Some d) c e found numbered some at same = found ∙ ap Some (same_number (filter is_creation xs) d c numbered.rising (live-among xs d found) at same)
 
 -- so its fact is what comes to it
-coming-own : (xs : List Fact) (c : Fact) (e : Entry) → live xs ≡ Some c → fresh_fact e xs ≡ coming c.count (visibility_by c) (on c.count xs) (fresh_fact e xs).entry
+coming-own : (xs : List Fact) (c : Fact) (e : Entry) → live xs ≡ Some c → fresh_fact e xs ≡ coming c.count (attributes_by c) (on c.count xs) (fresh_fact e xs).entry
 unfolding fresh_fact
 coming-own xs c e lives = sym (fresh-live e xs c lives)
 

@@ -85,7 +85,7 @@ sent_live entries e creation sequence fresh lives h = let found = handed-among (
 -- a queue that doesn't live hands out nothing
 off_handed : (moment : ℕ) (own : List Fact) (ask : Ask) → (effect_off moment own ask).handed ≡ []
 unfolding effect_off
-off_handed moment own (Create queue visibility) = chosen_handed (removed_lately moment own) (only_replies (Refused QueueDeletedRecently)) (takes_effect (creations own + 1) (Created (creations own + 1))) refl refl
+off_handed moment own (Create queue visibility content) = chosen_handed (removed_lately moment own) (only_replies (Refused QueueDeletedRecently)) (takes_effect (creations own + 1) (Created (creations own + 1))) refl refl
 off_handed moment own (Remove queue) = refl
 off_handed moment own (Send queue group dedup body) = refl
 off_handed moment own (Receive queue size visibility) = refl

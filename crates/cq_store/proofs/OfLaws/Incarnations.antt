@@ -4,7 +4,7 @@ use Rattle.std.proofs.lemmas.Bool.{cases_Bool, eqb-true}
 use Rattle.cq_base.specs.declared.ask.Entry.{Entry}
 use Rattle.cq_base.specs.Asks.{queue_of}
 use Rattle.cq_base.specs.Clients.{is_fresh}
-use Rattle.cq_base.specs.Effects.{effect_on, visibility_by, effect_by, effect_of}
+use Rattle.cq_base.specs.Effects.{effect_on, attributes_by, visibility_by, effect_by, effect_of}
 use Rattle.cq_base.specs.Facts.{Fact, is_about, about, is_on, on}
 use Rattle.cq_base.specs.History.{fact_with, fresh_fact, fact_of, history}
 use Rattle.cq_base.specs.Lifetimes.{live, incarnation_of}
@@ -20,7 +20,7 @@ use Rattle.cq_base.proofs.OneMoreFact.{IsHanding, IsStep, hands-on, step-on, ste
 -- the fact of a fresh entry, by the creation by which its queue lives
 step-by : (creation : Option Fact) (own : List Fact) (n : ℕ) (e : Entry) → incarnation_of creation ≡ n → IsStep (on n own) (fact_with e (incarnation_of creation) (effect_by creation e.moment own e.request.ask))
 step-by None own n e h = step-off own (on n own) 0 e.moment e.request.client e.request.number e.request.ask
-step-by (Some creation) own n e h = subst (λ k. IsStep (on k own) (fact_with e creation.count (effect_by (Some creation) e.moment own e.request.ask))) h (step-on creation.count (visibility_by creation) (on creation.count own) e.moment e.request.client e.request.number e.request.ask)
+step-by (Some creation) own n e h = subst (λ k. IsStep (on k own) (fact_with e creation.count (effect_by (Some creation) e.moment own e.request.ask))) h (step-on creation.count (attributes_by creation) (on creation.count own) e.moment e.request.client e.request.number e.request.ask)
 
 -- the fact of a fresh entry on the incarnation
 step-fresh : (own : List Fact) (n : ℕ) (e : Entry) → is_on n (fresh_fact e own) ≡ true → IsStep (on n own) (fresh_fact e own)
@@ -33,13 +33,13 @@ unfolding fact_of
 fact-fresh facts e fresh = rw fresh
 
 -- the fact of a fresh entry while its queue lives by that creation
-pub fact-live : (facts : List Fact) (e : Entry) (creation : Fact) → is_fresh e.request.client e.request.number facts ≡ true → live (about (queue_of e.request.ask) facts) ≡ Some creation → fact_of facts e ≡ fact_with e creation.count (effect_on creation.count (visibility_by creation) e.moment (on creation.count (about (queue_of e.request.ask) facts)) e.request.ask)
+pub fact-live : (facts : List Fact) (e : Entry) (creation : Fact) → is_fresh e.request.client e.request.number facts ≡ true → live (about (queue_of e.request.ask) facts) ≡ Some creation → fact_of facts e ≡ fact_with e creation.count (effect_on creation.count (attributes_by creation) e.moment (on creation.count (about (queue_of e.request.ask) facts)) e.request.ask)
 fact-live facts e creation fresh lives = fact-fresh facts e fresh ∙ sym (fresh-live e (about (queue_of e.request.ask) facts) creation lives)
 
 -- what it hands out
 pub hands-live : (facts : List Fact) (e : Entry) (creation : Fact) → is_fresh e.request.client e.request.number facts ≡ true → live (about (queue_of e.request.ask) facts) ≡ Some creation → IsHanding (visibility_by creation) (on creation.count (about (queue_of e.request.ask) facts)) (fact_of facts e)
 hands-live facts e creation fresh lives = let own = on creation.count (about (queue_of e.request.ask) facts) in
-    subst (λ f. IsHanding (visibility_by creation) own f) (sym (fact-live facts e creation fresh lives)) (hands-on creation.count (visibility_by creation) own e.moment e.request.client e.request.number e.request.ask)
+    subst (λ f. IsHanding (visibility_by creation) own f) (sym (fact-live facts e creation fresh lives)) (hands-on creation.count (attributes_by creation) own e.moment e.request.client e.request.number e.request.ask)
 
 -- one more fact on the incarnation
 pub on-more : (n : ℕ) (own : List Fact) (f : Fact) → is_on n f ≡ true → on n (own ++ f ∷ []) ≡ on n own ++ f ∷ []

@@ -1,14 +1,15 @@
 -- What a reply lists is of the incarnation that its entry came to.
-use Rattle.std.proofs.Common.{◌≡◌, ℕ, ◌+◌, ap, List, [], length, Option, Some, None, Bool, true, false, cond, nat_lt, ◌*◌, ◌==◌, not}
+use Rattle.std.proofs.Common.{◌≡◌, ℕ, ◌+◌, ap, List, [], length, Option, Some, None, Bool, true, false, cond, nat_lt, ◌*◌, not}
 use Rattle.cq_base.specs.declared.ask.Ask.{Ask}
 use Rattle.cq_base.specs.declared.ask.Ask.TheVariants.{Create, Remove, Send, Receive, Delete, Change}
 use Rattle.cq_base.specs.declared.ask.Entry.{Entry}
 use Rattle.cq_base.specs.declared.limits.TheConstants.{SECOND, FLIGHT_LIMIT}
 use Rattle.cq_base.specs.declared.reply.Delivery.{Delivery}
-use Rattle.cq_base.specs.declared.reply.Refusal.TheVariants.{QueueNameExists, QueueDeletedRecently, ReceiptHandleIsInvalid, MessageNotInflight, VisibilityBeyondLimit}
+use Rattle.cq_base.specs.declared.reply.Refusal.TheVariants.{QueueNameExists, QueueDeletedRecently, ReceiptHandleIsInvalid, MessageNotInflight, VisibilityBeyondLimit, MissingDedupId}
 use Rattle.cq_base.specs.declared.reply.Reply.{Reply}
 use Rattle.cq_base.specs.declared.reply.Reply.TheVariants.{Created, Received, Deleted, Changed, Refused}
-use Rattle.cq_base.specs.Effects.{Effect, only_replies, takes_effect, send, is_own, fits, message_at, delete_standing, delete_sent, delete, change_standing, change_sent, change, effect_on, effect_off, effect_by, effect_of, visibility_by}
+use Rattle.cq_base.specs.Asks.{Attributes, are_same, dedup_or_made, is_given_or_made}
+use Rattle.cq_base.specs.Effects.{Effect, only_replies, takes_effect, send, is_own, fits, message_at, delete_standing, delete_sent, delete, change_standing, change_sent, change, effect_on, effect_off, effect_by, effect_of, attributes_by}
 use Rattle.cq_base.specs.Facts.{Fact, on}
 use Rattle.cq_base.specs.Handle.{Handle}
 use Rattle.cq_base.specs.History.{fresh_fact}
@@ -67,19 +68,19 @@ changed_of n moment visibility xs ms receipt = chosen (is_own n xs receipt) n (c
 -- ---- what comes to a queue
 
 -- a receive lists messages of the incarnation that it comes to
-on_of : (n own moment : ℕ) (xs : List Fact) (ask : Ask) → IsOf n (effect_on n own moment xs ask)
+on_of : (n : ℕ) (own : Attributes) (moment : ℕ) (xs : List Fact) (ask : Ask) → IsOf n (effect_on n own moment xs ask)
 unfolding effect_on
-on_of n own moment xs (Create queue visibility) = chosen (visibility == own) n (only_replies (Created n)) (only_replies (Refused QueueNameExists)) (λ d at. absurd at) (λ d at. absurd at)
+on_of n own moment xs (Create queue visibility content) = chosen (are_same (record { visibility = visibility; content = content }) own) n (only_replies (Created n)) (only_replies (Refused QueueNameExists)) (λ d at. absurd at) (λ d at. absurd at)
 on_of n own moment xs (Remove queue) = λ d at. absurd at
-on_of n own moment xs (Send queue group dedup body) = sent_of n (length (messages xs) + 1) (duplicate dedup moment xs)
-on_of n own moment xs (Receive queue size visibility) = λ d at. ap (λ g. g.receipt.incarnation) (among-map (delivery_of n) d (to_hand size moment (standing own xs)) at).2
-on_of n own moment xs (Delete queue receipt) = deleted_of n xs (standing own xs) receipt
-on_of n own moment xs (Change queue receipt visibility) = changed_of n moment visibility xs (standing own xs) receipt
+on_of n own moment xs (Send queue group dedup body) = chosen (is_given_or_made own.content dedup) n (send (length (messages xs) + 1) (duplicate (dedup_or_made body dedup) moment xs)) (only_replies (Refused MissingDedupId)) (sent_of n (length (messages xs) + 1) (duplicate (dedup_or_made body dedup) moment xs)) (λ d at. absurd at)
+on_of n own moment xs (Receive queue size visibility) = λ d at. ap (λ g. g.receipt.incarnation) (among-map (delivery_of n) d (to_hand size moment (standing own.visibility xs)) at).2
+on_of n own moment xs (Delete queue receipt) = deleted_of n xs (standing own.visibility xs) receipt
+on_of n own moment xs (Change queue receipt visibility) = changed_of n moment visibility xs (standing own.visibility xs) receipt
 
 -- where the queue doesn't live, nothing is listed
 off_of : (n moment : ℕ) (xs : List Fact) (ask : Ask) → IsOf n (effect_off moment xs ask)
 unfolding effect_off
-off_of n moment xs (Create queue visibility) = chosen (removed_lately moment xs) n (only_replies (Refused QueueDeletedRecently)) (takes_effect (creations xs + 1) (Created (creations xs + 1))) (λ d at. absurd at) (λ d at. absurd at)
+off_of n moment xs (Create queue visibility content) = chosen (removed_lately moment xs) n (only_replies (Refused QueueDeletedRecently)) (takes_effect (creations xs + 1) (Created (creations xs + 1))) (λ d at. absurd at) (λ d at. absurd at)
 off_of n moment xs (Remove queue) = λ d at. absurd at
 off_of n moment xs (Send queue group dedup body) = λ d at. absurd at
 off_of n moment xs (Receive queue size visibility) = λ d at. absurd at
@@ -88,7 +89,7 @@ off_of n moment xs (Change queue receipt visibility) = λ d at. absurd at
 
 by_of : (living : Option Fact) (moment : ℕ) (xs : List Fact) (ask : Ask) → IsOf (incarnation_of living) (effect_by living moment xs ask)
 by_of None moment xs ask = off_of 0 moment xs ask
-by_of (Some creation) moment xs ask = on_of creation.count (visibility_by creation) moment (on creation.count xs) ask
+by_of (Some creation) moment xs ask = on_of creation.count (attributes_by creation) moment (on creation.count xs) ask
 
 -- what a fresh entry's reply lists is of the incarnation that it comes to
 pub listed : (e : Entry) (xs : List Fact) (d : Delivery) → Among d (deliveries_of (fresh_fact e xs).reply) → d.receipt.incarnation ≡ (fresh_fact e xs).incarnation

@@ -1,13 +1,13 @@
 -- When a queue lives, and by which incarnation.
-use Rattle.std.proofs.Common.{◌≡◌, ℕ, ◌+◌, ◌<◌, ◌≤◌, ◌∙◌, ◌&&◌, ◌||◌, ap, sym, List, [], ◌∷◌, ◌++◌, length, Option, Some, None, Bool, true, false, cond, eqb, arith, length-append, inl, inr, subst, refl}
+use Rattle.std.proofs.Common.{◌≡◌, ℕ, ◌+◌, ◌<◌, ◌≤◌, ◌∙◌, ◌&&◌, ◌||◌, ap, sym, List, [], ◌∷◌, ◌++◌, length, Option, Some, None, Bool, true, false, cond, arith, length-append, inl, inr, subst, refl}
 use Rattle.std.specs.Prelude.{◌⊎◌}
 use Rattle.std.specs.List.{filter, last_or}
 use Rattle.std.proofs.lemmas.Bool.{cases_Bool, and_parts, or_left, or_right, both_ways, false≢true}
 use Rattle.cq_base.specs.declared.ask.Ask.{Ask}
 use Rattle.cq_base.specs.declared.ask.Ask.TheVariants.{Create, Remove, Send, Receive, Delete, Change}
 use Rattle.cq_base.specs.declared.ask.Entry.{Entry}
-use Rattle.cq_base.specs.Asks.{queue_of}
-use Rattle.cq_base.specs.Effects.{Effect, only_replies, create, create_again, send, delete, change, effect_on, effect_off, effect_by, effect_of, visibility_by}
+use Rattle.cq_base.specs.Asks.{Attributes, queue_of, are_same, dedup_or_made, is_given_or_made}
+use Rattle.cq_base.specs.Effects.{Effect, only_replies, create, create_again, send_if, delete, change, effect_on, effect_off, effect_by, effect_of, attributes_by}
 use Rattle.cq_base.specs.Facts.{Fact, is_about, about, on}
 use Rattle.cq_base.specs.History.{fact_with, fresh_fact, fact_of, history, reply_to}
 use Rattle.cq_base.specs.declared.reply.Reply.TheVariants.{Created, Refused}
@@ -69,23 +69,23 @@ chosen_idle true x y first second = first
 chosen_idle false x y first second = second
 
 -- a creation of a queue that lives doesn't take effect
-again_idle : {X : Type 0} (incarnation own visibility : ℕ) → ((create_again incarnation own visibility).effective && true) ≡ true → X
-again_idle incarnation own visibility h = absurd (both_ways _ (chosen_idle (eqb visibility own) (only_replies (Created incarnation)) (only_replies (Refused QueueNameExists)) refl refl) (and_parts (create_again incarnation own visibility).effective true h).0)
+again_idle : {X : Type 0} (incarnation : ℕ) (own given : Attributes) → ((create_again incarnation own given).effective && true) ≡ true → X
+again_idle incarnation own given h = absurd (both_ways _ (chosen_idle (are_same given own) (only_replies (Created incarnation)) (only_replies (Refused QueueNameExists)) refl refl) (and_parts (create_again incarnation own given).effective true h).0)
 
 -- nothing creates a queue that lives
-no_creation : {X : Type 0} (incarnation own : ℕ) (xs : List Fact) (moment client number : ℕ) (ask : Ask) → is_creation (fact_with (asked moment client number ask) incarnation (effect_on incarnation own moment xs ask)) ≡ true → X
+no_creation : {X : Type 0} (incarnation : ℕ) (own : Attributes) (xs : List Fact) (moment client number : ℕ) (ask : Ask) → is_creation (fact_with (asked moment client number ask) incarnation (effect_on incarnation own moment xs ask)) ≡ true → X
 unfolding effect_on
-no_creation incarnation own xs moment client number (Create queue visibility) h = again_idle incarnation own visibility h
+no_creation incarnation own xs moment client number (Create queue visibility content) h = again_idle incarnation own (record { visibility = visibility; content = content }) h
 no_creation incarnation own xs moment client number (Remove queue) h = absurd (false≢true h)
-no_creation incarnation own xs moment client number (Send queue group dedup body) h = neither (send (length (messages xs) + 1) (duplicate dedup moment xs)).effective h
+no_creation incarnation own xs moment client number (Send queue group dedup body) h = neither (send_if (is_given_or_made own.content dedup) (length (messages xs) + 1) (duplicate (dedup_or_made body dedup) moment xs)).effective h
 no_creation incarnation own xs moment client number (Receive queue size visibility) h = absurd (false≢true h)
-no_creation incarnation own xs moment client number (Delete queue receipt) h = neither (delete incarnation xs (standing own xs) receipt).effective h
-no_creation incarnation own xs moment client number (Change queue receipt visibility) h = neither (change incarnation moment visibility xs (standing own xs) receipt).effective h
+no_creation incarnation own xs moment client number (Delete queue receipt) h = neither (delete incarnation xs (standing own.visibility xs) receipt).effective h
+no_creation incarnation own xs moment client number (Change queue receipt visibility) h = neither (change incarnation moment visibility xs (standing own.visibility xs) receipt).effective h
 
 -- nothing removes a queue that doesn't live
 no_removal : {X : Type 0} (xs : List Fact) (n moment client number : ℕ) (ask : Ask) → is_removal (fact_with (asked moment client number ask) n (effect_off moment xs ask)) ≡ true → X
 unfolding effect_off
-no_removal xs n moment client number (Create queue visibility) h = neither (create (removed_lately moment xs) (creations xs + 1)).effective h
+no_removal xs n moment client number (Create queue visibility content) h = neither (create (removed_lately moment xs) (creations xs + 1)).effective h
 no_removal xs n moment client number (Remove queue) h = absurd (false≢true h)
 no_removal xs n moment client number (Send queue group dedup body) h = absurd (false≢true h)
 no_removal xs n moment client number (Receive queue size visibility) h = absurd (false≢true h)
@@ -100,7 +100,7 @@ created_count false n h = refl
 -- a queue that doesn't live is created with the next number
 next_number : (xs : List Fact) (n moment client number : ℕ) (ask : Ask) → is_creation (fact_with (asked moment client number ask) n (effect_off moment xs ask)) ≡ true → (effect_off moment xs ask).count ≡ creations xs + 1
 unfolding effect_off
-next_number xs n moment client number (Create queue visibility) h = created_count (removed_lately moment xs) (creations xs + 1) h
+next_number xs n moment client number (Create queue visibility content) h = created_count (removed_lately moment xs) (creations xs + 1) h
 next_number xs n moment client number (Remove queue) h = absurd (false≢true h)
 next_number xs n moment client number (Send queue group dedup body) h = absurd (false≢true h)
 next_number xs n moment client number (Receive queue size visibility) h = absurd (false≢true h)
@@ -116,7 +116,7 @@ turn_by xs None e = record {
 }
 turn_by xs (Some creation) e = record {
   incarnation = refl;
-  creates = λ h. no_creation creation.count (visibility_by creation) (on creation.count xs) e.moment e.request.client e.request.number e.request.ask h;
+  creates = λ h. no_creation creation.count (attributes_by creation) (on creation.count xs) e.moment e.request.client e.request.number e.request.ask h;
   removes = λ h none. some_none creation none;
 }
 

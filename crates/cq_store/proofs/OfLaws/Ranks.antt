@@ -6,11 +6,11 @@ use Rattle.std.specs.Str.{bytes_eq}
 use Rattle.std.proofs.lemmas.Bool.{cases_Bool, and_parts, and_cases, and_from, or_cases, or_left, or_right, not-true, not_from_false, both_ways, false_from_ne_true, lt-ltb, ltb-true, ltb-false, eqb-true, eq-eqb}
 use Rattle.cq_base.specs.declared.ask.Ask.{Ask}
 use Rattle.cq_base.specs.declared.ask.Ask.TheVariants.{Receive}
-use Rattle.cq_base.specs.Asks.{queue_of}
+use Rattle.cq_base.specs.Asks.{Attributes, queue_of}
 use Rattle.cq_base.specs.Facts.{Fact}
 use Rattle.cq_base.specs.Messages.{Message, standing}
 use Rattle.cq_base.specs.Receiving.{is_same_group, is_in_flight, is_preceded_by, is_oldest, is_open, leads, group_with, in_turn, to_hand}
-use Rattle.cq_base.specs.Effects.{effect_on, hand, visibility_by}
+use Rattle.cq_base.specs.Effects.{effect_on, hand, attributes_by, visibility_by}
 use Rattle.cq_base.specs.History.{fact_with, history, reply_to}
 use Rattle.cq_store.specs.Laws.{so_far}
 use Rattle.cq_store.specs.Ranks.{number_of, group_place, stands_before, candidates, rank, IsByRank, stood, HandedByRank, OneListByRank}
@@ -186,7 +186,7 @@ one_list size ms cs xs ys left right = one_order (stands_before ms) (before_stri
     (λ y m. let own = right.only y m in left.all y own.0 own.1)
 
 -- what a receive does to a queue that lives
-pub received : (incarnation own moment : ℕ) (xs : List Fact) (ask : Ask) (queue : List ℕ) (size : ℕ) (visibility : Option ℕ) → ask ≡ Receive queue size visibility → effect_on incarnation own moment xs ask ≡ hand incarnation (to_hand size moment (standing own xs))
+pub received : (incarnation : ℕ) (own : Attributes) (moment : ℕ) (xs : List Fact) (ask : Ask) (queue : List ℕ) (size : ℕ) (visibility : Option ℕ) → ask ≡ Receive queue size visibility → effect_on incarnation own moment xs ask ≡ hand incarnation (to_hand size moment (standing own.visibility xs))
 unfolding effect_on
 received incarnation own moment xs ask queue size visibility e = ap (λ a. effect_on incarnation own moment xs a) e
 
@@ -194,6 +194,6 @@ received incarnation own moment xs ask queue size visibility e = ap (λ a. effec
 pub handed_by_rank : HandedByRank
 unfolding reply_to
 handed_by_rank entries e creation queue size visibility fresh lives receives = let ms = stood entries e creation in
-    let made = fact-live (history entries) e creation fresh lives ∙ ap (λ effect. fact_with e creation.count effect) (received creation.count (visibility_by creation) e.moment (so_far entries e creation) e.request.ask queue size visibility receives) in
+    let made = fact-live (history entries) e creation fresh lives ∙ ap (λ effect. fact_with e creation.count effect) (received creation.count (attributes_by creation) e.moment (so_far entries e creation) e.request.ask queue size visibility receives) in
     let rising = standing-rises (visibility_by creation) (so_far entries e creation) (numbered (queue_of e.request.ask) creation.count entries) in
     (to_hand size e.moment ms, to_hand-by_rank size e.moment ms rising, ap (λ f. f.handed) made, ap (λ f. f.reply) made)

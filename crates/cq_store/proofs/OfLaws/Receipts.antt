@@ -7,7 +7,7 @@ use Rattle.std.proofs.lemmas.Slice.Eq.{bytes_eq-Decides}
 use Rattle.cq_base.specs.declared.ask.Entry.{Entry}
 use Rattle.cq_base.specs.Asks.{queue_of}
 use Rattle.cq_base.specs.Clients.{is_fresh}
-use Rattle.cq_base.specs.Effects.{visibility_by}
+use Rattle.cq_base.specs.Effects.{attributes_by, visibility_by}
 use Rattle.cq_base.specs.Facts.{Fact, is_about, about, on}
 use Rattle.cq_base.specs.History.{fact_with, fact_of, history, reply_to}
 use Rattle.cq_base.specs.Messages.{Message, hands, hands_it}
@@ -59,7 +59,7 @@ receipts_count entries e creation queue size visibility fresh lives receives =
     let ms = stood entries e creation in
     let handed = to_hand size e.moment ms in
     let f = fact_of (history entries) e in
-    let made = fact-live (history entries) e creation fresh lives ∙ ap (λ effect. fact_with e creation.count effect) (received creation.count (visibility_by creation) e.moment xs e.request.ask queue size visibility receives) in
+    let made = fact-live (history entries) e creation fresh lives ∙ ap (λ effect. fact_with e creation.count effect) (received creation.count (attributes_by creation) e.moment xs e.request.ask queue size visibility receives) in
     let numbers : map (λ m. m.sequence) handed ≡ f.handed = sym (ap (λ g. g.handed) made) in (
       map (delivery_of creation.count) handed,
       ap (λ g. g.reply) made,

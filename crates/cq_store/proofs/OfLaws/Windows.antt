@@ -10,10 +10,10 @@ use Rattle.cq_base.specs.declared.ask.Ask.{Ask}
 use Rattle.cq_base.specs.declared.ask.Ask.TheVariants.{Create, Remove, Send, Receive, Delete, Change}
 use Rattle.cq_base.specs.declared.ask.Entry.{Entry}
 use Rattle.cq_base.specs.declared.reply.Reply.TheVariants.{Sent}
-use Rattle.cq_base.specs.Asks.{queue_of, is_send, dedup_of}
+use Rattle.cq_base.specs.Asks.{Attributes, queue_of, is_send, dedup_of, has_dedup}
 use Rattle.cq_base.specs.Facts.{Fact, is_about, about, is_on, on}
 use Rattle.cq_base.specs.Messages.{messages, duplicate, is_accepted, is_duplicated_by}
-use Rattle.cq_base.specs.Effects.{takes_effect, effect_on, visibility_by}
+use Rattle.cq_base.specs.Effects.{takes_effect, effect_on, attributes_by}
 use Rattle.cq_base.specs.History.{fact_with, fact_of, history, reply_to}
 use Rattle.cq_base.proofs.Histories.{history-more, entry-fact_of}
 use Rattle.cq_store.specs.Laws.{so_far, counts_at, Stamped, OneAcceptancePerWindow, OthersAreAccepted}
@@ -110,14 +110,14 @@ only_one id moment y (z ∷ zs) far past_all (inr at) same lasts = let fails : c
     rw fails (only_one id moment y zs far.1 (λ x m. past_all x (inr m)) at same lasts)
 
 -- a send that repeats another isn't accepted, and has its number
-repeated : (incarnation own : ℕ) (xs : List Fact) (moment : ℕ) (ask : Ask) (y : Fact) → is_send ask ≡ true → duplicate (dedup_of ask) moment xs ≡ Some y → ((effect_on incarnation own moment xs ask).effective ≡ false) × ((effect_on incarnation own moment xs ask).reply ≡ Sent y.count)
+repeated : (incarnation : ℕ) (own : Attributes) (xs : List Fact) (moment : ℕ) (ask : Ask) (y : Fact) → is_send ask ≡ true → has_dedup own ask ≡ true → duplicate (dedup_of ask) moment xs ≡ Some y → ((effect_on incarnation own moment xs ask).effective ≡ false) × ((effect_on incarnation own moment xs ask).reply ≡ Sent y.count)
 unfolding effect_on
-repeated incarnation own xs moment (Create queue visibility) y sends found = absurd (both_ways _ refl sends)
-repeated incarnation own xs moment (Remove queue) y sends found = absurd (both_ways _ refl sends)
-repeated incarnation own xs moment (Send queue group dedup body) y sends found = rw found (refl, refl)
-repeated incarnation own xs moment (Receive queue size visibility) y sends found = absurd (both_ways _ refl sends)
-repeated incarnation own xs moment (Delete queue receipt) y sends found = absurd (both_ways _ refl sends)
-repeated incarnation own xs moment (Change queue receipt visibility) y sends found = absurd (both_ways _ refl sends)
+repeated incarnation own xs moment (Create queue visibility content) y sends has found = absurd (both_ways _ refl sends)
+repeated incarnation own xs moment (Remove queue) y sends has found = absurd (both_ways _ refl sends)
+repeated incarnation own xs moment (Send queue group dedup body) y sends has found = rw (has, found) (refl, refl)
+repeated incarnation own xs moment (Receive queue size visibility) y sends has found = absurd (both_ways _ refl sends)
+repeated incarnation own xs moment (Delete queue receipt) y sends has found = absurd (both_ways _ refl sends)
+repeated incarnation own xs moment (Change queue receipt visibility) y sends has found = absurd (both_ways _ refl sends)
 
 -- the one send that counts is found
 found_one : (id : List ℕ) (moment : ℕ) (xs : List Fact) (y : Fact) → filter (counts_at id moment) (messages xs) ≡ y ∷ [] → duplicate id moment xs ≡ Some y
@@ -127,22 +127,22 @@ found_one id moment xs y one = find-one (is_duplicated_by id moment) (messages x
 -- one send is accepted in each 300,000 ms
 pub one_acceptance : OneAcceptancePerWindow
 unfolding reply_to
-one_acceptance entries e creation earlier stamped fresh lives sends at same lasts = let xs = so_far entries e creation in
+one_acceptance entries e creation earlier stamped fresh lives sends has at same lasts = let xs = so_far entries e creation in
     let id = dedup_of e.request.ask in
     let one = only_one id e.moment earlier (messages xs) (apart (queue_of e.request.ask) creation.count entries) (λ y m. past entries e y stamped (among-own (queue_of e.request.ask) creation.count (history entries) y m)) at same lasts in
-    let again = repeated creation.count (visibility_by creation) xs e.moment e.request.ask earlier sends (found_one id e.moment xs earlier one) in
+    let again = repeated creation.count (attributes_by creation) xs e.moment e.request.ask earlier sends has (found_one id e.moment xs earlier one) in
     let made = fact-live (history entries) e creation fresh lives in
     (ap (λ f. f.effective) made ∙ again.0, ap (λ f. f.reply) made ∙ again.1, one)
 
 -- a send that repeats none is accepted, with the next number
-unrepeated : (incarnation own : ℕ) (xs : List Fact) (moment : ℕ) (ask : Ask) → is_send ask ≡ true → duplicate (dedup_of ask) moment xs ≡ None → effect_on incarnation own moment xs ask ≡ takes_effect (length (messages xs) + 1) (Sent (length (messages xs) + 1))
+unrepeated : (incarnation : ℕ) (own : Attributes) (xs : List Fact) (moment : ℕ) (ask : Ask) → is_send ask ≡ true → has_dedup own ask ≡ true → duplicate (dedup_of ask) moment xs ≡ None → effect_on incarnation own moment xs ask ≡ takes_effect (length (messages xs) + 1) (Sent (length (messages xs) + 1))
 unfolding effect_on
-unrepeated incarnation own xs moment (Create queue visibility) sends none = absurd (both_ways _ refl sends)
-unrepeated incarnation own xs moment (Remove queue) sends none = absurd (both_ways _ refl sends)
-unrepeated incarnation own xs moment (Send queue group dedup body) sends none = rw none
-unrepeated incarnation own xs moment (Receive queue size visibility) sends none = absurd (both_ways _ refl sends)
-unrepeated incarnation own xs moment (Delete queue receipt) sends none = absurd (both_ways _ refl sends)
-unrepeated incarnation own xs moment (Change queue receipt visibility) sends none = absurd (both_ways _ refl sends)
+unrepeated incarnation own xs moment (Create queue visibility content) sends has none = absurd (both_ways _ refl sends)
+unrepeated incarnation own xs moment (Remove queue) sends has none = absurd (both_ways _ refl sends)
+unrepeated incarnation own xs moment (Send queue group dedup body) sends has none = rw (has, none) refl
+unrepeated incarnation own xs moment (Receive queue size visibility) sends has none = absurd (both_ways _ refl sends)
+unrepeated incarnation own xs moment (Delete queue receipt) sends has none = absurd (both_ways _ refl sends)
+unrepeated incarnation own xs moment (Change queue receipt visibility) sends has none = absurd (both_ways _ refl sends)
 
 -- a send of an id whose time is over doesn't count
 ended : (id : List ℕ) (moment : ℕ) (y : Fact) → (dedup_of y.entry.request.ask ≡ id → y.entry.moment + 300000 ≤ moment) → counts_at id moment y ≡ false
@@ -158,6 +158,6 @@ found_none id moment xs past_all = find-none (is_duplicated_by id moment) (messa
 -- all other sends are accepted
 pub others_accepted : OthersAreAccepted
 unfolding reply_to
-others_accepted entries e creation fresh lives sends past_all = let xs = so_far entries e creation in
-    let made = fact-live (history entries) e creation fresh lives ∙ ap (λ effect. fact_with e creation.count effect) (unrepeated creation.count (visibility_by creation) xs e.moment e.request.ask sends (found_none (dedup_of e.request.ask) e.moment xs past_all)) in
+others_accepted entries e creation fresh lives sends has past_all = let xs = so_far entries e creation in
+    let made = fact-live (history entries) e creation fresh lives ∙ ap (λ effect. fact_with e creation.count effect) (unrepeated creation.count (attributes_by creation) xs e.moment e.request.ask sends has (found_none (dedup_of e.request.ask) e.moment xs past_all)) in
     (ap (λ f. f.effective) made, ap (λ f. f.count) made, ap (λ f. f.reply) made)
