@@ -1,6 +1,6 @@
 -- Worked lists of events, each computed by the definitions to what the rules of the chain give. The results were
 -- worked out by hand.
-use Rattle.std.proofs.Common.{◌≡◌, ℕ, List, [], ◌∷◌, ◌++◌, map, length, true, false, codes, refl}
+use Rattle.std.proofs.Common.{◌≡◌, ℕ, List, [], ◌∷◌, ◌++◌, map, length, Some, true, false, codes, refl}
 use Rattle.cq_base.specs.declared.ask.Ask.{Ask}
 use Rattle.cq_base.specs.declared.ask.Ask.TheVariants.{Create, Send}
 use Rattle.cq_base.specs.declared.party.Party.{Party}
@@ -35,10 +35,10 @@ abbrev arrive : ℕ → ℕ → ℕ → Ask → Event
 arrive at clock number ask = events.Arrive at clock (record { client = 1; number = number; ask = ask })
 
 abbrev create : Ask
-create = Create name 30
+create = Create name 30 false
 
 abbrev send : Ask
-send = Send name (codes "a") (codes "x") (codes "x")
+send = Send name (codes "a") (Some (codes "x")) (codes "x")
 
 -- the first message from one server to another is put, and taken
 abbrev move : ℕ → ℕ → List Event

@@ -77,11 +77,15 @@ fn ask_of(alloc: Global, what: What) -> Result<Ask, Fail> {
     match what {
         What::Create => {
             let visibility = Seconds::new(30).ok_or("no timeout")?;
-            Ok(Ask::Create { queue, visibility })
+            Ok(Ask::Create {
+                queue,
+                visibility,
+                content: false,
+            })
         }
         What::Send => {
             let group = GroupId::new(alloc, "a")?;
-            let dedup = DedupId::new(alloc, "x")?;
+            let dedup = Some(DedupId::new(alloc, "x")?);
             let body = Body::new(alloc, "x")?;
             Ok(Ask::Send {
                 queue,

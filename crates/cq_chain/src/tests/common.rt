@@ -41,7 +41,11 @@ pub(super) fn create(alloc: Global, number: u64) -> Result<Request, Fail> {
     Ok(Request {
         client: 1,
         number,
-        ask: Ask::Create { queue, visibility },
+        ask: Ask::Create {
+            queue,
+            visibility,
+            content: false,
+        },
     })
 }
 
