@@ -13,7 +13,7 @@ use Rattle.cq_base.specs.declared.limits.TheConstants.{DEDUPLICATION_WINDOW}
 use Rattle.cq_base.specs.declared.reply.Refusal.TheVariants.{MissingDedupId}
 use Rattle.cq_base.specs.declared.reply.Reply.{Reply}
 use Rattle.cq_base.specs.declared.reply.Reply.TheVariants.{Sent, Refused}
-use Rattle.cq_base.specs.Asks.{Attributes, dedup_or_made, is_given_or_made}
+use Rattle.cq_base.specs.Asks.{dedup_or_made, is_given_or_made}
 use Rattle.cq_base.specs.Effects.{takes_effect, only_replies, send, send_if, effect_on}
 use Rattle.cq_base.specs.Facts.{Fact}
 use Rattle.cq_base.specs.History.{fact_with}
