@@ -187,15 +187,25 @@ create_asks :
     codes "{'kind':'create','queue':'q.fifo'}" ∷ codes "{'kind':'create','queue':'q.fifo','visibility':0}"
     ∷ codes "{'kind':'create','queue':'q.fifo','visibility':43200}" ∷ codes "{'kind':'create','queue':'q'}" ∷ []
     )
-    ≡ says_request (Create (codes "q.fifo") 30) ∷ says_request (Create (codes "q.fifo") 0) ∷ says_request (Create (codes "q.fifo") 43200) ∷ Some (Refused BadQueueName) ∷ []
+    ≡ says_request (Create (codes "q.fifo") 30 false) ∷ says_request (Create (codes "q.fifo") 0 false) ∷ says_request (Create (codes "q.fifo") 43200 false) ∷ Some (Refused BadQueueName) ∷ []
 unfolding lines_on_literals
 create_asks = refl
+
+create_asks_for_made_ids :
+    map says_ask (
+    codes "{'kind':'create','queue':'q.fifo','content_dedup':true}" ∷ codes "{'kind':'create','queue':'q.fifo','content_dedup':false}"
+    ∷ codes "{'content_dedup':true,'visibility':0,'kind':'create','queue':'q.fifo'}" ∷ codes "{'kind':'create','queue':'q','content_dedup':true}" ∷ []
+    )
+    ≡ says_request (Create (codes "q.fifo") 30 true) ∷ says_request (Create (codes "q.fifo") 30 false) ∷ says_request (Create (codes "q.fifo") 0 true) ∷ Some (Refused BadQueueName) ∷ []
+unfolding lines_on_literals
+create_asks_for_made_ids = refl
 
 bad_create_asks :
     AreBadAsks (
     codes "{'kind':'create','queue':'q','visibility':43201}" ∷ codes "{'kind':'create','queue':'q.fifo','visibility':null}"
     ∷ codes "{'kind':'create','queue':'q.fifo','size':1}" ∷ codes "{'kind':'create'}" ∷ codes "{'queue':'q.fifo'}"
-    ∷ codes "{'kind':'purge','queue':'q.fifo'}" ∷ []
+    ∷ codes "{'kind':'purge','queue':'q.fifo'}" ∷ codes "{'kind':'create','queue':'q','content_dedup':1}"
+    ∷ codes "{'kind':'create','queue':'q','content_dedup':null}" ∷ codes "{'kind':'create','queue':'q','content_dedup':'true'}" ∷ []
     )
 unfolding lines_on_literals
 bad_create_asks = refl
@@ -267,9 +277,17 @@ abbrev says_send : List ℕ → List ℕ → List ℕ → List ℕ → Option Li
 says_send queue group dedup body =
     says_ask (codes "{'kind':'send','queue':'" ++ (queue ++ (codes "','group':'" ++ (group ++ (codes "','dedup':'" ++ (dedup ++ (codes "','body':'" ++ (body ++ codes "'}"))))))))
 
-send : says_send (codes "q.fifo") (codes "a") (codes "d") (codes "hello") ≡ says_request (Send (codes "q.fifo") (codes "a") (codes "d") (codes "hello"))
+send : says_send (codes "q.fifo") (codes "a") (codes "d") (codes "hello") ≡ says_request (Send (codes "q.fifo") (codes "a") (Some (codes "d")) (codes "hello"))
 unfolding lines_on_literals
 send = refl
+
+send_without_dedup : says_ask (codes "{'kind':'send','queue':'q.fifo','group':'a','body':'hello'}") ≡ says_request (Send (codes "q.fifo") (codes "a") None (codes "hello"))
+unfolding lines_on_literals
+send_without_dedup = refl
+
+send_of_an_empty_dedup : says_send (codes "q.fifo") (codes "a") [] (codes "x") ≡ Some (Refused BadDedup)
+unfolding lines_on_literals
+send_of_an_empty_dedup = refl
 
 abbrev zero : List ℕ
 zero = 92 ∷ codes "u0000"
@@ -314,8 +332,9 @@ no_utf8 = refl
 bad_sends :
     AreBadAsks (
     codes "{'kind':'send','queue':'q','group':'a b','dedup':'d','body':'x','size':1}" ∷ codes "{'kind':'send','queue':'q','group':'a b','dedup':'d'}"
-    ∷ codes "{'kind':'send','queue':'q','group':'a','body':'x'}" ∷ codes "{'kind':'send','queue':'q','dedup':'d','body':'x'}"
-    ∷ codes "{'kind':'send','group':'a','dedup':'d','body':'x'}" ∷ []
+    ∷ codes "{'kind':'send','queue':'q','group':'a','body':'x','content_dedup':true}" ∷ codes "{'kind':'send','queue':'q','dedup':'d','body':'x'}"
+    ∷ codes "{'kind':'send','group':'a','dedup':'d','body':'x'}" ∷ codes "{'kind':'send','queue':'q','group':'a','dedup':null,'body':'x'}"
+    ∷ codes "{'kind':'send','queue':'q','group':'a','dedup':1,'body':'x'}" ∷ []
     )
 unfolding lines_on_literals
 bad_sends = refl

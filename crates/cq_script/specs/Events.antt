@@ -1,25 +1,26 @@
 -- The events that JSON objects say: which keys an object has, and in which order its faults count.
 -- All members are read before a text is looked at, so an object with any other fault is bad.
-use Rattle.std.specs.Prelude.{ℕ, ◌-◌, [], ◌∷◌, codes, if◌then◌else◌, Result, Ok, Err, unwrap_or}
+use Rattle.std.specs.Prelude.{ℕ, ◌-◌, [], ◌∷◌, codes, false, if◌then◌else◌, Result, Ok, Err, unwrap_or}
 use Rattle.std.specs.Str.{bytes_eq}
 use Rattle.serde_json.specs.Data.{Data}
 use Rattle.cq_base.specs.declared.ask.Ask.{Ask}
 use Rattle.cq_base.specs.declared.ask.Ask.TheVariants.{Create, Remove, Send, Receive, Delete, Change}
 use Rattle.cq_base.specs.declared.limits.TheConstants.{MOMENT_LIMIT, SECONDS_LIMIT, BATCH_LIMIT, PARTY_LIMIT, NUMBER_LIMIT}
 use Rattle.cq_base.specs.declared.party.Party.{Party}
-use Rattle.cq_script.specs.Fields.{Reason, bad, ◌>>=◌, has_only, member_at, text_at, number_at, number_if_at, party_at, queue_name, group_id, dedup_id, message_body}
+use Rattle.cq_script.specs.Fields.{Reason, bad, ◌>>=◌, has_only, member_at, text_at, number_at, number_if_at, text_if_at, truth_if_at, party_at, queue_name, group_id, dedup_id_if, message_body}
 use Rattle.cq_script.specs.Receipts.{receipt_handle}
 use Rattle.cq_world.specs.declared.event.Event.{Event}
 use Rattle.cq_world.specs.declared.event.Event.TheVariants as events
 
--- A queue is made with a visibility timeout of 30 seconds where none is said (SQS API Reference,
--- "CreateQueue", `VisibilityTimeout`).
+-- A queue is made with a visibility timeout of 30 seconds where none is said, and makes deduplication ids only
+-- where that is said (SQS API Reference, "CreateQueue", `VisibilityTimeout` and `ContentBasedDeduplication`).
 unfoldable pub create_in : Data → Result Ask Reason
-create_in d = if has_only (codes "kind" ∷ codes "queue" ∷ codes "visibility" ∷ []) d then (do
+create_in d = if has_only (codes "kind" ∷ codes "queue" ∷ codes "visibility" ∷ codes "content_dedup" ∷ []) d then (do
   name ← text_at (codes "queue") d
   visibility ← number_if_at 0 SECONDS_LIMIT (codes "visibility") d
+  content ← truth_if_at (codes "content_dedup") d
   queue ← queue_name name
-  Ok (Create queue (unwrap_or visibility 30))) else Err bad
+  Ok (Create queue (unwrap_or visibility 30) (unwrap_or content false))) else Err bad
 
 -- a removal of a queue
 unfoldable pub remove_in : Data → Result Ask Reason
@@ -28,16 +29,16 @@ remove_in d = if has_only (codes "kind" ∷ codes "queue" ∷ []) d then (do
   queue ← queue_name name
   Ok (Remove queue)) else Err bad
 
--- A send names its group and its deduplication id itself (SQS API Reference, "SendMessage").
+-- A send names its group itself, and may name its deduplication id (SQS API Reference, "SendMessage").
 unfoldable pub send_in : Data → Result Ask Reason
 send_in d = if has_only (codes "kind" ∷ codes "queue" ∷ codes "group" ∷ codes "dedup" ∷ codes "body" ∷ []) d then (do
   queue_text ← text_at (codes "queue") d
   group_text ← text_at (codes "group") d
-  dedup_text ← text_at (codes "dedup") d
+  dedup_text ← text_if_at (codes "dedup") d
   body_text ← text_at (codes "body") d
   queue ← queue_name queue_text
   group ← group_id group_text
-  dedup ← dedup_id dedup_text
+  dedup ← dedup_id_if dedup_text
   body ← message_body body_text
   Ok (Send queue group dedup body)) else Err bad
 

@@ -4,7 +4,7 @@ use Rattle.std.specs.Prelude.{ℕ, ◌-◌, ◌&&◌, codes, List, Bool, true, f
 use Rattle.std.specs.List.{list_any}
 use Rattle.std.specs.Str.{bytes_eq}
 use Rattle.serde_json.specs.Data.{Data, Members, no_members, member}
-use Rattle.serde_json.specs.Find.{get, as_number, as_u64, as_str, as_object}
+use Rattle.serde_json.specs.Find.{get, as_bool, as_number, as_u64, as_str, as_object}
 use Rattle.cq_base.specs.Texts.{is_queue_name, is_id, has_body_characters, has_body_length}
 use Rattle.cq_base.specs.declared.fault.BaseFault.{BaseFault}
 use Rattle.cq_base.specs.declared.fault.BaseFault.TheVariants.{BadQueueName, BadGroup, BadDedup, InvalidMessageContents, BodyLength}
@@ -69,6 +69,24 @@ whole_if low high (Some d) = whole low high d >>= λ n. Ok (Some n)
 abbrev pub number_if_at : ℕ → ℕ → List ℕ → Data → Result (Option ℕ) Reason
 number_if_at low high key d = whole_if low high (get key d)
 
+-- the text that is there
+abbrev pub text_if : Option Data → Result (Option (List ℕ)) Reason
+text_if None = Ok None
+text_if (Some d) = or_bad (as_str d) >>= λ text. Ok (Some text)
+
+-- the text under a key that may be missing
+abbrev pub text_if_at : List ℕ → Data → Result (Option (List ℕ)) Reason
+text_if_at key d = text_if (get key d)
+
+-- the truth value that is there: `true` or `false`
+abbrev pub truth_if : Option Data → Result (Option Bool) Reason
+truth_if None = Ok None
+truth_if (Some d) = or_bad (as_bool d) >>= λ truth. Ok (Some truth)
+
+-- the truth value under a key that may be missing
+abbrev pub truth_if_at : List ℕ → Data → Result (Option Bool) Reason
+truth_if_at key d = truth_if (get key d)
+
 -- the party with that name
 abbrev pub party_named : List ℕ → Result Party Reason
 party_named name = if bytes_eq name (codes "master") then Ok parties.Master else (if bytes_eq name (codes "clients") then Ok parties.Clients else Err bad)
@@ -99,6 +117,11 @@ group_id text = if is_id text then Ok text else Err (refused BadGroup)
 -- the message deduplication id with that text
 abbrev pub dedup_id : List ℕ → Result (List ℕ) Reason
 dedup_id text = if is_id text then Ok text else Err (refused BadDedup)
+
+-- the same, if there is a text
+abbrev pub dedup_id_if : Option (List ℕ) → Result (Option (List ℕ)) Reason
+dedup_id_if None = Ok None
+dedup_id_if (Some text) = dedup_id text >>= λ id. Ok (Some id)
 
 -- the message body with that text; its characters are looked at before its length
 abbrev pub message_body : List ℕ → Result (List ℕ) Reason

@@ -3,8 +3,10 @@ ghost use Rattle.serde_json.specs.View.{view};
 ghost use Rattle.cq_script.specs.Events as spec;
 ghost use Rattle.cq_script.specs.within.Readers.{Gives, same};
 
-use crate::fields::{Stop, batch_size_if_at, has_only, seconds_at, seconds_if_at, text_at};
-use crate::texts::{dedup_id, group_id, message_body, queue_name, receipt};
+use crate::fields::{
+    Stop, batch_size_if_at, has_only, seconds_at, seconds_if_at, text_at, text_if_at, truth_if_at,
+};
+use crate::texts::{dedup_id_if, group_id, message_body, queue_name, receipt};
 use cq_base::{Ask, BatchSize, Seconds};
 use serde_json::Value;
 use std::alloc::Global;
@@ -21,14 +23,16 @@ const DEFAULT_BATCH: u8 = 1;
 fn read_create(alloc: Global, value: &Value) -> Result<Ask, Stop>
     ensures { Gives same result (spec.create_in (view value.now)) }
 {
-    if !has_only(value, &["kind", "queue", "visibility"]) {
+    if !has_only(value, &["kind", "queue", "visibility", "content_dedup"]) {
         return Err(Stop::Bad);
     }
     let queue = text_at(value, "queue")?;
     let visibility = seconds_if_at(value, "visibility")?;
+    let content = truth_if_at(value, "content_dedup")?;
     Ok(Ask::Create {
         queue: queue_name(alloc, queue)?,
         visibility: visibility.unwrap_or(Seconds::new(DEFAULT_SECONDS).unwrap()),
+        content: content.unwrap_or(false),
     })
 }
 
@@ -54,12 +58,12 @@ fn read_send(alloc: Global, value: &Value) -> Result<Ask, Stop>
     }
     let queue = text_at(value, "queue")?;
     let group = text_at(value, "group")?;
-    let dedup = text_at(value, "dedup")?;
+    let dedup = text_if_at(value, "dedup")?;
     let body = text_at(value, "body")?;
     Ok(Ask::Send {
         queue: queue_name(alloc, queue)?,
         group: group_id(alloc, group)?,
-        dedup: dedup_id(alloc, dedup)?,
+        dedup: dedup_id_if(alloc, dedup)?,
         body: message_body(alloc, body)?,
     })
 }

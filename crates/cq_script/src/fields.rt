@@ -2,6 +2,7 @@
 ghost use Rattle.std.specs.Prelude.{◌≡◌, ◌≤◌, ◌-◌, map, string_bytes, IfOk};
 ghost use Rattle.std.specs.BTreeMap.{keys as keys_of};
 ghost use Rattle.std.specs.List.{list_any, list_all};
+ghost use Rattle.std.specs.Option.{option_copied};
 ghost use Rattle.std.specs.Str.{bytes_eq};
 ghost use Rattle.serde_json.specs.View.{view};
 ghost use Rattle.cq_base.specs.declared.limits.TheConstants.{MOMENT_LIMIT, SECONDS_LIMIT, BATCH_LIMIT, PARTY_LIMIT, NUMBER_LIMIT};
@@ -172,6 +173,32 @@ pub(crate) fn moment_at(value: &Value, key: &str) -> Result<Moment, Stop>
     ensures { Gives same result (spec.number_at 0 MOMENT_LIMIT key.now (view value.now)) }
 {
     Ok(Moment::new(whole(member_at(value, key)?, 0, MOMENT_LIMIT)?).unwrap())
+}
+
+/// The text under the key, which may be missing.
+pub(crate) fn text_if_at<'v>(value: &'v Value, key: &str) -> Result<Option<&'v str>, Stop>
+    ensures { Gives option_copied result (spec.text_if_at key.now (view value.now)) }
+{
+    match value.get(key) {
+        Some(found) => match found.as_str() {
+            Some(text) => Ok(Some(text)),
+            None => Err(Stop::Bad),
+        },
+        None => Ok(None),
+    }
+}
+
+/// The truth value under the key, which may be missing.
+pub(crate) fn truth_if_at(value: &Value, key: &str) -> Result<Option<bool>, Stop>
+    ensures { Gives same result (spec.truth_if_at key.now (view value.now)) }
+{
+    match value.get(key) {
+        Some(found) => match found.as_bool() {
+            Some(truth) => Ok(Some(truth)),
+            None => Err(Stop::Bad),
+        },
+        None => Ok(None),
+    }
 }
 
 /// The visibility timeout under the key.

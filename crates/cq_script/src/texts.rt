@@ -1,5 +1,6 @@
 //! Members that are texts with a rule.
 ghost use Rattle.std.specs.Prelude.{◌≡◌, ◌↔◌, Ok};
+ghost use Rattle.std.specs.Option.{option_copied};
 ghost use Rattle.cq_base.specs.Handle.{Handle, IsHandle, handle_text};
 ghost use Rattle.cq_script.specs.Fields as spec;
 ghost use Rattle.cq_script.specs.within.Readers.{Gives, same};
@@ -28,6 +29,16 @@ pub(crate) fn dedup_id(alloc: Global, text: &str) -> Result<DedupId, Stop>
     ensures { Gives same result (spec.dedup_id text.now) }
 {
     Ok(DedupId::new(alloc, text)?)
+}
+
+/// The same, if there is a text.
+pub(crate) fn dedup_id_if(alloc: Global, text: Option<&str>) -> Result<Option<DedupId>, Stop>
+    ensures { Gives same result (spec.dedup_id_if (option_copied text.entry)) }
+{
+    match text {
+        Some(text) => Ok(Some(dedup_id(alloc, text)?)),
+        None => Ok(None),
+    }
 }
 
 /// The message body with that text.

@@ -7,16 +7,23 @@ use std::test::Fail;
 
 fn ask_text(alloc: Global, ask: &Ask) -> Result<String, AllocError> {
     match ask {
-        Ask::Create { queue, visibility } => {
+        Ask::Create {
+            queue,
+            visibility,
+            content,
+        } => {
             let seconds = visibility.get();
-            format!(in alloc; "create {queue} {seconds}")
+            format!(in alloc; "create {queue} {seconds} {content}")
         }
         Ask::Send {
             queue,
             group,
             dedup,
             body,
-        } => format!(in alloc; "send {queue} {group} {dedup} {body}"),
+        } => match dedup {
+            Some(dedup) => format!(in alloc; "send {queue} {group} {dedup} {body}"),
+            None => format!(in alloc; "send {queue} {group} none {body}"),
+        },
         Ask::Receive {
             queue,
             size,
@@ -124,12 +131,40 @@ fn reads_a_script(rt: HostRuntime) -> Result<(), Fail> {
     let rows = [
         (
             r#"{"op":"arrive","at":1,"clock":1000,"client":1,"number":1,"ask":{"kind":"create","queue":"q.fifo","visibility":30}}"#,
-            "arrive 1 1000 1 1 create q.fifo 30",
+            "arrive 1 1000 1 1 create q.fifo 30 false",
         ),
         (r#"{"op":"put","from":1,"to":"clients"}"#, "put 1 clients"),
         (
             r#"{"op":"arrive","at":1,"clock":1001,"client":1,"number":2,"ask":{"kind":"send","queue":"q.fifo","group":"a","dedup":"d1","body":"hello"}}"#,
             "arrive 1 1001 1 2 send q.fifo a d1 hello",
+        ),
+        (
+            r#"{"op":"arrive","at":1,"clock":1000,"client":1,"number":1,"ask":{"kind":"create","queue":"q.fifo","content_dedup":true}}"#,
+            "arrive 1 1000 1 1 create q.fifo 30 true",
+        ),
+        (
+            r#"{"op":"arrive","at":1,"clock":1001,"client":1,"number":2,"ask":{"kind":"send","queue":"q.fifo","group":"a","body":"hello"}}"#,
+            "arrive 1 1001 1 2 send q.fifo a none hello",
+        ),
+        (
+            r#"{"op":"arrive","at":1,"clock":1001,"client":1,"number":2,"ask":{"kind":"send","queue":"q.fifo","group":"a","dedup":"","body":"hello"}}"#,
+            "13 BadDedup",
+        ),
+        (
+            r#"{"op":"arrive","at":1,"clock":1001,"client":1,"number":2,"ask":{"kind":"send","queue":"q.fifo","group":"a","dedup":null,"body":"hello"}}"#,
+            "bad",
+        ),
+        (
+            r#"{"op":"arrive","at":1,"clock":1000,"client":1,"number":1,"ask":{"kind":"create","queue":"q.fifo","content_dedup":1}}"#,
+            "bad",
+        ),
+        (
+            r#"{"op":"arrive","at":1,"clock":1000,"client":1,"number":1,"ask":{"kind":"create","queue":"q.fifo","content_dedup":null}}"#,
+            "bad",
+        ),
+        (
+            r#"{"op":"arrive","at":1,"clock":1000,"client":1,"number":1,"ask":{"kind":"create","queue":"q.fifo","content_dedup":"true"}}"#,
+            "bad",
         ),
         (
             r#"{"op":"arrive","at":1,"clock":1002,"client":1,"number":3,"ask":{"kind":"receive","queue":"q.fifo","size":1}}"#,

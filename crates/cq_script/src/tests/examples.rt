@@ -270,6 +270,48 @@ const JOIN_OUT: &str =
 {"client":2,"length":4,"line":31,"number":2,"reply":{"kind":"deleted","removed":true}}
 "#;
 
+/// A queue that makes deduplication ids, and one that doesn't. On one server.
+const CONTENT_DEDUP: &str =
+    r#"{"op":"arrive","at":1,"clock":0,"client":1,"number":1,"ask":{"kind":"create","queue":"news.fifo","content_dedup":true}}
+{"op":"put","from":1,"to":"clients"}
+{"op":"arrive","at":1,"clock":0,"client":1,"number":2,"ask":{"kind":"send","queue":"news.fifo","group":"a","body":"abc"}}
+{"op":"put","from":1,"to":"clients"}
+{"op":"arrive","at":1,"clock":1,"client":1,"number":3,"ask":{"kind":"send","queue":"news.fifo","group":"a","dedup":"ba7816bf8f01cfea414140de5dae2223b00361a396177a9cb410ff61f20015ad","body":"abc"}}
+{"op":"put","from":1,"to":"clients"}
+{"op":"arrive","at":1,"clock":2,"client":1,"number":4,"ask":{"kind":"send","queue":"news.fifo","group":"a","dedup":"x","body":"abc"}}
+{"op":"put","from":1,"to":"clients"}
+{"op":"arrive","at":1,"clock":3,"client":1,"number":5,"ask":{"kind":"send","queue":"news.fifo","group":"a","body":"abd"}}
+{"op":"put","from":1,"to":"clients"}
+{"op":"arrive","at":1,"clock":300000,"client":1,"number":6,"ask":{"kind":"send","queue":"news.fifo","group":"a","body":"abc"}}
+{"op":"put","from":1,"to":"clients"}
+
+{"op":"arrive","at":1,"clock":300000,"client":1,"number":7,"ask":{"kind":"create","queue":"news.fifo","visibility":30}}
+{"op":"put","from":1,"to":"clients"}
+{"op":"arrive","at":1,"clock":300000,"client":1,"number":8,"ask":{"kind":"create","queue":"news.fifo","visibility":30,"content_dedup":true}}
+{"op":"put","from":1,"to":"clients"}
+
+{"op":"arrive","at":1,"clock":300000,"client":1,"number":9,"ask":{"kind":"create","queue":"plain.fifo"}}
+{"op":"put","from":1,"to":"clients"}
+{"op":"arrive","at":1,"clock":300000,"client":1,"number":10,"ask":{"kind":"send","queue":"plain.fifo","group":"a","body":"abc"}}
+{"op":"put","from":1,"to":"clients"}
+{"op":"arrive","at":1,"clock":300000,"client":1,"number":11,"ask":{"kind":"send","queue":"none.fifo","group":"a","body":"abc"}}
+{"op":"put","from":1,"to":"clients"}
+"#;
+
+const CONTENT_DEDUP_OUT: &str =
+    r#"{"client":1,"length":1,"line":2,"number":1,"reply":{"incarnation":1,"kind":"created"}}
+{"client":1,"length":2,"line":4,"number":2,"reply":{"kind":"sent","sequence":1}}
+{"client":1,"length":3,"line":6,"number":3,"reply":{"kind":"sent","sequence":1}}
+{"client":1,"length":4,"line":8,"number":4,"reply":{"kind":"sent","sequence":2}}
+{"client":1,"length":5,"line":10,"number":5,"reply":{"kind":"sent","sequence":3}}
+{"client":1,"length":6,"line":12,"number":6,"reply":{"kind":"sent","sequence":4}}
+{"client":1,"length":7,"line":15,"number":7,"reply":{"code":2,"kind":"refused","name":"QueueNameExists"}}
+{"client":1,"length":8,"line":17,"number":8,"reply":{"incarnation":1,"kind":"created"}}
+{"client":1,"length":9,"line":20,"number":9,"reply":{"incarnation":1,"kind":"created"}}
+{"client":1,"length":10,"line":22,"number":10,"reply":{"code":8,"kind":"refused","name":"MissingDedupId"}}
+{"client":1,"length":11,"line":24,"number":11,"reply":{"code":1,"kind":"refused","name":"QueueDoesNotExist"}}
+"#;
+
 #[test]
 fn write_what_the_rules_say(rt: HostRuntime) -> Result<(), Fail> {
     let cases = [
@@ -280,6 +322,7 @@ fn write_what_the_rules_say(rt: HostRuntime) -> Result<(), Fail> {
         (HEAD_LOST, 2, HEAD_LOST_OUT),
         (TAIL_LOST, 2, TAIL_LOST_OUT),
         (JOIN, 1, JOIN_OUT),
+        (CONTENT_DEDUP, 1, CONTENT_DEDUP_OUT),
     ];
     for (script, servers, text) in cases {
         let size = ChainSize::new(servers).ok_or("so many servers are no chain")?;
