@@ -43,9 +43,10 @@ The first servers are numbered from 1. Beside a server, "from" and "to" may be "
 Requests arrive at the first server of the chain, queries at the last one, and this one answers both.
 
 Kinds of "ask" in an arrive, with the keys that stand beside "kind"; those in brackets may be missing:
-  create   queue, [visibility]          makes the queue; a timeout of so many seconds, 30 if missing
+  create   queue, [visibility],         makes the queue; a timeout of so many seconds, 30 if missing;
+           [content_dedup]              true: a send without "dedup" has an id made of its body
   remove   queue                        ends the queue and its messages
-  send     queue, group, dedup, body    adds a message to the end of its group
+  send     queue, group, [dedup], body  adds a message to the end of its group
   receive  queue, [size], [visibility]  hands out up to "size" messages, 1 if missing
   delete   queue, receipt               deletes the message that was handed out with this receipt
   change   queue, receipt, visibility   gives it another timeout, in seconds from now
