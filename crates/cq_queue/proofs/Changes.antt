@@ -12,12 +12,13 @@ use Rattle.cq_base.specs.Effects.{Effect, only_replies, takes_effect, message_at
 use Rattle.cq_base.specs.Facts.{Fact}
 use Rattle.cq_base.specs.Handle.{Handle}
 use Rattle.cq_base.specs.History.{fact_with}
-use Rattle.cq_base.specs.Incarnations.{Incarnation, IncarnationStands, coming, told_of}
+use Rattle.cq_base.specs.Incarnations.{Incarnation, IncarnationStandsFor, coming, told_of}
 use Rattle.cq_base.specs.Messages.{Message, end_of, standing}
 use Rattle.cq_base.specs.Receiving.{is_in_flight}
 use Rattle.cq_base.proofs.Among.{found-among}
 use Rattle.cq_base.proofs.OneMoreFact.{not_both, chosen_handed}
-use Rattle.cq_queue.specs.within.Kept.{is_receipt_of, hidden_until, with_timeout, alteration, after_change}
+use Rattle.cq_messages.specs.Changes.{hidden_until}
+use Rattle.cq_queue.specs.within.Kept.{is_receipt_of, with_timeout, alteration, after_change}
 use Rattle.cq_queue.specs.Entries.{IsChange, StandsAfter, IsAnswered}
 use Rattle.cq_queue.proofs.Deletes.{own-receipt, eqb-swapped}
 use Rattle.cq_queue.proofs.Maps.{map-agrees, filter-same}
@@ -146,7 +147,7 @@ stands_changed kept xs moment e queue receipt visibility stands before =
 -- with the entry itself
 changed_more : (done : Bool) (moment sequence visibility : ℕ) (kept : Incarnation) (entries : List Entry) (e : Entry)
     → StandsFor (cond done (with_timeout moment sequence visibility kept) kept) (told_of kept entries ++ coming kept.number kept.attributes (told_of kept entries) e ∷ [])
-    → IncarnationStands (cond done (with_timeout moment sequence visibility kept) kept) (entries ++ e ∷ [])
+    → IncarnationStandsFor (cond done (with_timeout moment sequence visibility kept) kept) (entries ++ e ∷ [])
 changed_more true moment sequence visibility kept entries e h = stands-more (with_timeout moment sequence visibility kept) entries e h
 changed_more false moment sequence visibility kept entries e h = stands-more kept entries e h
 

@@ -14,11 +14,12 @@ use Rattle.cq_base.specs.Effects.{Effect, only_replies, takes_effect, message_at
 use Rattle.cq_base.specs.Facts.{Fact}
 use Rattle.cq_base.specs.Handle.{Handle}
 use Rattle.cq_base.specs.History.{fact_with}
-use Rattle.cq_base.specs.Incarnations.{Incarnation, IncarnationStands, coming, told_of}
+use Rattle.cq_base.specs.Incarnations.{Incarnation, IncarnationStandsFor, coming, told_of}
 use Rattle.cq_base.specs.Messages.{Message, standing}
 use Rattle.cq_base.proofs.Deletes.{deleting}
 use Rattle.cq_base.proofs.OneMoreFact.{not_both, chosen_handed}
-use Rattle.cq_queue.specs.within.Kept.{is_receipt_of, is_other, without_message, deletion, after_delete}
+use Rattle.cq_messages.specs.Changes.{is_other}
+use Rattle.cq_queue.specs.within.Kept.{is_receipt_of, without_message, deletion, after_delete}
 use Rattle.cq_queue.specs.Entries.{IsDelete, StandsAfter, IsAnswered}
 use Rattle.cq_queue.proofs.Maps.{map-same}
 use Rattle.cq_queue.proofs.Spoken.{no_change}
@@ -110,7 +111,7 @@ stands_deleted kept xs e queue receipt stands told positive =
 -- with the entry itself
 deleted_more : (done : Bool) (sequence : ℕ) (kept : Incarnation) (entries : List Entry) (e : Entry)
     → StandsFor (cond done (without_message sequence kept) kept) (told_of kept entries ++ coming kept.number kept.attributes (told_of kept entries) e ∷ [])
-    → IncarnationStands (cond done (without_message sequence kept) kept) (entries ++ e ∷ [])
+    → IncarnationStandsFor (cond done (without_message sequence kept) kept) (entries ++ e ∷ [])
 deleted_more true sequence kept entries e h = stands-more (without_message sequence kept) entries e h
 deleted_more false sequence kept entries e h = stands-more kept entries e h
 

@@ -11,7 +11,8 @@ use Rattle.cq_base.specs.History.{fact_with}
 use Rattle.cq_base.specs.Incarnations.{Incarnation, coming, told_of}
 use Rattle.cq_base.specs.Messages.{Message, hands_it, end_of, standing}
 use Rattle.cq_base.specs.Receiving.{to_hand, delivery_of}
-use Rattle.cq_queue.specs.within.Kept.{marked, numbers_to_hand, handed_at_until, handed_out}
+use Rattle.cq_messages.specs.Changes.{marked, numbers_to_hand, handed_at_until}
+use Rattle.cq_queue.specs.within.Kept.{handed_out}
 use Rattle.cq_queue.specs.Entries.{IsReceive, StandsAfter, IsAnswered}
 use Rattle.cq_queue.proofs.Maps.{map-agrees, filter-same}
 use Rattle.cq_queue.proofs.Standing.{after_fact, touched_by, is_left_by, standing-more}

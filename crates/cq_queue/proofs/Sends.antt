@@ -17,10 +17,11 @@ use Rattle.cq_base.specs.Asks.{dedup_or_made, is_given_or_made}
 use Rattle.cq_base.specs.Effects.{takes_effect, only_replies, send, send_if, effect_on}
 use Rattle.cq_base.specs.Facts.{Fact}
 use Rattle.cq_base.specs.History.{fact_with}
-use Rattle.cq_base.specs.Incarnations.{Accepted, Incarnation, IncarnationStands, coming, told_of, repeated, counts_for}
+use Rattle.cq_base.specs.Incarnations.{Accepted, Incarnation, IncarnationStandsFor, coming, told_of, repeated, counts_for}
 use Rattle.cq_base.specs.Messages.{messages, duplicate, is_duplicated_by}
 use Rattle.cq_base.proofs.Numbers.{messages-next}
-use Rattle.cq_queue.specs.within.Kept.{used_at, is_recent, new_message, with_message}
+use Rattle.cq_messages.specs.Changes.{new_message}
+use Rattle.cq_queue.specs.within.Kept.{used_at, is_recent, with_message}
 use Rattle.cq_queue.specs.Entries.{IsSend, IsSendAs, StandsAfter, IsAnswered}
 use Rattle.cq_queue.proofs.Maps.{option_map-or, find-kept}
 use Rattle.cq_queue.proofs.Standing.{standing-quiet, standing-next}
@@ -148,7 +149,7 @@ stands-accepted kept moment group dedup body before none entries e stands is =
     let now = with_message moment group id body kept in
     let for = stands-told kept entries stands in
     let new = repeated_as kept moment id dedup None is.same none in
-    subst (λ i. IncarnationStands (with_message moment group i body kept) (entries ++ e ∷ [])) is.same
+    subst (λ i. IncarnationStandsFor (with_message moment group i body kept) (entries ++ e ∷ [])) is.same
     (stands-more now entries e (subst (λ f. StandsFor now (xs ++ f ∷ [])) (sym (ap (coming kept.number kept.attributes xs) (entry-asked e moment _ is.at_moment is.asks) ∙ coming-accepted kept xs moment e is.queue group is.given body for before is.has new))
     (stands_accepted kept xs moment e is.queue group is.given body for (told-lifetime kept.number kept.attributes entries) before)))
 

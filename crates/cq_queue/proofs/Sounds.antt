@@ -4,7 +4,7 @@ use Rattle.std.specs.List.{filter}
 use Rattle.std.proofs.lemmas.List.Elements.{All-map, All-weaker, All-filter}
 use Rattle.cq_base.specs.declared.limits.TheConstants.{HISTORY_LIMIT}
 use Rattle.cq_base.specs.Messages.{Message}
-use Rattle.cq_queue.specs.within.Kept.{marked, handed_at_until, is_other, hidden_until}
+use Rattle.cq_messages.specs.Changes.{marked, handed_at_until, is_other, hidden_until}
 use Rattle.cq_queue.specs.within.Sound.{IsHandedUpTo, IsSound}
 
 hidden_handings : (b : Bool) (used end : ℕ) (m : Message) → m.handings ≤ used → (cond b (record m { until = end }) m).handings ≤ used

@@ -11,7 +11,7 @@ use Rattle.cq_base.specs.Messages.{Message, messages, is_accepted, hands, hands_
 use Rattle.cq_base.proofs.Ends.{filter-passes, any-fails}
 use Rattle.cq_base.proofs.Filters.{filter-filter, filter-map}
 use Rattle.cq_base.proofs.Numbers.{messages-next, messages-same}
-use Rattle.cq_queue.specs.within.Kept.{new_message}
+use Rattle.cq_messages.specs.Changes.{new_message}
 use Rattle.cq_queue.proofs.Maps.{map-agrees, map-same, filter-same, filter-more, last_or-more}
 use Rattle.cq_queue.proofs.Told.{IsNew}
 

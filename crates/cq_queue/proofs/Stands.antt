@@ -6,7 +6,7 @@ use Rattle.cq_base.specs.declared.ask.Ask.{Ask}
 use Rattle.cq_base.specs.declared.ask.Entry.{Entry}
 use Rattle.cq_base.specs.Asks.{Attributes}
 use Rattle.cq_base.specs.Facts.{Fact}
-use Rattle.cq_base.specs.Incarnations.{Incarnation, IncarnationStands, coming, told_of, repeated, is_use, is_clocked}
+use Rattle.cq_base.specs.Incarnations.{Incarnation, IncarnationStandsFor, coming, told_of, repeated, is_use, is_clocked}
 use Rattle.cq_base.specs.Messages.{messages, is_accepted, duplicate, is_duplicated_by, moment_of, standing}
 use Rattle.cq_base.proofs.Ends.{filter-passes, filter-fails}
 use Rattle.cq_base.proofs.Numbers.{messages-same}
@@ -22,15 +22,15 @@ pub record StandsFor (kept : Incarnation) (xs : List Fact) : Type 0 where
   pub used : kept.used ≡ length (filter is_use xs)
 
 -- what stands for entries stands for what they did
-pub stands-told : (kept : Incarnation) (entries : List Entry) → IncarnationStands kept entries → StandsFor kept (told_of kept entries)
+pub stands-told : (kept : Incarnation) (entries : List Entry) → IncarnationStandsFor kept entries → StandsFor kept (told_of kept entries)
 stands-told kept entries h = record { sent = h.sent; messages = h.messages; window = h.window; last = h.last; used = h.used }
 
 -- and the other way round
-told-stands : (kept : Incarnation) (entries : List Entry) → StandsFor kept (told_of kept entries) → IncarnationStands kept entries
+told-stands : (kept : Incarnation) (entries : List Entry) → StandsFor kept (told_of kept entries) → IncarnationStandsFor kept entries
 told-stands kept entries h = record { sent = h.sent; messages = h.messages; window = h.window; last = h.last; used = h.used }
 
 -- the same with one more entry
-pub stands-more : (kept : Incarnation) (entries : List Entry) (e : Entry) → StandsFor kept (told_of kept entries ++ coming kept.number kept.attributes (told_of kept entries) e ∷ []) → IncarnationStands kept (entries ++ e ∷ [])
+pub stands-more : (kept : Incarnation) (entries : List Entry) (e : Entry) → StandsFor kept (told_of kept entries ++ coming kept.number kept.attributes (told_of kept entries) e ∷ []) → IncarnationStandsFor kept (entries ++ e ∷ [])
 stands-more kept entries e h = told-stands kept (entries ++ e ∷ []) (subst (StandsFor kept) (sym (lifetime-more kept.number kept.attributes entries e)) h)
 
 -- the entry of a client's ask at that moment
@@ -79,5 +79,5 @@ unfolding messages duplicate standing
 nothing_told number attributes = record { sent = refl; messages = refl; window = λ id moment later. refl; last = refl; used = refl }
 
 -- it stands for no entries
-pub stands-none : (number : ℕ) (attributes : Attributes) → IncarnationStands (empty number attributes) []
+pub stands-none : (number : ℕ) (attributes : Attributes) → IncarnationStandsFor (empty number attributes) []
 stands-none number attributes = told-stands (empty number attributes) [] (subst (StandsFor (empty number attributes)) (sym (lifetime-none number attributes)) (nothing_told number attributes))

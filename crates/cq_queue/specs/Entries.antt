@@ -9,7 +9,7 @@ use Rattle.cq_base.specs.declared.reply.Reply.TheVariants.{Counts}
 use Rattle.cq_base.specs.Asks.{Attributes, dedup_or_made, is_given_or_made}
 use Rattle.cq_base.specs.Effects.{counts_of}
 use Rattle.cq_base.specs.Handle.{Handle}
-use Rattle.cq_base.specs.Incarnations.{Incarnation, IncarnationStands, coming, told_of}
+use Rattle.cq_base.specs.Incarnations.{Incarnation, IncarnationStandsFor, coming, told_of}
 use Rattle.cq_base.specs.Messages.{duplicate, standing}
 use Rattle.cq_base.specs.Receiving.{to_hand, delivery_of}
 
@@ -53,17 +53,17 @@ pub record IsChange (moment : ℕ) (receipt : Handle) (visibility : ℕ) (e : En
 
 -- Whatever entries `old` stands for, `new` stands for them and one more, if it is of this kind.
 abbrev pub StandsAfter : (Entry → Type 0) → Incarnation → Incarnation → Type 0
-StandsAfter IsSuch old new = (entries : List Entry) (e : Entry) → IncarnationStands old entries → IsSuch e
-    → IncarnationStands new (entries ++ e ∷ [])
+StandsAfter IsSuch old new = (entries : List Entry) (e : Entry) → IncarnationStandsFor old entries → IsSuch e
+    → IncarnationStandsFor new (entries ++ e ∷ [])
 
 -- Whatever entries `kept` stands for, one more of this kind is answered with that reply.
 abbrev pub IsAnswered : (Entry → Type 0) → Incarnation → Reply → Type 0
-IsAnswered IsSuch kept reply = (entries : List Entry) (e : Entry) → IncarnationStands kept entries → IsSuch e
+IsAnswered IsSuch kept reply = (entries : List Entry) (e : Entry) → IncarnationStandsFor kept entries → IsSuch e
     → (coming kept.number kept.attributes (told_of kept entries) e).reply ≡ reply
 
 -- Whatever entries `kept` stands for, a send of that deduplication id at that moment repeats none of them.
 abbrev pub IsNoRepeat : List ℕ → ℕ → Incarnation → Type 0
-IsNoRepeat dedup moment kept = (entries : List Entry) → IncarnationStands kept entries
+IsNoRepeat dedup moment kept = (entries : List Entry) → IncarnationStandsFor kept entries
     → duplicate dedup moment (told_of kept entries) ≡ None
 
 -- it is the same incarnation, with the same attributes
@@ -73,10 +73,10 @@ pub record IsSameQueue (old new : Incarnation) : Type 0 where
 
 -- Whatever entries `kept` stands for, these are what a receive of that size hands out after them.
 abbrev pub AreOffered : Incarnation → ℕ → ℕ → List Delivery → Type 0
-AreOffered kept moment size deliveries = (entries : List Entry) → IncarnationStands kept entries
+AreOffered kept moment size deliveries = (entries : List Entry) → IncarnationStandsFor kept entries
     → deliveries ≡ map (delivery_of kept.number) (to_hand size moment (standing kept.attributes.visibility (told_of kept entries)))
 
 -- Whatever entries `kept` stands for, these are the counts of its messages after them.
 abbrev pub AreCounted : Incarnation → ℕ → ℕ → ℕ → Type 0
-AreCounted kept moment visible in_flight = (entries : List Entry) → IncarnationStands kept entries
+AreCounted kept moment visible in_flight = (entries : List Entry) → IncarnationStandsFor kept entries
     → counts_of moment (standing kept.attributes.visibility (told_of kept entries)) ≡ Counts visible in_flight

@@ -3,11 +3,11 @@ ghost use Rattle.std.specs.Prelude.{◌≡◌, ◌+◌, ◌*◌, map, nat_lt};
 ghost use Rattle.cq_base.specs.declared.limits.TheConstants.{SECOND, FLIGHT_LIMIT};
 ghost use Rattle.cq_base.specs.Effects.{message_at, change_standing, change_sent};
 ghost use Rattle.cq_queue.specs.within.Answers.{change_reply, is_changing};
-ghost use Rattle.cq_queue.specs.within.Kept.{hidden_until};
+ghost use Rattle.cq_messages.specs.Changes.{hidden_until};
 
 use crate::delete::{fits, message_at};
-use crate::message::Message;
 use cq_base::{FLIGHT_LIMIT, Moment, Receipt, Refusal, SECOND, Seconds};
+use cq_messages::Message;
 
 /// The moment in milliseconds so many seconds after this one.
 pub fn end_of(moment: Moment, visibility: Seconds) -> u64

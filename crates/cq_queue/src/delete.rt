@@ -2,10 +2,10 @@
 ghost use Rattle.std.specs.Prelude.{◌≡◌, filter, option_map};
 ghost use Rattle.cq_base.specs.Effects.{message_at, fits, delete_standing, delete_sent};
 ghost use Rattle.cq_queue.specs.within.Answers.{delete_reply, is_deleting};
-ghost use Rattle.cq_queue.specs.within.Kept.{is_other};
+ghost use Rattle.cq_messages.specs.Changes.{is_other};
 
-use crate::message::Message;
 use cq_base::{Receipt, Refusal};
+use cq_messages::Message;
 
 /// The message of that sequence number, if it isn't deleted.
 pub fn message_at(messages: &[Message], sequence: u64) -> Option<&Message>

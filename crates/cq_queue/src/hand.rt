@@ -4,12 +4,12 @@ ghost use Rattle.std.specs.Prelude.{◌≡◌, ℕ, ◌+◌, ◌<◌, ◌≤◌,
 ghost use Rattle.arrayvec.specs.ArrayVec.{array_vec_len};
 ghost use Rattle.cq_base.specs.declared.limits.TheConstants.{HISTORY_LIMIT};
 ghost use Rattle.cq_base.specs.Receiving.{is_same_group, group_with, in_turn};
-ghost use Rattle.cq_queue.specs.within.Kept.{is_numbered_in, marked, numbers_of, numbers_to_hand};
+ghost use Rattle.cq_messages.specs.Changes.{is_numbered_in, marked, numbers_of, numbers_to_hand};
 
-use crate::message::Message;
 use crate::receive::leads;
 use arrayvec::ArrayVec;
 use cq_base::{BatchSize, Moment};
+use cq_messages::Message;
 
 /// The sequence numbers of the messages that one receive hands out.
 type Numbers = ArrayVec<u64, 10>;

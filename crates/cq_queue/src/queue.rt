@@ -4,7 +4,7 @@ ghost use Rattle.std.specs.Option.{option_copied};
 ghost use Rattle.cq_base.specs.declared.limits.TheConstants.{HISTORY_LIMIT};
 ghost use Rattle.cq_base.specs.declared.reply.Reply.TheVariants.{Sent, Deleted, Changed, Refused};
 ghost use Rattle.cq_base.specs.declared.reply.Refusal.TheVariants.{MissingDedupId};
-ghost use Rattle.cq_base.specs.Incarnations.{IncarnationStands, repeated};
+ghost use Rattle.cq_base.specs.Incarnations.{IncarnationStandsFor, repeated};
 ghost use Rattle.cq_queue.specs.within.Answers.{send_reply, delete_reply, is_deleting, change_reply, is_changing};
 ghost use Rattle.cq_queue.specs.Entries.{IsSend, IsSendAs, IsReceive, IsDelete, IsChange, StandsAfter, IsAnswered, IsNoRepeat, IsSameQueue};
 ghost use Rattle.cq_queue.specs.within.Kept.{used_at, with_message, handed_out, is_receipt_of, without_message, deletion, with_timeout, alteration};
@@ -15,8 +15,8 @@ use crate::accepted::{self, Accepted};
 use crate::change::{change_sent, end_of, hide};
 use crate::delete::{delete_sent, take_out};
 use crate::hand::{mark, numbers_to_hand};
-use crate::message::Message;
 use cq_base::{BatchSize, Body, DedupId, GroupId, Moment, NoMemory, Receipt, Refusal, Seconds};
+use cq_messages::Message;
 use std::alloc::Global;
 use std::marker::Model;
 
@@ -68,7 +68,7 @@ impl Queue {
     ) -> Result<Queue, NoMemory>
         requires { 0 < incarnation }
         ensures made { IsOk result }
-        ensures stands { IfOk result (λ queue. IncarnationStands queue []) }
+        ensures stands { IfOk result (λ queue. IncarnationStandsFor queue []) }
         ensures number { IfOk result (λ queue. queue.number ≡ incarnation) }
         ensures attributes { IfOk result (λ queue.
             queue.attributes ≡ record { visibility = visibility; content = content }) }

@@ -3,8 +3,8 @@ ghost use Rattle.std.specs.List.{list_any};
 ghost use Rattle.std.specs.Prelude.{◌≡◌, ◌<◌, ◌≤◌, ◌++◌, [], ◌∷◌, map, take, length, IfOk, OnOk};
 ghost use Rattle.cq_base.specs.Receiving.{is_blocked_by, is_preceded_by, leads, group_with, in_turn, to_hand, delivery_of};
 
-use crate::message::Message;
 use cq_base::{BatchSize, Delivery, Moment, NoMemory};
+use cq_messages::Message;
 use std::alloc::Global;
 
 fn has_older(messages: &[Message], message: &Message) -> bool

@@ -2,7 +2,7 @@
 use Rattle.std.proofs.Common.{arith}
 use Rattle.std.proofs.lemmas.Grind.{common_steps}
 use Rattle.std.proofs.lemmas.List.Edits.{map_over_more}
-use Rattle.cq_queue.specs.within.Kept.{hidden_until}
+use Rattle.cq_messages.specs.Changes.{hidden_until}
 use Rattle.cq_queue.proofs.change.hide.Goals as goal
 
 pub loop-i-preserved : goal.loop-i-preserved

@@ -1,6 +1,6 @@
 -- The messages that the loop has passed have their new timeout, and the others are as they were.
 use Rattle.std.proofs.Common.{◌≡◌, ◌++◌, map, take, drop}
-use Rattle.cq_queue.specs.within.Kept.{hidden_until}
+use Rattle.cq_messages.specs.Changes.{hidden_until}
 use Rattle.cq_queue.proofs.change.hide.Given as goal
 
 abbrev pub invariant-loop-i : goal.invariant-loop-i

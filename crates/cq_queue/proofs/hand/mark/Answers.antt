@@ -2,7 +2,7 @@
 use Rattle.std.proofs.Common.{arith}
 use Rattle.std.proofs.lemmas.Grind.{common_steps}
 use Rattle.std.proofs.lemmas.List.Edits.{map_over_more}
-use Rattle.cq_queue.specs.within.Kept.{marked}
+use Rattle.cq_messages.specs.Changes.{marked}
 use Rattle.cq_queue.proofs.hand.mark.Goals as goal
 
 pub loop-i-preserved : goal.loop-i-preserved

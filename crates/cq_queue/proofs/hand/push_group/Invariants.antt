@@ -2,7 +2,7 @@
 use Rattle.std.proofs.Common.{◌≡◌, ◌++◌, take}
 use Rattle.std.specs.List.{filter}
 use Rattle.cq_base.specs.Receiving.{is_same_group}
-use Rattle.cq_queue.specs.within.Kept.{numbers_of}
+use Rattle.cq_messages.specs.Changes.{numbers_of}
 use Rattle.cq_queue.proofs.hand.push_group.Given as goal
 
 abbrev pub invariant-loop-message : goal.invariant-loop-message
