@@ -7,6 +7,7 @@ use Rattle.cq_base.specs.declared.ask.Ask.{Ask}
 use Rattle.cq_base.specs.declared.ask.Ask.TheVariants.{Create, Remove, Send, Receive, Delete, Change}
 use Rattle.cq_base.specs.declared.limits.TheConstants.{MOMENT_LIMIT, SECONDS_LIMIT, BATCH_LIMIT, PARTY_LIMIT, NUMBER_LIMIT}
 use Rattle.cq_base.specs.declared.party.Party.{Party}
+use Rattle.cq_script.specs.declared.ask.TheConstants.{DEFAULT_SECONDS}
 use Rattle.cq_script.specs.Fields.{Reason, bad, ◌>>=◌, has_only, member_at, text_at, number_at, number_if_at, text_if_at, truth_if_at, party_at, queue_name, group_id, dedup_id_if, message_body}
 use Rattle.cq_script.specs.Receipts.{receipt_handle}
 use Rattle.cq_world.specs.declared.event.Event.{Event}
@@ -20,7 +21,7 @@ create_in d = if has_only (codes "kind" ∷ codes "queue" ∷ codes "visibility"
   visibility ← number_if_at 0 SECONDS_LIMIT (codes "visibility") d
   content ← truth_if_at (codes "content_dedup") d
   queue ← queue_name name
-  Ok (Create queue (unwrap_or visibility 30) (unwrap_or content false))) else Err bad
+  Ok (Create queue (unwrap_or visibility DEFAULT_SECONDS) (unwrap_or content false))) else Err bad
 
 -- a removal of a queue
 unfoldable pub remove_in : Data → Result Ask Reason
