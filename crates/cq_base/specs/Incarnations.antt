@@ -68,7 +68,7 @@ told_of kept entries = lifetime kept.number kept.attributes entries
 -- to be kept that a later send can repeat: for each deduplication id, and each moment from the last one on,
 -- what is kept finds the message that the definitions find. Of deleted messages nothing has to be kept, and
 -- of the others only how they stand.
-pub record IncarnationStands (kept : Incarnation) (entries : List Entry) : Type 0 where
+pub record IncarnationStandsFor (kept : Incarnation) (entries : List Entry) : Type 0 where
   pub sent : kept.sent ≡ length (messages (told_of kept entries))
   pub messages : kept.messages ≡ standing kept.attributes.visibility (told_of kept entries)
   pub window : (id : List ℕ) (moment : ℕ) → kept.last ≤ moment

@@ -12,21 +12,21 @@ use Rattle.cq_chain.specs.within.Boxes.{messages_for}
 use Rattle.cq_chain.specs.Masters.{Master, Order, no_order, is_in, is_last, stands_before, without, detected, joined, hears, said_of_loss, said_of_join, refusal_of_detection, refusal_of_join}
 use Rattle.cq_chain.specs.Messages.{Message, Have, Adopted, Ready, Adopt, BeTail}
 use Rattle.cq_chain.specs.Parties.{addressed}
-use Rattle.cq_chain.specs.Stands.{Means, AllMean, HoldsMaster, IsMaster, posted}
+use Rattle.cq_chain.specs.Stands.{Means, AllMean, MasterHolds, MasterStandsFor, posted}
 use Rattle.cq_chain.specs.within.Waiting.{Waits, Posts, KeepsAll, AllFor}
 use Rattle.cq_chain.proofs.Mailing.{waits-kept}
 
-pub master-stands : (kept : kept.Master) (m : Master) (outbox : Party → List Message) → HoldsMaster kept m outbox → IsMaster kept m outbox
-unfolding IsMaster
+pub master-stands : (kept : kept.Master) (m : Master) (outbox : Party → List Message) → MasterHolds kept m outbox → MasterStandsFor kept m outbox
+unfolding MasterStandsFor
 master-stands kept m outbox h = h
 
-pub master-parts : (kept : kept.Master) (m : Master) (outbox : Party → List Message) → IsMaster kept m outbox → HoldsMaster kept m outbox
-unfolding IsMaster
+pub master-parts : (kept : kept.Master) (m : Master) (outbox : Party → List Message) → MasterStandsFor kept m outbox → MasterHolds kept m outbox
+unfolding MasterStandsFor
 master-parts kept m outbox h = h
 
 -- with other outboxes
-pub with_master_boxes : (kept : kept.Master) (m : Master) (outbox next : Party → List Message) (boxes : List (Party × Lane)) → IsMaster kept m outbox → Waits boxes next → next parties.Master ≡ [] → next parties.Clients ≡ []
-    → IsMaster (record kept { outboxes = boxes }) m next
+pub with_master_boxes : (kept : kept.Master) (m : Master) (outbox next : Party → List Message) (boxes : List (Party × Lane)) → MasterStandsFor kept m outbox → Waits boxes next → next parties.Master ≡ [] → next parties.Clients ≡ []
+    → MasterStandsFor (record kept { outboxes = boxes }) m next
 with_master_boxes kept m outbox next boxes h waits master clients = let p = master-parts kept m outbox h in master-stands (record kept { outboxes = boxes }) m next (record {
   chain = p.chain;
   told = p.told;
@@ -38,17 +38,17 @@ with_master_boxes kept m outbox next boxes h waits master clients = let p = mast
 })
 
 -- with room
-pub with_master_room : (kept : kept.Master) (m : Master) (outbox : Party → List Message) (boxes : List (Party × Lane)) → IsMaster kept m outbox → KeepsAll kept.outboxes boxes → IsMaster (record kept { outboxes = boxes }) m outbox
+pub with_master_room : (kept : kept.Master) (m : Master) (outbox : Party → List Message) (boxes : List (Party × Lane)) → MasterStandsFor kept m outbox → KeepsAll kept.outboxes boxes → MasterStandsFor (record kept { outboxes = boxes }) m outbox
 with_master_room kept m outbox boxes h keeps = let p = master-parts kept m outbox h in
     with_master_boxes kept m outbox outbox boxes h (waits-kept kept.outboxes boxes keeps outbox p.waiting) p.master p.clients
 
 -- the same waits
-pub with_master_outbox : (kept : kept.Master) (m : Master) (outbox next : Party → List Message) → IsMaster kept m outbox → ((p : Party) → outbox p ≡ next p) → IsMaster kept m next
+pub with_master_outbox : (kept : kept.Master) (m : Master) (outbox next : Party → List Message) → MasterStandsFor kept m outbox → ((p : Party) → outbox p ≡ next p) → MasterStandsFor kept m next
 with_master_outbox kept m outbox next h same = let p = master-parts kept m outbox h in
     with_master_boxes kept m outbox next kept.outboxes h (λ q. subst (λ ms. AllMean (messages_for kept.outboxes q) ms) (same q) (p.waiting q)) (sym (same parties.Master) ∙ p.master) (sym (same parties.Clients) ∙ p.clients)
 
 -- nothing is said
-pub nothing-said : (kept : kept.Master) (m : Master) (outbox : Party → List Message) → IsMaster kept m outbox → IsMaster kept m (posted outbox [])
+pub nothing-said : (kept : kept.Master) (m : Master) (outbox : Party → List Message) → MasterStandsFor kept m outbox → MasterStandsFor kept m (posted outbox [])
 nothing-said kept m outbox h = with_master_outbox kept m outbox (posted outbox []) h (λ p. sym (append-nil (outbox p)))
 
 -- what is said to a server is for no other party
@@ -58,8 +58,8 @@ said-to_server to y (x ∷ []) h = rw h.0 (refl, refl)
 said-to_server to y (x ∷ z ∷ zs) h = absurd h.1.1
 
 -- it is said
-pub said-stands : (kept : kept.Master) (m : Master) (outbox : Party → List Message) (boxes : List (Party × Lane)) (to : ℕ) (y : rust.Message) (all : List (Party × Message)) → IsMaster kept m outbox → AllFor (parties.Server to) (y ∷ []) all
-    → Posts kept.outboxes boxes all → IsMaster (record kept { outboxes = boxes }) m (posted outbox all)
+pub said-stands : (kept : kept.Master) (m : Master) (outbox : Party → List Message) (boxes : List (Party × Lane)) (to : ℕ) (y : rust.Message) (all : List (Party × Message)) → MasterStandsFor kept m outbox → AllFor (parties.Server to) (y ∷ []) all
+    → Posts kept.outboxes boxes all → MasterStandsFor (record kept { outboxes = boxes }) m (posted outbox all)
 said-stands kept m outbox boxes to y all h for posts = let p = master-parts kept m outbox h in let none = said-to_server to y all for in
     with_master_boxes kept m outbox (posted outbox all) boxes h (posts outbox p.waiting) (rw (p.master, none.0)) (rw (p.clients, none.1))
 
@@ -102,8 +102,8 @@ join-not-refused id m h room ready = rw (h, lt-ltb (length m.chain) 8 room, read
 -- ---- what the master hears
 
 -- an order, by what it is
-pub orders-by : (kept : kept.Master) (outbox : Party → List Message) (order other : Order) → order ≡ other → IsMaster kept other.master (posted outbox other.said) → IsMaster kept order.master (posted outbox order.said)
-orders-by kept outbox order other is h = subst (λ x. IsMaster kept x.master (posted outbox x.said)) (sym is) h
+pub orders-by : (kept : kept.Master) (outbox : Party → List Message) (order other : Order) → order ≡ other → MasterStandsFor kept other.master (posted outbox other.said) → MasterStandsFor kept order.master (posted outbox order.said)
+orders-by kept outbox order other is h = subst (λ x. MasterStandsFor kept x.master (posted outbox x.said)) (sym is) h
 
 pub hears-ready_of_last : (from : ℕ) (m : Master) → is_last m.chain from ≡ true → hears from Ready m ≡ record { master = record m { ready = true }; said = [] }
 unfolding hears
@@ -135,7 +135,7 @@ hears-adopted_again from s n m last told = rw (last, told)
 
 -- ---- what it knows
 
-pub with_ready : (kept : kept.Master) (m : Master) (outbox : Party → List Message) → IsMaster kept m outbox → IsMaster (record kept { ready = true }) (record m { ready = true }) outbox
+pub with_ready : (kept : kept.Master) (m : Master) (outbox : Party → List Message) → MasterStandsFor kept m outbox → MasterStandsFor (record kept { ready = true }) (record m { ready = true }) outbox
 with_ready kept m outbox h = let p = master-parts kept m outbox h in master-stands (record kept { ready = true }) (record m { ready = true }) outbox (record {
   chain = p.chain;
   told = p.told;
@@ -146,7 +146,7 @@ with_ready kept m outbox h = let p = master-parts kept m outbox h in master-stan
   clients = p.clients;
 })
 
-pub with_told : (kept : kept.Master) (m : Master) (outbox : Party → List Message) → IsMaster kept m outbox → IsMaster (record kept { told = true }) (record m { told = true }) outbox
+pub with_told : (kept : kept.Master) (m : Master) (outbox : Party → List Message) → MasterStandsFor kept m outbox → MasterStandsFor (record kept { told = true }) (record m { told = true }) outbox
 with_told kept m outbox h = let p = master-parts kept m outbox h in master-stands (record kept { told = true }) (record m { told = true }) outbox (record {
   chain = p.chain;
   told = refl;
@@ -158,8 +158,8 @@ with_told kept m outbox h = let p = master-parts kept m outbox h in master-stand
 })
 
 -- without a member
-pub without-stands : (old new : kept.Master) (m : Master) (outbox : Party → List Message) (id : ℕ) → IsMaster old m outbox → new.chain.items ≡ without id old.chain.items → new.told ≡ (is_last old.chain.items id || old.told)
-    → new.ready ≡ (not (is_last old.chain.items id) && old.ready) → new.used ≡ old.used → new.outboxes ≡ old.outboxes → IsMaster new (detected id m).master outbox
+pub without-stands : (old new : kept.Master) (m : Master) (outbox : Party → List Message) (id : ℕ) → MasterStandsFor old m outbox → new.chain.items ≡ without id old.chain.items → new.told ≡ (is_last old.chain.items id || old.told)
+    → new.ready ≡ (not (is_last old.chain.items id) && old.ready) → new.used ≡ old.used → new.outboxes ≡ old.outboxes → MasterStandsFor new (detected id m).master outbox
 unfolding detected
 without-stands old new m outbox id h chain told ready used boxes = let p = master-parts old m outbox h in master-stands new (detected id m).master outbox (record {
   chain = chain ∙ ap (λ xs. without id xs) p.chain;
@@ -176,8 +176,8 @@ unfolding detected
 detected-said id m = refl
 
 -- with a member more
-pub joined-stands : (old new : kept.Master) (m : Master) (outbox : Party → List Message) (id : ℕ) → IsMaster old m outbox → new.chain.items ≡ old.chain.items ++ id ∷ [] → new.used.keys ≡ old.used.keys ++ id ∷ []
-    → new.told ≡ false → new.ready ≡ false → new.outboxes ≡ old.outboxes → IsMaster new (joined id m).master outbox
+pub joined-stands : (old new : kept.Master) (m : Master) (outbox : Party → List Message) (id : ℕ) → MasterStandsFor old m outbox → new.chain.items ≡ old.chain.items ++ id ∷ [] → new.used.keys ≡ old.used.keys ++ id ∷ []
+    → new.told ≡ false → new.ready ≡ false → new.outboxes ≡ old.outboxes → MasterStandsFor new (joined id m).master outbox
 unfolding joined
 joined-stands old new m outbox id h chain used told ready boxes = let p = master-parts old m outbox h in master-stands new (joined id m).master outbox (record {
   chain = chain ∙ ap (λ xs. xs ++ id ∷ []) p.chain;
@@ -194,8 +194,8 @@ unfolding joined
 joined-said id m = refl
 
 -- the same members and numbers
-pub same-stands : (old new : kept.Master) (m : Master) (outbox : Party → List Message) → IsMaster old m outbox → new.chain.items ≡ old.chain.items → new.used.keys ≡ old.used.keys → new.told ≡ old.told → new.ready ≡ old.ready → new.outboxes ≡ old.outboxes
-    → IsMaster new m outbox
+pub same-stands : (old new : kept.Master) (m : Master) (outbox : Party → List Message) → MasterStandsFor old m outbox → new.chain.items ≡ old.chain.items → new.used.keys ≡ old.used.keys → new.told ≡ old.told → new.ready ≡ old.ready → new.outboxes ≡ old.outboxes
+    → MasterStandsFor new m outbox
 same-stands old new m outbox h chain used told ready boxes = let p = master-parts old m outbox h in master-stands new m outbox (record {
   chain = chain ∙ p.chain;
   told = told ∙ p.told;

@@ -84,7 +84,7 @@ IsFirst (Some x) (m ∷ ms) = Means x m
 
 -- What is kept of the master stands for what it knows and for what waits in its outbox to each party. It speaks to
 -- servers alone.
-pub record HoldsMaster (kept : rust_master.Master) (m : Master) (outbox : Party → List Message) : Type 0 where
+pub record MasterHolds (kept : rust_master.Master) (m : Master) (outbox : Party → List Message) : Type 0 where
   pub chain : kept.chain.items ≡ m.chain
   pub told : kept.told ≡ m.told
   pub ready : kept.ready ≡ m.ready
@@ -94,13 +94,13 @@ pub record HoldsMaster (kept : rust_master.Master) (m : Master) (outbox : Party 
   pub clients : outbox parties.Clients ≡ []
 
 -- the same, as a word for those who call the master
-unfoldable pub IsMaster : rust_master.Master → Master → (Party → List Message) → Type 0
-IsMaster kept m outbox = HoldsMaster kept m outbox
+unfoldable pub MasterStandsFor : rust_master.Master → Master → (Party → List Message) → Type 0
+MasterStandsFor kept m outbox = MasterHolds kept m outbox
 
 -- Whatever the master stood for, it now stands for that after this order.
 abbrev pub Orders : rust_master.Master → rust_master.Master → (Master → Order) → Type 0
-Orders old new order = (m : Master) (outbox : Party → List Message) → IsMaster old m outbox → IsMaster new (order m).master (posted outbox (order m).said)
+Orders old new order = (m : Master) (outbox : Party → List Message) → MasterStandsFor old m outbox → MasterStandsFor new (order m).master (posted outbox (order m).said)
 
 -- The master stands for all that it stood for.
 abbrev pub KeepsMaster : rust_master.Master → rust_master.Master → Type 0
-KeepsMaster old new = (m : Master) (outbox : Party → List Message) → IsMaster old m outbox → IsMaster new m outbox
+KeepsMaster old new = (m : Master) (outbox : Party → List Message) → MasterStandsFor old m outbox → MasterStandsFor new m outbox

@@ -19,13 +19,13 @@ pub struct History {
 impl Model for History {
     ghost use Rattle.std.specs.Prelude.{List};
     ghost use Rattle.cq_base.specs.declared.ask.Entry.{Entry};
-    ghost use Rattle.cq_store.specs.Stands.{Stands};
+    ghost use Rattle.cq_store.specs.Stands.{StandsFor};
 
     ghost Value = { List Entry };
 
     ghost view = { λ h. h.entries.items };
 
-    ghost invariant = { λ h. Stands h.store h.entries.items };
+    ghost invariant = { λ h. StandsFor h.store h.entries.items };
 }
 
 /// It shows its entries.

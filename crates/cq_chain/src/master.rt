@@ -5,7 +5,7 @@ ghost use Rattle.cq_base.specs.declared.party.Party.TheVariants as parties;
 ghost use Rattle.cq_chain.specs.Masters as masters;
 ghost use Rattle.cq_chain.specs.Masters.{first_master, detected, joined, hears, refusal_of_detection, refusal_of_join};
 ghost use Rattle.cq_chain.specs.Messages as sent;
-ghost use Rattle.cq_chain.specs.Stands.{IsMaster, Orders, KeepsMaster, IsRefusedBy, IsFirst, Means, drained};
+ghost use Rattle.cq_chain.specs.Stands.{MasterStandsFor, Orders, KeepsMaster, IsRefusedBy, IsFirst, Means, drained};
 
 mod change;
 mod first;
@@ -42,7 +42,7 @@ impl Master {
     /// The master of a first chain, of so many servers: 1 is the head, and the last one acts. It keeps the
     /// allocator.
     pub fn new(alloc: Global, size: ChainSize) -> Result<Master, NoMemory>
-        ensures { IfOk result (λ master. IsMaster master (first_master size) (λ _. [])) }
+        ensures { IfOk result (λ master. MasterStandsFor master (first_master size) (λ _. [])) }
     {
         Ok(Master {
             alloc,
@@ -62,7 +62,7 @@ impl Master {
     /// Faults: `NoSuchServer` (31) unless the server is a member, `LastFull` (35) where it is the only one,
     /// `NoMemory` (20).
     pub fn detect(&mut self, id: ServerId) -> Result<(), WorldFault>
-        ensures refused { (m : masters.Master) (outbox : rust_party.Party → List sent.Message) → IsMaster self.old m outbox
+        ensures refused { (m : masters.Master) (outbox : rust_party.Party → List sent.Message) → MasterStandsFor self.old m outbox
             → IsRefusedBy (refusal_of_detection id m) result }
         ensures ok { OnOk result (Orders self.old self.new (detected id)) }
         ensures err { OnErr result (KeepsMaster self.old self.new) }
@@ -83,7 +83,7 @@ impl Master {
     /// Faults: `IdUsed` (37) where a server had that number before, `ChainFull` (38) where the chain has 8 members,
     /// `JoinPending` (36) until the last member is ready, `NoMemory` (20).
     pub fn join(&mut self, id: ServerId) -> Result<(), WorldFault>
-        ensures refused { (m : masters.Master) (outbox : rust_party.Party → List sent.Message) → IsMaster self.old m outbox
+        ensures refused { (m : masters.Master) (outbox : rust_party.Party → List sent.Message) → MasterStandsFor self.old m outbox
             → IsRefusedBy (refusal_of_join id m) result }
         ensures ok { OnOk result (Orders self.old self.new (joined id)) }
         ensures err { OnErr result (KeepsMaster self.old self.new) }
@@ -125,17 +125,17 @@ impl Master {
     /// The first message that waits for that server leaves its outbox; none where nothing waits. It takes no
     /// memory: O(1).
     pub fn put(&mut self, to: ServerId) -> Option<Message>
-        ensures first { (m : masters.Master) (outbox : rust_party.Party → List sent.Message) → IsMaster self.old m outbox
+        ensures first { (m : masters.Master) (outbox : rust_party.Party → List sent.Message) → MasterStandsFor self.old m outbox
             → IsFirst result (outbox (parties.Server to)) }
-        ensures drained { (m : masters.Master) (outbox : rust_party.Party → List sent.Message) → IsMaster self.old m outbox
-            → IsMaster self.new m (drained outbox (parties.Server to)) }
+        ensures drained { (m : masters.Master) (outbox : rust_party.Party → List sent.Message) → MasterStandsFor self.old m outbox
+            → MasterStandsFor self.new m (drained outbox (parties.Server to)) }
     {
         self.outboxes.pop(Party::Server(to))
     }
 
     /// How many messages wait for that server: O(1).
     pub fn waiting(&self, to: ServerId) -> u64
-        ensures { (m : masters.Master) (outbox : rust_party.Party → List sent.Message) → IsMaster self.now m outbox
+        ensures { (m : masters.Master) (outbox : rust_party.Party → List sent.Message) → MasterStandsFor self.now m outbox
             → result ≡ length (outbox (parties.Server to)) }
     {
         self.outboxes.waiting(Party::Server(to)) as u64
@@ -143,7 +143,7 @@ impl Master {
 
     /// The members of the chain, head first: O(1).
     pub fn chain(&self) -> &[ServerId]
-        ensures { (m : masters.Master) (outbox : rust_party.Party → List sent.Message) → IsMaster self.now m outbox
+        ensures { (m : masters.Master) (outbox : rust_party.Party → List sent.Message) → MasterStandsFor self.now m outbox
             → result.now ≡ m.chain }
     {
         &self.chain
@@ -151,7 +151,7 @@ impl Master {
 
     /// Whether the last member of the chain acts as tail, so that another server may join: O(1).
     pub fn is_ready(&self) -> bool
-        ensures { (m : masters.Master) (outbox : rust_party.Party → List sent.Message) → IsMaster self.now m outbox
+        ensures { (m : masters.Master) (outbox : rust_party.Party → List sent.Message) → MasterStandsFor self.now m outbox
             → result ≡ m.ready }
     {
         self.ready

@@ -11,7 +11,7 @@ use Rattle.cq_base.specs.Asks.{queue_of, is_create, is_remove, attributes_of}
 use Rattle.cq_base.specs.Effects.{counts_of, counts_by, takes_effect, create_again, create, effect_on, effect_off, attributes_by}
 use Rattle.cq_base.specs.Facts.{Fact, about, on}
 use Rattle.cq_base.specs.History.{fact_with, fresh_fact, history}
-use Rattle.cq_base.specs.Incarnations.{Incarnation, IncarnationStands, told_of}
+use Rattle.cq_base.specs.Incarnations.{Incarnation, IncarnationStandsFor, told_of}
 use Rattle.cq_base.specs.Lifetimes.{is_creation, is_removal, live, creations, removed_lately}
 use Rattle.cq_base.proofs.OneMoreFact.{not_both}
 use Rattle.cq_base.specs.declared.reply.Delivery.{Delivery}
@@ -22,7 +22,7 @@ use Rattle.cq_queue.specs.Entries.{StandsAfter, IsAnswered, IsSameQueue, IsRecei
 use Rattle.cq_queue.proofs.Creates.{stands-created, reply-created}
 use Rattle.cq_store.specs.within.Asked.{own_facts, IsAnswer, IsCount}
 use Rattle.cq_store.specs.within.Rooms.{IsWithin, IsQueueWithin}
-use Rattle.cq_store.specs.Stands.{unknown, or_unknown, NameKept, NameStands, LivesAs, IsLiving, is_resting}
+use Rattle.cq_store.specs.Stands.{unknown, or_unknown, NameKept, NameStandsFor, LivesAs, IsLiving, is_resting}
 use Rattle.cq_store.proofs.OfLaws.Alone.{alone, IsAlone}
 use Rattle.cq_store.proofs.NamesStand.{entry-fresh, name-dead, with_creation, name-created, with_removal, name-removed, with_incarnation, told-on, comes-to, name-living}
 use Rattle.cq_store.proofs.FreshFacts.{fresh-live, fresh-dead}
@@ -38,11 +38,11 @@ no_creation e own ask asks other = ap (λ b. (fresh_fact e own).effective && b) 
 
 -- what is said of one more entry about a name, after these facts about it
 abbrev IsAnswered-after : NameKept → List Fact → Entry → Reply → Type 0
-IsAnswered-after new own e reply = ((fresh_fact e own).reply ≡ reply) × NameStands e.moment new (own ++ fresh_fact e own ∷ [])
+IsAnswered-after new own e reply = ((fresh_fact e own).reply ≡ reply) × NameStandsFor e.moment new (own ++ fresh_fact e own ∷ [])
 
 -- an entry that comes to the incarnation, by the creation by which the queue lives
 came_by : (IsSuch : Entry → Type 0) (old : NameKept) (p q : Incarnation) (last : ℕ) (own : List Fact) (e : Entry) (reply : Reply) (living : Option Fact) → old.living ≡ Some p → q.number ≡ p.number → q.attributes ≡ p.attributes
-    → StandsAfter IsSuch p q → IsAnswered IsSuch p reply → IsSuch e → is_removal (fresh_fact e own) ≡ false → IsAlone own → last ≤ e.moment → NameStands last old own → live own ≡ living
+    → StandsAfter IsSuch p q → IsAnswered IsSuch p reply → IsSuch e → is_removal (fresh_fact e own) ≡ false → IsAlone own → last ≤ e.moment → NameStandsFor last old own → live own ≡ living
     → IsAnswered-after (with_incarnation old q) own e reply
 came_by IsSuch old p q last own e reply None is_p number attributes after answered such stays alone more h dead = absurd (subst (λ k. IsLiving k None own) is_p (subst (λ o. IsLiving old.living o own) dead h.living))
 came_by IsSuch old p q last own e reply (Some creation) is_p number attributes after answered such stays alone more h lives =
@@ -58,10 +58,10 @@ pub came : (IsSuch : Entry → Type 0) (old : NameKept) (p q : Incarnation) (mom
     → IsAnswer old (with_incarnation old q) moment ask reply
 came IsSuch old p q moment ask reply is_p number attributes after answered such other entries last e more at asks h = let own = own_facts entries ask in
     let made = came_by IsSuch old p q last own e reply (live own) is_p number attributes after answered (such e at asks) (no_removal e own ask asks other) (alone (queue_of ask) entries) (omega (arith, more, at)) h refl in
-    (made.0, subst (λ m. NameStands m (with_incarnation old q) (own ++ fresh_fact e own ∷ [])) at made.1)
+    (made.0, subst (λ m. NameStandsFor m (with_incarnation old q) (own ++ fresh_fact e own ∷ [])) at made.1)
 
 -- nothing lives where nothing is kept as living
-dead_own : (old : NameKept) (last : ℕ) (own : List Fact) (living : Option Fact) → old.living ≡ None → NameStands last old own → live own ≡ living → live own ≡ None
+dead_own : (old : NameKept) (last : ℕ) (own : List Fact) (living : Option Fact) → old.living ≡ None → NameStandsFor last old own → live own ≡ living → live own ≡ None
 dead_own old last own None none h dead = dead
 dead_own old last own (Some creation) none h lives = absurd (subst (λ k. IsLiving k (Some creation) own) none (subst (λ o. IsLiving old.living o own) lives h.living))
 
@@ -84,7 +84,7 @@ pub refused : (old : NameKept) (moment : ℕ) (ask : Ask) → old.living ≡ Non
 refused old moment ask none other entries last e more at asks h = let own = own_facts entries ask in
     let dead = dead_own old last own (live own) none h refl in (
       ap (λ f. f.reply) (fact-dead own e dead) ∙ ap (λ a. (effect_off e.moment own a).reply) asks ∙ off_refused e.moment own ask other,
-      subst (λ m. NameStands m old (own ++ fresh_fact e own ∷ [])) at (name-dead last old own e (omega (arith, more, at)) dead (no_creation e own ask asks other) h),
+      subst (λ m. NameStandsFor m old (own ++ fresh_fact e own ∷ [])) at (name-dead last old own e (omega (arith, more, at)) dead (no_creation e own ask asks other) h),
     )
 
 -- a creation of a queue that doesn't live
@@ -99,12 +99,12 @@ resting old moment queue visibility content none rests entries last e more at as
     let lately : removed_lately e.moment own ≡ true = ap (λ m. removed_lately m own) at ∙ sym (h.removed moment more) ∙ rests in
     let made = fact-created own e queue visibility content dead asks ∙ ap (λ b. fact_with e 0 (create b (creations own + 1))) lately in (
       ap (λ f. f.reply) made,
-      subst (λ m. NameStands m old (own ++ fresh_fact e own ∷ [])) at (name-dead last old own e (omega (arith, more, at)) dead (ap (λ f. is_creation f) made) h),
+      subst (λ m. NameStandsFor m old (own ++ fresh_fact e own ∷ [])) at (name-dead last old own e (omega (arith, more, at)) dead (ap (λ f. is_creation f) made) h),
     )
 
 -- A creation that takes effect.
 pub created : (old : NameKept) (moment : ℕ) (queue : List ℕ) (visibility : ℕ) (content : Bool) (q : Incarnation) → old.living ≡ None → is_resting old.removed moment ≡ false
-    → q.number ≡ old.creations + 1 → q.attributes ≡ record { visibility = visibility; content = content } → IncarnationStands q [] → IsAnswer old (with_creation old q) moment (Create queue visibility content) (Created (old.creations + 1))
+    → q.number ≡ old.creations + 1 → q.attributes ≡ record { visibility = visibility; content = content } → IncarnationStandsFor q [] → IsAnswer old (with_creation old q) moment (Create queue visibility content) (Created (old.creations + 1))
 created old moment queue visibility content q none awake number given stands entries last e more at asks h = let own = own_facts entries (Create queue visibility content) in
     let dead = dead_own old last own (live own) none h refl in
     let free : removed_lately e.moment own ≡ false = ap (λ m. removed_lately m own) at ∙ sym (h.removed moment more) ∙ awake in
@@ -113,7 +113,7 @@ created old moment queue visibility content q none awake number given stands ent
     let creates : is_creation (fresh_fact e own) ≡ true = ap (λ f. is_creation f) made ∙ ap (λ a. true && is_create a) asks in
     let asked = ap (λ a. attributes_of a) (ap (λ d. d.request.ask) (entry-fresh e own) ∙ asks) in (
       ap (λ f. f.reply) made ∙ ap (λ n. Created (n + 1)) (sym h.creations),
-      subst (λ m. NameStands m (with_creation old q) (own ++ fresh_fact e own ∷ [])) at
+      subst (λ m. NameStandsFor m (with_creation old q) (own ++ fresh_fact e own ∷ [])) at
           (name-created last old own e q (alone queue entries) (omega (arith, more, at)) creates (no_removal e own (Create queue visibility content) asks refl) (number ∙ ap (λ n. n + 1) h.creations ∙ sym count) (given ∙ sym asked) stands h),
     )
 
@@ -123,7 +123,7 @@ unfolding effect_on
 fact-removed own e queue creation lives asks = sym (fresh-live e own creation lives) ∙ ap (λ a. fact_with e creation.count (effect_on creation.count (attributes_by creation) e.moment (on creation.count own) a)) asks
 
 -- what it does, by the creation by which the queue lives
-removed_by : (old : NameKept) (p : Incarnation) (last : ℕ) (own : List Fact) (e : Entry) (queue : List ℕ) (living : Option Fact) → old.living ≡ Some p → e.request.ask ≡ Remove queue → last ≤ e.moment → NameStands last old own → live own ≡ living
+removed_by : (old : NameKept) (p : Incarnation) (last : ℕ) (own : List Fact) (e : Entry) (queue : List ℕ) (living : Option Fact) → old.living ≡ Some p → e.request.ask ≡ Remove queue → last ≤ e.moment → NameStandsFor last old own → live own ≡ living
     → IsAnswered-after (with_removal old e.moment) own e Removed
 removed_by old p last own e queue None is_p asks more h dead = absurd (subst (λ k. IsLiving k None own) is_p (subst (λ o. IsLiving old.living o own) dead h.living))
 removed_by old p last own e queue (Some creation) is_p asks more h lives =
@@ -135,7 +135,7 @@ removed_by old p last own e queue (Some creation) is_p asks more h lives =
 pub removed : (old : NameKept) (p : Incarnation) (moment : ℕ) (queue : List ℕ) → old.living ≡ Some p → IsAnswer old (with_removal old moment) moment (Remove queue) Removed
 removed old p moment queue is_p entries last e more at asks h = let own = own_facts entries (Remove queue) in
     let made = removed_by old p last own e queue (live own) is_p asks (omega (arith, more, at)) h refl in
-    (made.0, subst (λ m. NameStands m (with_removal old m) (own ++ fresh_fact e own ∷ [])) at made.1)
+    (made.0, subst (λ m. NameStandsFor m (with_removal old m) (own ++ fresh_fact e own ∷ [])) at made.1)
 
 -- what is kept of a name, with what lives in its place
 whole : (kept : NameKept) (p : Incarnation) → kept.living ≡ Some p → with_incarnation kept p ≡ kept
@@ -189,7 +189,7 @@ removed_seen inside now moment queue given view same_reply living =
     (subst (λ r. IsAnswer inside (with_removal inside moment) moment (Remove queue) r) (sym same_reply) (removed inside living.0 moment queue living.1))
 
 -- the counts, by the creation by which the queue lives
-counted_by : (kept : NameKept) (p : Incarnation) (moment visible in_flight last : ℕ) (own : List Fact) (living : Option Fact) → kept.living ≡ Some p → AreCounted p moment visible in_flight → IsAlone own → NameStands last kept own → live own ≡ living → counts_by living moment own ≡ Counts visible in_flight
+counted_by : (kept : NameKept) (p : Incarnation) (moment visible in_flight last : ℕ) (own : List Fact) (living : Option Fact) → kept.living ≡ Some p → AreCounted p moment visible in_flight → IsAlone own → NameStandsFor last kept own → live own ≡ living → counts_by living moment own ≡ Counts visible in_flight
 counted_by kept p moment visible in_flight last own None is_p counted alone h dead = absurd (subst (λ k. IsLiving k None own) is_p (subst (λ o. IsLiving kept.living o own) dead h.living))
 counted_by kept p moment visible in_flight last own (Some creation) is_p counted alone h lives =
     let as_p : LivesAs p creation own = subst (λ k. IsLiving k (Some creation) own) is_p (subst (λ o. IsLiving kept.living o own) lives h.living) in

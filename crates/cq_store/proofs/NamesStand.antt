@@ -10,11 +10,11 @@ use Rattle.cq_base.specs.declared.ask.Entry.{Entry}
 use Rattle.cq_base.specs.Effects.{attributes_by}
 use Rattle.cq_base.specs.Facts.{Fact, on}
 use Rattle.cq_base.specs.History.{fresh_fact}
-use Rattle.cq_base.specs.Incarnations.{Incarnation, IncarnationStands, coming, told_of, lifetime}
+use Rattle.cq_base.specs.Incarnations.{Incarnation, IncarnationStandsFor, coming, told_of, lifetime}
 use Rattle.cq_base.specs.Lifetimes.{is_creation, is_removal, is_recent_removal, live, removed_lately, incarnation_of}
 use Rattle.cq_base.proofs.Among.{among-filter}
 use Rattle.cq_base.proofs.Ends.{any-fails}
-use Rattle.cq_store.specs.Stands.{NameKept, NameStands, LivesAs, IsLiving, IsPast, is_resting}
+use Rattle.cq_store.specs.Stands.{NameKept, NameStandsFor, LivesAs, IsLiving, IsPast, is_resting}
 use Rattle.cq_store.proofs.ClientsStand.{or_alone}
 use Rattle.cq_store.proofs.OfLaws.Incarnations.{on-more, on-same}
 use Rattle.cq_store.proofs.OfLaws.Alone.{IsAlone, live-among, none-before}
@@ -27,7 +27,7 @@ past-later None last later more h = tt
 past-later (Some removed) last later more h = omega (arith, more, h)
 
 -- what is kept of a name stands at each later moment
-pub name-later : (last later : ℕ) (kept : NameKept) (facts : List Fact) → last ≤ later → NameStands last kept facts → NameStands later kept facts
+pub name-later : (last later : ℕ) (kept : NameKept) (facts : List Fact) → last ≤ later → NameStandsFor last kept facts → NameStandsFor later kept facts
 name-later last later kept facts more h = record {
   creations = h.creations;
   past = past-later kept.removed last later more h.past;
@@ -67,7 +67,7 @@ not_living None xs ys h = tt
 not_living (Some q) xs ys h = absurd h
 
 -- What a fresh entry does to a name whose queue doesn't live, if it doesn't create it: nothing.
-pub name-dead : (last : ℕ) (kept : NameKept) (own : List Fact) (e : Entry) → last ≤ e.moment → live own ≡ None → is_creation (fresh_fact e own) ≡ false → NameStands last kept own → NameStands e.moment kept (own ++ fresh_fact e own ∷ [])
+pub name-dead : (last : ℕ) (kept : NameKept) (own : List Fact) (e : Entry) → last ≤ e.moment → live own ≡ None → is_creation (fresh_fact e own) ≡ false → NameStandsFor last kept own → NameStandsFor e.moment kept (own ++ fresh_fact e own ∷ [])
 name-dead last kept own e more dead other h = let f = fresh_fact e own in
     let stays : is_removal f ≡ false = false_from_ne_true (is_removal f) (λ removes. (turn own e).removes removes dead) in
     record {
@@ -92,8 +92,8 @@ none-new own e alone creates = let f = fresh_fact e own in
 
 -- A creation gives the name an incarnation to which nothing has come.
 pub name-created : (last : ℕ) (kept : NameKept) (own : List Fact) (e : Entry) (q : Incarnation) → IsAlone own → last ≤ e.moment → is_creation (fresh_fact e own) ≡ true → is_removal (fresh_fact e own) ≡ false
-    → q.number ≡ (fresh_fact e own).count → q.attributes ≡ attributes_by (fresh_fact e own) → IncarnationStands q []
-    → NameStands last kept own → NameStands e.moment (with_creation kept q) (own ++ fresh_fact e own ∷ [])
+    → q.number ≡ (fresh_fact e own).count → q.attributes ≡ attributes_by (fresh_fact e own) → IncarnationStandsFor q []
+    → NameStandsFor last kept own → NameStandsFor e.moment (with_creation kept q) (own ++ fresh_fact e own ∷ [])
 name-created last kept own e q alone more creates stays number attributes stands h = let f = fresh_fact e own in record {
   creations = ap (λ n. n + 1) h.creations ∙ sym (creations-more own f creates);
   past = past-later kept.removed last e.moment more h.past;
@@ -101,7 +101,7 @@ name-created last kept own e q alone more creates stays number attributes stands
   living = subst (λ o. IsLiving (Some q) o (own ++ f ∷ [])) (sym (live-created own f creates)) (record {
     number = number;
     attributes = attributes;
-    stands = subst (λ fs. IncarnationStands q (map (λ g. g.entry) fs)) (sym (none-new own e alone creates)) stands;
+    stands = subst (λ fs. IncarnationStandsFor q (map (λ g. g.entry) fs)) (sym (none-new own e alone creates)) stands;
   });
 }
 
@@ -111,7 +111,7 @@ with_removal kept moment = record { creations = kept.creations; removed = Some m
 
 -- A removal leaves the name at rest.
 pub name-removed : (last : ℕ) (kept : NameKept) (own : List Fact) (e : Entry) → last ≤ e.moment → is_creation (fresh_fact e own) ≡ false → is_removal (fresh_fact e own) ≡ true
-    → NameStands last kept own → NameStands e.moment (with_removal kept e.moment) (own ++ fresh_fact e own ∷ [])
+    → NameStandsFor last kept own → NameStandsFor e.moment (with_removal kept e.moment) (own ++ fresh_fact e own ∷ [])
 name-removed last kept own e more other removes h = let f = fresh_fact e own in record {
   creations = h.creations ∙ sym (creations-same own f other);
   past = omega arith;
@@ -152,8 +152,8 @@ on-told own creation e lives = let f = fresh_fact e own in
 
 -- An entry that neither creates nor removes comes to the incarnation as which the queue lives.
 pub name-living : (last : ℕ) (kept : NameKept) (own : List Fact) (creation : Fact) (e : Entry) (p q : Incarnation) → last ≤ e.moment → live own ≡ Some creation → kept.living ≡ Some p → is_removal (fresh_fact e own) ≡ false
-    → q.number ≡ p.number → q.attributes ≡ p.attributes → IncarnationStands q (map (λ f. f.entry) (on creation.count own) ++ e ∷ [])
-    → NameStands last kept own → NameStands e.moment (with_incarnation kept q) (own ++ fresh_fact e own ∷ [])
+    → q.number ≡ p.number → q.attributes ≡ p.attributes → IncarnationStandsFor q (map (λ f. f.entry) (on creation.count own) ++ e ∷ [])
+    → NameStandsFor last kept own → NameStandsFor e.moment (with_incarnation kept q) (own ++ fresh_fact e own ∷ [])
 name-living last kept own creation e p q more lives is_p stays number attributes stands h = let f = fresh_fact e own in
     let other : is_creation f ≡ false = false_from_ne_true (is_creation f) (λ creates. some_none creation (sym lives ∙ ((turn own e).creates creates).0)) in
     let as_p : LivesAs p creation own = subst (λ k. IsLiving k (Some creation) own) is_p (subst (λ o. IsLiving kept.living o own) lives h.living) in
@@ -164,6 +164,6 @@ name-living last kept own creation e p q more lives is_p stays number attributes
       living = subst (λ o. IsLiving (Some q) o (own ++ f ∷ [])) (sym (live-same own f other stays ∙ lives)) (record {
         number = number ∙ as_p.number;
         attributes = attributes ∙ as_p.attributes;
-        stands = subst (λ es. IncarnationStands q es) (sym (on-told own creation e lives)) stands;
+        stands = subst (λ es. IncarnationStandsFor q es) (sym (on-told own creation e lives)) stands;
       });
     }

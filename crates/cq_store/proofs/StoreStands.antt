@@ -20,7 +20,7 @@ use Rattle.cq_base.specs.Incarnations.{Incarnation}
 use Rattle.cq_base.specs.Lifetimes.{live, creations, removed_lately}
 use Rattle.cq_store.specs.within.Rooms.{again_of, CameBy, IsWithin, IsQueueWithin}
 use Rattle.cq_store.proofs.AsksStand.{within-later}
-use Rattle.cq_store.specs.Stands.{ClientKept, ClientKnown, ClientStands, NameKept, NameStands, StoreKept, Stands, client_at, name_at, or_unknown, unknown}
+use Rattle.cq_store.specs.Stands.{ClientKept, ClientKnown, ClientStands, NameKept, NameStandsFor, StoreKept, StandsFor, client_at, name_at, or_unknown, unknown}
 use Rattle.cq_store.proofs.ClientsStand.{latest, client-fresh, client-other, client-idle, none_fresh, stale-reply, repeat-reply, idle-reply}
 use Rattle.cq_store.proofs.OfLaws.Incarnations.{fact-fresh}
 use Rattle.cq_store.proofs.NamesStand.{name-later}
@@ -50,15 +50,15 @@ client_after client kept after facts e reply fresh made is h = elim (cases_Bool 
 -- what is kept of a name, by whether the entry names it
 name_after : (queue : List ℕ) (last : ℕ) (before after own_after : Option NameKept) (facts : List Fact) (e : Entry) → last ≤ e.moment → is_fresh e.request.client e.request.number facts ≡ true
     → (queue_of e.request.ask ≡ queue → after ≡ own_after) → (bytes_eq (queue_of e.request.ask) queue ≡ false → after ≡ before)
-    → NameStands e.moment (or_unknown own_after) (about (queue_of e.request.ask) facts ++ fresh_fact e (about (queue_of e.request.ask) facts) ∷ [])
-    → NameStands last (or_unknown before) (about queue facts) → NameStands e.moment (or_unknown after) (about queue (told facts e))
+    → NameStandsFor e.moment (or_unknown own_after) (about (queue_of e.request.ask) facts ++ fresh_fact e (about (queue_of e.request.ask) facts) ∷ [])
+    → NameStandsFor last (or_unknown before) (about queue facts) → NameStandsFor e.moment (or_unknown after) (about queue (told facts e))
 name_after queue last before after own_after facts e more fresh here there own h = elim (cases_Bool (bytes_eq (queue_of e.request.ask) queue)) [
   | inl same ↦ let name = (bytes_eq-Decides (queue_of e.request.ask) queue).0 same in
       let made = about-more (queue_of e.request.ask) facts e (about-own facts e fresh) ∙ ap (λ f. about (queue_of e.request.ask) facts ++ f ∷ []) (fact-fresh facts e fresh) in
-      subst (λ q. NameStands e.moment (or_unknown after) (about q (told facts e))) name
-      (subst (λ o. NameStands e.moment (or_unknown o) (about (queue_of e.request.ask) (told facts e))) (sym (here name)) (subst (λ fs. NameStands e.moment (or_unknown own_after) fs) (sym made) own))
-  | inr other ↦ subst (λ fs. NameStands e.moment (or_unknown after) fs) (sym (about-same queue facts e (about-other facts e queue other)))
-      (subst (λ o. NameStands e.moment (or_unknown o) (about queue facts)) (sym (there other)) (name-later last e.moment (or_unknown before) (about queue facts) more h))
+      subst (λ q. NameStandsFor e.moment (or_unknown after) (about q (told facts e))) name
+      (subst (λ o. NameStandsFor e.moment (or_unknown o) (about (queue_of e.request.ask) (told facts e))) (sym (here name)) (subst (λ fs. NameStandsFor e.moment (or_unknown own_after) fs) (sym made) own))
+  | inr other ↦ subst (λ fs. NameStandsFor e.moment (or_unknown after) fs) (sym (about-same queue facts e (about-other facts e queue other)))
+      (subst (λ o. NameStandsFor e.moment (or_unknown o) (about queue facts)) (sym (there other)) (name-later last e.moment (or_unknown before) (about queue facts) more h))
 ]
 
 -- What a store keeps after a fresh entry.
@@ -70,8 +70,8 @@ pub record IsAfter (old new : StoreKept) (e : Entry) (reply : Reply) : Type 0 wh
   pub others : (queue : List ℕ) → bytes_eq (queue_of e.request.ask) queue ≡ false → name_at new.names queue ≡ name_at old.names queue
 
 -- it stands for the entries with that one, and the reply is the definition's
-pub fresh-stands : (old new : StoreKept) (entries : List Entry) (e : Entry) (reply : Reply) → Stands old entries → old.last ≤ e.moment → is_fresh e.request.client e.request.number (history entries) ≡ true → IsAfter old new e reply
-    → (reply ≡ reply_to entries e) × Stands new (entries ++ e ∷ [])
+pub fresh-stands : (old new : StoreKept) (entries : List Entry) (e : Entry) (reply : Reply) → StandsFor old entries → old.last ≤ e.moment → is_fresh e.request.client e.request.number (history entries) ≡ true → IsAfter old new e reply
+    → (reply ≡ reply_to entries e) × StandsFor new (entries ++ e ∷ [])
 unfolding reply_to
 fresh-stands old new entries e reply h more fresh is =
     let facts = history entries in
@@ -84,8 +84,8 @@ fresh-stands old new entries e reply h more fresh is =
         last = is.last ∙ sym (last-more entries e);
         clients = λ client. subst (λ fs. ClientKnown client (client_at new.clients client) fs) (sym (history-more entries e))
             (client_after client (client_at old.clients client) (client_at new.clients client) facts e reply fresh replied (is.clients client) (h.clients client));
-        names = λ queue. subst (λ m. NameStands m (or_unknown (name_at new.names queue)) (about queue (history (entries ++ e ∷ [])))) (sym is.last)
-            (subst (λ fs. NameStands e.moment (or_unknown (name_at new.names queue)) (about queue fs)) (sym (history-more entries e))
+        names = λ queue. subst (λ m. NameStandsFor m (or_unknown (name_at new.names queue)) (about queue (history (entries ++ e ∷ [])))) (sym is.last)
+            (subst (λ fs. NameStandsFor e.moment (or_unknown (name_at new.names queue)) (about queue fs)) (sym (history-more entries e))
             (name_after queue old.last (name_at old.names queue) (name_at new.names queue) (name_at new.names own) facts e more fresh (λ same. ap (λ q. name_at new.names q) (sym same)) (λ other. is.others queue other) answer.1 (h.names queue)));
       },
     )
@@ -98,17 +98,17 @@ client_idle client kept facts e idle h = elim (cases_Bool (eqb e.request.client 
 ]
 
 -- after an entry that isn't fresh, the count and the last moment go on, and that is all
-pub idle-stands : (old new : StoreKept) (entries : List Entry) (e : Entry) → Stands old entries → old.last ≤ e.moment → is_fresh e.request.client e.request.number (history entries) ≡ false
-    → new.count ≡ old.count + 1 → new.last ≡ e.moment → new.clients ≡ old.clients → new.names ≡ old.names → Stands new (entries ++ e ∷ [])
+pub idle-stands : (old new : StoreKept) (entries : List Entry) (e : Entry) → StandsFor old entries → old.last ≤ e.moment → is_fresh e.request.client e.request.number (history entries) ≡ false
+    → new.count ≡ old.count + 1 → new.last ≡ e.moment → new.clients ≡ old.clients → new.names ≡ old.names → StandsFor new (entries ++ e ∷ [])
 idle-stands old new entries e h more idle count last clients names =
     let facts = history entries in record {
       count = count ∙ ap (λ n. n + 1) h.count ∙ sym (length-append entries (e ∷ []));
       last = last ∙ sym (last-more entries e);
       clients = λ client. subst (λ cs. ClientKnown client (client_at cs client) (history (entries ++ e ∷ []))) (sym clients)
           (subst (λ fs. ClientKnown client (client_at old.clients client) fs) (sym (history-more entries e)) (client_idle client (client_at old.clients client) facts e idle (h.clients client)));
-      names = λ queue. subst (λ ns. NameStands new.last (or_unknown (name_at ns queue)) (about queue (history (entries ++ e ∷ [])))) (sym names)
-          (subst (λ m. NameStands m (or_unknown (name_at old.names queue)) (about queue (history (entries ++ e ∷ [])))) (sym last)
-          (subst (λ fs. NameStands e.moment (or_unknown (name_at old.names queue)) fs) (sym (idle-about entries e queue idle)) (name-later old.last e.moment (or_unknown (name_at old.names queue)) (about queue facts) more (h.names queue))));
+      names = λ queue. subst (λ ns. NameStandsFor new.last (or_unknown (name_at ns queue)) (about queue (history (entries ++ e ∷ [])))) (sym names)
+          (subst (λ m. NameStandsFor m (or_unknown (name_at old.names queue)) (about queue (history (entries ++ e ∷ [])))) (sym last)
+          (subst (λ fs. NameStandsFor e.moment (or_unknown (name_at old.names queue)) fs) (sym (idle-about entries e queue idle)) (name-later old.last e.moment (or_unknown (name_at old.names queue)) (about queue facts) more (h.names queue))));
     }
 
 -- nothing isn't something
@@ -155,13 +155,13 @@ every-name old new own same others queue = elim (cases_Bool (bytes_eq own queue)
 ]
 
 -- a store whose lookups are the same stands for the same
-pub same-stands : (old new : StoreKept) (entries : List Entry) → new.count ≡ old.count → new.last ≡ old.last → ((client : ℕ) → client_at new.clients client ≡ client_at old.clients client) → ((queue : List ℕ) → name_at new.names queue ≡ name_at old.names queue) → Stands old entries → Stands new entries
+pub same-stands : (old new : StoreKept) (entries : List Entry) → new.count ≡ old.count → new.last ≡ old.last → ((client : ℕ) → client_at new.clients client ≡ client_at old.clients client) → ((queue : List ℕ) → name_at new.names queue ≡ name_at old.names queue) → StandsFor old entries → StandsFor new entries
 same-stands old new entries count last clients names h = record {
   count = count ∙ h.count;
   last = last ∙ h.last;
   clients = λ client. subst (λ k. ClientKnown client k (history entries)) (sym (clients client)) (h.clients client);
-  names = λ queue. subst (λ m. NameStands m (or_unknown (name_at new.names queue)) (about queue (history entries))) (sym last)
-      (subst (λ k. NameStands old.last (or_unknown k) (about queue (history entries))) (sym (names queue)) (h.names queue));
+  names = λ queue. subst (λ m. NameStandsFor m (or_unknown (name_at new.names queue)) (about queue (history entries))) (sym last)
+      (subst (λ k. NameStandsFor old.last (or_unknown k) (about queue (history entries))) (sym (names queue)) (h.names queue));
 }
 
 -- what is within bounds came by its last moment
@@ -200,22 +200,22 @@ unfolding of_client history
 client_none client = refl
 
 -- and of a name
-name_none : (queue : List ℕ) → NameStands 0 unknown (about queue (history []))
+name_none : (queue : List ℕ) → NameStandsFor 0 unknown (about queue (history []))
 unfolding about history live creations removed_lately
 name_none queue = record { creations = refl; past = tt; removed = λ moment later. refl; living = tt }
 
 -- a store that keeps nothing stands for no entries
-pub none-stands : (kept : StoreKept) → kept.count ≡ 0 → kept.last ≡ 0 → ((client : ℕ) → client_at kept.clients client ≡ None) → ((queue : List ℕ) → name_at kept.names queue ≡ None) → Stands kept []
+pub none-stands : (kept : StoreKept) → kept.count ≡ 0 → kept.last ≡ 0 → ((client : ℕ) → client_at kept.clients client ≡ None) → ((queue : List ℕ) → name_at kept.names queue ≡ None) → StandsFor kept []
 unfolding last_moment
 none-stands kept count last clients names = record {
   count = count;
   last = last;
   clients = λ client. subst (λ k. ClientKnown client k (history [])) (sym (clients client)) (client_none client);
-  names = λ queue. subst (λ m. NameStands m (or_unknown (name_at kept.names queue)) (about queue (history []))) (sym last) (subst (λ k. NameStands 0 (or_unknown k) (about queue (history []))) (sym (names queue)) (name_none queue));
+  names = λ queue. subst (λ m. NameStandsFor m (or_unknown (name_at kept.names queue)) (about queue (history []))) (sym last) (subst (λ k. NameStandsFor 0 (or_unknown k) (about queue (history []))) (sym (names queue)) (name_none queue));
 }
 
 -- the counts of a name are those of the definitions
-pub counts-stand : (kept : StoreKept) (entries : List Entry) (queue : List ℕ) (reply : Reply) → IsCount (or_unknown (name_at kept.names queue)) kept.last reply → Stands kept entries → reply ≡ counts_after entries queue
+pub counts-stand : (kept : StoreKept) (entries : List Entry) (queue : List ℕ) (reply : Reply) → IsCount (or_unknown (name_at kept.names queue)) kept.last reply → StandsFor kept entries → reply ≡ counts_after entries queue
 unfolding counts_after
 counts-stand kept entries queue reply counted h = sym (ap (λ m. counts_by (live (about queue (history entries))) m (about queue (history entries))) (sym h.last) ∙ counted entries queue kept.last (h.names queue))
 
@@ -231,5 +231,5 @@ on_err P (Err e) h = h
 
 -- with other lookups, it stands for the same
 pub unchanged : (count last : ℕ) (clients more : List (ℕ × ClientKept)) (old new : List (List ℕ × NameKept)) (own : List ℕ) (entries : List Entry) → more ≡ clients → name_at new own ≡ name_at old own → ((queue : List ℕ) → bytes_eq own queue ≡ false → name_at new queue ≡ name_at old queue)
-    → Stands (record { count = count; last = last; clients = clients; names = old }) entries → Stands (record { count = count; last = last; clients = more; names = new }) entries
+    → StandsFor (record { count = count; last = last; clients = clients; names = old }) entries → StandsFor (record { count = count; last = last; clients = more; names = new }) entries
 unchanged count last clients more old new own entries same here others h = same-stands (record { count = count; last = last; clients = clients; names = old }) (record { count = count; last = last; clients = more; names = new }) entries refl refl (λ client. ap (λ cs. client_at cs client) same) (every-name old new own here others) h

@@ -9,7 +9,7 @@ use Rattle.cq_base.specs.Clients.{of_client, is_fresh, is_stale, kept_reply}
 use Rattle.cq_base.specs.Effects.{attributes_by}
 use Rattle.cq_base.specs.Facts.{Fact, about, on}
 use Rattle.cq_base.specs.History.{history, last_moment}
-use Rattle.cq_base.specs.Incarnations.{Incarnation, IncarnationStands}
+use Rattle.cq_base.specs.Incarnations.{Incarnation, IncarnationStandsFor}
 use Rattle.cq_base.specs.Lifetimes.{live, creations, removed_lately}
 
 -- ---- clients
@@ -54,7 +54,7 @@ IsPast (Some removed) last = removed ≤ last
 pub record LivesAs (kept : Incarnation) (creation : Fact) (facts : List Fact) : Type 0 where
   pub number : kept.number ≡ creation.count
   pub attributes : kept.attributes ≡ attributes_by creation
-  pub stands : IncarnationStands kept (map (λ f. f.entry) (on creation.count facts))
+  pub stands : IncarnationStandsFor kept (map (λ f. f.entry) (on creation.count facts))
 
 -- the same by what is kept, if the queue lives, and by the creation by which it does
 abbrev pub IsLiving : Option Incarnation → Option Fact → List Fact → Type 0
@@ -66,7 +66,7 @@ IsLiving (Some kept) (Some creation) facts = LivesAs kept creation facts
 -- What is kept of a name stands for the facts about it, at this last moment of all entries. A removal has
 -- to be kept only as long as it hinders a creation: for each moment from the last one on, what is kept
 -- tells whether the name rests.
-pub record NameStands (last : ℕ) (kept : NameKept) (facts : List Fact) : Type 0 where
+pub record NameStandsFor (last : ℕ) (kept : NameKept) (facts : List Fact) : Type 0 where
   pub creations : kept.creations ≡ creations facts
   pub past : IsPast kept.removed last
   pub removed : (moment : ℕ) → last ≤ moment → is_resting kept.removed moment ≡ removed_lately moment facts
@@ -101,11 +101,11 @@ name_at names queue = lookup (λ q. bytes_eq queue q) names
 
 -- The store stands for the list of entries: what it keeps of each client and of each name stands for what
 -- they did.
-pub record Stands (kept : StoreKept) (entries : List Entry) : Type 0 where
+pub record StandsFor (kept : StoreKept) (entries : List Entry) : Type 0 where
   pub count : kept.count ≡ length entries
   pub last : kept.last ≡ last_moment entries
   pub clients : (client : ℕ) → ClientKnown client (client_at kept.clients client) (history entries)
-  pub names : (queue : List ℕ) → NameStands kept.last (or_unknown (name_at kept.names queue)) (about queue (history entries))
+  pub names : (queue : List ℕ) → NameStandsFor kept.last (or_unknown (name_at kept.names queue)) (about queue (history entries))
 
 -- how many entries the store has taken
 abbrev pub count_of : StoreKept → ℕ

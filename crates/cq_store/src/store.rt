@@ -4,7 +4,7 @@ ghost use Rattle.cq_base.specs.declared.limits.TheConstants.{HISTORY_LIMIT};
 ghost use Rattle.cq_base.specs.declared.ask.Entry.{Entry};
 ghost use Rattle.cq_base.specs.Clients.{is_fresh};
 ghost use Rattle.cq_base.specs.History as object;
-ghost use Rattle.cq_store.specs.Stands.{Stands, count_of, last_of};
+ghost use Rattle.cq_store.specs.Stands.{StandsFor, count_of, last_of};
 
 mod reads;
 
@@ -46,7 +46,7 @@ impl Model for Store {
 impl Store {
     /// A store that was given nothing yet. It keeps the allocator.
     pub fn new(alloc: Global) -> Result<Store, NoMemory>
-        ensures { IfOk result (λ store. Stands store []) }
+        ensures { IfOk result (λ store. StandsFor store []) }
     {
         Ok(Store {
             alloc,
@@ -74,12 +74,12 @@ impl Store {
     fn apply_fresh(&mut self, entry: &Entry) -> Result<Reply, NoMemory>
         requires room { count_of self.old < HISTORY_LIMIT }
         requires stamped { last_of self.old ≤ entry.now.moment }
-        ensures ok { (entries : List Entry) → Stands self.old entries
+        ensures ok { (entries : List Entry) → StandsFor self.old entries
             → is_fresh entry.now.request.client entry.now.request.number (object.history entries) ≡ true
             → IfOk result (λ reply. (reply ≡ object.reply_to entries entry.now)
-            × Stands self.new (entries ++ entry.now ∷ [])) }
-        ensures err { (entries : List Entry) → Stands self.old entries → OnErr result
-            (Stands self.new entries) }
+            × StandsFor self.new (entries ++ entry.now ∷ [])) }
+        ensures err { (entries : List Entry) → StandsFor self.old entries → OnErr result
+            (StandsFor self.new entries) }
         ensures err_count { OnErr result (count_of self.new ≡ count_of self.old) }
         ensures err_last { OnErr result (last_of self.new ≡ last_of self.old) }
     {
@@ -100,10 +100,10 @@ impl Store {
     pub fn apply(&mut self, entry: &Entry) -> Result<Reply, NoMemory>
         requires room { count_of self.old < HISTORY_LIMIT }
         requires stamped { last_of self.old ≤ entry.now.moment }
-        ensures ok { (entries : List Entry) → Stands self.old entries → IfOk result (λ reply.
-            (reply ≡ object.reply_to entries entry.now) × Stands self.new (entries ++ entry.now ∷ [])) }
-        ensures err { (entries : List Entry) → Stands self.old entries → OnErr result
-            (Stands self.new entries) }
+        ensures ok { (entries : List Entry) → StandsFor self.old entries → IfOk result (λ reply.
+            (reply ≡ object.reply_to entries entry.now) × StandsFor self.new (entries ++ entry.now ∷ [])) }
+        ensures err { (entries : List Entry) → StandsFor self.old entries → OnErr result
+            (StandsFor self.new entries) }
         ensures err_count { OnErr result (count_of self.new ≡ count_of self.old) }
         ensures err_last { OnErr result (last_of self.new ≡ last_of self.old) }
     {
@@ -120,7 +120,7 @@ impl Store {
     /// How many messages a queue has, at the moment of the last entry. It takes no memory, and O(messages of
     /// the queue).
     pub fn query(&self, query: &Query) -> Reply
-        ensures stands { (entries : List Entry) → Stands self.now entries
+        ensures stands { (entries : List Entry) → StandsFor self.now entries
             → result ≡ object.counts_after entries query.now.queue }
     {
         self.names.counts(self.last, &query.queue)
@@ -131,7 +131,7 @@ impl Store {
     pub fn try_copy(&self) -> Result<Store, NoMemory>
         ensures count { IfOk result (λ copy. count_of copy ≡ count_of self.now) }
         ensures last { IfOk result (λ copy. last_of copy ≡ last_of self.now) }
-        ensures stands { (entries : List Entry) → Stands self.now entries → IfOk result (λ copy. Stands copy entries) }
+        ensures stands { (entries : List Entry) → StandsFor self.now entries → IfOk result (λ copy. StandsFor copy entries) }
     {
         Ok(Store {
             alloc: self.alloc,

@@ -28,7 +28,7 @@ IsKeptAs (Some kept) known s outbox = (known ≡ true) × chain.StandsFor kept s
 pub record Holds (sim : Sim) (w : World) : Type 0 where
   pub servers : (id : ℕ) → IsKeptAs (server_at sim.servers id) (is_in w.master.used id) (w.server id) (w.outbox (parties.Server id))
   pub links : (from to : Party) → AllMean (messages_at sim.links from to) (w.link from to)
-  pub master : chain.IsMaster sim.master w.master (w.outbox parties.Master)
+  pub master : chain.MasterStandsFor sim.master w.master (w.outbox parties.Master)
   pub clients : (to : Party) → w.outbox parties.Clients to ≡ []
 
 -- the same, as a word for those who call

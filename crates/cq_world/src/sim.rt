@@ -3,7 +3,7 @@ ghost use Rattle.std.specs.Prelude.{◌≡◌, ◌&&◌, ◌≤◌, ◌<◌, ◌
 ghost use Rattle.cq_base.specs.declared.limits.TheConstants.{SLICE_LIMIT};
 ghost use Rattle.cq_base.specs.declared.party.Party.TheVariants as parties;
 ghost use Rattle.cq_base.specs.Relations.{Among};
-ghost use Rattle.cq_chain.specs.Stands.{IsMaster};
+ghost use Rattle.cq_chain.specs.Stands.{MasterStandsFor};
 ghost use Rattle.cq_chain.specs.declared.fault.WorldFault.TheVariants as faults;
 ghost use Rattle.cq_chain.specs.declared.message.Answer.{Answer};
 ghost use Rattle.cq_world.specs.Events.{knows, is_down, refusal_of, after};
@@ -68,7 +68,7 @@ impl Sim {
 
     /// The master: O(1).
     pub fn master(&self) -> &Master
-        ensures { Shows self.now (λ w. IsMaster result.now w.master (w.outbox parties.Master)) }
+        ensures { Shows self.now (λ w. MasterStandsFor result.now w.master (w.outbox parties.Master)) }
     {
         &self.master
     }

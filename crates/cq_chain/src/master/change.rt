@@ -4,7 +4,7 @@ ghost use Rattle.cq_base.specs.declared.party.Party as rust_party;
 ghost use Rattle.cq_chain.specs.Masters as masters;
 ghost use Rattle.cq_chain.specs.Masters.{is_in, detected, joined};
 ghost use Rattle.cq_chain.specs.Messages as sent;
-ghost use Rattle.cq_chain.specs.Stands.{IsMaster, Orders, KeepsMaster, posted};
+ghost use Rattle.cq_chain.specs.Stands.{MasterStandsFor, Orders, KeepsMaster, posted};
 ghost use Rattle.cq_chain.specs.within.Waiting.{IsSaid, HasRoomToSay};
 
 use super::Master;
@@ -44,7 +44,7 @@ impl Master {
     fn say_one(&mut self, said: (ServerId, Message))
         requires { HasRoomToSay self.old.outboxes (Some said) }
         ensures { (m : masters.Master) (outbox : rust_party.Party → List sent.Message) (all : List (rust_party.Party × sent.Message))
-            → IsMaster self.old m outbox → IsSaid (Some said) all → IsMaster self.new m (posted outbox all) }
+            → MasterStandsFor self.old m outbox → IsSaid (Some said) all → MasterStandsFor self.new m (posted outbox all) }
     {
         let (to, message) = said;
         self.outboxes.push(Party::Server(to), message);
@@ -54,7 +54,7 @@ impl Master {
     pub(super) fn say(&mut self, said: Option<(ServerId, Message)>)
         requires { HasRoomToSay self.old.outboxes said }
         ensures { (m : masters.Master) (outbox : rust_party.Party → List sent.Message) (all : List (rust_party.Party × sent.Message))
-            → IsMaster self.old m outbox → IsSaid said all → IsMaster self.new m (posted outbox all) }
+            → MasterStandsFor self.old m outbox → IsSaid said all → MasterStandsFor self.new m (posted outbox all) }
     {
         match said {
             Some(one) => self.say_one(one),
@@ -64,8 +64,8 @@ impl Master {
 
     /// Takes a member out of the chain. A new last member isn't ready yet. It takes no memory.
     fn remove(&mut self, id: ServerId)
-        ensures stands { (m : masters.Master) (outbox : rust_party.Party → List sent.Message) → IsMaster self.old m outbox
-            → IsMaster self.new (detected id m).master outbox }
+        ensures stands { (m : masters.Master) (outbox : rust_party.Party → List sent.Message) → MasterStandsFor self.old m outbox
+            → MasterStandsFor self.new (detected id m).master outbox }
         ensures outboxes { self.new.outboxes ≡ self.old.outboxes }
     {
         let last = is_last(&self.chain, id);

@@ -8,7 +8,7 @@ use Rattle.cq_base.specs.Effects.{counts_by}
 use Rattle.cq_base.specs.Facts.{Fact, about}
 use Rattle.cq_base.specs.Lifetimes.{live}
 use Rattle.cq_base.specs.History.{fresh_fact, history}
-use Rattle.cq_store.specs.Stands.{NameKept, NameStands}
+use Rattle.cq_store.specs.Stands.{NameKept, NameStandsFor}
 
 -- the facts about the queue that the ask names
 abbrev pub own_facts : List Entry → Ask → List Fact
@@ -18,12 +18,12 @@ own_facts entries ask = about (queue_of ask) (history entries)
 -- new value stands for them and this one.
 abbrev pub IsAnswer : NameKept → NameKept → ℕ → Ask → Reply → Type 0
 IsAnswer old new moment ask reply = (entries : List Entry) (last : ℕ) (e : Entry) → last ≤ moment → e.moment ≡ moment → e.request.ask ≡ ask
-    → NameStands last old (own_facts entries ask)
+    → NameStandsFor last old (own_facts entries ask)
     → ((fresh_fact e (own_facts entries ask)).reply ≡ reply)
-    × NameStands moment new (own_facts entries ask ++ fresh_fact e (own_facts entries ask) ∷ [])
+    × NameStandsFor moment new (own_facts entries ask ++ fresh_fact e (own_facts entries ask) ∷ [])
 
 -- Whatever entries the value stands for, this is the answer to a query of the counts after them, at that
 -- moment.
 abbrev pub IsCount : NameKept → ℕ → Reply → Type 0
-IsCount kept moment reply = (entries : List Entry) (queue : List ℕ) (last : ℕ) → NameStands last kept (about queue (history entries))
+IsCount kept moment reply = (entries : List Entry) (queue : List ℕ) (last : ℕ) → NameStandsFor last kept (about queue (history entries))
     → counts_by (live (about queue (history entries))) moment (about queue (history entries)) ≡ reply

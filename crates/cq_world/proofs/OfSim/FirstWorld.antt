@@ -76,7 +76,7 @@ more-line size n id f g kept own h is made q =
     or_true false = refl
 
 -- all of them, and no messages
-pub first-stands : (sim : Sim) (size : ℕ) → IsLine size size (λ id. server_at sim.servers id) → ((from to : Party) → messages_at sim.links from to ≡ []) → chain.IsMaster sim.master (first_master size) (λ _. []) → StandsFor sim (first_world size)
+pub first-stands : (sim : Sim) (size : ℕ) → IsLine size size (λ id. server_at sim.servers id) → ((from to : Party) → messages_at sim.links from to ≡ []) → chain.MasterStandsFor sim.master (first_master size) (λ _. []) → StandsFor sim (first_world size)
 unfolding first_world
 first-stands sim size line none master = stands sim (first_world size) (record {
   servers = line;

@@ -77,7 +77,7 @@ placed kept s outbox made h = subst (λ t. chain.StandsFor kept t outbox) (sym h
 -- after the join
 pub joined-stands : (old new : Sim) (w : World) (id : ℕ) (kept : rust_server.Server) → Holds old w → is_in w.master.used id ≡ false
     → ((q : ℕ) → server_at new.servers q ≡ cond (id == q) (Some kept) (server_at old.servers q)) → new.links ≡ old.links
-    → chain.StandsFor kept joining (λ _. []) → chain.IsMaster new.master (joined id w.master).master (posted (w.outbox parties.Master) (joined id w.master).said) → Holds new (ordered w (joined id w.master))
+    → chain.StandsFor kept joining (λ _. []) → chain.MasterStandsFor new.master (joined id w.master).master (posted (w.outbox parties.Master) (joined id w.master).said) → Holds new (ordered w (joined id w.master))
 joined-stands old new w id kept h fresh is links made master = ordered-stands new w (joined id w.master) at
     (λ x y. subst (λ ls. chain.AllMean (messages_at ls x y) (w.link x y)) (sym links) (h.links x y)) master h.clients
   where

@@ -92,7 +92,7 @@ stepped-stands old new w v at kept step is h there used servers outboxes links n
     subst (λ x. Holds new x) (sym e) (record {
       servers = servers-at old new w (stepped u at step) at kept is (record { master = refl; server = (stepped-elsewhere w at step).server; outbox = (stepped-elsewhere w at step).outbox }) h there (stepped-here w at step kept now);
       links = links;
-      master = subst (λ k. chain.IsMaster k w.master (w.outbox parties.Master)) (sym is.master) h.master;
+      master = subst (λ k. chain.MasterStandsFor k w.master (w.outbox parties.Master)) (sym is.master) h.master;
       clients = h.clients;
     })
   where
@@ -141,7 +141,7 @@ drawn-stands old new w at kept to is links h there now = record {
   servers = servers-at old new w (after_drawing w (parties.Server at) to) at kept is (drawn-elsewhere w at to) h there
       (subst (λ o. chain.StandsFor kept (w.server at) o) (λ i y. sym (drawn-here w at to y) i) now);
   links = λ x y. subst (λ ls. AllMean (messages_at ls x y) (w.link x y)) (sym links) (h.links x y);
-  master = subst (λ k. chain.IsMaster k w.master (w.outbox parties.Master)) (sym is.master) h.master;
+  master = subst (λ k. chain.MasterStandsFor k w.master (w.outbox parties.Master)) (sym is.master) h.master;
   clients = h.clients;
 }
 
@@ -155,29 +155,29 @@ pub restands : (old new : Sim) (w : World) (at : ℕ) (kept : rust_server.Server
 restands old new w at kept is links h there now = record {
   servers = servers-at old new w w at kept is (record { master = refl; server = λ id other. refl; outbox = λ id other. refl }) h there now;
   links = λ x y. subst (λ ls. AllMean (messages_at ls x y) (w.link x y)) (sym links) (h.links x y);
-  master = subst (λ k. chain.IsMaster k w.master (w.outbox parties.Master)) (sym is.master) h.master;
+  master = subst (λ k. chain.MasterStandsFor k w.master (w.outbox parties.Master)) (sym is.master) h.master;
   clients = h.clients;
 }
 
 -- ---- the master
 
 -- it has nothing for itself, nor for the clients
-pub to-itself : (kept : rust_master.Master) (m : Master) (outbox : Party → List Message) → chain.IsMaster kept m outbox → outbox parties.Master ≡ []
-unfolding chain.IsMaster
+pub to-itself : (kept : rust_master.Master) (m : Master) (outbox : Party → List Message) → chain.MasterStandsFor kept m outbox → outbox parties.Master ≡ []
+unfolding chain.MasterStandsFor
 to-itself kept m outbox h = h.master
 
-pub to-clients : (kept : rust_master.Master) (m : Master) (outbox : Party → List Message) → chain.IsMaster kept m outbox → outbox parties.Clients ≡ []
-unfolding chain.IsMaster
+pub to-clients : (kept : rust_master.Master) (m : Master) (outbox : Party → List Message) → chain.MasterStandsFor kept m outbox → outbox parties.Clients ≡ []
+unfolding chain.MasterStandsFor
 to-clients kept m outbox h = h.clients
 
-pub nothing-for : (kept : rust_master.Master) (m : Master) (outbox : Party → List Message) (to : Party) → chain.IsMaster kept m outbox → ((id : ℕ) → to ≡ parties.Server id → ⊥) → outbox to ≡ []
+pub nothing-for : (kept : rust_master.Master) (m : Master) (outbox : Party → List Message) (to : Party) → chain.MasterStandsFor kept m outbox → ((id : ℕ) → to ≡ parties.Server id → ⊥) → outbox to ≡ []
 nothing-for kept m outbox parties.Master h other = to-itself kept m outbox h
 nothing-for kept m outbox parties.Clients h other = to-clients kept m outbox h
 nothing-for kept m outbox (parties.Server id) h other = absurd (other id refl)
 
 -- after an order, while links may change and servers join
 pub ordered-stands : (new : Sim) (v : World) (order : Order) → ((id : ℕ) → IsKeptAs (server_at new.servers id) (is_in order.master.used id) (v.server id) (v.outbox (parties.Server id)))
-    → ((from to : Party) → AllMean (messages_at new.links from to) (v.link from to)) → chain.IsMaster new.master order.master (posted (v.outbox parties.Master) order.said) → ((to : Party) → v.outbox parties.Clients to ≡ []) → Holds new (ordered v order)
+    → ((from to : Party) → AllMean (messages_at new.links from to) (v.link from to)) → chain.MasterStandsFor new.master order.master (posted (v.outbox parties.Master) order.said) → ((to : Party) → v.outbox parties.Clients to ≡ []) → Holds new (ordered v order)
 ordered-stands new v order servers links master clients = record {
   servers = servers;
   links = links;
@@ -218,17 +218,17 @@ hears-used from (Answers answer) m = refl
 
 -- after an order that uses up no number, while links may change
 pub ordered-same : (old new : Sim) (w v : World) (order : Order) → new.servers ≡ old.servers → order.master.used ≡ w.master.used → v.server ≡ w.server → v.outbox ≡ w.outbox → Holds old w
-    → ((from to : Party) → AllMean (messages_at new.links from to) (v.link from to)) → chain.IsMaster new.master order.master (posted (w.outbox parties.Master) order.said) → Holds new (ordered v order)
+    → ((from to : Party) → AllMean (messages_at new.links from to) (v.link from to)) → chain.MasterStandsFor new.master order.master (posted (w.outbox parties.Master) order.said) → Holds new (ordered v order)
 ordered-same old new w v order servers used states outboxes h links master = ordered-stands new v order
     (λ id. subst (λ o. IsKeptAs (server_at new.servers id) (is_in order.master.used id) (v.server id) (o (parties.Server id))) (sym outboxes)
     (subst (λ s. IsKeptAs (server_at new.servers id) (is_in order.master.used id) (s id) (w.outbox (parties.Server id))) (sym states)
     (subst (λ us. IsKeptAs (server_at new.servers id) (is_in us id) (w.server id) (w.outbox (parties.Server id))) (sym used)
     (subst (λ ss. IsKeptAs (server_at ss id) (is_in w.master.used id) (w.server id) (w.outbox (parties.Server id))) (sym servers) (h.servers id)))))
-    links (subst (λ o. chain.IsMaster new.master order.master (posted (o parties.Master) order.said)) (sym outboxes) master)
+    links (subst (λ o. chain.MasterStandsFor new.master order.master (posted (o parties.Master) order.said)) (sym outboxes) master)
     (λ to. ap (λ o. o parties.Clients to) outboxes ∙ h.clients to)
 
 -- the master stands for what it did
-pub remains-master : (old new : Sim) (w : World) → new.servers ≡ old.servers → new.links ≡ old.links → Holds old w → chain.IsMaster new.master w.master (w.outbox parties.Master) → Holds new w
+pub remains-master : (old new : Sim) (w : World) → new.servers ≡ old.servers → new.links ≡ old.links → Holds old w → chain.MasterStandsFor new.master w.master (w.outbox parties.Master) → Holds new w
 remains-master old new w servers links h now = record {
   servers = λ id. subst (λ ss. IsKeptAs (server_at ss id) (is_in w.master.used id) (w.server id) (w.outbox (parties.Server id))) (sym servers) (h.servers id);
   links = λ x y. subst (λ ls. AllMean (messages_at ls x y) (w.link x y)) (sym links) (h.links x y);
@@ -241,17 +241,17 @@ pub same-servers : (old new : Sim) (w : World) → ((id : ℕ) → server_at new
 same-servers old new w servers links master h = record {
   servers = λ id. subst (λ o. IsKeptAs o (is_in w.master.used id) (w.server id) (w.outbox (parties.Server id))) (sym (servers id)) (h.servers id);
   links = λ x y. subst (λ ls. AllMean (messages_at ls x y) (w.link x y)) (sym links) (h.links x y);
-  master = subst (λ k. chain.IsMaster k w.master (w.outbox parties.Master)) (sym master) h.master;
+  master = subst (λ k. chain.MasterStandsFor k w.master (w.outbox parties.Master)) (sym master) h.master;
   clients = h.clients;
 }
 
 -- its outbox was drained
 pub drawn-master : (old new : Sim) (w : World) (to : Party) → new.servers ≡ old.servers → new.links ≡ old.links → Holds old w
-    → chain.IsMaster new.master w.master (drained (w.outbox parties.Master) to) → Holds new (after_drawing w parties.Master to)
+    → chain.MasterStandsFor new.master w.master (drained (w.outbox parties.Master) to) → Holds new (after_drawing w parties.Master to)
 drawn-master old new w to servers links h now = record {
   servers = λ id. subst (λ ss. IsKeptAs (server_at ss id) (is_in w.master.used id) (w.server id) (w.outbox (parties.Server id))) (sym servers) (h.servers id);
   links = λ x y. subst (λ ls. AllMean (messages_at ls x y) (w.link x y)) (sym links) (h.links x y);
-  master = subst (λ o. chain.IsMaster new.master w.master o) (λ i y. sym (drained-here (w.outbox parties.Master) to y) i) now;
+  master = subst (λ o. chain.MasterStandsFor new.master w.master o) (λ i y. sym (drained-here (w.outbox parties.Master) to y) i) now;
   clients = h.clients;
 }
 

@@ -2,7 +2,7 @@
 use Rattle.std.proofs.Common.{◌≡◌, ◌∙◌, ◌++◌, ◌∷◌, [], ◌==◌, ap, subst, refl, false, if◌then◌else◌}
 use Rattle.std.specs.List.{list_any}
 use Rattle.cq_chain.specs.Masters.{is_in, joined, said_of_join}
-use Rattle.cq_chain.specs.Stands.{IsMaster, posted}
+use Rattle.cq_chain.specs.Stands.{MasterStandsFor, posted}
 use Rattle.cq_chain.specs.within.Waiting.{IsSaid}
 use Rattle.cq_chain.proofs.MasterStands.{master-parts, same-stands, joined-stands, joined-said}
 use Rattle.cq_chain.proofs.Neighbours.{any-turned}
@@ -26,5 +26,5 @@ returns-clause-ok c = λ m outbox h.
     let chain = c.push_reserved.ensures.items ∙ ap (λ xs. xs ++ id ∷ []) c.reserve-2.ensures.items in
     let now = (joined id m).master in
     let said = subst (λ xs. IsSaid c.said_of_join-said.result (said_of_join id xs)) (c.deref.ensures.value ∙ (master-parts c.args.self.now m outbox h).chain) c.said_of_join-said.ensures in
-    subst (λ all. IsMaster c.say.new.self now (posted outbox all)) (joined-said id m)
+    subst (λ all. MasterStandsFor c.say.new.self now (posted outbox all)) (joined-said id m)
     (c.say.ensures now outbox (said_of_join id m.chain) (joined-stands c.reserve.new.self _ m outbox id (c.reserve.ensures.keeps m outbox h) chain used refl refl refl) said)

@@ -1,6 +1,6 @@
 -- The counts are those at the last moment.
 use Rattle.std.proofs.Common.{subst, sym}
-use Rattle.cq_store.specs.Stands.{StoreKept, Stands, name_at, or_unknown}
+use Rattle.cq_store.specs.Stands.{StoreKept, StandsFor, name_at, or_unknown}
 use Rattle.cq_store.proofs.StoreStands.{came-by, counts-stand}
 use Rattle.cq_store.proofs.store.Store.query.Goals as goal
 
@@ -11,5 +11,5 @@ pub returns : goal.returns
 returns c = record {
   stands = λ entries h.
       let kept : StoreKept = record { count = c.self.inside.count; last = c.self.inside.last; clients = c.self.inside.clients.kept; names = c.self.inside.names } in
-      counts-stand kept entries c.args.query.now.queue c.counts.result c.counts.ensures (subst (λ k. Stands k entries) (sym c.self.view_is) h);
+      counts-stand kept entries c.args.query.now.queue c.counts.result c.counts.ensures (subst (λ k. StandsFor k entries) (sym c.self.view_is) h);
 }

@@ -1,6 +1,6 @@
 -- A store whose lookups are the same stands for the same entries.
 use Rattle.std.proofs.Common.{ap, refl, sym, subst}
-use Rattle.cq_store.specs.Stands.{StoreKept, Stands}
+use Rattle.cq_store.specs.Stands.{StoreKept, StandsFor}
 use Rattle.cq_store.proofs.StoreStands.{same-stands}
 use Rattle.cq_store.proofs.store.Store.try_copy.Goals as goal
 
@@ -11,5 +11,5 @@ returns c =
     record {
       count = ap (λ s. s.count) c.self.view_is;
       last = ap (λ s. s.last) c.self.view_is;
-      stands = λ entries h. same-stands kept copy entries refl refl c.in_ok-try_copy.ensures c.in_ok-try_copy-2.ensures (subst (λ s. Stands s entries) (sym c.self.view_is) h);
+      stands = λ entries h. same-stands kept copy entries refl refl c.in_ok-try_copy.ensures c.in_ok-try_copy-2.ensures (subst (λ s. StandsFor s entries) (sym c.self.view_is) h);
     }
