@@ -203,7 +203,7 @@ impl Queue {
     /// A send that comes at that moment. It is answered with the message's sequence number: a new one, or
     /// that of the message that it repeats. Without a deduplication id it has the one that is made of its
     /// body, if the queue makes ids, and is refused else; a refused one leaves the accepted sends as they are.
-    /// One that has an id and repeats takes no memory. After `NoMemory` the queue is as before. O(accepted
+    /// One that repeats under a given id takes no memory. After `NoMemory` the queue is as before. O(accepted
     /// sends that are kept), amortized O(1) for the message, and O(length of the body) for a made id.
     pub fn send(
         &mut self,
