@@ -186,8 +186,8 @@ Stamped entries = Pairwise (λ d e. d.moment ≤ e.moment) entries
 abbrev pub counts_at : List ℕ → ℕ → Fact → Bool
 counts_at id moment y = bytes_eq (dedup_of y.entry.request.ask) id && nat_lt moment (y.entry.moment + 300000)
 
--- A fresh send isn't accepted less than 300,000 ms after an accepted send of its incarnation and its
--- deduplication id: it is answered with that one's sequence number. There is no other such send.
+-- A fresh send that has a deduplication id, given or made, isn't accepted less than 300,000 ms after an accepted
+-- send of its incarnation and that id: it is answered with that one's sequence number. There is no other such send.
 abbrev pub OneAcceptancePerWindowAt : List Entry → Entry → Type 0
 OneAcceptancePerWindowAt entries e = (creation earlier : Fact) → Stamped (entries ++ e ∷ []) → IsFresh entries e → LivesBy entries e creation
     → is_send e.request.ask ≡ true
@@ -201,8 +201,8 @@ OneAcceptancePerWindowAt entries e = (creation earlier : Fact) → Stamped (entr
 abbrev pub OneAcceptancePerWindow : Type 0
 OneAcceptancePerWindow = (entries : List Entry) (e : Entry) → OneAcceptancePerWindowAt entries e
 
--- A fresh send to a queue that lives is accepted, with the next sequence number, if each accepted send of
--- its incarnation and its deduplication id came 300,000 ms before or earlier.
+-- A fresh send that has a deduplication id, given or made, is accepted by a queue that lives, with the next sequence
+-- number, if each accepted send of its incarnation and that id came 300,000 ms before or earlier.
 abbrev pub OthersAreAcceptedAt : List Entry → Entry → Type 0
 OthersAreAcceptedAt entries e = (creation : Fact) → IsFresh entries e → LivesBy entries e creation
     → is_send e.request.ask ≡ true
