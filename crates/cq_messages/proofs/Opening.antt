@@ -1,70 +1,36 @@
 -- The leading messages, from slot to slot.
-use Rattle.std.proofs.Common.{◌≡◌, ℕ, ◌+◌, ◌-◌, ◌<◌, ◌≤◌, ◌∙◌, ap, sym, subst, List, [], ◌∷◌, ◌++◌, length, get_or, take, drop, true, false, cond, Option, Some, None, arith, suc, zero, refl}
+use Rattle.std.proofs.Common.{◌≡◌, ℕ, ◌+◌, ◌≤◌, ◌∙◌, ap, sym, List, [], ◌∷◌, ◌++◌, length, get_or, take, drop, true, cond, Option, Some, None, arith, suc, zero, refl}
 use Rattle.std.specs.List.{filter, flat_map}
-use Rattle.std.proofs.lemmas.List.{take_more, take-map, map-append, append-nil, take-append-drop, take_all}
+use Rattle.std.proofs.lemmas.List.{take-map, map-append, append-nil, take-append-drop, take_all}
 use Rattle.std.proofs.lemmas.List.Elements.{filter-append}
 use Rattle.std.proofs.lemmas.Grind.{flat_map-append}
 use Rattle.cq_base.specs.Messages.{Message}
 use Rattle.cq_base.specs.Receiving.{leads, group_with, in_turn, to_hand}
 use Rattle.cq_messages.specs.declared.slot.Slot.{Slot}
 use Rattle.cq_messages.specs.Changes.{numbers_of, numbers_to_hand}
-use Rattle.cq_messages.specs.Slots.{live, kept_before, gone, is_leading}
-use Rattle.cq_messages.specs.Opened.{NoneOpen, IsNextOpen, numbers_for, numbers_led, leaders_upto}
-
-kept_append : (o : Option Message) (xs ys : List Message) → kept_before o (xs ++ ys) ≡ kept_before o xs ++ ys
-kept_append None xs ys = refl
-kept_append (Some m) xs ys = refl
-
-pub live-append : (ss ts : List Slot) → live (ss ++ ts) ≡ live ss ++ live ts
-live-append [] ts = refl
-live-append (s ∷ ss) ts = ap (kept_before s.message) (live-append ss ts) ∙ kept_append s.message (live ss) (live ts)
-
-pub live-more : (ss : List Slot) (k : ℕ) → k < length ss → live (take (k + 1) ss) ≡ live (take k ss) ++ kept_before (get_or ss k gone).message []
-live-more ss k h = ap live (take_more ss k gone h) ∙ live-append (take k ss) (get_or ss k gone ∷ [])
+use Rattle.cq_messages.specs.Slots.{live, kept_before, gone, passes}
+use Rattle.cq_messages.specs.Opened.{numbers_for, numbers_led, leaders_upto}
+use Rattle.cq_messages.specs.Passing.{NonePasses, IsNext}
+use Rattle.cq_messages.proofs.Passing.{live-append, passing-more, passing-skip}
 
 pub led-append : (ms xs ys : List Message) → numbers_led ms (xs ++ ys) ≡ numbers_led ms xs ++ numbers_led ms ys
 led-append ms xs ys = ap numbers_of (flat_map-append (group_with ms) xs ys) ∙ map-append (λ m. m.sequence) (flat_map (group_with ms) xs) (flat_map (group_with ms) ys)
 
--- a message that doesn't lead adds nothing
-filter_closed : (t : ℕ) (ms : List Message) (o : Option Message) → is_leading t ms o ≡ false → filter (leads t ms) (kept_before o []) ≡ []
-filter_closed t ms None h = refl
-filter_closed t ms (Some m) h = ap (λ b. cond b (m ∷ []) []) h
-
--- one that leads adds its group
-led_open : (t : ℕ) (ms : List Message) (o : Option Message) → is_leading t ms o ≡ true → numbers_led ms (filter (leads t ms) (kept_before o [])) ≡ numbers_for ms o
+-- a message that leads adds its group
+led_open : (t : ℕ) (ms : List Message) (o : Option Message) → passes (leads t ms) o ≡ true → numbers_led ms (filter (leads t ms) (kept_before o [])) ≡ numbers_for ms o
 led_open t ms None h = absurd cc
 led_open t ms (Some m) h = ap (λ b. numbers_led ms (cond b (m ∷ []) [])) h ∙ ap numbers_of (append-nil (group_with ms m))
 
-leaders_more : (t : ℕ) (ss : List Slot) (k : ℕ) → k < length ss → leaders_upto t ss (k + 1) ≡ leaders_upto t ss k ++ filter (leads t (live ss)) (kept_before (get_or ss k gone).message [])
-leaders_more t ss k h = ap (filter (leads t (live ss))) (live-more ss k h) ∙ filter-append (leads t (live ss)) (live (take k ss)) (kept_before (get_or ss k gone).message [])
-
-skipped : (t : ℕ) (ss : List Slot) (from d : ℕ) → from + d ≤ length ss → NoneOpen t ss from (from + d) → leaders_upto t ss (from + d) ≡ leaders_upto t ss from
-skipped t ss from zero l none = let e : from + 0 ≡ from = omega arith in ap (leaders_upto t ss) e
-skipped t ss from (suc d) l none =
-    let k = from + d in
-    let e : k + 1 ≡ from + suc d = omega arith in
-    subst (λ j. leaders_upto t ss j ≡ leaders_upto t ss from) e
-    (leaders_more t ss k (omega arith)
-    ∙ ap (λ xs. leaders_upto t ss k ++ xs) (filter_closed t (live ss) (get_or ss k gone).message (none k (omega arith) (omega arith)))
-    ∙ append-nil (leaders_upto t ss k)
-    ∙ skipped t ss from d (omega arith) (λ j a b. none j a (omega arith)))
-
--- between two leading messages there is none
-pub leaders-skip : (t : ℕ) (ss : List Slot) (from i : ℕ) → from ≤ i → i ≤ length ss → NoneOpen t ss from i → leaders_upto t ss i ≡ leaders_upto t ss from
-leaders-skip t ss from i o l none =
-    let e : from + (i - from) ≡ i = omega arith in
-    subst (λ j. leaders_upto t ss j ≡ leaders_upto t ss from) e (skipped t ss from (i - from) (omega arith) (λ k a b. none k a (omega arith)))
-
 -- a leading message adds its group
-pub led-next : (t : ℕ) (ss : List Slot) (from i : ℕ) → IsNextOpen t ss from i
+pub led-next : (t : ℕ) (ss : List Slot) (from i : ℕ) → IsNext (leads t (live ss)) ss from i
     → numbers_led (live ss) (leaders_upto t ss (i + 1)) ≡ numbers_led (live ss) (leaders_upto t ss from) ++ numbers_for (live ss) (get_or ss i gone).message
 led-next t ss from i n =
     let ms = live ss in
     let o = (get_or ss i gone).message in
-    ap (numbers_led ms) (leaders_more t ss i n.within)
+    ap (numbers_led ms) (passing-more (leads t ms) ss i n.within)
     ∙ led-append ms (leaders_upto t ss i) (filter (leads t ms) (kept_before o []))
-    ∙ ap (λ xs. numbers_led ms xs ++ numbers_led ms (filter (leads t ms) (kept_before o []))) (leaders-skip t ss from i n.after (let w = n.within in omega arith) n.before)
-    ∙ ap (λ xs. numbers_led ms (leaders_upto t ss from) ++ xs) (led_open t ms o n.leading)
+    ∙ ap (λ xs. numbers_led ms xs ++ numbers_led ms (filter (leads t ms) (kept_before o []))) (passing-skip (leads t ms) ss from i n.after (let w = n.within in omega arith) n.before)
+    ∙ ap (λ xs. numbers_led ms (leaders_upto t ss from) ++ xs) (led_open t ms o n.passing)
 
 pub take-twice : {X : Type 0} (n : ℕ) (xs ys : List X) → take n (take n xs ++ ys) ≡ take n (xs ++ ys)
 take-twice zero xs ys = refl
@@ -96,8 +62,8 @@ unfolding in_turn to_hand
 handed-led size t ss = sym (take-map (λ m. m.sequence) size (in_turn t (live ss))) ∙ ap (λ xs. take size (numbers_led (live ss) (filter (leads t (live ss)) (live xs)))) (sym (take_all (length ss) ss (omega arith)))
 
 -- none leads from `from` on
-pub handed-rest : (size t : ℕ) (ss : List Slot) (from : ℕ) → from ≤ length ss → NoneOpen t ss from (length ss) → numbers_to_hand size t (live ss) ≡ take size (numbers_led (live ss) (leaders_upto t ss from))
-handed-rest size t ss from l none = handed-led size t ss ∙ ap (λ xs. take size (numbers_led (live ss) xs)) (leaders-skip t ss from (length ss) l (omega arith) none)
+pub handed-rest : (size t : ℕ) (ss : List Slot) (from : ℕ) → from ≤ length ss → NonePasses (leads t (live ss)) ss from (length ss) → numbers_to_hand size t (live ss) ≡ take size (numbers_led (live ss) (leaders_upto t ss from))
+handed-rest size t ss from l none = handed-led size t ss ∙ ap (λ xs. take size (numbers_led (live ss) xs)) (passing-skip (leads t (live ss)) ss from (length ss) l (omega arith) none)
 
 -- as many as are wanted are there
 pub handed-full : (size t : ℕ) (ss : List Slot) (from : ℕ) → size ≤ length (take size (numbers_led (live ss) (leaders_upto t ss from))) → numbers_to_hand size t (live ss) ≡ take size (numbers_led (live ss) (leaders_upto t ss from))

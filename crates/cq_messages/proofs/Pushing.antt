@@ -15,7 +15,7 @@ use Rattle.cq_messages.specs.Changes.{numbers_of}
 use Rattle.cq_messages.specs.declared.slot.TheConstants.{NEVER}
 use Rattle.cq_messages.specs.Slots.{live, kept_before, gone, IsOwn, IsAscending, in_group, busy, wait_in, wait_for, flight_of}
 use Rattle.cq_messages.proofs.Emptying.{flipped}
-use Rattle.cq_messages.proofs.Opening.{live-append, live-more}
+use Rattle.cq_messages.proofs.Passing.{live-append, live-more}
 use Rattle.cq_messages.proofs.Rising.{live-among, own-number}
 use Rattle.cq_messages.proofs.Standing.{live-place}
 use Rattle.cq_messages.proofs.Ascending.{ascending-upto}

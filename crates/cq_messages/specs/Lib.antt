@@ -2,5 +2,6 @@ pub mod Groups
 pub mod Indexed
 pub mod Changes
 pub mod Opened
+pub mod Passing
 pub mod Slots
 pub mod Touched

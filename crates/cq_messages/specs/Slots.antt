@@ -3,7 +3,6 @@ use Rattle.std.specs.Prelude.{◌≡◌, ℕ, ◌-◌, ◌<◌, ◌==◌, List, 
 use Rattle.std.specs.List.{filter}
 use Rattle.std.specs.Str.{bytes_eq}
 use Rattle.cq_base.specs.Messages.{Message}
-use Rattle.cq_base.specs.Receiving.{leads}
 use Rattle.cq_messages.specs.declared.slot.TheConstants.{NEVER}
 use Rattle.cq_messages.specs.declared.slot.Slot.{Slot}
 
@@ -55,7 +54,7 @@ abbrev pub flight_of : Option Message → ℕ
 flight_of None = NEVER
 flight_of (Some m) = NEVER - m.until
 
--- whether the slot's message is the oldest of an open group
-abbrev pub is_leading : ℕ → List Message → Option Message → Bool
-is_leading moment ms None = false
-is_leading moment ms (Some m) = leads moment ms m
+-- whether the slot has a message, and that passes the test
+abbrev pub passes : (Message → Bool) → Option Message → Bool
+passes test None = false
+passes test (Some m) = test m

@@ -3,7 +3,9 @@ ghost use Rattle.std.specs.Prelude.{◌≡◌, ◌<◌, ◌≤◌, ◌++◌, [],
 ghost use Rattle.arrayvec.specs.ArrayVec.{array_vec_len};
 ghost use Rattle.cq_messages.specs.Indexed.{AreWaits, AreNumbers};
 ghost use Rattle.cq_messages.specs.Changes.{numbers_to_hand};
-ghost use Rattle.cq_messages.specs.Opened.{NoneOpen, IsNextOpen, numbers_for, numbers_led, leaders_upto};
+ghost use Rattle.cq_base.specs.Receiving.{leads};
+ghost use Rattle.cq_messages.specs.Opened.{numbers_for, numbers_led, leaders_upto};
+ghost use Rattle.cq_messages.specs.Passing.{NonePasses, IsNext};
 ghost use Rattle.cq_messages.specs.Slots.{live, gone, IsAscending};
 
 use crate::groups::{Group, Groups};
@@ -43,8 +45,8 @@ fn push_group(numbers: &mut Numbers, size: BatchSize, group: &Group)
 fn next_open(slots: &[Slot], waits: &Tower, moment: Moment, from: usize) -> Option<usize>
     requires ascending { IsAscending 0 slots.now }
     requires waits { AreWaits slots.now waits.now }
-    ensures some { IfSome result (IsNextOpen moment slots.now from) }
-    ensures none { IsNone result → NoneOpen moment slots.now from (length slots.now) }
+    ensures some { IfSome result (IsNext (leads moment (live slots.now)) slots.now from) }
+    ensures none { IsNone result → NonePasses (leads moment (live slots.now)) slots.now from (length slots.now) }
 {
     match waits.first_at_most(from, moment.get()) {
         Some(place) if place < slots.len() => Some(place),

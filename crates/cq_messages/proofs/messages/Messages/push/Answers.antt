@@ -9,7 +9,7 @@ use Rattle.cq_messages.specs.Groups.{numbers_at}
 use Rattle.cq_messages.specs.Indexed.{IsIndexed}
 use Rattle.cq_messages.specs.declared.slot.TheConstants.{NEVER}
 use Rattle.cq_messages.specs.Slots.{live, gone, in_group}
-use Rattle.cq_messages.proofs.Opening.{live-append}
+use Rattle.cq_messages.proofs.Passing.{live-append}
 use Rattle.cq_messages.proofs.Pushing.{front-indexed, indexed-grown, indexed-regrouped, indexed-pushed, last-above}
 use Rattle.cq_messages.proofs.messages.Messages.push.Goals as goal
 
