@@ -1,5 +1,5 @@
 -- Slots of which one lost its message.
-use Rattle.std.proofs.Common.{◌≡◌, ◌≢◌, ℕ, ◌<◌, ◌≤◌, ◌==◌, ◌∙◌, ◌⊎◌, ap, sym, subst, List, [], ◌∷◌, length, get_or, set, Bool, true, false, cond, not, Option, Some, None, inl, inr, arith, suc, zero, refl}
+use Rattle.std.proofs.Common.{◌≡◌, ◌≢◌, ℕ, ◌+◌, ◌<◌, ◌≤◌, ◌==◌, ◌∙◌, ◌⊎◌, ap, sym, subst, List, [], ◌∷◌, length, get_or, set, Bool, true, false, cond, not, Option, Some, None, inl, inr, arith, suc, zero, refl}
 use Rattle.std.specs.List.{filter}
 use Rattle.std.specs.Str.{bytes_eq}
 use Rattle.std.proofs.lemmas.Bool.{cases_eq}
@@ -254,3 +254,18 @@ live-vacated b (s ∷ ss) (suc p) s' h l e =
 -- where no message has the number, all stay
 pub none-dropped : (ss : List Slot) (n : ℕ) → ((x : Message) → Among x (live ss) → x.sequence ≢ n) → live ss ≡ filter (is_other n) (live ss)
 none-dropped ss n none = sym (filter-all (is_other n) (live ss) (λ x a. let other = none x a in let test : (x.sequence == n) ≡ false = grind arith in ap not test))
+
+length_later : (o : Option Message) (xs ys : List Message) → length xs + 1 ≡ length ys → length (kept_before o xs) + 1 ≡ length (kept_before o ys)
+length_later None xs ys e = e
+length_later (Some m) xs ys e = omega arith
+
+length_here : (o o' : Option Message) (m : Message) (ms : List Message) → o ≡ Some m → o' ≡ None → length (kept_before o' ms) + 1 ≡ length (kept_before o ms)
+length_here None o' m ms e e' = absurd cc
+length_here (Some x) None m ms e e' = omega arith
+length_here (Some x) (Some y) m ms e e' = absurd cc
+
+-- where a message is taken out, there is one less
+pub length-vacated : (ss : List Slot) (p : ℕ) (s' : Slot) (m : Message) → p < length ss → (get_or ss p gone).message ≡ Some m → s'.message ≡ None → length (live (set ss p s')) + 1 ≡ length (live ss)
+length-vacated [] p s' m l e none = absurd (omega arith)
+length-vacated (s ∷ ss) zero s' m l e none = length_here s.message s'.message m (live ss) e none
+length-vacated (s ∷ ss) (suc p) s' m l e none = length_later s.message (live (set ss p s')) (live ss) (length-vacated ss p s' m (omega arith) e none)

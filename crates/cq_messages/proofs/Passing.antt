@@ -19,6 +19,15 @@ live-append (s ∷ ss) ts = ap (kept_before s.message) (live-append ss ts) ∙ k
 pub live-more : (ss : List Slot) (k : ℕ) → k < length ss → live (take (k + 1) ss) ≡ live (take k ss) ++ kept_before (get_or ss k gone).message []
 live-more ss k h = ap live (take_more ss k gone h) ∙ live-append (take k ss) (get_or ss k gone ∷ [])
 
+-- there are no more messages than slots
+pub live-short : (ss : List Slot) → length (live ss) ≤ length ss
+live-short [] = omega arith
+live-short (s ∷ ss) = by s.message (live-short ss)
+  where
+    by : (o : Option Message) → length (live ss) ≤ length ss → length (kept_before o (live ss)) ≤ suc (length ss)
+    by None h = omega arith
+    by (Some m) h = omega arith
+
 -- a message that doesn't pass adds nothing
 filter_failing : (p : Message → Bool) (o : Option Message) → passes p o ≡ false → filter p (kept_before o []) ≡ []
 filter_failing p None h = refl

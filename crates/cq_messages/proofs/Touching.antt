@@ -56,6 +56,20 @@ numbers-retimed g (s ∷ ss) (suc p) handings at until = same_kept s.message (nu
         by true = ap (λ ns. m.sequence ∷ ns) e
         by false = e
 
+length_kept : (handings at until : ℕ) (o : Option Message) (xs ys : List Message) → length xs ≡ length ys → length (kept_before (retimed_kept handings at until o) xs) ≡ length (kept_before o ys)
+length_kept handings at until None xs ys e = e
+length_kept handings at until (Some m) xs ys e = ap suc e
+
+-- and so does their count
+pub length-retimed : (ss : List Slot) (p handings at until : ℕ) → length (live (set ss p (retimed_in handings at until (get_or ss p gone)))) ≡ length (live ss)
+length-retimed [] p handings at until = refl
+length-retimed (s ∷ ss) zero handings at until = length_kept handings at until s.message (live ss) (live ss) refl
+length-retimed (s ∷ ss) (suc p) handings at until = later s.message (live (set ss p (retimed_in handings at until (get_or ss p gone)))) (live ss) (length-retimed ss p handings at until)
+  where
+    later : (o : Option Message) (xs ys : List Message) → length xs ≡ length ys → length (kept_before o xs) ≡ length (kept_before o ys)
+    later None xs ys e = e
+    later (Some m) xs ys e = ap suc e
+
 -- the messages of another group stay
 pub others-changed : (g : List ℕ) (ss : List Slot) (p : ℕ) (s' : Slot) → in_group g (kept_before (get_or ss p gone).message []) ≡ [] → in_group g (kept_before s'.message []) ≡ [] → in_group g (live (set ss p s')) ≡ in_group g (live ss)
 others-changed g [] p s' a b = refl

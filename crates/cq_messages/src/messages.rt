@@ -1,10 +1,11 @@
 //! The messages of an incarnation, and what is kept beside them to find those that are wanted.
 ghost use Rattle.std.specs.List.{list_any, All};
-ghost use Rattle.std.specs.Prelude.{◌≡◌, ℕ, ◌≢◌, ◌+◌, ◌==◌, ◌++◌, [], ◌∷◌, ◌<◌, ◌≤◌, map, filter, cond, length, get_or, take, set, IfOk, IfSome, OnOk, OnErr, Some, None};
+ghost use Rattle.std.specs.Prelude.{◌≡◌, ℕ, ◌≢◌, ◌+◌, ◌==◌, ◌++◌, [], ◌∷◌, ◌<◌, ◌≤◌, map, filter, not, cond, length, get_or, take, set, IfOk, IfSome, OnOk, OnErr, Some, None};
 ghost use Rattle.std.specs.Option.{option_map};
 ghost use Rattle.cq_base.specs.declared.limits.TheConstants.{HISTORY_LIMIT};
 ghost use Rattle.cq_base.specs.Effects.{message_at};
 ghost use Rattle.cq_base.specs.Messages as object;
+ghost use Rattle.cq_base.specs.Receiving.{is_in_flight};
 ghost use Rattle.cq_base.specs.Relations.{Among};
 ghost use Rattle.cq_messages.specs.Groups.{numbers_at};
 ghost use Rattle.cq_messages.specs.Indexed.{IsIndexed};
@@ -13,6 +14,7 @@ ghost use Rattle.cq_messages.specs.declared.slot.TheConstants.{NEVER};
 ghost use Rattle.cq_messages.specs.Slots.{live, gone, IsAscending};
 ghost use Rattle.cq_messages.specs.Touched.{retimed};
 
+use crate::counts::count_in_flight;
 use crate::groups::Groups;
 use crate::heads::refresh;
 use crate::message::Message;
@@ -35,10 +37,12 @@ pub struct Messages {
     /// Beside each slot a number that is the smaller, the later its message's timeout ends.
     flights: Tower,
     groups: Groups,
+    /// How many messages aren't deleted.
+    count: u64,
 }
 
 impl Model for Messages {
-    ghost use Rattle.std.specs.Prelude.{List};
+    ghost use Rattle.std.specs.Prelude.{List, length, ◌≡◌};
     ghost use Rattle.cq_base.specs.Messages as object;
     ghost use Rattle.cq_messages.specs.Slots.{live};
     ghost use Rattle.cq_messages.specs.Indexed.{IsIndexed};
@@ -47,7 +51,8 @@ impl Model for Messages {
 
     ghost view = { λ m. live m.slots.items };
 
-    ghost invariant = { λ m. IsIndexed m.slots.items m.waits m.flights m.groups };
+    ghost invariant = { λ m. IsIndexed m.slots.items m.waits m.flights m.groups
+        × (m.count ≡ length (live m.slots.items)) };
 }
 
 /// The message of that sequence number.
@@ -71,7 +76,25 @@ impl Messages {
             waits: new_tower(alloc),
             flights: new_tower(alloc),
             groups: Groups::new(alloc),
+            count: 0,
         }
+    }
+
+    /// How many messages there are: O(1).
+    pub fn len(&self) -> u64
+        ensures { result ≡ length self.now }
+    {
+        self.count
+    }
+
+    /// How many messages aren't in flight at that moment, and how many are. It takes no memory. O(in flight, each
+    /// log n).
+    pub fn counts(&self, moment: Moment) -> (u64, u64)
+        ensures visible { result.0 ≡ length (filter (λ x. not (is_in_flight moment x)) self.now) }
+        ensures in_flight { result.1 ≡ length (filter (is_in_flight moment) self.now) }
+    {
+        let in_flight = count_in_flight(&self.slots, &self.flights, moment);
+        (self.count - in_flight, in_flight)
     }
 
     /// The message of that sequence number, if it isn't deleted: O(log n).
@@ -153,13 +176,15 @@ impl Messages {
         ensures { self.new ≡ filter (is_other sequence) self.old }
     {
         if let Some(place) = place_of(&self.slots, sequence) {
-            empty(
+            if empty(
                 &mut self.slots,
                 &mut self.waits,
                 &mut self.flights,
                 &mut self.groups,
                 place,
-            );
+            ) {
+                self.count -= 1;
+            }
         }
     }
 
@@ -186,6 +211,7 @@ impl Messages {
         });
         self.waits.set(place, wait);
         self.flights.set(place, NEVER);
+        self.count += 1;
         Ok(())
     }
 }
@@ -203,19 +229,20 @@ fn trim(slots: &mut Vec<Slot>)
     }
 }
 
-/// Takes out the message at that place.
+/// Takes out the message at that place, and answers whether there was one.
 fn empty(
     slots: &mut Vec<Slot>,
     waits: &mut Tower,
     flights: &mut Tower,
     groups: &mut Groups,
     place: usize,
-)
+) -> bool
     requires place { place < length slots.old.items }
     requires indexed { IsIndexed slots.old.items waits.old flights.old groups.old }
     ensures slots { slots.new.items ≡ set slots.old.items place
         (record { sequence = (get_or slots.old.items place gone).sequence; message = None }) }
     ensures indexed { IsIndexed slots.new.items waits.new flights.new groups.new }
+    ensures count { length (live slots.new.items) + cond result 1 0 ≡ length (live slots.old.items) }
 {
     let taken = slots[place].message.take();
     if let Some(message) = taken {
@@ -223,7 +250,9 @@ fn empty(
         flights.set(place, NEVER);
         groups.take_out(&message.group, message.sequence);
         refresh(slots, waits, groups, &message.group);
+        return true;
     }
+    false
 }
 
 /// Makes the tree longer than that place. What stands at earlier places stays, with memory or without.

@@ -2,7 +2,7 @@
 ghost use Rattle.std.specs.Prelude.{◌≡◌, ◌≤◌, ◌<◌, length, get_or, set};
 ghost use Rattle.cq_base.specs.declared.limits.TheConstants.{HISTORY_LIMIT};
 ghost use Rattle.cq_messages.specs.Indexed.{IsIndexed};
-ghost use Rattle.cq_messages.specs.Slots.{gone};
+ghost use Rattle.cq_messages.specs.Slots.{live, gone};
 ghost use Rattle.cq_messages.specs.Touched.{retimed_in};
 
 use crate::groups::Groups;
@@ -43,6 +43,7 @@ pub fn retime(
     ensures slots { slots.new.items ≡ set slots.old.items place
         (retimed_in handings handed_at until (get_or slots.old.items place gone)) }
     ensures indexed { IsIndexed slots.new.items waits.new flights.new groups.new }
+    ensures count { length (live slots.new.items) ≡ length (live slots.old.items) }
 {
     write_times(slots, place, handings, handed_at, until);
     if let Some(message) = &slots[place].message {

@@ -1,12 +1,13 @@
 -- What is kept beside the messages follows.
-use Rattle.std.proofs.Common.{◌≡◌, ◌∙◌, ap, sym, subst, List, ℕ, [], cond, set}
+use Rattle.std.proofs.Common.{◌≡◌, ◌∙◌, ap, sym, subst, List, ℕ, [], cond, set, get_or, Some}
+use Rattle.std.proofs.lemmas.List.{get_or_read}
 use Rattle.std.specs.Str.{bytes_eq}
 use Rattle.cq_messages.specs.Groups.{numbers_at, without}
 use Rattle.cq_messages.specs.Indexed.{IsIndexed, AreNumbers, AreHanded}
 use Rattle.cq_messages.specs.declared.slot.TheConstants.{NEVER}
-use Rattle.cq_messages.specs.Slots.{live, in_group, busy, IsAscending}
+use Rattle.cq_messages.specs.Slots.{live, gone, in_group, busy, IsAscending}
 use Rattle.cq_messages.specs.Touched.{IsHead}
-use Rattle.cq_messages.proofs.Emptying.{emptied-read, numbers-shrunk, handed-vacated, indexed-vacated}
+use Rattle.cq_messages.proofs.Emptying.{emptied-read, numbers-shrunk, handed-vacated, indexed-vacated, length-vacated}
 use Rattle.cq_messages.proofs.messages.empty.Goals as goal
 
 pub refresh-requires-clause-ascending : goal.refresh-requires-clause-ascending
@@ -59,3 +60,10 @@ returns-in-Some-clause-indexed c =
     c.refresh.ensures.none (ap (λ g. in_group g (live c.deref.result.now)) group ∙ ap (λ xs. in_group c.in-Some.message.group (live xs)) c.deref.ensures.value ∙ e) ∙ c.set.ensures in
     subst (λ f. IsIndexed ss' c.refresh.new.waits f c.take_out.new.self) (sym c.set-in-Some.ensures)
     (indexed-vacated ss ss' c.args.waits.now c.refresh.new.waits c.args.flights.now c.args.groups.now c.take_out.new.self c.args.place c.in-Some.message v c.requires.indexed head none numbers handed)
+
+pub returns-in-Some-clause-count : goal.returns-in-Some-clause-count
+returns-in-Some-clause-count c =
+    let ss = c.args.slots.now.items in
+    let there : (get_or ss c.args.place gone).message ≡ Some c.in-Some.message =
+    ap (λ s. s.message) (sym (get_or_read ss c.args.place c.index_mut.result.now c.requires.place c.index_mut.ensures.value gone)) ∙ sym c.in-Some.ensures.value in
+    length-vacated ss c.args.place (record { sequence = c.index_mut.result.now.sequence; message = c.take-taken.new.self }) c.in-Some.message c.requires.place there c.in-Some.ensures.after

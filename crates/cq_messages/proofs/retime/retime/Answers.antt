@@ -4,7 +4,7 @@ use Rattle.cq_messages.specs.Groups.{numbers_at, handed_at}
 use Rattle.cq_messages.specs.Indexed.{IsIndexed, AreNumbers, AreHanded}
 use Rattle.cq_messages.specs.Slots.{live, in_group, busy, IsAscending}
 use Rattle.cq_messages.specs.Touched.{IsHead, retimed}
-use Rattle.cq_messages.proofs.Touching.{touched-read, idle-read, numbers-raised, handed-touched, indexed-touched}
+use Rattle.cq_messages.proofs.Touching.{touched-read, idle-read, numbers-raised, handed-touched, indexed-touched, length-retimed}
 use Rattle.cq_messages.proofs.retime.retime.Goals as goal
 
 pub refresh-requires-clause-ascending : goal.refresh-requires-clause-ascending
@@ -55,3 +55,6 @@ returns-in_default-clause-indexed c =
     let ss = c.args.slots.now.items in
     let same = idle-read ss c.write_times.new.slots.items c.args.place c.args.handings c.args.handed_at c.args.until c.index.result.now c.requires.place c.write_times.ensures c.index.ensures c.in_default.is in
     subst (λ xs. IsIndexed xs c.args.waits.now c.args.flights.now c.args.groups.now) (sym same) c.requires.indexed
+
+pub returns-in-Some-clause-count : goal.returns-in-Some-clause-count
+returns-in-Some-clause-count c = ap (λ xs. length (live xs)) c.write_times.ensures ∙ length-retimed c.args.slots.now.items c.args.place c.args.handings c.args.handed_at c.args.until
