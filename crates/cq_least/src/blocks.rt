@@ -127,4 +127,11 @@ impl<T: Leasts> Leasts for Blocks<T> {
         let i = scan(&self.low, start, end, limit);
         if i < end { Some(i) } else { None }
     }
+
+    fn try_copy(&self) -> Result<Blocks<T>, AllocError> {
+        Ok(Blocks {
+            low: self.low.clone()?,
+            high: self.high.try_copy()?,
+        })
+    }
 }

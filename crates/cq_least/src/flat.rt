@@ -74,4 +74,10 @@ impl Leasts for Flat {
         let i = scan(&self.numbers, from, len, limit);
         if i < len { Some(i) } else { None }
     }
+
+    fn try_copy(&self) -> Result<Flat, AllocError> {
+        Ok(Flat {
+            numbers: self.numbers.clone()?,
+        })
+    }
 }

@@ -1,5 +1,5 @@
 //! What each list of numbers can do, whatever stands above it.
-ghost use Rattle.std.specs.Prelude.{◌≡◌, ℕ, ◌<◌, ◌≤◌, ◌++◌, [], ◌∷◌, List, length, set, slice_index, IfSome, IsNone, OnOk, OnErr};
+ghost use Rattle.std.specs.Prelude.{◌≡◌, ℕ, ◌<◌, ◌≤◌, ◌++◌, [], ◌∷◌, List, length, set, slice_index, IfSome, IsNone, IfOk, OnOk, OnErr};
 ghost use Rattle.cq_least.specs.Firsts.{AreAbove, IsFirst};
 
 use std::alloc::AllocError;
@@ -31,4 +31,8 @@ pub trait Leasts: Drop {
     fn first_at_most(&self, from: usize, limit: u64) -> Option<usize>
         ensures found { IfSome result (IsFirst (numbers self.now) from limit) }
         ensures none { IsNone result → AreAbove (numbers self.now) limit from (length (numbers self.now)) };
+
+    /// The same numbers: O(n).
+    fn try_copy(&self) -> Result<Self, AllocError>
+        ensures { IfOk result (λ copy. numbers copy ≡ numbers self.now) };
 }

@@ -67,6 +67,7 @@ fn check_list<T: Leasts>(rt: &impl Abort, list: &mut T, mut numbers: Vec<u64>) -
         rewrite(list, &mut numbers, turn);
         check_searches(rt, list, &numbers);
     }
+    check_searches(rt, &list.try_copy()?, &numbers);
     Ok(())
 }
 
