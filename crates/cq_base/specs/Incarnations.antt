@@ -1,10 +1,10 @@
 -- One incarnation of a queue by itself: what happens to it, and what has to be kept of it.
-use Rattle.std.specs.Prelude.{◌≡◌, ℕ, ◌+◌, ◌≤◌, ◌&&◌, ◌||◌, List, [], ◌∷◌, ◌++◌, length, Bool, nat_lt, Option, None, option_map}
+use Rattle.std.specs.Prelude.{◌≡◌, ℕ, ◌+◌, ◌≤◌, ◌&&◌, ◌||◌, List, [], ◌∷◌, ◌++◌, length, map, Bool, nat_lt, Option, None, option_map}
 use Rattle.std.specs.List.{filter, find, fold, last_or}
 use Rattle.std.specs.Str.{bytes_eq}
 use Rattle.cq_base.specs.declared.limits.TheConstants.{DEDUPLICATION_WINDOW}
 use Rattle.cq_base.specs.declared.ask.Entry.{Entry}
-use Rattle.cq_base.specs.Asks.{Attributes, is_send, is_receive, is_change}
+use Rattle.cq_base.specs.Asks.{Attributes, is_send, is_receive, is_change, dedup_of}
 use Rattle.cq_base.specs.Effects.{effect_on}
 use Rattle.cq_base.specs.Facts.{Fact}
 use Rattle.cq_base.specs.History.{fact_with}
@@ -25,6 +25,18 @@ pub record Accepted : Type 0 where
   pub dedup : List ℕ
   pub moment : ℕ
   pub sequence : ℕ
+
+-- its five minutes aren't over at that moment
+abbrev pub is_recent : ℕ → Accepted → Bool
+is_recent moment a = nat_lt moment (a.moment + DEDUPLICATION_WINDOW)
+
+-- the accepted send of a fact
+abbrev pub accepted_of : Fact → Accepted
+accepted_of f = record { dedup = dedup_of f.entry.request.ask; moment = f.entry.moment; sequence = f.count }
+
+-- all accepted sends of these facts, in order
+abbrev pub all_accepted : List Fact → List Accepted
+all_accepted facts = map accepted_of (messages facts)
 
 -- it has that deduplication id, and at that moment its five minutes aren't over
 abbrev pub counts_for : List ℕ → ℕ → Accepted → Bool
@@ -66,12 +78,15 @@ told_of kept entries = lifetime kept.number kept.attributes entries
 
 -- What is kept stands for the entries that came to the incarnation. Of the accepted sends only those have
 -- to be kept that a later send can repeat: for each deduplication id, and each moment from the last one on,
--- what is kept finds the message that the definitions find. Of deleted messages nothing has to be kept, and
--- of the others only how they stand.
+-- what is kept finds the message that the definitions find; and at each such moment the kept ones whose five
+-- minutes aren't over are, in order, all whose five minutes aren't over. Of deleted messages nothing has to be
+-- kept, and of the others only how they stand.
 pub record IncarnationStandsFor (kept : Incarnation) (entries : List Entry) : Type 0 where
   pub sent : kept.sent ≡ length (messages (told_of kept entries))
   pub messages : kept.messages ≡ standing kept.attributes.visibility (told_of kept entries)
   pub window : (id : List ℕ) (moment : ℕ) → kept.last ≤ moment
       → repeated id moment kept.accepted ≡ option_map (λ f. f.count) (duplicate id moment (told_of kept entries))
+  pub recent : (moment : ℕ) → kept.last ≤ moment
+      → filter (is_recent moment) kept.accepted ≡ filter (is_recent moment) (all_accepted (told_of kept entries))
   pub last : kept.last ≡ moment_of (last_or None (filter is_clocked (told_of kept entries)))
   pub used : kept.used ≡ length (filter is_use (told_of kept entries))

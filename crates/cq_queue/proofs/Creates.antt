@@ -13,7 +13,7 @@ use Rattle.cq_base.proofs.OneMoreFact.{not_both, chosen_handed}
 use Rattle.cq_queue.specs.Entries.{IsCreate, StandsAfter, IsAnswered}
 use Rattle.cq_queue.proofs.Spoken.{no_change}
 use Rattle.cq_queue.proofs.Standing.{standing-quiet}
-use Rattle.cq_queue.proofs.Stands.{StandsFor, stands-told, stands-more, asked, entry-asked, clocked-same, used-same, sent-same, window-same}
+use Rattle.cq_queue.proofs.Stands.{StandsFor, stands-told, stands-more, asked, entry-asked, clocked-same, used-same, sent-same, window-same, recent-same}
 
 -- the fact of a creation
 abbrev creating_fact : Incarnation → Entry → List ℕ → Attributes → Effect → Fact
@@ -29,6 +29,7 @@ stands_quiet kept xs e queue given effect stands handed =
       sent = stands.sent ∙ sent-same xs f rejects;
       messages = stands.messages ∙ sym (standing-quiet kept.attributes.visibility xs f (record { rejects = rejects; handed = handed; changes = λ n. no_change effect.effective (eqb effect.count n); deletes = λ n. no_change effect.effective (eqb effect.count n) }));
       window = window-same kept xs f kept.last stands rejects (omega arith);
+      recent = recent-same kept xs f kept.last stands rejects (omega arith);
       last = stands.last ∙ clocked-same xs f rejects;
       used = stands.used ∙ used-same xs f refl;
     }

@@ -24,7 +24,7 @@ use Rattle.cq_queue.specs.Entries.{IsDelete, StandsAfter, IsAnswered}
 use Rattle.cq_queue.proofs.Maps.{map-same}
 use Rattle.cq_queue.proofs.Spoken.{no_change}
 use Rattle.cq_queue.proofs.Standing.{after_fact, is_left_by, standing-more, standing-quiet}
-use Rattle.cq_queue.proofs.Stands.{StandsFor, stands-told, stands-more, asked, entry-asked, clocked-same, used-same, sent-same, window-same}
+use Rattle.cq_queue.proofs.Stands.{StandsFor, stands-told, stands-more, asked, entry-asked, clocked-same, used-same, sent-same, window-same, recent-same}
 use Rattle.cq_queue.proofs.Told.{IsTold, told-lifetime}
 
 -- a receipt is of a message that was sent, by the count of those
@@ -65,6 +65,7 @@ stands_without kept xs e queue receipt stands =
           ∙ sym (map-same (after_fact own f) (filter (is_left_by f) (standing own xs)) (λ m. refl))
           ∙ sym (standing-more own xs f refl);
       window = window-same kept xs f kept.last stands refl (omega arith);
+      recent = recent-same kept xs f kept.last stands refl (omega arith);
       last = stands.last ∙ clocked-same xs f refl;
       used = stands.used ∙ used-same xs f refl;
     }
@@ -79,6 +80,7 @@ stands_quiet kept xs e queue receipt effect stands idle handed =
       sent = stands.sent ∙ sent-same xs f rejects;
       messages = stands.messages ∙ sym (standing-quiet kept.attributes.visibility xs f (record { rejects = rejects; handed = handed; changes = λ n. no_change effect.effective (eqb effect.count n); deletes = λ n. ap (λ b. (b && true) && eqb effect.count n) idle }));
       window = window-same kept xs f kept.last stands rejects (omega arith);
+      recent = recent-same kept xs f kept.last stands rejects (omega arith);
       last = stands.last ∙ clocked-same xs f rejects;
       used = stands.used ∙ used-same xs f refl;
     }

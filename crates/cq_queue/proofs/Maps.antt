@@ -46,3 +46,13 @@ found_kept false false p x ys found e follows h = h
 pub find-kept : {X : Type 0} (p q : X → Bool) (xs : List X) → ((x : X) → p x ≡ true → q x ≡ true) → find p (filter q xs) ≡ find p xs
 find-kept p q [] follows = refl
 find-kept p q (x ∷ xs) follows = found_kept (q x) (p x) p x (filter q xs) (find p xs) refl (follows x) (find-kept p q xs follows)
+
+filtered_kept : {X : Type 0} (a b : Bool) (p : X → Bool) (x : X) (ys zs : List X) → p x ≡ b → (b ≡ true → a ≡ true) → filter p ys ≡ zs → filter p (cond a (x ∷ ys) ys) ≡ cond b (x ∷ zs) zs
+filtered_kept true b p x ys zs e follows h = ap (λ c. cond c (x ∷ filter p ys) (filter p ys)) e ∙ ap (λ rest. cond b (x ∷ rest) rest) h
+filtered_kept false true p x ys zs e follows h = absurd (let wrong : false ≡ true = follows refl in cc)
+filtered_kept false false p x ys zs e follows h = h
+
+-- where all that pass p pass q, what passes both is what passes p
+pub filter-kept : {X : Type 0} (p q : X → Bool) (xs : List X) → ((x : X) → p x ≡ true → q x ≡ true) → filter p (filter q xs) ≡ filter p xs
+filter-kept p q [] follows = refl
+filter-kept p q (x ∷ xs) follows = filtered_kept (q x) (p x) p x (filter q xs) (filter p xs) refl (follows x) (filter-kept p q xs follows)

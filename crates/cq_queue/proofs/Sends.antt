@@ -1,12 +1,14 @@
 -- A send to an incarnation.
-use Rattle.std.proofs.Common.{◌≡◌, ℕ, ◌+◌, ◌<◌, ◌≤◌, ◌∙◌, ◌&&◌, ap, sym, List, [], ◌∷◌, ◌++◌, length, Option, Some, None, Bool, true, false, cond, arith, subst, refl, length-append}
+use Rattle.std.proofs.Common.{◌≡◌, ℕ, ◌+◌, ◌<◌, ◌≤◌, ◌∙◌, ◌&&◌, ap, sym, List, [], ◌∷◌, ◌++◌, length, map, Option, Some, None, Bool, true, false, cond, arith, subst, refl, length-append}
 use Rattle.std.specs.Prelude.{nat_lt}
 use Rattle.std.specs.List.{filter, find}
 use Rattle.std.specs.Option.{option_map, option_or}
 use Rattle.std.specs.Str.{bytes_eq}
 use Rattle.std.proofs.lemmas.Bool.{and_parts}
 use Rattle.std.proofs.lemmas.Bool.Decides.{nat_tests}
+use Rattle.std.proofs.lemmas.List.Elements.{filter-append}
 use Rattle.std.proofs.lemmas.List.Folds.{find-append}
+use Rattle.std.proofs.lemmas.List.{map-append}
 use Rattle.cq_base.specs.declared.ask.Ask.TheVariants.{Send}
 use Rattle.cq_base.specs.declared.ask.Entry.{Entry}
 use Rattle.cq_base.specs.declared.limits.TheConstants.{DEDUPLICATION_WINDOW}
@@ -17,15 +19,15 @@ use Rattle.cq_base.specs.Asks.{dedup_or_made, is_given_or_made}
 use Rattle.cq_base.specs.Effects.{takes_effect, only_replies, send, send_if, effect_on}
 use Rattle.cq_base.specs.Facts.{Fact}
 use Rattle.cq_base.specs.History.{fact_with}
-use Rattle.cq_base.specs.Incarnations.{Accepted, Incarnation, IncarnationStandsFor, coming, told_of, repeated, counts_for}
+use Rattle.cq_base.specs.Incarnations.{Accepted, Incarnation, IncarnationStandsFor, coming, told_of, is_recent, accepted_of, all_accepted, repeated, counts_for}
 use Rattle.cq_base.specs.Messages.{messages, duplicate, is_duplicated_by}
 use Rattle.cq_base.proofs.Numbers.{messages-next}
 use Rattle.cq_messages.specs.Changes.{new_message}
-use Rattle.cq_queue.specs.within.Kept.{used_at, is_recent, with_message}
+use Rattle.cq_queue.specs.within.Kept.{used_at, with_message}
 use Rattle.cq_queue.specs.Entries.{IsSend, IsSendAs, StandsAfter, IsAnswered}
-use Rattle.cq_queue.proofs.Maps.{option_map-or, find-kept}
+use Rattle.cq_queue.proofs.Maps.{option_map-or, find-kept, filter-kept}
 use Rattle.cq_queue.proofs.Standing.{standing-quiet, standing-next}
-use Rattle.cq_queue.proofs.Stands.{StandsFor, stands-told, stands-more, asked, entry-asked, clocked-next, used-next, sent-same, window-same}
+use Rattle.cq_queue.proofs.Stands.{StandsFor, stands-told, stands-more, asked, entry-asked, clocked-next, used-next, sent-same, window-same, recent-same}
 use Rattle.cq_queue.proofs.Told.{IsTold, told-lifetime}
 
 -- where the image is nothing, so is what it is of
@@ -74,6 +76,23 @@ window_next kept xs moment e queue group given body stands before id later after
     ∙ sym (option_map-or (λ y. y.count) (duplicate id later xs) (cond (is_duplicated_by id later f) (Some f) None))
     ∙ ap (option_map (λ y. y.count)) (sym (duplicate-next id later (xs ++ f ∷ []) (messages xs) f (messages-next xs f refl)))
 
+-- what is recent at a later moment is so at an earlier one
+still_recent : (moment later end : ℕ) → moment ≤ later → nat_lt later end ≡ true → nat_lt moment end ≡ true
+still_recent moment later end after passes = grind (arith, nat_tests)
+
+-- those that are recent after an accepted send
+recent_next : (kept : Incarnation) (xs : List Fact) (moment : ℕ) (e : Entry) (queue group : List ℕ) (given : Option (List ℕ)) (body : List ℕ) → StandsFor kept xs → kept.last ≤ moment → (later : ℕ) → moment ≤ later
+    → filter (is_recent later) (with_message moment group (dedup_or_made body given) body kept).accepted ≡ filter (is_recent later) (all_accepted (xs ++ accepted_fact kept moment e queue group given body ∷ []))
+recent_next kept xs moment e queue group given body stands before later after =
+    let f = accepted_fact kept moment e queue group given body in
+    let from : kept.last ≤ later = omega arith in
+    let recent = is_recent later in
+    filter-append recent (filter (is_recent moment) kept.accepted) (accepted_of f ∷ [])
+    ∙ ap (λ ys. ys ++ filter recent (accepted_of f ∷ [])) (filter-kept recent (is_recent moment) kept.accepted (λ a passes. still_recent moment later (a.moment + DEDUPLICATION_WINDOW) after passes) ∙ stands.recent later from)
+    ∙ sym (filter-append recent (all_accepted xs) (accepted_of f ∷ []))
+    ∙ ap (filter recent) (sym (map-append accepted_of (messages xs) (f ∷ [])))
+    ∙ ap (λ ms. filter recent (map accepted_of ms)) (sym (messages-next xs f refl))
+
 -- what is kept after an accepted send
 stands_accepted : (kept : Incarnation) (xs : List Fact) (moment : ℕ) (e : Entry) (queue group : List ℕ) (given : Option (List ℕ)) (body : List ℕ) → StandsFor kept xs → IsTold xs → kept.last ≤ moment → StandsFor (with_message moment group (dedup_or_made body given) body kept) (xs ++ accepted_fact kept moment e queue group given body ∷ [])
 stands_accepted kept xs moment e queue group given body stands told before =
@@ -84,6 +103,7 @@ stands_accepted kept xs moment e queue group given body stands told before =
       sent = ap (λ n. n + 1) stands.sent ∙ sym (ap length (messages-next xs f refl) ∙ length-append (messages xs) (f ∷ []));
       messages = ap (λ ms. ms ++ new_message (kept.sent + 1) group body ∷ []) stands.messages ∙ sym (standing-next kept.attributes.visibility xs f refl refl (λ n. refl) (λ n. refl) (told.new (kept.sent + 1) above));
       window = window_next kept xs moment e queue group given body stands before;
+      recent = recent_next kept xs moment e queue group given body stands before;
       last = clocked-next xs f refl;
       used = ap (λ n. n + 1) stands.used ∙ used-next xs f refl;
     }
@@ -100,6 +120,7 @@ stands_idle kept xs moment e queue group given body reply stands before =
       sent = stands.sent ∙ sent-same xs f refl;
       messages = stands.messages ∙ sym (standing-quiet kept.attributes.visibility xs f (record { rejects = refl; handed = refl; changes = λ k. refl; deletes = λ k. refl }));
       window = window-same kept xs f moment stands refl before;
+      recent = recent-same kept xs f moment stands refl before;
       last = clocked-next xs f refl;
       used = ap (λ k. k + 1) stands.used ∙ used-next xs f refl;
     }

@@ -1,12 +1,12 @@
 -- What is kept of an incarnation, against what happened to it.
-use Rattle.std.proofs.Common.{◌≡◌, ℕ, ◌+◌, ◌≤◌, ◌∙◌, ap, sym, List, [], ◌∷◌, ◌++◌, length, None, true, false, arith, subst, refl, length-append}
+use Rattle.std.proofs.Common.{◌≡◌, ℕ, ◌+◌, ◌≤◌, ◌∙◌, ap, sym, List, [], ◌∷◌, ◌++◌, length, map, None, true, false, arith, subst, refl, length-append}
 use Rattle.std.specs.List.{filter, find, last_or}
 use Rattle.std.specs.Option.{option_map}
 use Rattle.cq_base.specs.declared.ask.Ask.{Ask}
 use Rattle.cq_base.specs.declared.ask.Entry.{Entry}
 use Rattle.cq_base.specs.Asks.{Attributes}
 use Rattle.cq_base.specs.Facts.{Fact}
-use Rattle.cq_base.specs.Incarnations.{Incarnation, IncarnationStandsFor, coming, told_of, repeated, is_use, is_clocked}
+use Rattle.cq_base.specs.Incarnations.{Incarnation, IncarnationStandsFor, coming, told_of, is_recent, accepted_of, all_accepted, repeated, is_use, is_clocked}
 use Rattle.cq_base.specs.Messages.{messages, is_accepted, duplicate, is_duplicated_by, moment_of, standing}
 use Rattle.cq_base.proofs.Ends.{filter-passes, filter-fails}
 use Rattle.cq_base.proofs.Numbers.{messages-same}
@@ -18,16 +18,17 @@ pub record StandsFor (kept : Incarnation) (xs : List Fact) : Type 0 where
   pub sent : kept.sent ≡ length (messages xs)
   pub messages : kept.messages ≡ standing kept.attributes.visibility xs
   pub window : (id : List ℕ) (moment : ℕ) → kept.last ≤ moment → repeated id moment kept.accepted ≡ option_map (λ f. f.count) (duplicate id moment xs)
+  pub recent : (moment : ℕ) → kept.last ≤ moment → filter (is_recent moment) kept.accepted ≡ filter (is_recent moment) (all_accepted xs)
   pub last : kept.last ≡ moment_of (last_or None (filter is_clocked xs))
   pub used : kept.used ≡ length (filter is_use xs)
 
 -- what stands for entries stands for what they did
 pub stands-told : (kept : Incarnation) (entries : List Entry) → IncarnationStandsFor kept entries → StandsFor kept (told_of kept entries)
-stands-told kept entries h = record { sent = h.sent; messages = h.messages; window = h.window; last = h.last; used = h.used }
+stands-told kept entries h = record { sent = h.sent; messages = h.messages; window = h.window; recent = h.recent; last = h.last; used = h.used }
 
 -- and the other way round
 told-stands : (kept : Incarnation) (entries : List Entry) → StandsFor kept (told_of kept entries) → IncarnationStandsFor kept entries
-told-stands kept entries h = record { sent = h.sent; messages = h.messages; window = h.window; last = h.last; used = h.used }
+told-stands kept entries h = record { sent = h.sent; messages = h.messages; window = h.window; recent = h.recent; last = h.last; used = h.used }
 
 -- the same with one more entry
 pub stands-more : (kept : Incarnation) (entries : List Entry) (e : Entry) → StandsFor kept (told_of kept entries ++ coming kept.number kept.attributes (told_of kept entries) e ∷ []) → IncarnationStandsFor kept (entries ++ e ∷ [])
@@ -69,6 +70,13 @@ window-same kept xs f last stands rejected later id moment from =
     let from_last : kept.last ≤ moment = omega arith in
     stands.window id moment from_last ∙ ap (λ ys. option_map (λ y. y.count) (find (is_duplicated_by id moment) ys)) (sym (messages-same xs f rejected))
 
+-- and which of them are recent
+pub recent-same : (kept : Incarnation) (xs : List Fact) (f : Fact) (last : ℕ) → StandsFor kept xs → is_accepted f ≡ false → kept.last ≤ last
+    → (moment : ℕ) → last ≤ moment → filter (is_recent moment) kept.accepted ≡ filter (is_recent moment) (all_accepted (xs ++ f ∷ []))
+recent-same kept xs f last stands rejected later moment from =
+    let from_last : kept.last ≤ moment = omega arith in
+    stands.recent moment from_last ∙ ap (λ ys. filter (is_recent moment) (map accepted_of ys)) (sym (messages-same xs f rejected))
+
 -- what is kept of an incarnation to which nothing came
 abbrev empty : ℕ → Attributes → Incarnation
 empty number attributes = record { number = number; attributes = attributes; sent = 0; messages = []; accepted = []; last = 0; used = 0 }
@@ -76,7 +84,7 @@ empty number attributes = record { number = number; attributes = attributes; sen
 -- nothing happened
 nothing_told : (number : ℕ) (attributes : Attributes) → StandsFor (empty number attributes) []
 unfolding messages duplicate standing
-nothing_told number attributes = record { sent = refl; messages = refl; window = λ id moment later. refl; last = refl; used = refl }
+nothing_told number attributes = record { sent = refl; messages = refl; window = λ id moment later. refl; recent = λ moment later. refl; last = refl; used = refl }
 
 -- it stands for no entries
 pub stands-none : (number : ℕ) (attributes : Attributes) → IncarnationStandsFor (empty number attributes) []

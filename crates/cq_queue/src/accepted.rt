@@ -1,8 +1,7 @@
 //! The accepted sends whose deduplication ids still count.
 ghost use Rattle.std.specs.Prelude.{◌≡◌, ◌+◌, ◌≤◌, ◌<◌, ◌++◌, [], ◌∷◌, filter, find, option_map, vec_len, vec_capacity, IfOk};
 ghost use Rattle.cq_base.specs.declared.limits.TheConstants.{DEDUPLICATION_WINDOW};
-ghost use Rattle.cq_base.specs.Incarnations.{counts_for, repeated};
-ghost use Rattle.cq_queue.specs.within.Kept.{is_recent};
+ghost use Rattle.cq_base.specs.Incarnations.{is_recent, counts_for, repeated};
 
 use cq_base::{DEDUPLICATION_WINDOW, DedupId, Moment, NoMemory};
 use std::alloc::Global;
