@@ -5,7 +5,7 @@ ghost use Rattle.std.specs.Option.{option_map};
 ghost use Rattle.cq_base.specs.declared.limits.TheConstants.{HISTORY_LIMIT};
 ghost use Rattle.cq_base.specs.Effects.{message_at};
 ghost use Rattle.cq_base.specs.Messages as object;
-ghost use Rattle.cq_base.specs.Receiving.{is_in_flight};
+ghost use Rattle.cq_base.specs.Receiving.{to_hand, delivery_of, is_in_flight};
 ghost use Rattle.cq_base.specs.Relations.{Among};
 ghost use Rattle.cq_messages.specs.Groups.{numbers_at};
 ghost use Rattle.cq_messages.specs.Indexed.{IsIndexed};
@@ -18,11 +18,12 @@ use crate::counts::count_in_flight;
 use crate::groups::Groups;
 use crate::heads::refresh;
 use crate::message::Message;
+use crate::offered::deliveries_of;
 use crate::open::{self, Numbers};
 use crate::places::place_of;
 use crate::retime::retime;
 use crate::slot::{NEVER, Slot};
-use cq_base::{BatchSize, GroupId, Moment, NoMemory};
+use cq_base::{BatchSize, Delivery, GroupId, Moment, NoMemory};
 use cq_least::{Leasts, Tower, new_tower};
 use std::alloc::Global;
 use std::marker::Model;
@@ -56,7 +57,7 @@ impl Model for Messages {
 }
 
 /// The message of that sequence number.
-fn message_in(slots: &[Slot], sequence: u64) -> Option<&Message>
+pub fn message_in(slots: &[Slot], sequence: u64) -> Option<&Message>
     requires { IsAscending 0 slots.now }
     ensures { option_map (λ x. x.now) result ≡ message_at sequence (live slots.now) }
 {
@@ -110,6 +111,23 @@ impl Messages {
         ensures { result.items ≡ numbers_to_hand size moment self.now }
     {
         open::numbers_to_hand(&self.slots, &self.waits, &self.groups, moment, size)
+    }
+
+    /// What a receive of that size hands out at that moment, in order, from the queue of that incarnation, in a list that has
+    /// room for no more. The texts are shared: O(size log n).
+    pub fn offer(
+        &self,
+        incarnation: u64,
+        moment: Moment,
+        size: BatchSize,
+    ) -> Result<Vec<Delivery>, NoMemory>
+        requires { 0 < incarnation }
+        ensures { IfOk result (λ deliveries. deliveries.items
+            ≡ map (delivery_of incarnation) (to_hand size moment self.now)) }
+    {
+        let numbers = self.numbers_to_hand(moment, size);
+        let alloc = *self.slots.allocator();
+        deliveries_of(alloc, &self.slots, incarnation, numbers.as_slice())
     }
 
     /// Hides the message of that sequence number up to `end`, in milliseconds. It takes no memory. O(log n) for each
