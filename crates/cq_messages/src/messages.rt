@@ -14,6 +14,7 @@ ghost use Rattle.cq_messages.specs.declared.slot.TheConstants.{NEVER};
 ghost use Rattle.cq_messages.specs.Slots.{live, gone, IsAscending};
 ghost use Rattle.cq_messages.specs.Touched.{retimed};
 
+use crate::copies::{copies, groups_of};
 use crate::counts::count_in_flight;
 use crate::groups::Groups;
 use crate::heads::refresh;
@@ -96,6 +97,20 @@ impl Messages {
     {
         let in_flight = count_in_flight(&self.slots, &self.flights, moment);
         (self.count - in_flight, in_flight)
+    }
+
+    /// The same messages. It shares the texts: O(n), and as much for the slots of messages that were deleted.
+    pub fn try_copy(&self) -> Result<Messages, NoMemory>
+        ensures { IfOk result (λ copy. copy ≡ self.now) }
+    {
+        let alloc = *self.slots.allocator();
+        Ok(Messages {
+            slots: copies(alloc, &self.slots)?,
+            waits: self.waits.try_copy()?,
+            flights: self.flights.try_copy()?,
+            groups: groups_of(alloc, &self.slots)?,
+            count: self.count,
+        })
     }
 
     /// The message of that sequence number, if it isn't deleted: O(log n).
