@@ -10,3 +10,4 @@ pub mod Spoken
 pub mod Standing
 pub mod Stands
 pub mod Told
+pub mod Windows

@@ -1,11 +1,19 @@
 //! The accepted sends whose deduplication ids still count.
-ghost use Rattle.std.specs.Prelude.{◌≡◌, ◌+◌, ◌≤◌, ◌<◌, ◌++◌, [], ◌∷◌, filter, find, option_map, vec_len, vec_capacity, IfOk};
+ghost use Rattle.std.specs.Prelude.{◌≡◌, ◌+◌, ◌≤◌, ◌<◌, ◌++◌, [], ◌∷◌, filter, find, option_map, nat_lt, Some, vec_len, vec_capacity, IfOk};
 ghost use Rattle.cq_base.specs.declared.limits.TheConstants.{DEDUPLICATION_WINDOW};
 ghost use Rattle.cq_base.specs.Incarnations.{is_recent, counts_for, repeated};
+ghost use Rattle.cq_queue.specs.within.Windows.{known_of, answered};
 
 use cq_base::{DEDUPLICATION_WINDOW, DedupId, Moment, NoMemory};
 use std::alloc::Global;
 use std::marker::Model;
+
+/// Whether the five minutes that begin at `sent` aren't over at that moment.
+fn is_within(sent: Moment, moment: Moment) -> bool
+    ensures { result ≡ nat_lt moment (sent + DEDUPLICATION_WINDOW) }
+{
+    moment.get() < sent.get() + DEDUPLICATION_WINDOW
+}
 
 /// An accepted send, as far as its deduplication id goes.
 #[derive(Drop)]
@@ -23,12 +31,42 @@ impl Model for Accepted {
     ghost view = { λ a. record { dedup = a.dedup; moment = a.moment; sequence = a.sequence } };
 }
 
+/// What is known of the deduplication id of an accepted send.
+#[derive(Clone, Copy, Drop)]
+pub struct Known {
+    pub moment: Moment,
+    pub sequence: u64,
+}
+
+impl Known {
+    /// The sequence number with which a send of that id is answered at that moment, if it repeats this one.
+    pub fn answered(&self, moment: Moment) -> Option<u64>
+        ensures { result ≡ answered moment (Some self.now) }
+    {
+        if is_within(self.moment, moment) {
+            Some(self.sequence)
+        } else {
+            None
+        }
+    }
+}
+
 impl Accepted {
+    /// What is known of its id.
+    pub fn known(&self) -> Known
+        ensures { result ≡ known_of self.now }
+    {
+        Known {
+            moment: self.moment,
+            sequence: self.sequence,
+        }
+    }
+
     /// Whether its five minutes aren't over at that moment.
-    fn is_recent(&self, moment: Moment) -> bool
+    pub fn is_recent(&self, moment: Moment) -> bool
         ensures { result ≡ is_recent moment self.now }
     {
-        moment.get() < self.moment.get() + DEDUPLICATION_WINDOW
+        is_within(self.moment, moment)
     }
 
     /// Whether a send of that deduplication id repeats it at that moment.
@@ -39,7 +77,7 @@ impl Accepted {
     }
 
     /// The same. It shares the id: O(1).
-    fn try_copy(&self) -> Result<Accepted, NoMemory>
+    pub fn try_copy(&self) -> Result<Accepted, NoMemory>
         ensures { IfOk result (λ copy. copy ≡ self.now) }
     {
         Ok(Accepted {

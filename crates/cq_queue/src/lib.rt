@@ -10,5 +10,6 @@ mod queue;
 mod receive;
 #[cfg(test)]
 mod tests;
+mod window;
 
 pub use queue::Queue;
