@@ -1,5 +1,5 @@
 -- A send to an incarnation.
-use Rattle.std.proofs.Common.{◌≡◌, ℕ, ◌+◌, ◌<◌, ◌≤◌, ◌∙◌, ◌&&◌, ap, sym, List, [], ◌∷◌, ◌++◌, length, map, Option, Some, None, Bool, true, false, cond, arith, subst, refl, length-append}
+use Rattle.std.proofs.Common.{◌≡◌, ℕ, ◌+◌, ◌<◌, ◌≤◌, ◌∙◌, ap, sym, List, [], ◌∷◌, ◌++◌, length, map, Option, Some, None, Bool, true, false, cond, arith, subst, refl, length-append}
 use Rattle.std.specs.Prelude.{nat_lt}
 use Rattle.std.specs.List.{filter, find}
 use Rattle.std.specs.Option.{option_map, option_or}
@@ -23,7 +23,7 @@ use Rattle.cq_base.specs.Incarnations.{Accepted, Incarnation, IncarnationStandsF
 use Rattle.cq_base.specs.Messages.{messages, duplicate, is_duplicated_by}
 use Rattle.cq_base.proofs.Numbers.{messages-next}
 use Rattle.cq_messages.specs.Changes.{new_message}
-use Rattle.cq_queue.specs.within.Kept.{used_at, with_message}
+use Rattle.cq_queue.specs.within.Kept.{used_at, repeated_at, with_message}
 use Rattle.cq_queue.specs.Entries.{IsSend, IsSendAs, StandsAfter, IsAnswered}
 use Rattle.cq_queue.proofs.Maps.{option_map-or, find-kept, filter-kept}
 use Rattle.cq_queue.proofs.Standing.{standing-quiet, standing-next}
@@ -43,15 +43,28 @@ chosen_image : {X Y Z : Type 0} (f : X → Z) (g : Y → Z) (b : Bool) (x : X) (
 chosen_image f g true x y h = ap Some h
 chosen_image f g false x y h = refl
 
+-- what is recent at a later moment is so at an earlier one
+still_recent : (moment later end : ℕ) → moment ≤ later → nat_lt later end ≡ true → nat_lt moment end ≡ true
+still_recent moment later end after passes = grind (arith, nat_tests)
+
+-- what counts at a later moment is recent at an earlier one
+counts_recent : (id : List ℕ) (moment later : ℕ) (a : Accepted) → moment ≤ later → counts_for id later a ≡ true → is_recent moment a ≡ true
+counts_recent id moment later a after passes = still_recent moment later (a.moment + DEDUPLICATION_WINDOW) after (and_parts (bytes_eq a.dedup id) (is_recent later a) passes).1
+
 -- of the accepted sends, only those of the last five minutes can be found later
 repeated-next : (id : List ℕ) (moment later : ℕ) (accepted : List Accepted) (a : Accepted) → moment ≤ later → repeated id later (filter (is_recent moment) accepted ++ a ∷ []) ≡ option_or (repeated id later accepted) (option_map (λ y. y.sequence) (cond (counts_for id later a) (Some a) None))
 repeated-next id moment later accepted a after =
     let counts = counts_for id later in
-    ap (option_map (λ y. y.sequence)) (find-append counts (filter (is_recent moment) accepted) (a ∷ []) ∙ ap (λ o. option_or o (cond (counts a) (Some a) None)) (find-kept counts (is_recent moment) accepted (λ y passes. still (bytes_eq y.dedup id) moment later (y.moment + DEDUPLICATION_WINDOW) after passes)))
+    ap (option_map (λ y. y.sequence)) (find-append counts (filter (is_recent moment) accepted) (a ∷ []) ∙ ap (λ o. option_or o (cond (counts a) (Some a) None)) (find-kept counts (is_recent moment) accepted (λ y passes. counts_recent id moment later y after passes)))
     ∙ option_map-or (λ y. y.sequence) (find counts accepted) (cond (counts a) (Some a) None)
-  where
-    still : (b : Bool) (moment later end : ℕ) → moment ≤ later → (b && nat_lt later end) ≡ true → nat_lt moment end ≡ true
-    still b moment later end after passes = let before = (and_parts b (nat_lt later end) passes).1 in grind (arith, nat_tests)
+
+-- the same where there is none more
+repeated-recent : (id : List ℕ) (moment later : ℕ) (accepted : List Accepted) → moment ≤ later → repeated id later (filter (is_recent moment) accepted) ≡ repeated id later accepted
+repeated-recent id moment later accepted after = ap (option_map (λ y. y.sequence)) (find-kept (counts_for id later) (is_recent moment) accepted (λ y passes. counts_recent id moment later y after passes))
+
+-- what is recent later is among what is recent now
+recent-recent : (moment later : ℕ) (accepted : List Accepted) → moment ≤ later → filter (is_recent later) (filter (is_recent moment) accepted) ≡ filter (is_recent later) accepted
+recent-recent moment later accepted after = filter-kept (is_recent later) (is_recent moment) accepted (λ a passes. still_recent moment later (a.moment + DEDUPLICATION_WINDOW) after passes)
 
 -- one more accepted send
 duplicate-next : (id : List ℕ) (moment : ℕ) (xs : List Fact) (sends : List Fact) (f : Fact) → messages xs ≡ sends ++ f ∷ [] → duplicate id moment xs ≡ option_or (find (is_duplicated_by id moment) sends) (cond (is_duplicated_by id moment f) (Some f) None)
@@ -76,10 +89,6 @@ window_next kept xs moment e queue group given body stands before id later after
     ∙ sym (option_map-or (λ y. y.count) (duplicate id later xs) (cond (is_duplicated_by id later f) (Some f) None))
     ∙ ap (option_map (λ y. y.count)) (sym (duplicate-next id later (xs ++ f ∷ []) (messages xs) f (messages-next xs f refl)))
 
--- what is recent at a later moment is so at an earlier one
-still_recent : (moment later end : ℕ) → moment ≤ later → nat_lt later end ≡ true → nat_lt moment end ≡ true
-still_recent moment later end after passes = grind (arith, nat_tests)
-
 -- those that are recent after an accepted send
 recent_next : (kept : Incarnation) (xs : List Fact) (moment : ℕ) (e : Entry) (queue group : List ℕ) (given : Option (List ℕ)) (body : List ℕ) → StandsFor kept xs → kept.last ≤ moment → (later : ℕ) → moment ≤ later
     → filter (is_recent later) (with_message moment group (dedup_or_made body given) body kept).accepted ≡ filter (is_recent later) (all_accepted (xs ++ accepted_fact kept moment e queue group given body ∷ []))
@@ -88,7 +97,7 @@ recent_next kept xs moment e queue group given body stands before later after =
     let from : kept.last ≤ later = omega arith in
     let recent = is_recent later in
     filter-append recent (filter (is_recent moment) kept.accepted) (accepted_of f ∷ [])
-    ∙ ap (λ ys. ys ++ filter recent (accepted_of f ∷ [])) (filter-kept recent (is_recent moment) kept.accepted (λ a passes. still_recent moment later (a.moment + DEDUPLICATION_WINDOW) after passes) ∙ stands.recent later from)
+    ∙ ap (λ ys. ys ++ filter recent (accepted_of f ∷ [])) (recent-recent moment later kept.accepted after ∙ stands.recent later from)
     ∙ sym (filter-append recent (all_accepted xs) (accepted_of f ∷ []))
     ∙ ap (filter recent) (sym (map-append accepted_of (messages xs) (f ∷ [])))
     ∙ ap (λ ms. filter recent (map accepted_of ms)) (sym (messages-next xs f refl))
@@ -112,7 +121,7 @@ stands_accepted kept xs moment e queue group given body stands told before =
 abbrev idle_fact : Incarnation → ℕ → Entry → List ℕ → List ℕ → Option (List ℕ) → List ℕ → Reply → Fact
 idle_fact kept moment e queue group given body reply = fact_with (asked moment e (Send queue group given body)) kept.number (only_replies reply)
 
--- what is kept after such a send
+-- what is kept after one that is refused
 stands_idle : (kept : Incarnation) (xs : List Fact) (moment : ℕ) (e : Entry) (queue group : List ℕ) (given : Option (List ℕ)) (body : List ℕ) (reply : Reply) → StandsFor kept xs → kept.last ≤ moment → StandsFor (used_at moment kept) (xs ++ idle_fact kept moment e queue group given body reply ∷ [])
 stands_idle kept xs moment e queue group given body reply stands before =
     let f = idle_fact kept moment e queue group given body reply in
@@ -123,6 +132,19 @@ stands_idle kept xs moment e queue group given body reply stands before =
       recent = recent-same kept xs f moment stands refl before;
       last = clocked-next xs f refl;
       used = ap (λ k. k + 1) stands.used ∙ used-next xs f refl;
+    }
+
+-- what is kept after one that repeats one
+stands_again : (kept : Incarnation) (xs : List Fact) (moment : ℕ) (e : Entry) (queue group : List ℕ) (given : Option (List ℕ)) (body : List ℕ) (reply : Reply) → StandsFor kept xs → kept.last ≤ moment → StandsFor (repeated_at moment kept) (xs ++ idle_fact kept moment e queue group given body reply ∷ [])
+stands_again kept xs moment e queue group given body reply stands before =
+    let idle = stands_idle kept xs moment e queue group given body reply stands before in
+    record {
+      sent = idle.sent;
+      messages = idle.messages;
+      window = λ id later after. repeated-recent id moment later kept.accepted after ∙ idle.window id later after;
+      recent = λ later after. recent-recent moment later kept.accepted after ∙ idle.recent later after;
+      last = idle.last;
+      used = idle.used;
     }
 
 -- a send that repeats none is accepted
@@ -182,14 +204,14 @@ reply-accepted kept moment group dedup body before none entries e stands is =
     ap (λ f. f.reply) (ap (coming kept.number kept.attributes xs) (entry-asked e moment _ is.at_moment is.asks) ∙ coming-accepted kept xs moment e is.queue group is.given body (stands-told kept entries stands) before is.has new)
 
 -- a send that repeats one
-pub stands-repeated : (kept : Incarnation) (moment : ℕ) (group dedup body : List ℕ) (n : ℕ) → kept.last ≤ moment → repeated dedup moment kept.accepted ≡ Some n → StandsAfter (IsSendAs kept.attributes moment group dedup body) kept (used_at moment kept)
+pub stands-repeated : (kept : Incarnation) (moment : ℕ) (group dedup body : List ℕ) (n : ℕ) → kept.last ≤ moment → repeated dedup moment kept.accepted ≡ Some n → StandsAfter (IsSendAs kept.attributes moment group dedup body) kept (repeated_at moment kept)
 stands-repeated kept moment group dedup body n before found entries e stands is =
     let xs = told_of kept entries in
-    let now = used_at moment kept in
+    let now = repeated_at moment kept in
     let for = stands-told kept entries stands in
     let old = repeated_as kept moment (dedup_or_made body is.given) dedup (Some n) is.same found in
     stands-more now entries e (subst (λ f. StandsFor now (xs ++ f ∷ [])) (sym (ap (coming kept.number kept.attributes xs) (entry-asked e moment _ is.at_moment is.asks) ∙ coming-repeated kept xs moment e is.queue group is.given body n for before is.has old))
-    (stands_idle kept xs moment e is.queue group is.given body (Sent n) for before))
+    (stands_again kept xs moment e is.queue group is.given body (Sent n) for before))
 
 -- its reply
 pub reply-repeated : (kept : Incarnation) (moment : ℕ) (group dedup body : List ℕ) (n : ℕ) → kept.last ≤ moment → repeated dedup moment kept.accepted ≡ Some n → IsAnswered (IsSendAs kept.attributes moment group dedup body) kept (Sent n)

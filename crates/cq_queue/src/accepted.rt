@@ -1,11 +1,10 @@
-//! The accepted sends whose deduplication ids still count.
-ghost use Rattle.std.specs.Prelude.{◌≡◌, ◌+◌, ◌≤◌, ◌<◌, ◌++◌, [], ◌∷◌, filter, find, option_map, nat_lt, Some, vec_len, vec_capacity, IfOk};
+//! An accepted send, and what is known of its deduplication id.
+ghost use Rattle.std.specs.Prelude.{◌≡◌, ◌+◌, nat_lt, Some, IfOk};
 ghost use Rattle.cq_base.specs.declared.limits.TheConstants.{DEDUPLICATION_WINDOW};
-ghost use Rattle.cq_base.specs.Incarnations.{is_recent, counts_for, repeated};
+ghost use Rattle.cq_base.specs.Incarnations.{is_recent};
 ghost use Rattle.cq_queue.specs.within.Windows.{known_of, answered};
 
 use cq_base::{DEDUPLICATION_WINDOW, DedupId, Moment, NoMemory};
-use std::alloc::Global;
 use std::marker::Model;
 
 /// Whether the five minutes that begin at `sent` aren't over at that moment.
@@ -69,13 +68,6 @@ impl Accepted {
         is_within(self.moment, moment)
     }
 
-    /// Whether a send of that deduplication id repeats it at that moment.
-    fn counts_for(&self, dedup: &DedupId, moment: Moment) -> bool
-        ensures { result ≡ counts_for dedup.now moment self.now }
-    {
-        self.dedup == *dedup && self.is_recent(moment)
-    }
-
     /// The same. It shares the id: O(1).
     pub fn try_copy(&self) -> Result<Accepted, NoMemory>
         ensures { IfOk result (λ copy. copy ≡ self.now) }
@@ -86,44 +78,4 @@ impl Accepted {
             sequence: self.sequence,
         })
     }
-}
-
-/// The sequence number with which a send of that deduplication id is answered at that moment, if it
-/// repeats one of these.
-pub fn repeated(accepted: &[Accepted], dedup: &DedupId, moment: Moment) -> Option<u64>
-    ensures { result ≡ repeated dedup.now moment accepted.now }
-{
-    accepted
-        .iter()
-        .find(|a| a.counts_for(dedup, moment))
-        .map(|a| a.sequence)
-}
-
-/// Forgets those whose five minutes are over at that moment. It takes no memory.
-fn forget_old(accepted: &mut Vec<Accepted>, moment: Moment)
-    ensures items { accepted.new.items ≡ filter (is_recent moment) accepted.old.items }
-    ensures fewer { vec_len accepted.new ≤ vec_len accepted.old }
-    ensures room { vec_capacity accepted.new ≡ vec_capacity accepted.old }
-{
-    accepted.retain(|a| a.is_recent(moment));
-}
-
-/// Adds one more, and forgets those whose five minutes are over. It takes no memory.
-pub fn accept(accepted: &mut Vec<Accepted>, one: Accepted)
-    requires { vec_len accepted.old < vec_capacity accepted.old }
-    ensures { accepted.new.items ≡ filter (is_recent one.moment) accepted.old.items ++ one ∷ [] }
-{
-    forget_old(accepted, one.moment);
-    accepted.push_reserved(one);
-}
-
-/// The same accepted sends. It shares the ids: O(accepted sends).
-pub fn copies(alloc: Global, accepted: &[Accepted]) -> Result<Vec<Accepted>, NoMemory>
-    ensures { IfOk result (λ copy. copy.items ≡ accepted.now) }
-{
-    let mut copy = Vec::new(alloc);
-    for one in accepted {
-        copy.push(one.try_copy()?)?;
-    }
-    Ok(copy)
 }

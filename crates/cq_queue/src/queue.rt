@@ -7,14 +7,15 @@ ghost use Rattle.cq_base.specs.declared.reply.Refusal.TheVariants.{MissingDedupI
 ghost use Rattle.cq_base.specs.Incarnations.{IncarnationStandsFor, repeated};
 ghost use Rattle.cq_queue.specs.within.Answers.{send_reply, delete_reply, is_deleting, change_reply, is_changing};
 ghost use Rattle.cq_queue.specs.Entries.{IsSend, IsSendAs, IsReceive, IsDelete, IsChange, StandsAfter, IsAnswered, IsNoRepeat, IsSameQueue};
-ghost use Rattle.cq_queue.specs.within.Kept.{used_at, with_message, handed_out, is_receipt_of, without_message, deletion, with_timeout, alteration};
+ghost use Rattle.cq_queue.specs.within.Kept.{used_at, repeated_at, with_message, handed_out, is_receipt_of, without_message, deletion, with_timeout, alteration};
 
 mod reads;
 
-use crate::accepted::{self, Accepted};
+use crate::accepted::Accepted;
 use crate::change::{change_sent, end_of, hide};
 use crate::delete::{delete_sent, take_out};
 use crate::hand::{mark, numbers_to_hand};
+use crate::window::Window;
 use cq_base::{BatchSize, Body, DedupId, GroupId, Moment, NoMemory, Receipt, Refusal, Seconds};
 use cq_messages::Message;
 use std::alloc::Global;
@@ -32,8 +33,8 @@ pub struct Queue {
     sent: u64,
     /// The messages that aren't deleted, in order of sending.
     messages: Vec<Message>,
-    /// The accepted sends of the five minutes up to the last of them.
-    accepted: Vec<Accepted>,
+    /// The accepted sends of the five minutes up to the last send that had a number for its answer.
+    window: Window,
     last: Moment,
     used: u64,
 }
@@ -50,12 +51,12 @@ impl Model for Queue {
       attributes = record { visibility = q.visibility; content = q.content };
       sent = q.sent;
       messages = q.messages.items;
-      accepted = q.accepted.items;
+      accepted = q.window.items;
       last = q.last;
       used = q.used;
     } };
 
-    ghost invariant = { λ q. IsSound q.number q.sent q.used q.messages.items };
+    ghost invariant = { λ q. IsSound q.number q.sent q.used q.messages.items q.last q.window.items };
 }
 
 impl Queue {
@@ -81,27 +82,30 @@ impl Queue {
             content,
             sent: 0,
             messages: Vec::new(alloc),
-            accepted: Vec::new(alloc),
+            window: Window::new(alloc),
             last: Moment::zero(),
             used: 0,
         })
     }
 
-    /// The sequence number of the message that a send of that deduplication id repeats.
+    /// The sequence number of the message that a send of that deduplication id repeats. O(1) expected.
     fn repeated(&self, dedup: &DedupId, moment: Moment) -> Option<u64>
         ensures { result ≡ repeated dedup.now moment self.now.accepted }
     {
-        accepted::repeated(&self.accepted, dedup, moment)
+        self.window.repeated(dedup, moment)
     }
 
-    /// Counts a send that repeats a message, and answers with that one's sequence number.
+    /// Counts a send that repeats a message, and answers with that one's sequence number. It forgets the ids
+    /// whose five minutes are over.
     fn count_repeat(&mut self, moment: Moment, sequence: u64) -> u64
-        requires { self.old.used < HISTORY_LIMIT }
+        requires order { self.old.last ≤ moment }
+        requires room { self.old.used < HISTORY_LIMIT }
         ensures sequence { result ≡ sequence }
-        ensures used { self.new ≡ used_at moment self.old }
+        ensures used { self.new ≡ repeated_at moment self.old }
     {
         self.used += 1;
         // The five minutes of the send that it repeats go on as before.
+        self.window.forget_old(moment);
         self.last = moment;
         sequence
     }
@@ -114,23 +118,25 @@ impl Queue {
         dedup: &DedupId,
         body: &Body,
     ) -> Result<u64, NoMemory>
-        requires { self.old.used < HISTORY_LIMIT }
+        requires order { self.old.last ≤ moment }
+        requires room { self.old.used < HISTORY_LIMIT }
+        requires new { repeated dedup.now moment self.old.accepted ≡ None }
         ensures sequence { IfOk result (λ n. n ≡ self.old.sent + 1) }
         ensures ok { OnOk result (self.new ≡ with_message moment group.now dedup.now body.now self.old) }
         ensures err { OnErr result (self.new ≡ self.old) }
     {
         let sequence = self.sent + 1;
         let message = Message::new(sequence, group, body)?;
-        let dedup = dedup.try_copy()?;
         let accepted = Accepted {
-            dedup,
+            dedup: dedup.try_copy()?,
             moment,
             sequence,
         };
+        let id = dedup.try_copy()?;
         self.messages.reserve(1)?;
-        self.accepted.reserve(1)?;
+        self.window.reserve()?;
         self.messages.push_reserved(message);
-        accepted::accept(&mut self.accepted, accepted);
+        self.window.accept(accepted, id);
         self.sent = sequence;
         self.last = moment;
         self.used += 1;
@@ -165,7 +171,8 @@ impl Queue {
 
     /// Counts a send that has no deduplication id, and gets none.
     fn refuse(&mut self, moment: Moment) -> Refusal
-        requires { self.old.used < HISTORY_LIMIT }
+        requires order { self.old.last ≤ moment }
+        requires room { self.old.used < HISTORY_LIMIT }
         ensures refusal { result ≡ MissingDedupId }
         ensures used { self.new ≡ used_at moment self.old }
     {
@@ -203,8 +210,8 @@ impl Queue {
     /// A send that comes at that moment. It is answered with the message's sequence number: a new one, or
     /// that of the message that it repeats. Without a deduplication id it has the one that is made of its
     /// body, if the queue makes ids, and is refused else; a refused one leaves the accepted sends as they are.
-    /// One that repeats under a given id takes no memory. After `NoMemory` the queue is as before. O(accepted
-    /// sends that are kept), amortized O(1) for the message, and O(length of the body) for a made id.
+    /// One that repeats under a given id takes no memory. After `NoMemory` the queue is as before. O(1) expected
+    /// and amortized, also for the ids that it forgets, and O(length of the body) for a made id.
     pub fn send(
         &mut self,
         moment: Moment,
@@ -233,7 +240,8 @@ impl Queue {
 
     /// Hands out up to so many messages, hides each for that timeout, and counts the receive.
     fn mark(&mut self, moment: Moment, size: BatchSize, timeout: Seconds)
-        requires { self.old.used < HISTORY_LIMIT }
+        requires order { self.old.last ≤ moment }
+        requires room { self.old.used < HISTORY_LIMIT }
         ensures { self.new ≡ handed_out moment size (Some timeout) self.old }
     {
         let numbers = numbers_to_hand(moment, size, &self.messages);
@@ -325,6 +333,7 @@ impl Queue {
 
     /// Gives the message of that sequence number a timeout of so many seconds from this moment on.
     fn hide(&mut self, moment: Moment, sequence: u64, visibility: Seconds)
+        requires { self.old.last ≤ moment }
         ensures { self.new ≡ with_timeout moment sequence visibility self.old }
     {
         hide(&mut self.messages, sequence, end_of(moment, visibility));

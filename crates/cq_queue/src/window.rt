@@ -95,8 +95,8 @@ fn push(
     accepted.push_back_reserved(one);
 }
 
-/// The accepted sends whose five minutes weren't over at the last one of them, or since they were last looked
-/// through. Contracts see the list of them, and for how many more there is room.
+/// Accepted sends in order of their moments, and what is known of each of their ids. Contracts see the list of
+/// them, and for how many more there is room.
 #[derive(Drop)]
 pub struct Window {
     accepted: VecDeque<Accepted>,

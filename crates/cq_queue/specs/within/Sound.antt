@@ -2,16 +2,19 @@
 use Rattle.std.specs.Prelude.{ℕ, ◌<◌, ◌≤◌, List}
 use Rattle.std.specs.List.{All}
 use Rattle.cq_base.specs.declared.limits.TheConstants.{HISTORY_LIMIT}
+use Rattle.cq_base.specs.Incarnations.{Accepted}
 use Rattle.cq_base.specs.Messages.{Message}
+use Rattle.cq_queue.specs.within.Windows.{IsBy}
 
 -- the message wasn't handed out more often than so
 abbrev pub IsHandedUpTo : ℕ → Message → Type 0
 IsHandedUpTo used m = m.handings ≤ used
 
 -- The incarnation has a number, and each accepted send and each handing of a message is a use; of these
--- there aren't more than 2^62.
-pub record IsSound (number sent used : ℕ) (messages : List Message) : Type 0 where
+-- there aren't more than 2^62. No accepted send that is kept came after the last moment.
+pub record IsSound (number sent used : ℕ) (messages : List Message) (last : ℕ) (accepted : List Accepted) : Type 0 where
   pub positive : 0 < number
   pub sends : sent ≤ used
   pub handings : All (IsHandedUpTo used) messages
   pub uses : used ≤ HISTORY_LIMIT
+  pub latest : All (IsBy last) accepted

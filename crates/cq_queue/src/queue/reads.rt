@@ -3,8 +3,8 @@ ghost use Rattle.std.specs.Prelude.{◌≡◌, ◌≤◌, IfOk};
 ghost use Rattle.cq_queue.specs.Entries.{AreOffered, AreCounted};
 
 use super::Queue;
+use crate::message;
 use crate::receive::to_hand;
-use crate::{accepted, message};
 use cq_base::{BatchSize, Delivery, Moment, NoMemory, Seconds};
 
 impl Queue {
@@ -73,7 +73,7 @@ impl Queue {
             content: self.content,
             sent: self.sent,
             messages: message::copies(alloc, &self.messages)?,
-            accepted: accepted::copies(alloc, &self.accepted)?,
+            window: self.window.try_copy(alloc)?,
             last: self.last,
             used: self.used,
         })

@@ -1,0 +1,11 @@
+-- The accepted sends that are left came no later.
+use Rattle.std.proofs.Common.{◌<◌, ◌≤◌, subst, sym}
+use Rattle.cq_base.specs.declared.limits.TheConstants.{HISTORY_LIMIT}
+use Rattle.cq_queue.proofs.Sounds.{sound-repeated}
+use Rattle.cq_queue.proofs.queue.Queue.count_repeat.Goals as goal
+
+pub invariant_of-self : goal.invariant_of-self
+invariant_of-self c =
+    let room : c.self.inside.used < HISTORY_LIMIT = subst (λ kept. kept.used < HISTORY_LIMIT) (sym c.self.view_is) c.requires.room in
+    let after : c.self.inside.last ≤ c.args.moment = subst (λ kept. kept.last ≤ c.args.moment) (sym c.self.view_is) c.requires.order in
+    rw c.forget_old.ensures.items (sound-repeated _ _ _ _ _ _ _ room after c.self.invariant)
