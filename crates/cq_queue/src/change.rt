@@ -1,13 +1,12 @@
 //! A change of a message's timeout.
-ghost use Rattle.std.specs.Prelude.{◌≡◌, ◌+◌, ◌*◌, map, nat_lt};
+ghost use Rattle.std.specs.Prelude.{◌≡◌, ◌+◌, ◌*◌, nat_lt};
 ghost use Rattle.cq_base.specs.declared.limits.TheConstants.{SECOND, FLIGHT_LIMIT};
 ghost use Rattle.cq_base.specs.Effects.{message_at, change_standing, change_sent};
 ghost use Rattle.cq_queue.specs.within.Answers.{change_reply, is_changing};
-ghost use Rattle.cq_messages.specs.Changes.{hidden_until};
 
-use crate::delete::{fits, message_at};
+use crate::delete::fits;
 use cq_base::{FLIGHT_LIMIT, Moment, Receipt, Refusal, SECOND, Seconds};
-use cq_messages::Message;
+use cq_messages::{Message, Messages};
 
 /// The moment in milliseconds so many seconds after this one.
 pub fn end_of(moment: Moment, visibility: Seconds) -> u64
@@ -51,24 +50,15 @@ pub fn change_sent(
     moment: Moment,
     visibility: Seconds,
     receipt: Receipt,
-    messages: &[Message],
+    messages: &Messages,
 ) -> Result<(), Refusal>
     ensures reply { change_reply result
         ≡ (change_sent moment visibility receipt (message_at receipt.sequence messages.now)).reply }
     ensures effective { is_changing result
         ≡ (change_sent moment visibility receipt (message_at receipt.sequence messages.now)).effective }
 {
-    match message_at(messages, receipt.sequence()) {
+    match messages.get(receipt.sequence()) {
         Some(message) => change_standing(moment, visibility, receipt, message),
         None => Err(Refusal::MessageNotInflight),
-    }
-}
-
-/// Hides the message of that sequence number up to `end`. It takes no memory.
-pub fn hide(messages: &mut Vec<Message>, sequence: u64, end: u64)
-    ensures { messages.new.items ≡ map (hidden_until sequence end) messages.old.items }
-{
-    for i in 0..messages.len() {
-        messages[i].hide(sequence, end);
     }
 }

@@ -1,18 +1,10 @@
 //! A delete of a message.
-ghost use Rattle.std.specs.Prelude.{◌≡◌, filter, option_map};
+ghost use Rattle.std.specs.Prelude.{◌≡◌};
 ghost use Rattle.cq_base.specs.Effects.{message_at, fits, delete_standing, delete_sent};
 ghost use Rattle.cq_queue.specs.within.Answers.{delete_reply, is_deleting};
-ghost use Rattle.cq_messages.specs.Changes.{is_other};
 
 use cq_base::{Receipt, Refusal};
-use cq_messages::Message;
-
-/// The message of that sequence number, if it isn't deleted.
-pub fn message_at(messages: &[Message], sequence: u64) -> Option<&Message>
-    ensures { option_map (λ x. x.now) result ≡ message_at sequence messages.now }
-{
-    messages.iter().find(|x| x.sequence == sequence)
-}
+use cq_messages::{Message, Messages};
 
 /// Whether the receipt is that of the message's last handing.
 pub fn fits(receipt: Receipt, message: &Message) -> bool
@@ -36,21 +28,14 @@ fn delete_standing(receipt: Receipt, message: &Message) -> Result<bool, Refusal>
 }
 
 /// Whether a delete with a receipt of a message that was sent takes effect.
-pub fn delete_sent(receipt: Receipt, messages: &[Message]) -> Result<bool, Refusal>
+pub fn delete_sent(receipt: Receipt, messages: &Messages) -> Result<bool, Refusal>
     ensures reply { delete_reply result
         ≡ (delete_sent receipt (message_at receipt.sequence messages.now)).reply }
     ensures effective { is_deleting result
         ≡ (delete_sent receipt (message_at receipt.sequence messages.now)).effective }
 {
-    match message_at(messages, receipt.sequence()) {
+    match messages.get(receipt.sequence()) {
         Some(message) => delete_standing(receipt, message),
         None => Ok(false),
     }
-}
-
-/// Takes out the message of that sequence number. It takes no memory.
-pub fn take_out(messages: &mut Vec<Message>, sequence: u64)
-    ensures { messages.new.items ≡ filter (is_other sequence) messages.old.items }
-{
-    messages.retain(|x| x.sequence != sequence);
 }

@@ -4,10 +4,7 @@
 mod accepted;
 mod change;
 mod delete;
-mod hand;
-mod message;
 mod queue;
-mod receive;
 #[cfg(test)]
 mod tests;
 mod window;

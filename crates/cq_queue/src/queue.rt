@@ -12,12 +12,11 @@ ghost use Rattle.cq_queue.specs.within.Kept.{used_at, repeated_at, with_message,
 mod reads;
 
 use crate::accepted::Accepted;
-use crate::change::{change_sent, end_of, hide};
-use crate::delete::{delete_sent, take_out};
-use crate::hand::{mark, numbers_to_hand};
+use crate::change::{change_sent, end_of};
+use crate::delete::delete_sent;
 use crate::window::Window;
 use cq_base::{BatchSize, Body, DedupId, GroupId, Moment, NoMemory, Receipt, Refusal, Seconds};
-use cq_messages::Message;
+use cq_messages::{Message, Messages};
 use std::alloc::Global;
 use std::marker::Model;
 
@@ -25,6 +24,7 @@ use std::marker::Model;
 /// entries it stands. The caller keeps the moments in order and the uses below 2^62.
 #[derive(Drop)]
 pub struct Queue {
+    alloc: Global,
     number: u64,
     visibility: Seconds,
     /// Whether it makes the deduplication ids of sends that have none, of their bodies.
@@ -32,7 +32,7 @@ pub struct Queue {
     /// How many sends it has accepted.
     sent: u64,
     /// The messages that aren't deleted, in order of sending.
-    messages: Vec<Message>,
+    messages: Messages,
     /// The accepted sends of the five minutes up to the last send that had a number for its answer.
     window: Window,
     last: Moment,
@@ -50,13 +50,13 @@ impl Model for Queue {
       number = q.number;
       attributes = record { visibility = q.visibility; content = q.content };
       sent = q.sent;
-      messages = q.messages.items;
+      messages = q.messages;
       accepted = q.window.items;
       last = q.last;
       used = q.used;
     } };
 
-    ghost invariant = { λ q. IsSound q.number q.sent q.used q.messages.items q.last q.window.items };
+    ghost invariant = { λ q. IsSound q.number q.sent q.used q.messages q.last q.window.items };
 }
 
 impl Queue {
@@ -77,11 +77,12 @@ impl Queue {
         ensures used { IfOk result (λ queue. queue.used ≡ 0) }
     {
         Ok(Queue {
+            alloc,
             number: incarnation,
             visibility,
             content,
             sent: 0,
-            messages: Vec::new(alloc),
+            messages: Messages::new(alloc),
             window: Window::new(alloc),
             last: Moment::zero(),
             used: 0,
@@ -133,9 +134,8 @@ impl Queue {
             sequence,
         };
         let id = dedup.try_copy()?;
-        self.messages.reserve(1)?;
         self.window.reserve()?;
-        self.messages.push_reserved(message);
+        self.messages.push(message)?;
         self.window.accept(accepted, id);
         self.sent = sequence;
         self.last = moment;
@@ -244,15 +244,15 @@ impl Queue {
         requires room { self.old.used < HISTORY_LIMIT }
         ensures { self.new ≡ handed_out moment size (Some timeout) self.old }
     {
-        let numbers = numbers_to_hand(moment, size, &self.messages);
+        let numbers = self.messages.numbers_to_hand(moment, size);
         let end = end_of(moment, timeout);
-        mark(&mut self.messages, moment, end, numbers.as_slice());
+        self.messages.mark(moment, end, numbers.as_slice());
         self.last = moment;
         self.used += 1;
     }
 
     /// A receive that comes at that moment, with that visibility timeout or else the queue's. It hands out
-    /// what `offer` lists. It takes no memory. O(messages^2).
+    /// what `offer` lists. It takes no memory. O(size log messages).
     pub fn hand(&mut self, moment: Moment, size: BatchSize, visibility: Option<Seconds>)
         requires order { self.old.last ≤ moment }
         requires room { self.old.used < HISTORY_LIMIT }
@@ -291,11 +291,11 @@ impl Queue {
     fn take_out(&mut self, sequence: u64)
         ensures { self.new ≡ without_message sequence self.old }
     {
-        take_out(&mut self.messages, sequence);
+        self.messages.take_out(sequence);
     }
 
     /// A delete with that receipt, and whether it takes effect. Where it doesn't, or is refused, nothing
-    /// changes. It takes no memory. O(messages).
+    /// changes. It takes no memory. O(log messages) for each message of its group that was handed out.
     pub fn delete(&mut self, receipt: &Receipt) -> Result<bool, Refusal>
         ensures stands { StandsAfter (IsDelete receipt.now) self.old self.new }
         ensures ok { IfOk result (λ deleted. IsAnswered (IsDelete receipt.now) self.old (Deleted deleted)) }
@@ -336,12 +336,12 @@ impl Queue {
         requires { self.old.last ≤ moment }
         ensures { self.new ≡ with_timeout moment sequence visibility self.old }
     {
-        hide(&mut self.messages, sequence, end_of(moment, visibility));
+        self.messages.hide(sequence, end_of(moment, visibility));
         self.last = moment;
     }
 
     /// A change of a message's visibility timeout that comes at that moment. Where it is refused, nothing
-    /// changes. It takes no memory. O(messages).
+    /// changes. It takes no memory. O(log messages) for each message of its group that was handed out.
     pub fn change(
         &mut self,
         moment: Moment,

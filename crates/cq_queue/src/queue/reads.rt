@@ -3,8 +3,6 @@ ghost use Rattle.std.specs.Prelude.{◌≡◌, ◌≤◌, IfOk};
 ghost use Rattle.cq_queue.specs.Entries.{AreOffered, AreCounted};
 
 use super::Queue;
-use crate::message;
-use crate::receive::to_hand;
 use cq_base::{BatchSize, Delivery, Moment, NoMemory, Seconds};
 
 impl Queue {
@@ -43,37 +41,36 @@ impl Queue {
         self.used
     }
 
-    /// What a receive of that size would hand out at that moment. Nothing changes. O(messages^2).
+    /// What a receive of that size would hand out at that moment, in a list that has room for no more. Nothing changes.
+    /// O(size log messages).
     pub fn offer(&self, moment: Moment, size: BatchSize) -> Result<Vec<Delivery>, NoMemory>
         requires order { self.now.last ≤ moment }
         ensures offered { IfOk result (λ deliveries. AreOffered self.now moment size deliveries.items) }
     {
-        let alloc = *self.messages.allocator();
-        to_hand(alloc, self.number, moment, size, &self.messages)
+        self.messages.offer(self.number, moment, size)
     }
 
-    /// How many messages aren't in flight at that moment, and how many are. It takes no memory. O(messages).
+    /// How many messages aren't in flight at that moment, and how many are. It takes no memory. O(log messages) for each
+    /// that is in flight.
     pub fn counts(&self, moment: Moment) -> (u64, u64)
         requires order { self.now.last ≤ moment }
         ensures { AreCounted self.now moment result.0 result.1 }
     {
-        let visible = message::count_visible(&self.messages, moment);
-        let in_flight = message::count_in_flight(&self.messages, moment);
-        (visible, in_flight)
+        self.messages.counts(moment)
     }
 
     /// The same queue. It shares the texts: O(messages and accepted sends that are kept).
     pub fn try_copy(&self) -> Result<Queue, NoMemory>
         ensures { IfOk result (λ copy. copy ≡ self.now) }
     {
-        let alloc = *self.messages.allocator();
         Ok(Queue {
+            alloc: self.alloc,
             number: self.number,
             visibility: self.visibility,
             content: self.content,
             sent: self.sent,
-            messages: message::copies(alloc, &self.messages)?,
-            window: self.window.try_copy(alloc)?,
+            messages: self.messages.try_copy()?,
+            window: self.window.try_copy(self.alloc)?,
             last: self.last,
             used: self.used,
         })
