@@ -11,8 +11,6 @@ mod master;
 mod message;
 mod outboxes;
 mod server;
-#[cfg(test)]
-mod tests;
 
 pub use client::Client;
 pub use fault::{ClientFault, WorldFault};

@@ -86,6 +86,3 @@ pub fn event_of(alloc: Global, bytes: &[u8]) -> Result<Line, LineFault>
         Err(Stop::Memory) => Err(LineFault::NoMemory),
     }
 }
-
-#[cfg(test)]
-mod tests;

@@ -17,13 +17,12 @@ mod output_line;
 mod run;
 mod sink;
 mod source;
-#[cfg(test)]
-mod tests;
 mod texts;
 
 pub use checked::Checked;
 pub use event_line::{Line, LineFault, event_of};
 pub use fault::ScriptFault;
+pub use lines::{LINE_LIMIT, LINES_LIMIT};
 pub use output_line::{answer_line, refused_line};
 pub use run::replay;
 pub use sink::Sink;

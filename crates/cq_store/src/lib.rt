@@ -8,7 +8,5 @@ pub mod laws;
 mod name;
 mod names;
 mod store;
-#[cfg(test)]
-mod tests;
 
 pub use store::Store;

@@ -6,8 +6,6 @@ pub mod laws;
 mod links;
 mod ran;
 mod sim;
-#[cfg(test)]
-mod tests;
 
 pub use event::Event;
 pub use ran::Ran;

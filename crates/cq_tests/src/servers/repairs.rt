@@ -3,8 +3,8 @@ use super::common::{
     adopt, be_tail, check_ack, check_count, check_put, check_sent, enter, id, member, party, pass,
     report,
 };
-use crate::Server;
 use cq_base::Party;
+use cq_chain::Server;
 use std::alloc::Global;
 use std::process::Abort;
 use std::test::Fail;

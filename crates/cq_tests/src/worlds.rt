@@ -1,10 +1,10 @@
 //! Rows on worlds: events, and what comes of them.
-use crate::{Event, Ran, Sim};
 use cq_base::{
     Ask, BatchSize, Body, ChainSize, DedupId, Delivery, GroupId, Moment, Party, Query, QueueName,
     Reply, Request, Seconds, ServerId,
 };
 use cq_chain::{Answer, WorldFault};
+use cq_world::{Event, Ran, Sim};
 use std::alloc::Global;
 use std::process::Abort;
 use std::test::Fail;

@@ -1,7 +1,7 @@
 //! The master, and what it tells whom.
 use super::common::{check_said, detect, hear, id, is_chain, join};
-use crate::{Master, Message};
 use cq_base::ChainSize;
+use cq_chain::{Master, Message};
 use std::alloc::Global;
 use std::process::Abort;
 use std::test::Fail;

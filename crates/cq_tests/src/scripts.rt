@@ -2,13 +2,8 @@
 
 mod examples;
 
-use crate::checked::Checked;
-use crate::fault::ScriptFault;
-use crate::lines::{LINE_LIMIT, LINES_LIMIT};
-use crate::run::replay;
-use crate::sink::Sink;
-use crate::source::Source;
 use cq_base::ChainSize;
+use cq_script::{Checked, LINE_LIMIT, LINES_LIMIT, ScriptFault, Sink, Source, replay};
 use std::alloc::Global;
 use std::io;
 use std::io::{ErrorKind, Read, Write};

@@ -1,6 +1,6 @@
 //! Servers, requests and texts that the tests share.
-use crate::{Answer, Master, Message, Server, WorldFault};
 use cq_base::{Ask, ChainSize, Moment, Party, Query, QueueName, Reply, Request, Seconds, ServerId};
+use cq_chain::{Answer, Master, Message, Server, WorldFault};
 use std::alloc::Global;
 use std::process::Abort;
 use std::test::Fail;

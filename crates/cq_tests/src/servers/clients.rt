@@ -1,7 +1,7 @@
 //! Clients, and the answers that close their requests.
 use super::common::create;
-use crate::{Client, ClientFault};
 use cq_base::{Ask, QueueName, Reply, Request};
+use cq_chain::{Client, ClientFault};
 use std::alloc::Global;
 use std::process::Abort;
 use std::test::Fail;

@@ -1,6 +1,6 @@
 //! Lines, and what is read of them.
-use super::{Line, LineFault, event_of};
 use cq_base::{Ask, Party, Query};
+use cq_script::{Line, LineFault, event_of};
 use cq_world::Event;
 use std::alloc::{AllocError, Global};
 use std::test::Fail;

@@ -7,8 +7,8 @@ mod repairs;
 use self::common::{
     ask, check_count, check_put, check_waiting, counts, enter, member, party, pass,
 };
-use crate::{Server, WorldFault};
 use cq_base::{Party, Query};
+use cq_chain::{Server, WorldFault};
 use std::alloc::Global;
 use std::process::Abort;
 use std::test::Fail;

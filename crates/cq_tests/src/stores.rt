@@ -1,9 +1,9 @@
 //! Rows on a store, each an ask and its answer.
-use crate::Store;
 use cq_base::{
     Ask, BatchSize, Body, DedupId, Delivery, Entry, GroupId, Moment, NoMemory, Query, QueueName,
     Receipt, Reply, Request, Seconds,
 };
+use cq_store::Store;
 use std::alloc::Global;
 use std::process::Abort;
 use std::test::Fail;

@@ -1,0 +1,14 @@
+//! The tests of stores, servers, worlds and scripts, by their public calls. They stand here since a crate that has tests is
+//! proved twice.
+#![tactic(auto)]
+
+#[cfg(test)]
+mod event_lines;
+#[cfg(test)]
+mod scripts;
+#[cfg(test)]
+mod servers;
+#[cfg(test)]
+mod stores;
+#[cfg(test)]
+mod worlds;
