@@ -1,3 +1,4 @@
+pub mod Gathered
 pub mod Groups
 pub mod Indexed
 pub mod Changes

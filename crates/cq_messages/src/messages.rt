@@ -14,6 +14,7 @@ ghost use Rattle.cq_messages.specs.declared.slot.TheConstants.{NEVER};
 ghost use Rattle.cq_messages.specs.Slots.{live, gone, IsAscending};
 ghost use Rattle.cq_messages.specs.Touched.{retimed};
 
+use crate::compact::compact;
 use crate::copies::{copies, groups_of};
 use crate::counts::count_in_flight;
 use crate::groups::Groups;
@@ -32,7 +33,7 @@ use std::marker::Model;
 /// The messages of an incarnation that aren't deleted, in order of sending. Contracts see the list of them.
 #[derive(Drop)]
 pub struct Messages {
-    /// In order of sequence numbers. A message that is deleted leaves its slot behind.
+    /// In order of sequence numbers. A message that is deleted leaves its slot behind, up to a later push.
     slots: Vec<Slot>,
     /// Beside each slot the moment from which its message is the oldest of an open group, if it can be.
     waits: Tower,
@@ -222,8 +223,31 @@ impl Messages {
     }
 
     /// Adds a message that was never handed out, behind all others. After `NoMemory` the messages are as before.
-    /// Amortized O(log n).
+    /// Amortized O(log n): once more than half of all slots are those of deleted messages, their room is given back
+    /// first, in place, which takes O(slots log slots) and comes after as many deletes.
     pub fn push(&mut self, message: Message) -> Result<(), NoMemory>
+        requires fresh { message.until ≡ 0 }
+        requires order { (m : object.Message) → Among m self.old → m.sequence < message.sequence }
+        ensures ok { OnOk result (self.new ≡ self.old ++ message ∷ []) }
+        ensures err { OnErr result (self.new ≡ self.old) }
+    {
+        self.compact();
+        self.add(message)
+    }
+
+    /// Takes out the slots of deleted messages, where these are more than half of all slots. It takes no memory.
+    /// O(slots log slots), or else O(1).
+    fn compact(&mut self)
+        ensures { self.new ≡ self.old }
+    {
+        let deleted = self.slots.len() as u64 - self.count;
+        if deleted > self.count {
+            compact(&mut self.slots, &mut self.waits, &mut self.flights);
+        }
+    }
+
+    /// Adds a message behind all others. After `NoMemory` the messages are as before. O(log n).
+    fn add(&mut self, message: Message) -> Result<(), NoMemory>
         requires fresh { message.until ≡ 0 }
         requires order { (m : object.Message) → Among m self.old → m.sequence < message.sequence }
         ensures ok { OnOk result (self.new ≡ self.old ++ message ∷ []) }

@@ -1,0 +1,61 @@
+-- Each slot with a message has its number moved behind those before.
+use Rattle.std.proofs.Common.{◌≡◌, ◌+◌, ◌<◌, ◌∙◌, ap, sym, subst, arith, length, get_or, true, false}
+use Rattle.std.proofs.lemmas.List.{get_or_default, get_or-set_other, length-set, take_all}
+use Rattle.cq_messages.specs.Gathered.{IsBeside, is_full, full_slots}
+use Rattle.cq_messages.specs.Slots.{gone}
+use Rattle.cq_messages.proofs.Gathering.{full-skip, full-count, full-upto, beside-next}
+use Rattle.cq_messages.proofs.compact.gather.Goals as goal
+use Rattle.cq_messages.proofs.compact.gather.Goals.{then-is_some, else-is_some}
+
+pub set-requires : goal.set-requires
+set-requires c =
+    let ss = c.args.slots.now in
+    let upto = full-upto ss c.loop-from.from (omega arith) in
+    omega (arith, c.loop-from.invariant.long, c.loop-from.invariant.to)
+
+pub overflow_add-to : goal.overflow_add-to
+overflow_add-to c =
+    let ss = c.args.slots.now in
+    let upto = full-upto ss c.loop-from.from (omega arith) in
+    omega (arith, c.loop-from.invariant.to)
+
+pub loop-from-preserved : goal.loop-from-preserved
+loop-from-preserved c =
+    let ss = c.args.slots.now in
+    let i = c.loop-from.from in
+    let to = c.loop-from.to in
+    let tree = c.loop-from.tree in
+    let inside : i < length ss = c.loop-from-test.true in
+    let same = get_or_default ss i c.index-slots-from.result gone inside in
+    let upto = full-upto ss i (omega arith) in
+    let was = c.loop-from.invariant in
+    let room : to < length tree = omega (arith, was.long, was.to) in
+    elim c.if-is_some.branch [
+      | then-is_some w ↦
+          let v = w.get-number.result in
+          let full : is_full (get_or ss i gone) ≡ true = ap is_full (sym same) ∙ sym c.is_some.ensures ∙ w.if-is_some.true in
+          rw (w.tree-is, w.to-is) (rw w.set.ensures (record {
+            long = length-set tree to v ∙ was.long;
+            to = ap (λ n. n + 1) was.to ∙ sym (full-count ss i inside full);
+            front = λ f old. beside-next f ss i to v tree inside full was.to room (w.get-number.ensures ∙ was.rest i (omega arith) ∙ old i inside) (was.front f old);
+            rest = λ k h. get_or-set_other tree to k v 0 (λ e. omega arith) ∙ was.rest k (omega arith);
+          }))
+      | else-is_some w ↦
+          let empty : is_full (get_or ss i gone) ≡ false = ap is_full (sym same) ∙ sym c.is_some.ensures ∙ w.if-is_some.false in
+          let skip = full-skip ss i inside empty in
+          rw (w.tree-is, w.to-is) (record {
+            long = was.long;
+            to = was.to ∙ ap length (sym skip);
+            front = λ f old. subst (λ xs. IsBeside f xs tree) (sym skip) (was.front f old);
+            rest = λ k h. was.rest k (omega arith);
+          })
+    ]
+
+pub returns : goal.returns
+returns c =
+    let ss = c.args.slots.now in
+    let all = take_all c.loop-from.from ss c.loop-from-test.false in
+    record {
+      long = c.loop-from.invariant.long;
+      beside = λ f old. subst (λ xs. IsBeside f (full_slots xs) c.loop-from.tree) all (c.loop-from.invariant.front f old);
+    }

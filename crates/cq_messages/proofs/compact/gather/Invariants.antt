@@ -1,0 +1,13 @@
+-- Gathered is what stood beside the slots that the loop has passed; behind it all is as before.
+use Rattle.std.proofs.Common.{◌≡◌, ℕ, ◌≤◌, length, get_or, take}
+use Rattle.cq_messages.specs.declared.slot.Slot.{Slot}
+use Rattle.cq_messages.specs.Gathered.{IsBeside, full_slots}
+use Rattle.cq_messages.proofs.compact.gather.Given as goal
+
+abbrev pub invariant-loop-from : goal.invariant-loop-from
+invariant-loop-from l = record {
+  long : length l.tree ≡ length l.initial.tree;
+  to : l.to ≡ length (full_slots (take l.from l.slots));
+  front : (f : Slot → ℕ) → IsBeside f l.slots l.initial.tree → IsBeside f (full_slots (take l.from l.slots)) l.tree;
+  rest : (k : ℕ) → l.from ≤ k → get_or l.tree k 0 ≡ get_or l.initial.tree k 0;
+}
