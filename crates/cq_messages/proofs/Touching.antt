@@ -1,5 +1,5 @@
 -- Slots of which one has a message with other times.
-use Rattle.std.proofs.Common.{◌≡◌, ◌≢◌, ℕ, ◌-◌, ◌<◌, ◌≤◌, ◌==◌, ◌∙◌, ◌⊎◌, ap, sym, subst, List, [], ◌∷◌, length, get_or, set, Bool, true, false, cond, Option, Some, None, inl, inr, arith, suc, zero, refl}
+use Rattle.std.proofs.Common.{◌≡◌, ◌≢◌, ℕ, ◌-◌, ◌<◌, ◌≤◌, ◌==◌, ◌∙◌, ◌⊎◌, ap, sym, subst, List, [], ◌∷◌, length, get_or, set, max, Bool, true, false, cond, Option, Some, None, inl, inr, arith, suc, zero, refl}
 use Rattle.std.specs.Str.{bytes_eq}
 use Rattle.std.proofs.lemmas.Bool.{cases_eq}
 use Rattle.std.proofs.lemmas.List.{length-set, get_or-set_same, get_or-set_other, set-get_or}
@@ -294,3 +294,44 @@ pub idle-read : (ss new : List Slot) (p handings at until : ℕ) (result : Slot)
 idle-read ss new p handings at until result inside is read e =
     let s' = retimed_in handings at until (get_or ss p gone) in
     is ∙ ap (set ss p) (same_slot handings at until (get_or ss p gone) (ap (λ s. s.message) (sym (read_at ss new p s' result inside is read)) ∙ e)) ∙ set-get_or ss p gone
+
+busy_here : (g : List ℕ) (handings at until : ℕ) (m : Message) (o : Option Message) (ms : List Message) → o ≡ Some m → bytes_eq g m.group ≡ true → m.until ≤ until
+    → busy (in_group g (kept_before (retimed_kept handings at until o) ms)) ≡ max (busy (in_group g (kept_before o ms))) until
+busy_here g handings at until m None ms e d l = absurd cc
+busy_here g handings at until m (Some x) ms e d l =
+    let same : x ≡ m = cc in
+    let group : bytes_eq g x.group ≡ true = ap (λ y. bytes_eq g y.group) same ∙ d in
+    let less : x.until ≤ until = subst (λ y. y.until ≤ until) (sym same) l in
+    let most : max until (busy (in_group g ms)) ≡ max (max x.until (busy (in_group g ms))) until = omega arith in
+    ap (λ b. busy (cond b (retimed handings at until x ∷ in_group g ms) (in_group g ms))) group ∙ most ∙ sym (ap (λ b. max (busy (cond b (x ∷ in_group g ms) (in_group g ms))) until) group)
+
+busy_later : (g : List ℕ) (until : ℕ) (o : Option Message) (xs ys : List Message) → busy (in_group g xs) ≡ max (busy (in_group g ys)) until → busy (in_group g (kept_before o xs)) ≡ max (busy (in_group g (kept_before o ys))) until
+busy_later g until None xs ys e = e
+busy_later g until (Some x) xs ys e = by (bytes_eq g x.group)
+  where
+    by : (b : Bool) → busy (cond b (x ∷ in_group g xs) (in_group g xs)) ≡ max (busy (cond b (x ∷ in_group g ys) (in_group g ys))) until
+    by true = let u = x.until in omega (arith, e)
+    by false = e
+
+-- where a timeout of the group ends later than before, the group is busy up to there at least
+pub busy-raised : (g : List ℕ) (ss : List Slot) (p handings at until : ℕ) (m : Message) → p < length ss → (get_or ss p gone).message ≡ Some m → bytes_eq g m.group ≡ true → m.until ≤ until
+    → busy (in_group g (live (set ss p (retimed_in handings at until (get_or ss p gone))))) ≡ max (busy (in_group g (live ss))) until
+busy-raised g [] p handings at until m l e d less = absurd (omega arith)
+busy-raised g (s ∷ ss) zero handings at until m l e d less = busy_here g handings at until m s.message (live ss) e d less
+busy-raised g (s ∷ ss) (suc p) handings at until m l e d less = busy_later g until s.message (live (set ss p (retimed_in handings at until (get_or ss p gone)))) (live ss) (busy-raised g ss p handings at until m (omega arith) e d less)
+
+-- beside the oldest message of the group stands how long the group was busy before
+pub head-before : (ss ss' : List Slot) (waits : List ℕ) (p h : ℕ) (m m' : Message) → IsTouched ss ss' p m m' → IsHead ss' m.group h → AreWaits ss waits → get_or waits h 0 ≡ busy (in_group m.group (live ss))
+head-before ss ss' waits p h m m' t head are =
+    let gs = in_group m.group (live ss) in
+    let r = head-exists ss m.group m t.old_order (among-kept (λ y. bytes_eq m.group y.group) m (live ss) (same_self m.group) (live-among ss p m t.within t.before)) in
+    let old : IsHead ss m.group r.0 = r.1 in
+    let w = was-alike ss ss' p h m m' head.first t head.message in
+    let inside : h < length ss = subst (λ n. h < n) t.long head.within in
+    let first : head.first.sequence ≡ old.first.sequence = first_number (in_group m.group (live ss')) gs head.first old.first head.rest old.rest (t.numbers m.group) head.leads old.leads in
+    let at_h : w.0.sequence ≡ (get_or ss h gone).sequence = own-number 0 ss h w.0 t.old_order inside w.1.0 in
+    let at_old : old.first.sequence ≡ (get_or ss r.0 gone).sequence = own-number 0 ss r.0 old.first t.old_order old.within old.message in
+    let like : head.first.sequence ≡ w.0.sequence = w.1.1.sequence in
+    let same : h ≡ r.0 = same-place ss h r.0 t.old_order inside old.within (sym at_h ∙ sym like ∙ first ∙ at_old) in
+    ap (λ k. get_or waits k 0) same ∙ are.is r.0 old.within ∙ ap (wait_for (live ss)) old.message
+    ∙ ap (λ g. wait_in (in_group g (live ss)) old.first.sequence) (sym (head_group ss m.group r.0 old)) ∙ wait-first gs old.first old.rest old.first.sequence old.leads refl

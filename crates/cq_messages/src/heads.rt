@@ -75,3 +75,45 @@ pub fn refresh(slots: &[Slot], waits: &mut Tower, groups: &Groups, group: &Group
         waits.set(head, busy);
     }
 }
+
+/// Writes beside a group's oldest message that it waits at least up to `until`. O(log places).
+fn raise_wait(slots: &[Slot], waits: &mut Tower, groups: &Groups, group: &GroupId, until: u64)
+    requires ascending { IsAscending 0 slots.now }
+    requires groups { AreNumbers slots.now groups.now }
+    requires long { length slots.now ≤ length waits.old }
+    ensures head { (h : ℕ) → IsHead slots.now group.now h
+        → waits.new ≡ set waits.old h (max (get_or waits.old h 0) until) }
+    ensures none { in_group group.now (live slots.now) ≡ [] → waits.new ≡ waits.old }
+{
+    if let Some(head) = head_of(slots, groups, group) {
+        let wait = waits.get(head).max(until);
+        waits.set(head, wait);
+    }
+}
+
+/// As `refresh`, after the timeout of one of the group's messages was made to end at `until` in place of `before`.
+/// O(log places) where it doesn't end earlier than before.
+pub fn refresh_after(
+    slots: &[Slot],
+    waits: &mut Tower,
+    groups: &Groups,
+    group: &GroupId,
+    before: u64,
+    until: u64,
+)
+    requires ascending { IsAscending 0 slots.now }
+    requires groups { AreNumbers slots.now groups.now }
+    requires handed { AreHanded slots.now groups.now }
+    requires long { length slots.now ≤ length waits.old }
+    requires raised { before ≤ until → (h : ℕ) → IsHead slots.now group.now h
+        → max (get_or waits.old h 0) until ≡ busy (in_group group.now (live slots.now)) }
+    ensures head { (h : ℕ) → IsHead slots.now group.now h
+        → waits.new ≡ set waits.old h (busy (in_group group.now (live slots.now))) }
+    ensures none { in_group group.now (live slots.now) ≡ [] → waits.new ≡ waits.old }
+{
+    if before <= until {
+        raise_wait(slots, waits, groups, group, until);
+    } else {
+        refresh(slots, waits, groups, group);
+    }
+}

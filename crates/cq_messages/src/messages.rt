@@ -146,8 +146,8 @@ impl Messages {
         deliveries_of(alloc, &self.slots, incarnation, numbers.as_slice())
     }
 
-    /// Hides the message of that sequence number up to `end`, in milliseconds. It takes no memory. O(log n) for each
-    /// message of its group that was handed out and isn't deleted.
+    /// Hides the message of that sequence number up to `end`, in milliseconds. It takes no memory. O(log n), or where
+    /// its timeout ended later before, O(log n) for each message of its group that was handed out and isn't deleted.
     pub fn hide(&mut self, sequence: u64, end: u64)
         ensures { self.new ≡ map (hidden_until sequence end) self.old }
     {
