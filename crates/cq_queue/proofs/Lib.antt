@@ -1,6 +1,7 @@
 pub mod Changes
 pub mod Creates
 pub mod Deletes
+pub mod KeptIds
 pub mod Lifetimes
 pub mod Maps
 pub mod Receives

@@ -1,6 +1,7 @@
 -- What comes to an incarnation, whatever the client, the number and the name of the queue, and what is said
 -- of one more entry.
-use Rattle.std.specs.Prelude.{◌≡◌, ℕ, List, [], ◌∷◌, ◌++◌, map, true, Option, None}
+use Rattle.std.specs.Prelude.{◌≡◌, ℕ, List, [], ◌∷◌, ◌++◌, length, map, true, Option, None}
+use Rattle.std.specs.List.{filter}
 use Rattle.cq_base.specs.declared.ask.Ask.TheVariants.{Create, Send, Receive, Delete, Change}
 use Rattle.cq_base.specs.declared.ask.Entry.{Entry}
 use Rattle.cq_base.specs.declared.reply.Delivery.{Delivery}
@@ -9,7 +10,7 @@ use Rattle.cq_base.specs.declared.reply.Reply.TheVariants.{Counts}
 use Rattle.cq_base.specs.Asks.{Attributes, dedup_or_made, is_given_or_made}
 use Rattle.cq_base.specs.Effects.{counts_of}
 use Rattle.cq_base.specs.Handle.{Handle}
-use Rattle.cq_base.specs.Incarnations.{Incarnation, IncarnationStandsFor, coming, told_of}
+use Rattle.cq_base.specs.Incarnations.{Incarnation, IncarnationStandsFor, coming, told_of, is_recent, all_accepted}
 use Rattle.cq_base.specs.Messages.{duplicate, standing}
 use Rattle.cq_base.specs.Receiving.{to_hand, delivery_of}
 
@@ -65,6 +66,12 @@ IsAnswered IsSuch kept reply = (entries : List Entry) (e : Entry) → Incarnatio
 abbrev pub IsNoRepeat : List ℕ → ℕ → Incarnation → Type 0
 IsNoRepeat dedup moment kept = (entries : List Entry) → IncarnationStandsFor kept entries
     → duplicate dedup moment (told_of kept entries) ≡ None
+
+-- Whatever entries `kept` stands for, it keeps the ids of as many accepted sends as there are among them whose
+-- five minutes aren't over at that moment.
+abbrev pub KeepsIds : ℕ → Incarnation → Type 0
+KeepsIds moment kept = (entries : List Entry) → IncarnationStandsFor kept entries
+    → length kept.accepted ≡ length (filter (is_recent moment) (all_accepted (told_of kept entries)))
 
 -- it is the same incarnation, with the same attributes
 pub record IsSameQueue (old new : Incarnation) : Type 0 where

@@ -6,7 +6,7 @@ ghost use Rattle.cq_base.specs.declared.reply.Reply.TheVariants.{Sent, Deleted, 
 ghost use Rattle.cq_base.specs.declared.reply.Refusal.TheVariants.{MissingDedupId};
 ghost use Rattle.cq_base.specs.Incarnations.{IncarnationStandsFor, repeated};
 ghost use Rattle.cq_queue.specs.within.Answers.{send_reply, delete_reply, is_deleting, change_reply, is_changing};
-ghost use Rattle.cq_queue.specs.Entries.{IsSend, IsSendAs, IsReceive, IsDelete, IsChange, StandsAfter, IsAnswered, IsNoRepeat, IsSameQueue};
+ghost use Rattle.cq_queue.specs.Entries.{IsSend, IsSendAs, IsReceive, IsDelete, IsChange, StandsAfter, IsAnswered, IsNoRepeat, KeepsIds, IsSameQueue};
 ghost use Rattle.cq_queue.specs.within.Kept.{used_at, repeated_at, with_message, handed_out, is_receipt_of, without_message, deletion, with_timeout, alteration};
 
 mod reads;
@@ -159,6 +159,7 @@ impl Queue {
             IsAnswered (IsSendAs self.old.attributes moment group.now dedup.now body.now) self.old (Sent sequence)) }
         ensures last { OnOk result (self.new.last ≡ moment) }
         ensures used { OnOk result (self.new.used ≡ self.old.used + 1) }
+        ensures ids { OnOk result (KeepsIds moment self.new) }
         ensures memory { IsErr result → IsNoRepeat dedup.now moment self.old }
         ensures err { OnErr result (self.new ≡ self.old) }
         ensures same { IsSameQueue self.old self.new }
@@ -196,6 +197,7 @@ impl Queue {
             IsAnswered (IsSend moment group.now None body.now) self.old (send_reply answer)) }
         ensures last { OnOk result (self.new.last ≡ moment) }
         ensures used { OnOk result (self.new.used ≡ self.old.used + 1) }
+        ensures ids { IfOk result (λ answer. OnOk answer (KeepsIds moment self.new)) }
         ensures refused { IfOk result (λ answer. OnErr answer (self.new.accepted ≡ self.old.accepted)) }
         ensures err { OnErr result (self.new ≡ self.old) }
         ensures same { IsSameQueue self.old self.new }
@@ -209,9 +211,10 @@ impl Queue {
 
     /// A send that comes at that moment. It is answered with the message's sequence number: a new one, or
     /// that of the message that it repeats. Without a deduplication id it has the one that is made of its
-    /// body, if the queue makes ids, and is refused else; a refused one leaves the accepted sends as they are.
-    /// One that repeats under a given id takes no memory. After `NoMemory` the queue is as before. O(1) expected
-    /// and amortized, also for the ids that it forgets, and O(length of the body) for a made id.
+    /// body, if the queue makes ids, and is refused else; a refused one leaves the accepted sends as they are,
+    /// and any other forgets those whose five minutes are over. One that repeats under a given id takes no
+    /// memory. After `NoMemory` the queue is as before. O(1) expected and amortized, also for what it forgets,
+    /// and O(length of the body) for a made id.
     pub fn send(
         &mut self,
         moment: Moment,
@@ -227,6 +230,7 @@ impl Queue {
             IsAnswered (IsSend moment group.now (option_copied dedup.entry) body.now) self.old (send_reply answer)) }
         ensures last { OnOk result (self.new.last ≡ moment) }
         ensures used { OnOk result (self.new.used ≡ self.old.used + 1) }
+        ensures ids { IfOk result (λ answer. OnOk answer (KeepsIds moment self.new)) }
         ensures refused { IfOk result (λ answer. OnErr answer (self.new.accepted ≡ self.old.accepted)) }
         ensures memory { IsErr result → IfSome (option_copied dedup.entry) (λ id. IsNoRepeat id moment self.old) }
         ensures err { OnErr result (self.new ≡ self.old) }

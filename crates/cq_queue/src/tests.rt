@@ -262,3 +262,22 @@ fn a_missing_id_is_refused(rt: HostRuntime) -> Result<(), Fail> {
     ];
     check(&rt, rt.alloc(), false, &rows)
 }
+
+/// The id of an accepted send is kept for five minutes, and forgotten at the next send after them.
+#[test]
+fn ids_are_kept_for_five_minutes(rt: HostRuntime) -> Result<(), Fail> {
+    let rows = [
+        (0, Row::Send("a", "x"), "sent 1", 1),
+        (1, Row::Send("a", "y"), "sent 2", 2),
+        (300_000, Row::Send("a", "z"), "sent 3", 2),
+        (300_000, Row::Send("a", "y"), "sent 2", 2),
+        (300_001, Row::Send("a", "y"), "sent 4", 2),
+    ];
+    let mut queue = Queue::new(rt.alloc(), 1, seconds(30)?, false)?;
+    for (moment, row, want, kept) in &rows {
+        let got = answer(&rt, rt.alloc(), &mut queue, *moment, *row)?;
+        assert_eq!(&rt; got.as_str(), *want, "at {moment}");
+        assert_eq!(&rt; queue.kept_ids(), *kept, "at {moment}");
+    }
+    Ok(())
+}

@@ -1,5 +1,5 @@
 //! The calls that read a queue, and the copy.
-ghost use Rattle.std.specs.Prelude.{◌≡◌, ◌≤◌, IfOk};
+ghost use Rattle.std.specs.Prelude.{◌≡◌, ◌≤◌, length, IfOk};
 ghost use Rattle.cq_queue.specs.Entries.{AreOffered, AreCounted};
 
 use super::Queue;
@@ -39,6 +39,13 @@ impl Queue {
         ensures { result ≡ self.now.used }
     {
         self.used
+    }
+
+    /// How many deduplication ids are kept. O(1).
+    pub fn kept_ids(&self) -> u64
+        ensures { result ≡ length self.now.accepted }
+    {
+        self.window.len() as u64
     }
 
     /// What a receive of that size would hand out at that moment, in a list that has room for no more. Nothing changes.

@@ -4,6 +4,7 @@ use Rattle.std.proofs.lemmas.Result.{on_ok_weaker, IfOk-weaker}
 use Rattle.cq_base.specs.declared.reply.Reply.TheVariants.{Sent}
 use Rattle.cq_queue.specs.Entries.{IsSendAs, IsAnswered}
 use Rattle.cq_queue.specs.within.Kept.{with_message}
+use Rattle.cq_queue.proofs.KeptIds.{keeps-accepted, keeps-repeated}
 use Rattle.cq_queue.proofs.Sends.{stands-accepted, reply-accepted, stands-repeated, reply-repeated}
 use Rattle.cq_queue.proofs.queue.Queue.send_as.Goals as goal
 
@@ -12,6 +13,14 @@ returns-in-Some-clause-stands c = rw c.count_repeat.ensures.used (stands-repeate
 
 pub returns-in-Some-clause-reply : goal.returns-in-Some-clause-reply
 returns-in-Some-clause-reply c = rw c.count_repeat.ensures.sequence (reply-repeated c.args.self.now c.args.moment c.args.group.now c.args.dedup.now c.args.body.now c.in-Some.sequence c.requires.order (sym c.in-Some.ensures))
+
+pub returns-in-Some-clause-ids : goal.returns-in-Some-clause-ids
+returns-in-Some-clause-ids c = rw c.count_repeat.ensures.used (keeps-repeated c.args.moment c.args.self.now)
+
+pub returns-in-None-clause-ids : goal.returns-in-None-clause-ids
+returns-in-None-clause-ids c =
+    let kept = c.args.self.now in
+    on_ok_weaker c.accept.result (λ (h : c.accept.new.self ≡ with_message c.args.moment c.args.group.now c.args.dedup.now c.args.body.now kept). rw h (keeps-accepted c.args.moment c.args.group.now c.args.dedup.now c.args.body.now kept)) c.accept.ensures.ok
 
 pub returns-in-None-clause-stands : goal.returns-in-None-clause-stands
 returns-in-None-clause-stands c =
