@@ -1,7 +1,5 @@
 //! Scripts that are cut short or too long, and readers and writers that give up.
 
-mod examples;
-
 use cq_base::ChainSize;
 use cq_script::{Checked, LINE_LIMIT, LINES_LIMIT, ScriptFault, Sink, Source, replay};
 use std::alloc::Global;

@@ -1,8 +1,5 @@
 //! Rows on worlds: events, and what comes of them.
-use cq_base::{
-    Ask, BatchSize, Body, ChainSize, DedupId, Delivery, GroupId, Moment, Party, Query, QueueName,
-    Reply, Request, Seconds, ServerId,
-};
+use cq_base::{Ask, ChainSize, Moment, Party, Query, QueueName, Reply, Request, Seconds, ServerId};
 use cq_chain::{Answer, WorldFault};
 use cq_world::{Event, Ran, Sim};
 use std::alloc::Global;
@@ -10,9 +7,6 @@ use std::process::Abort;
 use std::test::Fail;
 
 mod changes;
-mod clocks;
-mod joins;
-mod losses;
 mod passing;
 
 // Where the world refuses an event for want of memory, the event is tried once more, and a run goes on from there. So under
@@ -30,24 +24,11 @@ enum Who {
     Server(u32),
 }
 
-/// What client 1 asks of `q.fifo`.
-#[derive(Clone, Copy)]
-enum What {
-    /// With a visibility timeout of 30 s.
-    Create,
-    /// The message x of group a, under the deduplication id x.
-    Send,
-    /// At most one message.
-    Receive,
-}
-
 /// An event.
 #[derive(Clone, Copy)]
 enum Row {
     /// A creation at moment 0: the server, the client, and the number of its request.
     Arrive(u32, u32, u64),
-    /// The server, its clock, the number of client 1's request, and what it asks.
-    At(u32, u64, u64, What),
     /// The server.
     Ask(u32),
     Put(Who, Who),
@@ -72,63 +53,28 @@ fn party(who: Who) -> Result<Party, Fail> {
     }
 }
 
-fn ask_of(alloc: Global, what: What) -> Result<Ask, Fail> {
-    let queue = QueueName::new(alloc, "q.fifo")?;
-    match what {
-        What::Create => {
-            let visibility = Seconds::new(30).ok_or("no timeout")?;
-            Ok(Ask::Create {
-                queue,
-                visibility,
-                content: false,
-            })
-        }
-        What::Send => {
-            let group = GroupId::new(alloc, "a")?;
-            let dedup = Some(DedupId::new(alloc, "x")?);
-            let body = Body::new(alloc, "x")?;
-            Ok(Ask::Send {
-                queue,
-                group,
-                dedup,
-                body,
-            })
-        }
-        What::Receive => {
-            let size = BatchSize::new(1).ok_or("no size")?;
-            let visibility = None;
-            Ok(Ask::Receive {
-                queue,
-                size,
-                visibility,
-            })
-        }
-    }
-}
-
-fn arrival(
-    alloc: Global,
-    at: u32,
-    clock: u64,
-    client: u32,
-    number: u64,
-    what: What,
-) -> Result<Event, Fail> {
+/// A client creates `q.fifo` with a visibility timeout of 30 s at moment 0.
+fn arrival(alloc: Global, at: u32, client: u32, number: u64) -> Result<Event, Fail> {
     let at = server(at)?;
-    let clock = Moment::new(clock).ok_or("no moment")?;
-    let ask = ask_of(alloc, what)?;
+    let queue = QueueName::new(alloc, "q.fifo")?;
+    let visibility = Seconds::new(30).ok_or("no timeout")?;
+    let ask = Ask::Create {
+        queue,
+        visibility,
+        content: false,
+    };
     let request = Request {
         client,
         number,
         ask,
     };
+    let clock = Moment::zero();
     Ok(Event::Arrive { at, clock, request })
 }
 
 fn event_of(alloc: Global, row: Row) -> Result<Event, Fail> {
     match row {
-        Row::Arrive(at, client, number) => arrival(alloc, at, 0, client, number, What::Create),
-        Row::At(at, clock, number, what) => arrival(alloc, at, clock, 1, number, what),
+        Row::Arrive(at, client, number) => arrival(alloc, at, client, number),
         Row::Ask(at) => {
             let at = server(at)?;
             let queue = QueueName::new(alloc, "q.fifo")?;
@@ -186,15 +132,6 @@ fn go_on(rt: &impl Abort, alloc: Global, sim: &mut Sim, lines: &[Line]) -> Resul
             Err(fault) => fault.code(),
         };
         assert_eq!(rt; got, *want);
-    }
-    Ok(())
-}
-
-/// Messages that are put on their links and taken, one after the other.
-fn pass(rt: &impl Abort, alloc: Global, sim: &mut Sim, moves: &[(Who, Who)]) -> Result<(), Fail> {
-    for (from, to) in moves {
-        let lines = [(Row::Put(*from, *to), 0), (Row::Take(*from, *to), 0)];
-        go_on(rt, alloc, sim, &lines)?;
     }
     Ok(())
 }
@@ -269,12 +206,6 @@ fn check_tail(
     let server = sim.server(server(number)?).ok_or("no such server")?;
     assert_eq!(rt; server.is_acting(), acting);
     assert_eq!(rt; server.is_full(), full);
-    Ok(())
-}
-
-fn check_head(rt: &impl Abort, sim: &Sim, number: u32) -> Result<(), Fail> {
-    let server = sim.server(server(number)?).ok_or("no such server")?;
-    assert!(rt; server.is_head());
     Ok(())
 }
 

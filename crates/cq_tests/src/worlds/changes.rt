@@ -25,21 +25,6 @@ fn one_server(rt: HostRuntime) -> Result<(), Fail> {
     with_one(&rt, rt.alloc(), &mut sim)
 }
 
-fn with_eight(rt: &impl Abort, alloc: Global, sim: &mut Sim) -> Result<(), Fail> {
-    go_on(rt, alloc, sim, &[(Row::Join(9), 38)])?;
-    let found = sim.server(server(9)?).is_some();
-    assert!(rt; !found);
-    assert_eq!(rt; sim.master().chain().len(), 8);
-    Ok(())
-}
-
-/// A chain has no more than eight members.
-#[test]
-fn eight_servers(rt: HostRuntime) -> Result<(), Fail> {
-    let mut sim = sim_of(rt.alloc(), 8)?;
-    with_eight(&rt, rt.alloc(), &mut sim)
-}
-
 fn crash_the_middle(rt: &impl Abort, alloc: Global, sim: &mut Sim) -> Result<(), Fail> {
     let lines = [
         (Row::Arrive(1, 1, 1), 0),

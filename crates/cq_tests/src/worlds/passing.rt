@@ -116,31 +116,3 @@ fn a_run(rt: HostRuntime) -> Result<(), Fail> {
     let mut sim = sim_of(rt.alloc(), 2)?;
     run_one(&rt, rt.alloc(), &mut sim)
 }
-
-fn go_down_three(rt: &impl Abort, alloc: Global, sim: &mut Sim) -> Result<(), Fail> {
-    let lines = [
-        (Row::Arrive(1, 1, 1), 0),
-        (Row::Arrive(1, 1, 2), 0),
-        (Row::Put(ONE, TWO), 0),
-        (Row::Put(ONE, TWO), 0),
-        (Row::Take(ONE, TWO), 0),
-        (Row::Take(ONE, TWO), 0),
-        (Row::Put(TWO, THREE), 0),
-        (Row::Put(TWO, THREE), 0),
-        (Row::Take(TWO, THREE), 0),
-        (Row::Take(TWO, THREE), 0),
-    ];
-    go_on(rt, alloc, sim, &lines)?;
-    check_given(rt, alloc, sim, 3, 1, 1)?;
-    check_given(rt, alloc, sim, 3, 2, 2)?;
-    check_server(rt, sim, 1, 2, 0)?;
-    check_server(rt, sim, 2, 2, 0)?;
-    check_server(rt, sim, 3, 2, 2)
-}
-
-/// The server in the middle forwards, and all have the same.
-#[test]
-fn three_servers(rt: HostRuntime) -> Result<(), Fail> {
-    let mut sim = sim_of(rt.alloc(), 3)?;
-    go_down_three(&rt, rt.alloc(), &mut sim)
-}
