@@ -87,7 +87,7 @@ impl History {
         Ok(reply)
     }
 
-    /// The counts of the query's queue after all entries: O(messages of the queue).
+    /// The counts of the query's queue after all entries: O(log messages) for each that is in flight.
     pub fn query(&self, query: &Query) -> Reply
         ensures { result ≡ counts_after self.now query.now.queue }
     {

@@ -86,7 +86,7 @@ impl Names {
         }
     }
 
-    /// How many messages the queue has at that moment: O(messages of the queue).
+    /// How many messages the queue has at that moment: O(log messages) for each that is in flight.
     pub fn counts(&self, moment: Moment, queue: &QueueName) -> Reply
         requires { CameBy moment (or_unknown (name_at self.now queue.now)).living }
         ensures { IsCount (or_unknown (name_at self.now queue.now)) moment result }

@@ -117,8 +117,8 @@ impl Store {
         }
     }
 
-    /// How many messages a queue has, at the moment of the last entry. It takes no memory, and O(messages of
-    /// the queue).
+    /// How many messages a queue has, at the moment of the last entry. It takes no memory, and O(log
+    /// messages) for each that is in flight.
     pub fn query(&self, query: &Query) -> Reply
         ensures stands { (entries : List Entry) → StandsFor self.now entries
             → result ≡ object.counts_after entries query.now.queue }

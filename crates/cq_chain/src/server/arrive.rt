@@ -85,7 +85,8 @@ impl Server {
         Ok(())
     }
 
-    /// A query comes. A server that acts answers it from the entries that it has: O(messages of the queue).
+    /// A query comes. A server that acts answers it from the entries that it has: O(log messages) for each
+    /// message of the queue that is in flight.
     ///
     /// Faults: `NotTail` (42) unless the server acts, `NoMemory` (20).
     pub fn ask(&mut self, query: &Query) -> Result<(), WorldFault>
