@@ -47,6 +47,7 @@ pub find-kept : {X : Type 0} (p q : X → Bool) (xs : List X) → ((x : X) → p
 find-kept p q [] follows = refl
 find-kept p q (x ∷ xs) follows = found_kept (q x) (p x) p x (filter q xs) (find p xs) refl (follows x) (find-kept p q xs follows)
 
+-- a step of the next lemma, by whether the first element passes both
 filtered_kept : {X : Type 0} (a b : Bool) (p : X → Bool) (x : X) (ys zs : List X) → p x ≡ b → (b ≡ true → a ≡ true) → filter p ys ≡ zs → filter p (cond a (x ∷ ys) ys) ≡ cond b (x ∷ zs) zs
 filtered_kept true b p x ys zs e follows h = ap (λ c. cond c (x ∷ filter p ys) (filter p ys)) e ∙ ap (λ rest. cond b (x ∷ rest) rest) h
 filtered_kept false true p x ys zs e follows h = absurd (let wrong : false ≡ true = follows refl in cc)

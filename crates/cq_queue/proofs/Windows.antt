@@ -1,5 +1,5 @@
 -- The accepted sends of a window, as one more comes and the first goes.
-use Rattle.std.proofs.Common.{◌≡◌, ℕ, ◌+◌, ◌<◌, ◌≤◌, ◌∙◌, ◌&&◌, ap, sym, subst, List, [], ◌∷◌, ◌++◌, length, get_or, take, drop, suc, zero, Option, Some, None, Bool, true, false, cond, arith, refl}
+use Rattle.std.proofs.Common.{◌≡◌, ℕ, ◌+◌, ◌<◌, ◌≤◌, ◌∙◌, ◌&&◌, ap, sym, subst, List, [], ◌∷◌, ◌++◌, length, get_or, take, suc, zero, Option, Some, None, Bool, true, false, cond, arith, refl}
 use Rattle.std.specs.Prelude.{nat_lt}
 use Rattle.std.specs.List.{filter, find, All}
 use Rattle.std.specs.Option.{option_map, option_or}
@@ -38,11 +38,6 @@ recent_above moment b (x ∷ xs) recent h =
 pub recent-all : (moment : ℕ) (xs : List Accepted) (d : Accepted) → 0 < length xs → is_recent moment (get_or xs 0 d) ≡ true → IsRising 0 xs → filter (is_recent moment) xs ≡ xs
 recent-all moment [] d some recent h = absurd (omega arith)
 recent-all moment (x ∷ xs) d some recent h = ap (λ c. cond c (x ∷ filter (is_recent moment) xs) (filter (is_recent moment) xs)) recent ∙ ap (λ ys. x ∷ ys) (recent_above moment x.moment xs recent h.1)
-
--- where the first isn't, the others have all that are
-pub recent-rest : (moment : ℕ) (xs : List Accepted) (d : Accepted) → 0 < length xs → is_recent moment (get_or xs 0 d) ≡ false → filter (is_recent moment) (drop 1 xs) ≡ filter (is_recent moment) xs
-recent-rest moment [] d some old = absurd (omega arith)
-recent-rest moment (x ∷ xs) d some old = ap (λ c. cond c (x ∷ filter (is_recent moment) xs) (filter (is_recent moment) xs)) (sym old)
 
 -- equal ids are one
 same_id : (a b : List ℕ) → bytes_eq a b ≡ true → a ≡ b
@@ -111,12 +106,8 @@ window-more xs one old new alone by window h = record {
 }
 
 -- the same window, where the same is known of each id
-pub window-same : (xs : List Accepted) (old new : List (List ℕ × Known)) → IsWindow xs old → ((id : List ℕ) → known_at new id ≡ known_at old id) → IsWindow xs new
-window-same xs old new window same = record { rising = window.rising; distinct = window.distinct; found = λ id. same id ∙ window.found id }
-
--- no accepted sends, and nothing known
-pub window-none : (known : List (List ℕ × Known)) → known ≡ [] → IsWindow [] known
-window-none known none = subst (λ es. IsWindow [] es) (sym none) (record { rising = tt; distinct = tt; found = λ id. refl })
+pub window-known : (xs : List Accepted) (old new : List (List ℕ × Known)) → IsWindow xs old → ((id : List ℕ) → known_at new id ≡ known_at old id) → IsWindow xs new
+window-known xs old new window same = record { rising = window.rising; distinct = window.distinct; found = λ id. same id ∙ window.found id }
 
 -- where no one has the id, none counts
 none_counts : (id : List ℕ) (moment : ℕ) (xs : List Accepted) → find (has_id id) xs ≡ None → find (counts_for id moment) xs ≡ None

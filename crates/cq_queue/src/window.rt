@@ -42,7 +42,7 @@ fn forget_old(
     ensures capacity { deque_capacity accepted.new ≡ deque_capacity accepted.old }
     ensures spare { spare known.old ≤ spare known.new }
 {
-    for i in 0..accepted.len() {
+    for _ in 0..accepted.len() {
         if accepted[0].is_recent(moment) {
             return;
         }
