@@ -1,8 +1,9 @@
 -- A creation makes the name known.
-use Rattle.std.proofs.Common.{◌≡◌, ◌∙◌, ap, sym, subst, Some, arith, refl}
+use Rattle.std.proofs.Common.{◌≡◌, ◌+◌, ◌∙◌, ap, sym, subst, Some, arith, refl}
 use Rattle.std.specs.Str.{bytes_eq}
 use Rattle.cq_base.specs.Asks.{queue_of}
 use Rattle.cq_store.specs.Stands.{name_at, or_unknown}
+use Rattle.cq_store.specs.within.Rooms.{IsWithin}
 use Rattle.cq_store.proofs.AsksStand.{first_kept, unknown_refused, not_create, within-later}
 use Rattle.cq_store.proofs.names.Names.apply_unknown.Goals as goal
 
@@ -25,3 +26,11 @@ returns-in_default c = record {
   within = λ count within. within-later count c.args.moment c.args.moment (or_unknown (name_at c.args.self.now (queue_of c.args.ask.now))) (omega arith) within;
   err = tt;
 }
+
+pub returns-in_ok-insert-in-Create-clause-within : goal.returns-in_ok-insert-in-Create-clause-within
+returns-in_ok-insert-in-Create-clause-within c = λ count within.
+    let same = c.in_ok-try_copy-in-Create.ensures ∙ sym (ap queue_of c.in-Create.is) in
+    let known = subst (λ q. name_at c.insert.new.self.entries q ≡ Some c.apply.new.self) same c.in_ok-insert-in-Create.ensures.updates.1 in
+    let unknown = ap or_unknown c.requires ∙ sym c.unknown-name.ensures in
+    let before = subst (IsWithin count c.args.moment) unknown within in
+    subst (λ name. IsWithin (count + 1) c.args.moment (or_unknown name)) (sym known) (c.in_ok-answered-in-Create.ensures.within count before)
