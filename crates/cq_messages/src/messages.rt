@@ -223,8 +223,8 @@ impl Messages {
     }
 
     /// Adds a message that was never handed out, behind all others. After `NoMemory` the messages are as before.
-    /// Amortized O(log n): once more than half of all slots are those of deleted messages, their room is given back
-    /// first, in place, which takes O(slots log slots) and comes after as many deletes.
+    /// Amortized O(log n): where more than half of all slots are those of deleted messages, their room is given back
+    /// first, in place. That takes O(slots log slots), and half as many messages were deleted since it was done last.
     pub fn push(&mut self, message: Message) -> Result<(), NoMemory>
         requires fresh { message.until ≡ 0 }
         requires order { (m : object.Message) → Among m self.old → m.sequence < message.sequence }
@@ -246,7 +246,7 @@ impl Messages {
         }
     }
 
-    /// Adds a message behind all others. After `NoMemory` the messages are as before. O(log n).
+    /// Adds a message behind all others. After `NoMemory` the messages are as before. Amortized O(log n).
     fn add(&mut self, message: Message) -> Result<(), NoMemory>
         requires fresh { message.until ≡ 0 }
         requires order { (m : object.Message) → Among m self.old → m.sequence < message.sequence }

@@ -13,6 +13,15 @@ use std::alloc::Global;
 use std::collections::{HashMap, VecDeque};
 use std::marker::Model;
 
+/// Forgets what is known of an id. It takes no memory. O(1) expected.
+fn forget(known: &mut HashMap<DedupId, Known>, id: &DedupId)
+    ensures known { (other : List ℕ) → known_at known.new.entries other
+        ≡ (if bytes_eq id.now other then None else known_at known.old.entries other) }
+    ensures spare { spare known.old ≤ spare known.new }
+{
+    let _ = known.remove(id);
+}
+
 /// Takes the first accepted send out, and its id with it. It takes no memory. O(1) expected.
 fn forget_first(accepted: &mut VecDeque<Accepted>, known: &mut HashMap<DedupId, Known>)
     requires { IsWindow accepted.old.items known.old.entries }
@@ -22,9 +31,7 @@ fn forget_first(accepted: &mut VecDeque<Accepted>, known: &mut HashMap<DedupId, 
     ensures spare { spare known.old ≤ spare known.new }
 {
     match accepted.pop_front() {
-        Some(first) => {
-            let _ = known.remove(&first.dedup);
-        }
+        Some(first) => forget(known, &first.dedup),
         None => (),
     }
 }
