@@ -1,9 +1,10 @@
 -- One incarnation of a queue by itself: what happens to it, and what has to be kept of it.
-use Rattle.std.specs.Prelude.{◌≡◌, ℕ, ◌+◌, ◌≤◌, ◌&&◌, ◌||◌, List, [], ◌∷◌, ◌++◌, length, map, Bool, nat_lt, Option, None, option_map}
+use Rattle.std.specs.Prelude.{◌≡◌, ℕ, ◌+◌, ◌≤◌, ◌&&◌, ◌||◌, List, [], ◌∷◌, ◌++◌, length, map, Bool, true, nat_lt, Option, None, option_map}
 use Rattle.std.specs.List.{filter, find, fold, last_or}
 use Rattle.std.specs.Str.{bytes_eq}
 use Rattle.cq_base.specs.declared.limits.TheConstants.{DEDUPLICATION_WINDOW}
 use Rattle.cq_base.specs.declared.ask.Entry.{Entry}
+use Rattle.cq_base.specs.declared.reply.Reply.TheVariants.{Sent}
 use Rattle.cq_base.specs.Asks.{Attributes, is_send, is_receive, is_change, dedup_of}
 use Rattle.cq_base.specs.Effects.{effect_on}
 use Rattle.cq_base.specs.Facts.{Fact}
@@ -76,11 +77,26 @@ is_clocked f = is_use f || f.effective && is_change f.entry.request.ask
 abbrev pub told_of : Incarnation → List Entry → List Fact
 told_of kept entries = lifetime kept.number kept.attributes entries
 
+-- These facts end with a send at that moment that was answered with a sequence number.
+pub record EndWithSend (facts : List Fact) (moment : ℕ) : Type 0 where
+  pub before : List Fact
+  pub send : Fact
+  pub number : ℕ
+  pub is : facts ≡ before ++ send ∷ []
+  pub sends : is_send send.entry.request.ask ≡ true
+  pub at_moment : send.entry.moment ≡ moment
+  pub replied : send.reply ≡ Sent number
+
+-- how many of the accepted sends of these facts are less than five minutes old at that moment
+abbrev pub recent_sends : ℕ → List Fact → ℕ
+recent_sends moment facts = length (filter (is_recent moment) (all_accepted facts))
+
 -- What is kept stands for the entries that came to the incarnation. Of the accepted sends only those have
 -- to be kept that a later send can repeat: for each deduplication id, and each moment from the last one on,
 -- what is kept finds the message that the definitions find; and at each such moment the kept ones whose five
--- minutes aren't over are, in order, all whose five minutes aren't over. Of deleted messages nothing has to be
--- kept, and of the others only how they stand.
+-- minutes aren't over are, in order, all whose five minutes aren't over. Just after a send that was answered with
+-- a sequence number, no others are kept. Of deleted messages nothing has to be kept, and of the others only how they
+-- stand.
 pub record IncarnationStandsFor (kept : Incarnation) (entries : List Entry) : Type 0 where
   pub sent : kept.sent ≡ length (messages (told_of kept entries))
   pub messages : kept.messages ≡ standing kept.attributes.visibility (told_of kept entries)
@@ -88,5 +104,6 @@ pub record IncarnationStandsFor (kept : Incarnation) (entries : List Entry) : Ty
       → repeated id moment kept.accepted ≡ option_map (λ f. f.count) (duplicate id moment (told_of kept entries))
   pub recent : (moment : ℕ) → kept.last ≤ moment
       → filter (is_recent moment) kept.accepted ≡ filter (is_recent moment) (all_accepted (told_of kept entries))
+  pub trimmed : (moment : ℕ) → EndWithSend (told_of kept entries) moment → length kept.accepted ≡ recent_sends moment (told_of kept entries)
   pub last : kept.last ≡ moment_of (last_or None (filter is_clocked (told_of kept entries)))
   pub used : kept.used ≡ length (filter is_use (told_of kept entries))

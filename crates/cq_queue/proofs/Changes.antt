@@ -24,7 +24,7 @@ use Rattle.cq_queue.proofs.Deletes.{own-receipt, eqb-swapped}
 use Rattle.cq_queue.proofs.Maps.{map-agrees, filter-same}
 use Rattle.cq_queue.proofs.Spoken.{no_change}
 use Rattle.cq_queue.proofs.Standing.{after_fact, touched_by, is_left_by, standing-more, standing-quiet}
-use Rattle.cq_queue.proofs.Stands.{StandsFor, stands-told, stands-more, asked, entry-asked, clocked-next, clocked-same, used-same, sent-same, window-same, recent-same}
+use Rattle.cq_queue.proofs.Stands.{StandsFor, stands-told, stands-more, asked, entry-asked, clocked-next, clocked-same, used-same, sent-same, window-same, recent-same, trimmed-other}
 use Rattle.cq_queue.proofs.Told.{IsTold, told-lifetime}
 
 -- what a change does, by what is kept
@@ -98,6 +98,7 @@ stands_timeout kept xs moment e queue receipt visibility stands before =
           ∙ sym (standing-more own xs f refl);
       window = window-same kept xs f moment stands refl before;
       recent = recent-same kept xs f moment stands refl before;
+      trimmed = trimmed-other kept xs f refl;
       last = clocked-next xs f refl;
       used = stands.used ∙ used-same xs f refl;
     }
@@ -113,6 +114,7 @@ stands_quiet kept xs moment e queue receipt visibility effect stands idle handed
       messages = stands.messages ∙ sym (standing-quiet kept.attributes.visibility xs f (record { rejects = rejects; handed = handed; changes = λ n. ap (λ b. (b && true) && eqb effect.count n) idle; deletes = λ n. no_change effect.effective (eqb effect.count n) }));
       window = window-same kept xs f kept.last stands rejects (omega arith);
       recent = recent-same kept xs f kept.last stands rejects (omega arith);
+      trimmed = trimmed-other kept xs f refl;
       last = stands.last ∙ clocked-same xs f (ap (λ b. b && true) idle);
       used = stands.used ∙ used-same xs f refl;
     }

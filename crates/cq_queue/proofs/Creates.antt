@@ -13,7 +13,7 @@ use Rattle.cq_base.proofs.OneMoreFact.{not_both, chosen_handed}
 use Rattle.cq_queue.specs.Entries.{IsCreate, StandsAfter, IsAnswered}
 use Rattle.cq_queue.proofs.Spoken.{no_change}
 use Rattle.cq_queue.proofs.Standing.{standing-quiet}
-use Rattle.cq_queue.proofs.Stands.{StandsFor, stands-told, stands-more, asked, entry-asked, clocked-same, used-same, sent-same, window-same, recent-same}
+use Rattle.cq_queue.proofs.Stands.{StandsFor, stands-told, stands-more, asked, entry-asked, clocked-same, used-same, sent-same, window-same, recent-same, trimmed-other}
 
 -- the fact of a creation
 abbrev creating_fact : Incarnation → Entry → List ℕ → Attributes → Effect → Fact
@@ -30,6 +30,7 @@ stands_quiet kept xs e queue given effect stands handed =
       messages = stands.messages ∙ sym (standing-quiet kept.attributes.visibility xs f (record { rejects = rejects; handed = handed; changes = λ n. no_change effect.effective (eqb effect.count n); deletes = λ n. no_change effect.effective (eqb effect.count n) }));
       window = window-same kept xs f kept.last stands rejects (omega arith);
       recent = recent-same kept xs f kept.last stands rejects (omega arith);
+      trimmed = trimmed-other kept xs f refl;
       last = stands.last ∙ clocked-same xs f rejects;
       used = stands.used ∙ used-same xs f refl;
     }

@@ -24,7 +24,7 @@ use Rattle.cq_queue.specs.Entries.{IsDelete, StandsAfter, IsAnswered}
 use Rattle.cq_queue.proofs.Maps.{map-same}
 use Rattle.cq_queue.proofs.Spoken.{no_change}
 use Rattle.cq_queue.proofs.Standing.{after_fact, is_left_by, standing-more, standing-quiet}
-use Rattle.cq_queue.proofs.Stands.{StandsFor, stands-told, stands-more, asked, entry-asked, clocked-same, used-same, sent-same, window-same, recent-same}
+use Rattle.cq_queue.proofs.Stands.{StandsFor, stands-told, stands-more, asked, entry-asked, clocked-same, used-same, sent-same, window-same, recent-same, trimmed-other}
 use Rattle.cq_queue.proofs.Told.{IsTold, told-lifetime}
 
 -- a receipt is of a message that was sent, by the count of those
@@ -66,6 +66,7 @@ stands_without kept xs e queue receipt stands =
           ∙ sym (standing-more own xs f refl);
       window = window-same kept xs f kept.last stands refl (omega arith);
       recent = recent-same kept xs f kept.last stands refl (omega arith);
+      trimmed = trimmed-other kept xs f refl;
       last = stands.last ∙ clocked-same xs f refl;
       used = stands.used ∙ used-same xs f refl;
     }
@@ -81,6 +82,7 @@ stands_quiet kept xs e queue receipt effect stands idle handed =
       messages = stands.messages ∙ sym (standing-quiet kept.attributes.visibility xs f (record { rejects = rejects; handed = handed; changes = λ n. no_change effect.effective (eqb effect.count n); deletes = λ n. ap (λ b. (b && true) && eqb effect.count n) idle }));
       window = window-same kept xs f kept.last stands rejects (omega arith);
       recent = recent-same kept xs f kept.last stands rejects (omega arith);
+      trimmed = trimmed-other kept xs f refl;
       last = stands.last ∙ clocked-same xs f rejects;
       used = stands.used ∙ used-same xs f refl;
     }

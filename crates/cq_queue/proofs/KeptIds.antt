@@ -22,10 +22,13 @@ keeps-repeated moment kept = keeps_recent moment (repeated_at moment kept) refl 
 own_moment : (moment : ℕ) → nat_lt moment (moment + DEDUPLICATION_WINDOW) ≡ true
 own_moment moment = grind (arith, nat_tests)
 
--- after a send that is accepted
-pub keeps-accepted : (moment : ℕ) (group dedup body : List ℕ) (kept : Incarnation) → KeepsIds moment (with_message moment group dedup body kept)
-keeps-accepted moment group dedup body kept =
+-- so all that are kept after an accepted send are recent
+pub all-accepted : (moment : ℕ) (group dedup body : List ℕ) (kept : Incarnation) → filter (is_recent moment) (with_message moment group dedup body kept).accepted ≡ (with_message moment group dedup body kept).accepted
+all-accepted moment group dedup body kept =
     let recent = filter (is_recent moment) kept.accepted in
     let a : Accepted = record { dedup = dedup; moment = moment; sequence = kept.sent + 1 } in
-    keeps_recent moment (with_message moment group dedup body kept) refl
-    (filter-passes (is_recent moment) recent a (own_moment moment) ∙ ap (λ xs. xs ++ a ∷ []) (filter-twice (is_recent moment) kept.accepted))
+    filter-passes (is_recent moment) recent a (own_moment moment) ∙ ap (λ xs. xs ++ a ∷ []) (filter-twice (is_recent moment) kept.accepted)
+
+-- after a send that is accepted
+pub keeps-accepted : (moment : ℕ) (group dedup body : List ℕ) (kept : Incarnation) → KeepsIds moment (with_message moment group dedup body kept)
+keeps-accepted moment group dedup body kept = keeps_recent moment (with_message moment group dedup body kept) refl (all-accepted moment group dedup body kept)

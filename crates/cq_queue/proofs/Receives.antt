@@ -16,7 +16,7 @@ use Rattle.cq_queue.specs.within.Kept.{handed_out}
 use Rattle.cq_queue.specs.Entries.{IsReceive, StandsAfter, IsAnswered}
 use Rattle.cq_queue.proofs.Maps.{map-agrees, filter-same}
 use Rattle.cq_queue.proofs.Standing.{after_fact, touched_by, is_left_by, standing-more}
-use Rattle.cq_queue.proofs.Stands.{StandsFor, stands-told, stands-more, asked, entry-asked, clocked-next, used-next, sent-same, window-same, recent-same}
+use Rattle.cq_queue.proofs.Stands.{StandsFor, stands-told, stands-more, asked, entry-asked, clocked-next, used-next, sent-same, window-same, recent-same, trimmed-other}
 
 -- the fact of a receive
 abbrev handing_fact : Incarnation → ℕ → Entry → List ℕ → ℕ → Option ℕ → Fact
@@ -49,6 +49,7 @@ stands_handed kept xs moment e queue size visibility stands before =
       messages = standing-handed kept xs moment e queue size visibility stands;
       window = window-same kept xs f moment stands refl before;
       recent = recent-same kept xs f moment stands refl before;
+      trimmed = trimmed-other kept xs f refl;
       last = clocked-next xs f refl;
       used = ap (λ k. k + 1) stands.used ∙ used-next xs f refl;
     }

@@ -12,6 +12,7 @@ use Rattle.std.proofs.lemmas.List.{map-append}
 use Rattle.cq_base.specs.declared.ask.Ask.TheVariants.{Send}
 use Rattle.cq_base.specs.declared.ask.Entry.{Entry}
 use Rattle.cq_base.specs.declared.limits.TheConstants.{DEDUPLICATION_WINDOW}
+use Rattle.cq_base.specs.declared.reply.Refusal.{Refusal}
 use Rattle.cq_base.specs.declared.reply.Refusal.TheVariants.{MissingDedupId}
 use Rattle.cq_base.specs.declared.reply.Reply.{Reply}
 use Rattle.cq_base.specs.declared.reply.Reply.TheVariants.{Sent, Refused}
@@ -19,15 +20,17 @@ use Rattle.cq_base.specs.Asks.{dedup_or_made, is_given_or_made}
 use Rattle.cq_base.specs.Effects.{takes_effect, only_replies, send, send_if, effect_on}
 use Rattle.cq_base.specs.Facts.{Fact}
 use Rattle.cq_base.specs.History.{fact_with}
-use Rattle.cq_base.specs.Incarnations.{Accepted, Incarnation, IncarnationStandsFor, coming, told_of, is_recent, accepted_of, all_accepted, repeated, counts_for}
+use Rattle.cq_base.specs.Incarnations.{Accepted, Incarnation, IncarnationStandsFor, EndWithSend, coming, told_of, is_recent, recent_sends, accepted_of, all_accepted, repeated, counts_for}
 use Rattle.cq_base.specs.Messages.{messages, duplicate, is_duplicated_by}
+use Rattle.cq_base.proofs.Filters.{filter-twice}
 use Rattle.cq_base.proofs.Numbers.{messages-next}
 use Rattle.cq_messages.specs.Changes.{new_message}
 use Rattle.cq_queue.specs.within.Kept.{used_at, repeated_at, with_message}
 use Rattle.cq_queue.specs.Entries.{IsSend, IsSendAs, StandsAfter, IsAnswered}
+use Rattle.cq_queue.proofs.KeptIds.{all-accepted}
 use Rattle.cq_queue.proofs.Maps.{option_map-or, find-kept, filter-kept}
 use Rattle.cq_queue.proofs.Standing.{standing-quiet, standing-next}
-use Rattle.cq_queue.proofs.Stands.{StandsFor, stands-told, stands-more, asked, entry-asked, clocked-next, used-next, sent-same, window-same, recent-same}
+use Rattle.cq_queue.proofs.Stands.{StandsFor, stands-told, stands-more, asked, entry-asked, clocked-next, used-next, sent-same, window-same, recent-same, last-same, trimmed-send}
 use Rattle.cq_queue.proofs.Told.{IsTold, told-lifetime}
 
 -- where the image is nothing, so is what it is of
@@ -113,6 +116,7 @@ stands_accepted kept xs moment e queue group given body stands told before =
       messages = ap (λ ms. ms ++ new_message (kept.sent + 1) group body ∷ []) stands.messages ∙ sym (standing-next kept.attributes.visibility xs f refl refl (λ n. refl) (λ n. refl) (told.new (kept.sent + 1) above));
       window = window_next kept xs moment e queue group given body stands before;
       recent = recent_next kept xs moment e queue group given body stands before;
+      trimmed = trimmed-send (with_message moment group (dedup_or_made body given) body kept) xs f refl (all-accepted moment group (dedup_or_made body given) body kept) (recent_next kept xs moment e queue group given body stands before);
       last = clocked-next xs f refl;
       used = ap (λ n. n + 1) stands.used ∙ used-next xs f refl;
     }
@@ -121,15 +125,25 @@ stands_accepted kept xs moment e queue group given body stands told before =
 abbrev idle_fact : Incarnation → ℕ → Entry → List ℕ → List ℕ → Option (List ℕ) → List ℕ → Reply → Fact
 idle_fact kept moment e queue group given body reply = fact_with (asked moment e (Send queue group given body)) kept.number (only_replies reply)
 
+-- one that is refused isn't answered with a number
+trimmed_refused : (kept : Incarnation) (xs : List Fact) (moment : ℕ) (e : Entry) (queue group : List ℕ) (given : Option (List ℕ)) (body : List ℕ) (refusal : Refusal) (later : ℕ) → EndWithSend (xs ++ idle_fact kept moment e queue group given body (Refused refusal) ∷ []) later
+    → length kept.accepted ≡ recent_sends later (xs ++ idle_fact kept moment e queue group given body (Refused refusal) ∷ [])
+trimmed_refused kept xs moment e queue group given body refusal later ends =
+    absurd (no_number ends.number (ap (λ g. g.reply) (last-same xs (idle_fact kept moment e queue group given body (Refused refusal)) ends.before ends.send ends.is) ∙ ends.replied))
+  where
+    no_number : (n : ℕ) → Refused refusal ≡ Sent n → ⊥
+    no_number n same = cc
+
 -- what is kept after one that is refused
-stands_idle : (kept : Incarnation) (xs : List Fact) (moment : ℕ) (e : Entry) (queue group : List ℕ) (given : Option (List ℕ)) (body : List ℕ) (reply : Reply) → StandsFor kept xs → kept.last ≤ moment → StandsFor (used_at moment kept) (xs ++ idle_fact kept moment e queue group given body reply ∷ [])
-stands_idle kept xs moment e queue group given body reply stands before =
-    let f = idle_fact kept moment e queue group given body reply in
+stands_refused : (kept : Incarnation) (xs : List Fact) (moment : ℕ) (e : Entry) (queue group : List ℕ) (given : Option (List ℕ)) (body : List ℕ) (refusal : Refusal) → StandsFor kept xs → kept.last ≤ moment → StandsFor (used_at moment kept) (xs ++ idle_fact kept moment e queue group given body (Refused refusal) ∷ [])
+stands_refused kept xs moment e queue group given body refusal stands before =
+    let f = idle_fact kept moment e queue group given body (Refused refusal) in
     record {
       sent = stands.sent ∙ sent-same xs f refl;
       messages = stands.messages ∙ sym (standing-quiet kept.attributes.visibility xs f (record { rejects = refl; handed = refl; changes = λ k. refl; deletes = λ k. refl }));
       window = window-same kept xs f moment stands refl before;
       recent = recent-same kept xs f moment stands refl before;
+      trimmed = trimmed_refused kept xs moment e queue group given body refusal;
       last = clocked-next xs f refl;
       used = ap (λ k. k + 1) stands.used ∙ used-next xs f refl;
     }
@@ -137,14 +151,16 @@ stands_idle kept xs moment e queue group given body reply stands before =
 -- what is kept after one that repeats one
 stands_again : (kept : Incarnation) (xs : List Fact) (moment : ℕ) (e : Entry) (queue group : List ℕ) (given : Option (List ℕ)) (body : List ℕ) (reply : Reply) → StandsFor kept xs → kept.last ≤ moment → StandsFor (repeated_at moment kept) (xs ++ idle_fact kept moment e queue group given body reply ∷ [])
 stands_again kept xs moment e queue group given body reply stands before =
-    let idle = stands_idle kept xs moment e queue group given body reply stands before in
+    let f = idle_fact kept moment e queue group given body reply in
+    let recent = λ (later : ℕ) (after : moment ≤ later). recent-recent moment later kept.accepted after ∙ recent-same kept xs f moment stands refl before later after in
     record {
-      sent = idle.sent;
-      messages = idle.messages;
-      window = λ id later after. repeated-recent id moment later kept.accepted after ∙ idle.window id later after;
-      recent = λ later after. recent-recent moment later kept.accepted after ∙ idle.recent later after;
-      last = idle.last;
-      used = idle.used;
+      sent = stands.sent ∙ sent-same xs f refl;
+      messages = stands.messages ∙ sym (standing-quiet kept.attributes.visibility xs f (record { rejects = refl; handed = refl; changes = λ k. refl; deletes = λ k. refl }));
+      window = λ id later after. repeated-recent id moment later kept.accepted after ∙ window-same kept xs f moment stands refl before id later after;
+      recent = recent;
+      trimmed = trimmed-send (repeated_at moment kept) xs f refl (filter-twice (is_recent moment) kept.accepted) recent;
+      last = clocked-next xs f refl;
+      used = ap (λ k. k + 1) stands.used ∙ used-next xs f refl;
     }
 
 -- a send that repeats none is accepted
@@ -226,7 +242,7 @@ stands-refused kept moment group body before lacks entries e stands is =
     let xs = told_of kept entries in
     let now = used_at moment kept in
     stands-more now entries e (subst (λ f. StandsFor now (xs ++ f ∷ [])) (sym (ap (coming kept.number kept.attributes xs) (entry-asked e moment _ is.at_moment is.asks) ∙ coming-refused kept xs moment e is.queue group None body lacks))
-    (stands_idle kept xs moment e is.queue group None body (Refused MissingDedupId) (stands-told kept entries stands) before))
+    (stands_refused kept xs moment e is.queue group None body MissingDedupId (stands-told kept entries stands) before))
 
 -- its reply
 pub reply-refused : (kept : Incarnation) (moment : ℕ) (group body : List ℕ) → kept.attributes.content ≡ false → IsAnswered (IsSend moment group None body) kept (Refused MissingDedupId)

@@ -1,12 +1,13 @@
 -- What is kept of an incarnation, against what happened to it.
-use Rattle.std.proofs.Common.{◌≡◌, ℕ, ◌+◌, ◌≤◌, ◌∙◌, ap, sym, List, [], ◌∷◌, ◌++◌, length, map, None, true, false, arith, subst, refl, length-append}
+use Rattle.std.proofs.Common.{◌≡◌, ℕ, ◌+◌, ◌≤◌, ◌∙◌, ap, sym, List, [], ◌∷◌, ◌++◌, length, map, None, Some, true, false, arith, subst, refl, length-append}
 use Rattle.std.specs.List.{filter, find, last_or}
+use Rattle.std.proofs.lemmas.Bool.{false≢true}
 use Rattle.std.specs.Option.{option_map}
 use Rattle.cq_base.specs.declared.ask.Ask.{Ask}
 use Rattle.cq_base.specs.declared.ask.Entry.{Entry}
-use Rattle.cq_base.specs.Asks.{Attributes}
+use Rattle.cq_base.specs.Asks.{Attributes, is_send}
 use Rattle.cq_base.specs.Facts.{Fact}
-use Rattle.cq_base.specs.Incarnations.{Incarnation, IncarnationStandsFor, coming, told_of, is_recent, accepted_of, all_accepted, repeated, is_use, is_clocked}
+use Rattle.cq_base.specs.Incarnations.{Incarnation, IncarnationStandsFor, EndWithSend, coming, told_of, is_recent, recent_sends, accepted_of, all_accepted, repeated, is_use, is_clocked}
 use Rattle.cq_base.specs.Messages.{messages, is_accepted, duplicate, is_duplicated_by, moment_of, standing}
 use Rattle.cq_base.proofs.Ends.{filter-passes, filter-fails}
 use Rattle.cq_base.proofs.Numbers.{messages-same}
@@ -19,16 +20,17 @@ pub record StandsFor (kept : Incarnation) (xs : List Fact) : Type 0 where
   pub messages : kept.messages ≡ standing kept.attributes.visibility xs
   pub window : (id : List ℕ) (moment : ℕ) → kept.last ≤ moment → repeated id moment kept.accepted ≡ option_map (λ f. f.count) (duplicate id moment xs)
   pub recent : (moment : ℕ) → kept.last ≤ moment → filter (is_recent moment) kept.accepted ≡ filter (is_recent moment) (all_accepted xs)
+  pub trimmed : (moment : ℕ) → EndWithSend xs moment → length kept.accepted ≡ recent_sends moment xs
   pub last : kept.last ≡ moment_of (last_or None (filter is_clocked xs))
   pub used : kept.used ≡ length (filter is_use xs)
 
 -- what stands for entries stands for what they did
 pub stands-told : (kept : Incarnation) (entries : List Entry) → IncarnationStandsFor kept entries → StandsFor kept (told_of kept entries)
-stands-told kept entries h = record { sent = h.sent; messages = h.messages; window = h.window; recent = h.recent; last = h.last; used = h.used }
+stands-told kept entries h = record { sent = h.sent; messages = h.messages; window = h.window; recent = h.recent; trimmed = h.trimmed; last = h.last; used = h.used }
 
 -- and the other way round
 told-stands : (kept : Incarnation) (entries : List Entry) → StandsFor kept (told_of kept entries) → IncarnationStandsFor kept entries
-told-stands kept entries h = record { sent = h.sent; messages = h.messages; window = h.window; recent = h.recent; last = h.last; used = h.used }
+told-stands kept entries h = record { sent = h.sent; messages = h.messages; window = h.window; recent = h.recent; trimmed = h.trimmed; last = h.last; used = h.used }
 
 -- the same with one more entry
 pub stands-more : (kept : Incarnation) (entries : List Entry) (e : Entry) → StandsFor kept (told_of kept entries ++ coming kept.number kept.attributes (told_of kept entries) e ∷ []) → IncarnationStandsFor kept (entries ++ e ∷ [])
@@ -77,6 +79,32 @@ recent-same kept xs f last stands rejected later moment from =
     let from_last : kept.last ≤ moment = omega arith in
     stands.recent moment from_last ∙ ap (λ ys. filter (is_recent moment) (map accepted_of ys)) (sym (messages-same xs f rejected))
 
+-- lists that end with one thing each, and are the same, end with the same
+pub last-same : {X : Type 0} (xs : List X) (x : X) (ys : List X) (y : X) → xs ++ x ∷ [] ≡ ys ++ y ∷ [] → x ≡ y
+last-same xs x ys y same = some_is (sym (last_or-more None xs x) ∙ ap (last_or None) same ∙ last_or-more None ys y)
+  where
+    some_is : Some x ≡ Some y → x ≡ y
+    some_is e = cc
+
+-- no facts end with nothing
+none_last : (xs : List Fact) (f : Fact) → [] ≡ xs ++ f ∷ [] → ⊥
+none_last xs f same = none_is (ap (last_or None) same ∙ last_or-more None xs f)
+  where
+    none_is : None ≡ Some f → ⊥
+    none_is e = cc
+
+-- facts of which the last is of another ask don't end with a send
+pub trimmed-other : (kept : Incarnation) (xs : List Fact) (f : Fact) → is_send f.entry.request.ask ≡ false → (moment : ℕ) → EndWithSend (xs ++ f ∷ []) moment → length kept.accepted ≡ recent_sends moment (xs ++ f ∷ [])
+trimmed-other kept xs f other moment ends = absurd (false≢true (sym other ∙ ap (λ g. is_send g.entry.request.ask) (last-same xs f ends.before ends.send ends.is) ∙ ends.sends))
+
+-- where all that are kept at a send are recent, they are those that count
+pub trimmed-send : (kept : Incarnation) (xs : List Fact) (f : Fact) → kept.last ≡ f.entry.moment → filter (is_recent f.entry.moment) kept.accepted ≡ kept.accepted
+    → ((moment : ℕ) → kept.last ≤ moment → filter (is_recent moment) kept.accepted ≡ filter (is_recent moment) (all_accepted (xs ++ f ∷ [])))
+    → (moment : ℕ) → EndWithSend (xs ++ f ∷ []) moment → length kept.accepted ≡ recent_sends moment (xs ++ f ∷ [])
+trimmed-send kept xs f last all recent moment ends =
+    let at = ap (λ g. g.entry.moment) (last-same xs f ends.before ends.send ends.is) ∙ ends.at_moment in
+    subst (λ m. length kept.accepted ≡ recent_sends m (xs ++ f ∷ [])) at (ap length (sym all ∙ recent f.entry.moment (omega arith)))
+
 -- what is kept of an incarnation to which nothing came
 abbrev empty : ℕ → Attributes → Incarnation
 empty number attributes = record { number = number; attributes = attributes; sent = 0; messages = []; accepted = []; last = 0; used = 0 }
@@ -84,7 +112,7 @@ empty number attributes = record { number = number; attributes = attributes; sen
 -- nothing happened
 nothing_told : (number : ℕ) (attributes : Attributes) → StandsFor (empty number attributes) []
 unfolding messages duplicate standing
-nothing_told number attributes = record { sent = refl; messages = refl; window = λ id moment later. refl; recent = λ moment later. refl; last = refl; used = refl }
+nothing_told number attributes = record { sent = refl; messages = refl; window = λ id moment later. refl; recent = λ moment later. refl; trimmed = λ moment ends. absurd (none_last ends.before ends.send ends.is); last = refl; used = refl }
 
 -- it stands for no entries
 pub stands-none : (number : ℕ) (attributes : Attributes) → IncarnationStandsFor (empty number attributes) []
