@@ -1,5 +1,5 @@
 -- Asks about a name, and how they are answered.
-use Rattle.std.proofs.Common.{◌≡◌, ℕ, ◌+◌, ◌≤◌, ◌∙◌, ◌&&◌, ap, sym, List, [], ◌∷◌, ◌++◌, map, Option, Some, None, Bool, true, false, arith, subst, refl}
+use Rattle.std.proofs.Common.{◌≡◌, ℕ, ◌+◌, ◌≤◌, ◌∙◌, ◌&&◌, ap, sym, List, [], ◌∷◌, ◌++◌, length, map, Option, Some, None, Bool, true, false, arith, subst, refl}
 use Rattle.std.proofs.lemmas.Bool.{both_ways, false≢true}
 use Rattle.cq_base.specs.declared.ask.Ask.{Ask}
 use Rattle.cq_base.specs.declared.ask.Ask.TheVariants.{Create, Remove, Send, Receive, Delete, Change}
@@ -11,7 +11,7 @@ use Rattle.cq_base.specs.Asks.{queue_of, is_create, is_remove, attributes_of}
 use Rattle.cq_base.specs.Effects.{counts_of, counts_by, takes_effect, create_again, create, effect_on, effect_off, attributes_by}
 use Rattle.cq_base.specs.Facts.{Fact, about, on}
 use Rattle.cq_base.specs.History.{fact_with, fresh_fact, history}
-use Rattle.cq_base.specs.Incarnations.{Incarnation, IncarnationStandsFor, told_of}
+use Rattle.cq_base.specs.Incarnations.{Incarnation, IncarnationStandsFor, EndWithSend, recent_sends, told_of}
 use Rattle.cq_base.specs.Lifetimes.{is_creation, is_removal, live, creations, removed_lately}
 use Rattle.cq_base.proofs.OneMoreFact.{not_both}
 use Rattle.cq_base.specs.declared.reply.Delivery.{Delivery}
@@ -22,7 +22,7 @@ use Rattle.cq_queue.specs.Entries.{StandsAfter, IsAnswered, IsSameQueue, IsRecei
 use Rattle.cq_queue.proofs.Creates.{stands-created, reply-created}
 use Rattle.cq_store.specs.within.Asked.{own_facts, IsAnswer, IsCount}
 use Rattle.cq_store.specs.within.Rooms.{IsWithin, IsQueueWithin}
-use Rattle.cq_store.specs.Stands.{unknown, or_unknown, NameKept, NameStandsFor, LivesAs, IsLiving, is_resting}
+use Rattle.cq_store.specs.Stands.{unknown, or_unknown, NameKept, NameStandsFor, LivesAs, IsLiving, AreIdsKept, ids_of, is_resting}
 use Rattle.cq_store.proofs.OfLaws.Alone.{alone, IsAlone}
 use Rattle.cq_store.proofs.NamesStand.{entry-fresh, name-dead, with_creation, name-created, with_removal, name-removed, with_incarnation, told-on, comes-to, name-living}
 use Rattle.cq_store.proofs.FreshFacts.{fresh-live, fresh-dead}
@@ -204,6 +204,27 @@ counted kept p moment visible in_flight is_p are entries queue last h = counted_
 -- The counts of one that doesn't.
 pub uncounted : (kept : NameKept) (moment : ℕ) → kept.living ≡ None → IsCount kept moment (Refused QueueDoesNotExist)
 uncounted kept moment none entries queue last h = ap (λ o. counts_by o moment (about queue (history entries))) (dead_own kept last (about queue (history entries)) (live (about queue (history entries))) none h refl)
+
+-- the ids that are kept just after a send, by the creation by which the queue lives
+ids_sent : (p : Option Incarnation) (creation : Fact) (moment : ℕ) (own : List Fact) → IsAlone own → IsLiving p (Some creation) own → live own ≡ Some creation → EndWithSend (on creation.count own) moment → ids_of p ≡ recent_sends moment (on creation.count own)
+ids_sent None creation moment own alone living lives ends = absurd living
+ids_sent (Some p) creation moment own alone living lives ends =
+    let same = told-on own creation p alone lives living in
+    subst (λ fs. length p.accepted ≡ recent_sends moment fs) same (living.stands.trimmed moment (subst (λ fs. EndWithSend fs moment) (sym same) ends))
+
+-- none are kept where no queue lives
+ids_dead : (p : Option Incarnation) (own : List Fact) → IsLiving p None own → ids_of p ≡ 0
+ids_dead None own living = refl
+ids_dead (Some p) own living = absurd living
+
+-- The ids that are kept of a queue.
+pub ids-kept : (kept : NameKept) (last : ℕ) (entries : List Entry) (queue : List ℕ) → NameStandsFor last kept (about queue (history entries)) → AreIdsKept (ids_of kept.living) entries queue
+ids-kept kept last entries queue h =
+    let own = about queue (history entries) in
+    record {
+      sent = λ creation moment lives ends. ids_sent kept.living creation moment own (alone queue entries) (subst (λ o. IsLiving kept.living o own) lives h.living) lives ends;
+      dead = λ dies. ids_dead kept.living own (subst (λ o. IsLiving kept.living o own) dies h.living);
+    }
 
 -- an answer about a name that is kept from now on
 pub first_kept : (before after : Option NameKept) (old new : NameKept) (moment : ℕ) (ask : Ask) (reply : Reply) → before ≡ None → old ≡ unknown → after ≡ Some new → IsAnswer old new moment ask reply → IsAnswer (or_unknown before) (or_unknown after) moment ask reply

@@ -9,7 +9,7 @@ use Rattle.cq_base.specs.Clients.{of_client, is_fresh, is_stale, kept_reply}
 use Rattle.cq_base.specs.Effects.{attributes_by}
 use Rattle.cq_base.specs.Facts.{Fact, about, on}
 use Rattle.cq_base.specs.History.{history, last_moment}
-use Rattle.cq_base.specs.Incarnations.{Incarnation, IncarnationStandsFor}
+use Rattle.cq_base.specs.Incarnations.{Incarnation, IncarnationStandsFor, EndWithSend, recent_sends}
 use Rattle.cq_base.specs.Lifetimes.{live, creations, removed_lately}
 
 -- ---- clients
@@ -72,6 +72,11 @@ pub record NameStandsFor (last : ℕ) (kept : NameKept) (facts : List Fact) : Ty
   pub removed : (moment : ℕ) → last ≤ moment → is_resting kept.removed moment ≡ removed_lately moment facts
   pub living : IsLiving kept.living (live facts) facts
 
+-- how many deduplication ids are kept of the incarnation as which a queue lives; 0 if it doesn't
+abbrev pub ids_of : Option Incarnation → ℕ
+ids_of None = 0
+ids_of (Some kept) = length kept.accepted
+
 -- what is kept of a name that no creation took effect for
 abbrev pub unknown : NameKept
 unknown = record { creations = 0; removed = None; living = None }
@@ -106,6 +111,18 @@ pub record StandsFor (kept : StoreKept) (entries : List Entry) : Type 0 where
   pub last : kept.last ≡ last_moment entries
   pub clients : (client : ℕ) → ClientKnown client (client_at kept.clients client) (history entries)
   pub names : (queue : List ℕ) → NameStandsFor kept.last (or_unknown (name_at kept.names queue)) (about queue (history entries))
+
+-- what these entries did on the incarnation of a queue that this creation made
+abbrev pub done_on : List Entry → List ℕ → Fact → List Fact
+done_on entries queue creation = on creation.count (about queue (history entries))
+
+-- So many deduplication ids are kept of a queue after these entries: where it lives, and the last that they did on it
+-- was a send that was answered with a sequence number, as many as it accepted sends in the five minutes up to that
+-- one; none where it doesn't live.
+pub record AreIdsKept (count : ℕ) (entries : List Entry) (queue : List ℕ) : Type 0 where
+  pub sent : (creation : Fact) (moment : ℕ) → live (about queue (history entries)) ≡ Some creation → EndWithSend (done_on entries queue creation) moment
+      → count ≡ recent_sends moment (done_on entries queue creation)
+  pub dead : live (about queue (history entries)) ≡ None → count ≡ 0
 
 -- how many entries the store has taken
 abbrev pub count_of : StoreKept → ℕ

@@ -6,7 +6,7 @@ ghost use Rattle.cq_base.specs.declared.ask.Ask.TheVariants as asks;
 ghost use Rattle.cq_base.specs.Effects.{create_again};
 ghost use Rattle.cq_store.specs.within.Asked.{IsAnswer, IsCount};
 ghost use Rattle.cq_store.specs.within.Rooms.{IsWithin, CameBy};
-ghost use Rattle.cq_store.specs.Stands.{is_resting, unknown};
+ghost use Rattle.cq_store.specs.Stands.{is_resting, unknown, ids_of};
 
 use crate::answered::Answered;
 use cq_base::{
@@ -246,6 +246,16 @@ impl NameKept {
                 visibility,
                 ..
             } => Ok(self.change(moment, receipt, *visibility)),
+        }
+    }
+
+    /// How many deduplication ids the queue keeps; 0 if it doesn't live: O(1).
+    pub fn kept_ids(&self) -> u64
+        ensures { result ≡ ids_of self.now.living }
+    {
+        match &self.living {
+            Some(queue) => queue.kept_ids(),
+            None => 0,
         }
     }
 

@@ -5,7 +5,7 @@ ghost use Rattle.cq_base.specs.declared.limits.TheConstants.{HISTORY_LIMIT};
 ghost use Rattle.cq_base.specs.Asks.{queue_of};
 ghost use Rattle.cq_store.specs.within.Asked.{IsAnswer, IsCount};
 ghost use Rattle.cq_store.specs.within.Rooms.{IsWithin, CameBy};
-ghost use Rattle.cq_store.specs.Stands.{name_at, or_unknown};
+ghost use Rattle.cq_store.specs.Stands.{name_at, or_unknown, ids_of};
 
 use crate::answered::Answered;
 use crate::name::NameKept;
@@ -83,6 +83,16 @@ impl Names {
         match self.kept.get_mut(ask.queue()) {
             Some(name) => name.apply(alloc, moment, ask),
             None => self.apply_unknown(alloc, moment, ask),
+        }
+    }
+
+    /// How many deduplication ids the queue keeps; 0 if it doesn't live: O(1) expected.
+    pub fn kept_ids(&self, queue: &QueueName) -> u64
+        ensures { result ≡ ids_of (or_unknown (name_at self.now queue.now)).living }
+    {
+        match self.kept.get(queue) {
+            Some(name) => name.kept_ids(),
+            None => 0,
         }
     }
 

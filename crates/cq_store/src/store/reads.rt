@@ -2,10 +2,10 @@
 ghost use Rattle.std.specs.Prelude.{◌≡◌, List, length};
 ghost use Rattle.cq_base.specs.declared.ask.Entry.{Entry};
 ghost use Rattle.cq_base.specs.History.{last_moment};
-ghost use Rattle.cq_store.specs.Stands.{StandsFor, count_of, last_of};
+ghost use Rattle.cq_store.specs.Stands.{StandsFor, AreIdsKept, count_of, last_of};
 
 use super::Store;
-use cq_base::Moment;
+use cq_base::{Moment, QueueName};
 
 impl Store {
     /// How many entries it was given: O(1).
@@ -22,5 +22,13 @@ impl Store {
         ensures stands { (entries : List Entry) → StandsFor self.now entries → result ≡ last_moment entries }
     {
         self.last
+    }
+
+    /// How many deduplication ids the queue of that name keeps, and 0 if it doesn't live: O(1) expected. A send that is
+    /// answered with a sequence number forgets those whose five minutes are over; until the next one they stay.
+    pub fn kept_ids(&self, queue: &QueueName) -> u64
+        ensures stands { (entries : List Entry) → StandsFor self.now entries → AreIdsKept result entries queue.now }
+    {
+        self.names.kept_ids(queue)
     }
 }
