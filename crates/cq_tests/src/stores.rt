@@ -412,21 +412,39 @@ fn a_query_counts_the_messages(rt: HostRuntime) -> Result<(), Fail> {
     check_counts(&rt, rt.alloc(), &removed, "q.fifo", "refused 1")
 }
 
-/// After each send, the ids of the accepted sends of the last five minutes are kept.
-#[test]
-fn ids_are_kept_for_five_minutes(rt: HostRuntime) -> Result<(), Fail> {
+/// The store answers the line, and keeps so many ids then.
+fn check_kept(
+    rt: &impl Abort,
+    alloc: Global,
+    store: &mut Store,
+    line: Line,
+    want: u64,
+) -> Result<(), Fail> {
+    go_on(rt, alloc, store, &[line])?;
+    let queue = QueueName::new(alloc, "q.fifo")?;
+    assert_eq!(rt; store.kept_ids(&queue), want);
+    Ok(())
+}
+
+fn check_kept_ids(rt: &impl Abort, alloc: Global, store: &mut Store) -> Result<(), Fail> {
     let rows = [
-        (0, 1, 1, Row::Create, "created 1"),
-        (0, 1, 2, Row::Send("a", "x"), "sent 1"),
-        (1, 1, 3, Row::Send("a", "y"), "sent 2"),
-        (300_000, 1, 4, Row::Send("a", "z"), "sent 3"),
-        (300_000, 1, 5, Row::Send("a", "y"), "sent 2"),
-        (300_001, 1, 6, Row::Send("a", "y"), "sent 4"),
+        ((0, 1, 1, Row::Create, "created 1"), 0),
+        ((0, 1, 2, Row::Send("a", "x"), "sent 1"), 1),
+        ((1, 1, 3, Row::Send("a", "y"), "sent 2"), 2),
+        ((300_000, 1, 4, Row::Send("a", "z"), "sent 3"), 2),
+        ((300_000, 1, 5, Row::Send("a", "y"), "sent 2"), 2),
+        ((300_001, 1, 6, Row::Send("a", "y"), "sent 4"), 2),
+        ((300_001, 1, 7, Row::Remove, "removed"), 0),
     ];
-    let queue = QueueName::new(rt.alloc(), "q.fifo")?;
-    for (count, kept) in [(0, 0), (1, 0), (2, 1), (3, 2), (4, 2), (5, 2), (6, 2)] {
-        let store = check(&rt, rt.alloc(), &rows[..count])?;
-        assert_eq!(&rt; store.kept_ids(&queue), kept);
+    for (line, want) in &rows {
+        check_kept(rt, alloc, store, *line, *want)?;
     }
     Ok(())
+}
+
+/// After each send, the ids of the accepted sends of the last five minutes are kept, and none of a queue that is removed.
+#[test]
+fn ids_are_kept_for_five_minutes(rt: HostRuntime) -> Result<(), Fail> {
+    let mut store = check(&rt, rt.alloc(), &[])?;
+    check_kept_ids(&rt, rt.alloc(), &mut store)
 }
