@@ -1,0 +1,297 @@
+//! How long the calls of a store take, by the number of messages that a queue holds and of its groups. Each line of
+//! standard input has these two numbers; each line of output has the nanoseconds of a call of each kind.
+#![tactic(auto)]
+
+use cq_base::{
+    Ask, BatchSize, Body, DedupId, Entry, GroupId, HISTORY_LIMIT, Moment, Query, QueueName,
+    Receipt, Reply, Request, Seconds,
+};
+use cq_store::Store;
+use std::alloc::Global;
+use std::io;
+use std::io::{BufRead, BufReader};
+use std::process::ExitCode;
+use std::time::Instant;
+
+/// How many receives are timed, each of ten messages.
+const RECEIVES: u64 = 1_000;
+
+/// How many counts are timed.
+const COUNTS: u64 = 1_000;
+
+/// The sends come within so many milliseconds, so that all of their deduplication ids are kept.
+const SENDING: u64 = 299_000;
+
+fn stop(what: &'static str) -> io::Error {
+    io::Error::other(what)
+}
+
+/// The nanoseconds since then.
+fn since(rt: &HostRuntime, start: &Instant) -> io::Result<u64> {
+    Ok(u64::try_from(start.elapsed(rt)?.as_nanos()).unwrap_or(u64::MAX))
+}
+
+/// The nanoseconds of all calls of a kind, and how many calls there were.
+#[derive(Clone, Copy)]
+struct Timed {
+    nanoseconds: u64,
+    calls: u64,
+}
+
+impl Timed {
+    fn zero() -> Timed {
+        Timed {
+            nanoseconds: 0,
+            calls: 0,
+        }
+    }
+
+    /// So many calls more, which took so long.
+    fn add(&mut self, nanoseconds: u64, calls: u64) {
+        self.nanoseconds = self.nanoseconds.saturating_add(nanoseconds);
+        self.calls = self.calls.saturating_add(calls);
+    }
+
+    /// The nanoseconds of one call.
+    fn each(&self) -> u64 {
+        if self.calls == 0 {
+            0
+        } else {
+            self.nanoseconds / self.calls
+        }
+    }
+}
+
+/// A store with one queue.
+#[derive(Drop)]
+struct Bench {
+    store: Store,
+    queue: QueueName,
+}
+
+impl Bench {
+    fn new(alloc: Global) -> io::Result<Bench> {
+        let queue = QueueName::new(alloc, "q.fifo").map_err(|_| stop("no name"))?;
+        let store = Store::new(alloc).map_err(|_| stop("no memory"))?;
+        Ok(Bench { store, queue })
+    }
+
+    /// One more request of client 1 at that moment.
+    fn apply(&mut self, moment: u64, ask: Ask) -> io::Result<Reply> {
+        let moment = Moment::new(moment).ok_or(stop("no moment"))?;
+        let number = self.store.count().saturating_add(1);
+        let request = Request {
+            client: 1,
+            number,
+            ask,
+        };
+        let entry = Entry { moment, request };
+        if HISTORY_LIMIT <= self.store.count() || moment.get() < self.store.last().get() {
+            return Err(stop("no place in the history"));
+        }
+        self.store.apply(&entry).map_err(|_| stop("no memory"))
+    }
+
+    fn name(&self) -> io::Result<QueueName> {
+        self.queue.try_copy().map_err(|_| stop("no memory"))
+    }
+
+    fn create(&mut self) -> io::Result<()> {
+        let queue = self.name()?;
+        let visibility = Seconds::new(30).ok_or(stop("no timeout"))?;
+        let content = false;
+        let _ = self.apply(
+            0,
+            Ask::Create {
+                queue,
+                visibility,
+                content,
+            },
+        )?;
+        Ok(())
+    }
+
+    /// The ask to send the message of that number.
+    fn send_ask(&self, alloc: Global, number: u64, groups: u64) -> io::Result<Ask> {
+        let group = if groups == 0 { 0 } else { number % groups };
+        let group = format!(in alloc; "g{group}")?;
+        let dedup = format!(in alloc; "d{number}")?;
+        Ok(Ask::Send {
+            queue: self.name()?,
+            group: GroupId::new(alloc, group.as_str()).map_err(|_| stop("no group"))?,
+            dedup: Some(DedupId::new(alloc, dedup.as_str()).map_err(|_| stop("no id"))?),
+            body: Body::new(alloc, "a body of thirty-two bytes, or so").map_err(|_| stop(
+                "no body",
+            ))?,
+        })
+    }
+
+    /// Sends so many messages in so many groups, and tells how long one took.
+    fn send_all(
+        &mut self,
+        rt: &HostRuntime,
+        alloc: Global,
+        messages: u64,
+        groups: u64,
+    ) -> io::Result<u64> {
+        let start = Instant::now(rt)?;
+        for number in 0..messages {
+            let moment = number.saturating_mul(SENDING) / messages;
+            let ask = self.send_ask(alloc, number, groups)?;
+            let _ = self.apply(moment, ask)?;
+        }
+        Ok(since(rt, &start)?.checked_div(messages).unwrap_or(0))
+    }
+
+    /// Receives up to ten messages, and gives their receipts.
+    fn receive(&mut self, alloc: Global, moment: u64) -> io::Result<Vec<Receipt>> {
+        let ask = Ask::Receive {
+            queue: self.name()?,
+            size: BatchSize::new(10).ok_or(stop("no size"))?,
+            visibility: None,
+        };
+        let mut receipts = Vec::new(alloc);
+        match self.apply(moment, ask)? {
+            Reply::Received(deliveries) => {
+                for delivery in deliveries.as_slice() {
+                    receipts
+                        .push(delivery.receipt)
+                        .map_err(|_| stop("no memory"))?;
+                }
+                Ok(receipts)
+            }
+            _ => Err(stop("no messages")),
+        }
+    }
+
+    fn change(&mut self, moment: u64, receipt: Receipt) -> io::Result<()> {
+        let ask = Ask::Change {
+            queue: self.name()?,
+            receipt,
+            visibility: Seconds::new(60).ok_or(stop("no timeout"))?,
+        };
+        let _ = self.apply(moment, ask)?;
+        Ok(())
+    }
+
+    fn delete(&mut self, moment: u64, receipt: Receipt) -> io::Result<()> {
+        let ask = Ask::Delete {
+            queue: self.name()?,
+            receipt,
+        };
+        let _ = self.apply(moment, ask)?;
+        Ok(())
+    }
+
+    /// How long a count takes.
+    fn count(&self, rt: &HostRuntime) -> io::Result<u64> {
+        let query = Query {
+            client: 1,
+            tag: 1,
+            queue: self.name()?,
+        };
+        let start = Instant::now(rt)?;
+        for _ in 0..COUNTS {
+            let _ = self.store.query(&query);
+        }
+        Ok(since(rt, &start)? / COUNTS)
+    }
+
+    /// How long a copy of the store takes.
+    fn copy(&self, rt: &HostRuntime) -> io::Result<u64> {
+        let start = Instant::now(rt)?;
+        let copy = self.store.try_copy().map_err(|_| stop("no memory"))?;
+        let took = since(rt, &start)?;
+        drop(copy);
+        Ok(took)
+    }
+}
+
+/// How long receives, changes and deletes take.
+#[derive(Clone, Copy)]
+struct Rounds {
+    receive: Timed,
+    change: Timed,
+    delete: Timed,
+}
+
+impl Rounds {
+    /// Receives ten messages at that moment, changes the timeout of each, and deletes them.
+    fn round(
+        &mut self,
+        rt: &HostRuntime,
+        alloc: Global,
+        bench: &mut Bench,
+        moment: u64,
+    ) -> io::Result<()> {
+        let start = Instant::now(rt)?;
+        let receipts = bench.receive(alloc, moment)?;
+        self.receive.add(since(rt, &start)?, 1);
+        let start = Instant::now(rt)?;
+        for receipt in receipts.as_slice() {
+            bench.change(moment, *receipt)?;
+        }
+        self.change.add(since(rt, &start)?, receipts.len() as u64);
+        let start = Instant::now(rt)?;
+        for receipt in receipts.as_slice() {
+            bench.delete(moment, *receipt)?;
+        }
+        self.delete.add(since(rt, &start)?, receipts.len() as u64);
+        Ok(())
+    }
+
+    /// Up to `RECEIVES` rounds, which leave half of the messages or more.
+    fn of(rt: &HostRuntime, alloc: Global, bench: &mut Bench, messages: u64) -> io::Result<Rounds> {
+        let mut rounds = Rounds {
+            receive: Timed::zero(),
+            change: Timed::zero(),
+            delete: Timed::zero(),
+        };
+        for number in 0..RECEIVES.min(messages / 20) {
+            rounds.round(rt, alloc, bench, SENDING + number)?;
+        }
+        Ok(rounds)
+    }
+}
+
+/// Times the calls on a queue of so many messages in so many groups.
+fn run(rt: &HostRuntime, messages: u64, groups: u64) -> io::Result<()> {
+    let alloc = rt.alloc();
+    let mut bench = Bench::new(alloc)?;
+    bench.create()?;
+    let send = bench.send_all(rt, alloc, messages, groups)?;
+    let copy = bench.copy(rt)?.checked_div(messages).unwrap_or(0);
+    let rounds = Rounds::of(rt, alloc, &mut bench, messages)?;
+    let _ = bench.receive(alloc, SENDING + RECEIVES)?;
+    let count = bench.count(rt)?;
+    let receive = rounds.receive.each();
+    let change = rounds.change.each();
+    let delete = rounds.delete.each();
+    println!(rt;
+        "{messages} messages {groups} groups: send {send} receive {receive} change {change} delete {delete} count {count} copy {copy} each"
+    )
+}
+
+/// The two numbers of a line.
+fn numbers(line: &str) -> Option<(u64, u64)> {
+    let (messages, groups) = line.split_once(' ')?;
+    Some((messages.parse().ok()?, groups.parse().ok()?))
+}
+
+fn run_lines(rt: &HostRuntime) -> io::Result<()> {
+    for line in BufReader::new(rt.alloc(), rt.reader())?.lines(rt.alloc()) {
+        let (messages, groups) = numbers(line?.as_str()).ok_or(stop("no two numbers"))?;
+        run(rt, messages, groups)?;
+    }
+    Ok(())
+}
+
+fn main(rt: HostRuntime) -> ExitCode {
+    match run_lines(&rt) {
+        Ok(()) => ExitCode::SUCCESS,
+        Err(error) => {
+            let _ = eprintln!(rt; "cq_bench_store: {error}");
+            ExitCode::FAILURE
+        }
+    }
+}
