@@ -1,8 +1,7 @@
 //! A message of a queue.
 ghost use Rattle.std.specs.Prelude.{◌≡◌, ◌<◌, IfOk};
-ghost use Rattle.cq_base.specs.declared.limits.TheConstants.{HISTORY_LIMIT};
-ghost use Rattle.cq_base.specs.Receiving.{is_same_group, is_in_flight, is_blocked_by, is_preceded_by, delivery_of};
-ghost use Rattle.cq_messages.specs.Changes.{new_message, handed_at_until, hidden_until};
+ghost use Rattle.cq_base.specs.Receiving.{is_in_flight, delivery_of};
+ghost use Rattle.cq_messages.specs.Changes.{new_message};
 
 use cq_base::{Body, Delivery, GroupId, Moment, NoMemory, Receipt};
 use std::marker::Model;
@@ -56,59 +55,11 @@ impl Message {
         })
     }
 
-    /// Its sequence number, from 1.
-    pub fn sequence(&self) -> u64
-        ensures value { result ≡ self.now.sequence }
-        ensures positive { 0 < result }
-    {
-        self.sequence
-    }
-
-    /// Whether the other message is of its group.
-    pub fn is_same_group(&self, other: &Message) -> bool
-        ensures { result ≡ is_same_group self.now other.now }
-    {
-        self.group == other.group
-    }
-
     /// Whether it is in flight at that moment.
     pub fn is_in_flight(&self, moment: Moment) -> bool
         ensures { result ≡ is_in_flight moment self.now }
     {
         moment.get() < self.until
-    }
-
-    /// Whether the other message is of its group and in flight.
-    pub fn is_blocked_by(&self, moment: Moment, other: &Message) -> bool
-        ensures { result ≡ is_blocked_by moment self.now other.now }
-    {
-        self.is_same_group(other) && other.is_in_flight(moment)
-    }
-
-    /// Whether the other message is of its group and was sent before it.
-    pub fn is_preceded_by(&self, other: &Message) -> bool
-        ensures { result ≡ is_preceded_by self.now other.now }
-    {
-        self.is_same_group(other) && other.sequence < self.sequence
-    }
-
-    /// Hands it out once more at that moment, and hides it up to `end`.
-    pub fn hand(&mut self, moment: Moment, end: u64)
-        requires { self.old.handings < HISTORY_LIMIT }
-        ensures { self.new ≡ handed_at_until moment end self.old }
-    {
-        self.handings += 1;
-        self.handed_at = moment;
-        self.until = end;
-    }
-
-    /// Hides it up to `end`, if it has that sequence number.
-    pub fn hide(&mut self, sequence: u64, end: u64)
-        ensures { self.new ≡ hidden_until sequence end self.old }
-    {
-        if self.sequence == sequence {
-            self.until = end;
-        }
     }
 
     /// The same message. It shares the texts: O(1).
