@@ -153,6 +153,48 @@ fn answer(
     }
 }
 
+// A `?` while a queue is at hand costs the check much, so what asks borrows it.
+
+/// The row is answered so.
+fn check_row(
+    rt: &impl Abort,
+    alloc: Global,
+    queue: &mut Queue,
+    moment: u64,
+    row: Row,
+    want: &str,
+) -> Result<(), Fail> {
+    let got = answer(rt, alloc, queue, moment, row)?;
+    assert_eq!(rt; got.as_str(), want, "at {moment}");
+    Ok(())
+}
+
+/// A copy of the queue answers the row so.
+fn check_copy(
+    rt: &impl Abort,
+    alloc: Global,
+    queue: &Queue,
+    moment: u64,
+    row: Row,
+    want: &str,
+) -> Result<(), Fail> {
+    let mut copy = queue.try_copy()?;
+    check_row(rt, alloc, &mut copy, moment, row, want)
+}
+
+fn check_rows(
+    rt: &impl Abort,
+    alloc: Global,
+    queue: &mut Queue,
+    rows: &[(u64, Row, &'static str)],
+) -> Result<(), Fail> {
+    for (moment, row, want) in rows {
+        check_copy(rt, alloc, queue, *moment, *row, want)?;
+        check_row(rt, alloc, queue, *moment, *row, want)?;
+    }
+    Ok(())
+}
+
 /// What comes to a queue with a visibility timeout of 30 s, each with its moment and answer. A copy of the
 /// queue as it was just before gives the same answer.
 fn check(
@@ -161,20 +203,15 @@ fn check(
     content: bool,
     rows: &[(u64, Row, &'static str)],
 ) -> Result<(), Fail> {
-    let mut queue = Queue::new(alloc, 1, seconds(30)?, content)?;
-    for (moment, row, want) in rows {
-        let mut copy = queue.try_copy()?;
-        let got = answer(rt, alloc, &mut queue, *moment, *row)?;
-        assert_eq!(rt; got.as_str(), *want, "at {moment}");
-        let again = answer(rt, alloc, &mut copy, *moment, *row)?;
-        assert_eq!(rt; again.as_str(), *want, "of the copy, at {moment}");
-    }
-    Ok(())
+    let visibility = seconds(30)?;
+    let mut queue = Queue::new(alloc, 1, visibility, content)?;
+    check_rows(rt, alloc, &mut queue, rows)
 }
 
 #[test]
 fn a_new_queue_has_nothing(rt: HostRuntime) -> Result<(), Fail> {
-    let queue = Queue::new(rt.alloc(), 7, seconds(30)?, true)?;
+    let visibility = seconds(30)?;
+    let queue = Queue::new(rt.alloc(), 7, visibility, true)?;
     assert_eq!(&rt; queue.incarnation(), 7);
     assert_eq!(&rt; queue.visibility().get(), 30);
     assert_eq!(&rt; queue.content(), true);
@@ -263,21 +300,37 @@ fn a_missing_id_is_refused(rt: HostRuntime) -> Result<(), Fail> {
     check(&rt, rt.alloc(), false, &rows)
 }
 
+/// The row is answered so, and so many ids are kept then.
+fn check_kept(
+    rt: &impl Abort,
+    alloc: Global,
+    queue: &mut Queue,
+    row: (u64, Row, &'static str),
+    kept: u64,
+) -> Result<(), Fail> {
+    check_row(rt, alloc, queue, row.0, row.1, row.2)?;
+    assert_eq!(rt; queue.kept_ids(), kept);
+    Ok(())
+}
+
+fn check_kept_ids(rt: &impl Abort, alloc: Global, queue: &mut Queue) -> Result<(), Fail> {
+    let rows = [
+        ((0, Row::Send("a", "x"), "sent 1"), 1),
+        ((1, Row::Send("a", "y"), "sent 2"), 2),
+        ((300_000, Row::Send("a", "z"), "sent 3"), 2),
+        ((300_000, Row::Send("a", "y"), "sent 2"), 2),
+        ((300_001, Row::Send("a", "y"), "sent 4"), 2),
+    ];
+    for (row, kept) in &rows {
+        check_kept(rt, alloc, queue, *row, *kept)?;
+    }
+    Ok(())
+}
+
 /// The id of an accepted send is kept for five minutes, and forgotten at the next send after them.
 #[test]
 fn ids_are_kept_for_five_minutes(rt: HostRuntime) -> Result<(), Fail> {
-    let rows = [
-        (0, Row::Send("a", "x"), "sent 1", 1),
-        (1, Row::Send("a", "y"), "sent 2", 2),
-        (300_000, Row::Send("a", "z"), "sent 3", 2),
-        (300_000, Row::Send("a", "y"), "sent 2", 2),
-        (300_001, Row::Send("a", "y"), "sent 4", 2),
-    ];
-    let mut queue = Queue::new(rt.alloc(), 1, seconds(30)?, false)?;
-    for (moment, row, want, kept) in &rows {
-        let got = answer(&rt, rt.alloc(), &mut queue, *moment, *row)?;
-        assert_eq!(&rt; got.as_str(), *want, "at {moment}");
-        assert_eq!(&rt; queue.kept_ids(), *kept, "at {moment}");
-    }
-    Ok(())
+    let visibility = seconds(30)?;
+    let mut queue = Queue::new(rt.alloc(), 1, visibility, false)?;
+    check_kept_ids(&rt, rt.alloc(), &mut queue)
 }
