@@ -1,5 +1,6 @@
-//! A FIFO queue in plain Rust with the collections that come to mind, to measure the store against. It keeps the same
-//! rules as far as the benchmark asks for them, reads the same lines as `cq_bench_store` and writes the same ones.
+//! A store of FIFO queues in plain Rust with the collections that come to mind, to measure ours against. It keeps the same
+//! rules as far as the benchmark asks for them, with a kept reply for each client, reads the same lines as `cq_bench_store`
+//! and writes the same ones.
 use std::collections::{BTreeMap, BTreeSet, HashMap, VecDeque};
 use std::io::BufRead;
 use std::rc::Rc;
@@ -33,6 +34,33 @@ struct Delivery {
     _body: Rc<str>,
 }
 
+enum Ask {
+    Create,
+    Send { group: String, id: String, body: &'static str },
+    Receive { size: usize },
+    Change { delivery: Delivery, seconds: u64 },
+    Delete { delivery: Delivery },
+}
+
+struct Request {
+    client: u32,
+    number: u64,
+    queue: Rc<str>,
+    ask: Ask,
+}
+
+/// What is kept for a repeat, which never comes here.
+#[allow(dead_code)]
+#[derive(Clone)]
+enum Reply {
+    Created,
+    Sent(u64),
+    Received(Vec<Delivery>),
+    Changed(bool),
+    Deleted(bool),
+    Refused,
+}
+
 #[derive(Clone, Default)]
 struct Queue {
     sent: u64,
@@ -44,8 +72,6 @@ struct Queue {
     flights: BTreeSet<(u64, u64)>,
     accepted: VecDeque<(u64, Rc<str>)>,
     ids: HashMap<Rc<str>, (u64, u64)>,
-    /// The reply that a repeat of the last receive would have.
-    kept: Vec<Delivery>,
 }
 
 impl Queue {
@@ -118,7 +144,6 @@ impl Queue {
                 });
             }
         }
-        self.kept = deliveries.clone();
         deliveries
     }
 
@@ -164,47 +189,113 @@ impl Queue {
     }
 }
 
+#[derive(Clone, Default)]
+struct Store {
+    count: u64,
+    last: u64,
+    clients: HashMap<u32, (u64, Reply)>,
+    queues: HashMap<Rc<str>, Queue>,
+}
+
+impl Store {
+    fn apply(&mut self, moment: u64, request: Request) -> Reply {
+        assert!(self.last <= moment);
+        self.count += 1;
+        self.last = moment;
+        if let Some((number, reply)) = self.clients.get(&request.client) {
+            if request.number <= *number {
+                return if request.number == *number { reply.clone() } else { Reply::Refused };
+            }
+        }
+        let reply = self.fresh(moment, &request.queue, request.ask);
+        self.clients.insert(request.client, (request.number, reply.clone()));
+        reply
+    }
+
+    fn fresh(&mut self, moment: u64, name: &Rc<str>, ask: Ask) -> Reply {
+        if let Ask::Create = ask {
+            self.queues.entry(name.clone()).or_default();
+            return Reply::Created;
+        }
+        let Some(queue) = self.queues.get_mut(name) else { return Reply::Refused };
+        match ask {
+            Ask::Create => Reply::Created,
+            Ask::Send { group, id, body } => Reply::Sent(queue.send(moment, &group, &id, body)),
+            Ask::Receive { size } => Reply::Received(queue.receive(moment, size, moment + 30_000)),
+            Ask::Change { delivery, seconds } => Reply::Changed(queue.change(moment, &delivery, moment + 1000 * seconds)),
+            Ask::Delete { delivery } => Reply::Deleted(queue.delete(&delivery)),
+        }
+    }
+
+    fn counts(&self, name: &str) -> (u64, u64) {
+        self.queues[name].counts(self.last)
+    }
+}
+
+/// A store with one queue, and the requests of one client.
+struct Bench {
+    store: Store,
+    name: Rc<str>,
+}
+
+impl Bench {
+    fn apply(&mut self, moment: u64, ask: Ask) -> Reply {
+        let number = self.store.count + 1;
+        let queue = self.name.clone();
+        self.store.apply(moment, Request { client: 1, number, queue, ask })
+    }
+
+    fn receive(&mut self, moment: u64) -> Vec<Delivery> {
+        match self.apply(moment, Ask::Receive { size: 10 }) {
+            Reply::Received(deliveries) => deliveries,
+            _ => panic!("no messages"),
+        }
+    }
+}
+
 fn each(start: Instant, calls: u64) -> u64 {
     start.elapsed().as_nanos() as u64 / calls.max(1)
 }
 
 fn run(messages: u64, groups: u64) {
-    let mut queue = Queue::default();
+    let mut bench = Bench { store: Store::default(), name: "q.fifo".into() };
+    bench.apply(0, Ask::Create);
     let start = Instant::now();
     for number in 0..messages {
         let (group, id) = (format!("g{}", number % groups), format!("d{number}"));
-        queue.send(number * SENDING / messages, &group, &id, "a body of thirty-two bytes, or so");
+        let body = "a body of thirty-two bytes, or so";
+        bench.apply(number * SENDING / messages, Ask::Send { group, id, body });
     }
     let send = each(start, messages);
     let start = Instant::now();
-    let copy = queue.clone();
+    let copy = bench.store.clone();
     let copied = each(start, messages);
     drop(copy);
     let (mut receive, mut change, mut delete, mut calls, mut handed) = (0, 0, 0, 0, 0);
     for number in 0..RECEIVES.min(messages / 20) {
         let moment = SENDING + number;
         let start = Instant::now();
-        let deliveries = queue.receive(moment, 10, moment + 30_000);
+        let deliveries = bench.receive(moment);
         receive += each(start, 1);
         let start = Instant::now();
         for delivery in &deliveries {
-            queue.change(moment, delivery, moment + 60_000);
+            bench.apply(moment, Ask::Change { delivery: delivery.clone(), seconds: 60 });
         }
         change += each(start, 1);
         let start = Instant::now();
         for delivery in &deliveries {
-            queue.delete(delivery);
+            bench.apply(moment, Ask::Delete { delivery: delivery.clone() });
         }
         delete += each(start, 1);
         calls += 1;
         handed += deliveries.len() as u64;
     }
     let (receive, change, delete) = (receive / calls.max(1), change / handed.max(1), delete / handed.max(1));
-    queue.receive(SENDING + RECEIVES, 10, SENDING + RECEIVES + 30_000);
+    bench.receive(SENDING + RECEIVES);
     let start = Instant::now();
     let mut sum = 0;
     for _ in 0..COUNTS {
-        sum += std::hint::black_box(&queue).counts(SENDING + RECEIVES).0;
+        sum += std::hint::black_box(&bench.store).counts("q.fifo").0;
     }
     let count = each(start, COUNTS);
     std::hint::black_box(sum);

@@ -1,8 +1,6 @@
 //! Servers side by side: what one puts, the other takes.
 mod clients;
 mod common;
-mod masters;
-mod repairs;
 
 use self::common::{
     ask, check_count, check_put, check_waiting, counts, enter, member, party, pass,
