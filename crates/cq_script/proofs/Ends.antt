@@ -55,7 +55,7 @@ script_of-start : (bytes : List ℕ) → script_after nothing_read bytes ≡ scr
 unfolding script_of
 script_of-start bytes = refl
 
-same_from_start : (input more : List ℕ) → script_next (λ t. script_after t more) (bytes_of nothing_read input) ≡ script_of (input ++ more)
+pub same_from_start : (input more : List ℕ) → script_next (λ t. script_after t more) (bytes_of nothing_read input) ≡ script_of (input ++ more)
 same_from_start input more = script_after-bytes nothing_read input more nothing-IsWithin ∙ script_of-start (input ++ more)
 
 pub reached_from_start : (input : List ℕ) (s : SoFar) → bytes_of nothing_read input ≡ goes s → IsWithin s
@@ -259,7 +259,7 @@ stopped_whole input script true is stopped = rw (← script_of-start (ended_part
 stopped_whole input script false is stopped = rw (stopped.without is) ((script_of (ended_part input)).items, refl)
 
 -- where the script stopped at a fault
-stops_ended : (input : List ℕ) (script : Script) → bytes_of nothing_read input ≡ stops script → AreEnded script.items input
+pub stops_ended : (input : List ℕ) (script : Script) → bytes_of nothing_read input ≡ stops script → AreEnded script.items input
 unfolding OnStops
 stops_ended input script is =
     let reached = bytes_of-stopped nothing_read input nothing-IsWithin in

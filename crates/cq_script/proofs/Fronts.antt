@@ -19,27 +19,6 @@ pub text_of-append : (size : ℕ) (xs ys : List Item) → Front (text_of size xs
 unfolding text_of
 text_of-append size xs ys = text_from-append (first_world size) xs ys
 
--- what is told of an item comes next in the whole text
-pub text_at_item : (w : World) (items : List Item) (item : Item) (later : List Item) (whole written text : List ℕ) → items ≡ item ∷ later
-    → whole ≡ written ++ text_from w items → text ≡ output w item
-    → whole ≡ written ++ (text ++ text_from (after_said w item.said) later)
-unfolding text_from
-text_at_item w items item later whole written text here so_far made =
-    so_far ∙ ap (λ xs. written ++ text_from w xs) here ∙ ap (λ front. written ++ (front ++ text_from (after_said w item.said) later)) (sym made)
-
--- after the last item the whole text was written
-pub text_at_end : (w : World) (items : List Item) (whole written : List ℕ) → items ≡ [] → whole ≡ written ++ text_from w items → written ≡ whole
-unfolding text_from
-text_at_end w items whole written none so_far = sym (so_far ∙ ap (λ xs. written ++ text_from w xs) none ∙ append-nil written)
-
--- where memory runs out a front was written
-pub front_so_far : (w : World) (items : List Item) (whole written : List ℕ) (f : ScriptFault) → f ≡ NoMemory → whole ≡ written ++ text_from w items → WritesFront (Err f) whole written
-front_so_far w items whole written f is so_far = rw is (text_from w items, so_far)
-
--- nothing is a front
-pub nothing_written_yet : (whole : List ℕ) (f : ScriptFault) → f ≡ NoMemory → WritesFront (Err f) whole []
-nothing_written_yet whole f is = rw is (whole, refl)
-
 -- the text of an item was written too
 pub text_written : (whole written text front later : List ℕ) → whole ≡ written ++ (text ++ later) → front ≡ text → whole ≡ (written ++ front) ++ later
 text_written whole written text front later is all =
@@ -68,3 +47,25 @@ all_written (Err TooManyLines) failed whole written ends all = absurd ends
 all_written (Err ReadFailed) failed whole written ends all = absurd ends
 all_written (Err WriteFailed) failed whole written ends all = ([], sym all ∙ sym (append-nil written))
 all_written (Err NoMemory) failed whole written ends all = ([], sym all ∙ sym (append-nil written))
+
+-- memory ran out behind what was written
+pub fault_now : (whole written text front later : List ℕ) → whole ≡ written ++ (text ++ later) → front ≡ text → WritesFront (Err NoMemory) whole (written ++ front)
+fault_now whole written text front later is all = (later, text_written whole written text front later is all)
+
+-- no writing ends as a read that failed
+pub no_read_part : (f : ScriptFault) (r : Result (Unit {0}) ScriptFault) (text front : List ℕ) → r ≡ Err f → WritesFront (Err f) text front → ¬ (r ≡ Err ReadFailed)
+no_read_part (BadLine n) r text front so part = absurd part
+no_read_part (LineTooLong n) r text front so part = absurd part
+no_read_part TooManyLines r text front so part = absurd part
+no_read_part ReadFailed r text front so part = absurd part
+no_read_part WriteFailed r text front so part = λ is. let never = sym so ∙ is in cc
+no_read_part NoMemory r text front so part = λ is. let never = sym so ∙ is in cc
+
+pub no_read_end : (r : Result (Unit {0}) ScriptFault) (failed : Bool) → EndsWriting r failed → ¬ (r ≡ Err ReadFailed)
+no_read_end (Ok _) failed ends = λ is. cc
+no_read_end (Err (BadLine n)) failed ends = absurd ends
+no_read_end (Err (LineTooLong n)) failed ends = absurd ends
+no_read_end (Err TooManyLines) failed ends = absurd ends
+no_read_end (Err ReadFailed) failed ends = absurd ends
+no_read_end (Err WriteFailed) failed ends = λ is. cc
+no_read_end (Err NoMemory) failed ends = λ is. cc

@@ -5,13 +5,15 @@ pub mod Receipts
 pub mod Sizes
 pub mod Cutting
 pub mod ReadSoFar
+pub mod Parts
 pub mod Ends
 -- lines out
 pub mod Floats
 pub mod Fronts
+pub mod Outcomes
 -- what a script does
-pub mod Replayed
-pub mod Telling
 pub mod RunTold
+pub mod Replayed
+pub mod Played
 -- worked lines
 pub mod Rows

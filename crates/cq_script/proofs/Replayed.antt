@@ -1,5 +1,5 @@
 -- What was read, and what was written of its items' text, together are what a replay says.
-use Rattle.std.proofs.Common.{◌≡◌, ℕ, List, [], ◌++◌, Option, None, Some, IfSome, Result, Ok, Err, true, false, refl, sym, ap, ◌∙◌, append_assoc, append-nil}
+use Rattle.std.proofs.Common.{◌≡◌, ℕ, List, [], ◌++◌, Option, None, Some, IfSome, Result, Ok, Err, false, refl, sym, ap, ◌∙◌, append_assoc, append-nil}
 use Rattle.cq_script.specs.declared.lines.Item.{Item}
 use Rattle.cq_script.specs.declared.fault.ScriptFault.{ScriptFault}
 use Rattle.cq_script.specs.declared.fault.ScriptFault.TheVariants.{BadLine, LineTooLong, TooManyLines, ReadFailed, WriteFailed, NoMemory}
@@ -32,14 +32,14 @@ replays_all size (Err WriteFailed) items input left written lasts read all = abs
 replays_all size (Err NoMemory) items input left written lasts read all = cc
 
 -- the items are a front of those of the script that the reader held
-HoldsFront : List Item → List ℕ → Option (List ℕ) → Type 0
+pub HoldsFront : List Item → List ℕ → Option (List ℕ) → Type 0
 HoldsFront items input left = IfSome left (λ more. (rest : List Item) × ((script_of (input ++ more)).items ≡ items ++ rest))
 
 front_of_same : (script : Script) (items : List Item) (fault : Option ScriptFault) → script ≡ record { items = items; fault = fault }
     → (rest : List Item) × (script.items ≡ items ++ rest)
 front_of_same script items fault is = rw is ([], sym (append-nil items))
 
-holds_front : (ended : Result (Unit {0}) ScriptFault) (items : List Item) (input : List ℕ) (left : Option (List ℕ))
+pub holds_front : (ended : Result (Unit {0}) ScriptFault) (items : List Item) (input : List ℕ) (left : Option (List ℕ))
     → ends_by_memory ended ≡ false → ReadsScript ended items input left → HoldsFront items input left
 unfolding HoldsFront
 holds_front ended items input None lasts read = tt
@@ -51,15 +51,15 @@ holds_front (Err ReadFailed) items input (Some more) lasts read = read.front mor
 holds_front (Err WriteFailed) items input (Some more) lasts read = absurd read
 holds_front (Err NoMemory) items input (Some more) lasts read = cc
 
-front-trans : (whole text front : List ℕ) → Front text whole → Front front text → Front front whole
+pub front-trans : {X : Type 0} → (whole text front : List X) → Front text whole → Front front text → Front front whole
 front-trans whole text front first second =
     (second.0 ++ first.0, first.1 ∙ ap (λ t. t ++ first.0) second.1 ∙ append_assoc front second.0 first.0)
 
-is_front : (size : ℕ) (items : List Item) (input : List ℕ) (left : Option (List ℕ)) (written : List ℕ) → HoldsFront items input left
+pub front_written : (size : ℕ) (items : List Item) (input : List ℕ) (left : Option (List ℕ)) (written : List ℕ) → HoldsFront items input left
     → Front written (text_of size items) → IsFront size input left written
 unfolding HoldsFront
-is_front size items input None written holds part = tt
-is_front size items input (Some more) written holds part =
+front_written size items input None written holds part = tt
+front_written size items input (Some more) written holds part =
     rw holds.1 (front-trans (text_of size (items ++ holds.0)) (text_of size items) written (text_of-append size items holds.0) part)
 
 -- a front of the text was written
@@ -69,8 +69,8 @@ replays_front size ended (BadLine n) items input left written lasts read part = 
 replays_front size ended (LineTooLong n) items input left written lasts read part = absurd part
 replays_front size ended TooManyLines items input left written lasts read part = absurd part
 replays_front size ended ReadFailed items input left written lasts read part = absurd part
-replays_front size ended WriteFailed items input left written lasts read part = is_front size items input left written (holds_front ended items input left lasts read) part
-replays_front size ended NoMemory items input left written lasts read part = is_front size items input left written (holds_front ended items input left lasts read) part
+replays_front size ended WriteFailed items input left written lasts read part = front_written size items input left written (holds_front ended items input left lasts read) part
+replays_front size ended NoMemory items input left written lasts read part = front_written size items input left written (holds_front ended items input left lasts read) part
 
 -- a front of the text of items of lines that have ended
 pub is_ended_front : (size : ℕ) (items : List Item) (input written : List ℕ) → AreEnded items input
@@ -88,17 +88,3 @@ front_of_part NoMemory text written part = part
 
 pub front_of_all : (text written : List ℕ) → written ≡ text → Front written text
 front_of_all text written all = ([], sym all ∙ sym (append-nil written))
-
-nothing_written : (size : ℕ) (input : List ℕ) (left : Option (List ℕ)) → IsFront size input left []
-nothing_written size input None = tt
-nothing_written size input (Some more) = (text_of size (script_of (input ++ more)).items, refl)
-
--- memory ran out while reading, and nothing was written
-pub replays_nothing : (size : ℕ) (ended : Result (Unit {0}) ScriptFault) (input : List ℕ) (left : Option (List ℕ)) → ends_by_memory ended ≡ true → Replays size ended input left []
-replays_nothing size (Ok _) input left ran_out = cc
-replays_nothing size (Err (BadLine n)) input left ran_out = cc
-replays_nothing size (Err (LineTooLong n)) input left ran_out = cc
-replays_nothing size (Err TooManyLines) input left ran_out = cc
-replays_nothing size (Err ReadFailed) input left ran_out = cc
-replays_nothing size (Err WriteFailed) input left ran_out = nothing_written size input left
-replays_nothing size (Err NoMemory) input left ran_out = nothing_written size input left

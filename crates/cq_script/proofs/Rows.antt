@@ -12,13 +12,11 @@ use Rattle.cq_base.specs.Effects.{effect_of}
 use Rattle.cq_base.specs.Lifetimes.{live, creations}
 use Rattle.cq_base.specs.declared.ask.Ask.{Ask}
 use Rattle.cq_base.specs.declared.ask.Ask.TheVariants.{Create, Remove, Send, Receive, Delete, Change}
-use Rattle.cq_base.specs.declared.fault.BaseFault.{BaseFault}
 use Rattle.cq_base.specs.declared.fault.BaseFault.TheVariants.{BadQueueName, BadGroup, BadDedup, InvalidMessageContents, BodyLength}
 use Rattle.cq_base.specs.declared.party.Party.TheVariants.{Master, Clients, Server}
 use Rattle.cq_base.specs.declared.reply.Refusal.TheVariants.{QueueDoesNotExist}
 use Rattle.cq_base.specs.declared.reply.Reply.{Reply}
 use Rattle.cq_base.specs.declared.reply.Reply.TheVariants.{Created, Removed, Sent, Received, Deleted, Changed, Counts, Refused as Denied}
-use Rattle.cq_chain.specs.declared.message.Answer.{Answer}
 use Rattle.cq_chain.specs.Refusals.{refusal_of_query}
 use Rattle.cq_chain.specs.Steps.{asked}
 use Rattle.cq_world.specs.declared.event.Event.{Event as WorldEvent}
@@ -30,11 +28,12 @@ use Rattle.cq_script.specs.Events.{create_in, remove_in, send_in, receive_in, de
 use Rattle.cq_script.specs.Faults.{code_of, name_of}
 use Rattle.cq_script.specs.Fields.{bad}
 use Rattle.cq_script.specs.Line.{line_of}
-use Rattle.cq_script.specs.Lines.{Script, lines_of, script_from, script_of, ended_part}
+use Rattle.cq_script.specs.Lines.{lines_of, script_from, script_of, ended_part}
 use Rattle.cq_script.specs.Output.{output, text_from, text_of}
 use Rattle.cq_script.specs.Receipts.{handle_in, receipt_handle}
 use Rattle.cq_script.specs.declared.event_line.Line.{Line}
 use Rattle.cq_script.specs.declared.event_line.Line.TheVariants.{Blank, Event, Refused}
+use Rattle.cq_script.specs.declared.fault.LineRefusal.TheVariants.{Text, Bad, TooLong}
 use Rattle.cq_script.specs.declared.fault.ScriptFault.{ScriptFault}
 use Rattle.cq_script.specs.declared.fault.ScriptFault.TheVariants.{BadLine, LineTooLong, TooManyLines, ReadFailed, WriteFailed, NoMemory}
 use Rattle.cq_script.specs.declared.lines.Item.{Item}
@@ -375,7 +374,7 @@ ended_parts = refl
 -- lines are counted from 1, blank ones too, and the script ends at its first fault
 numbers_of_lines :
     script_of (10 ∷ (json (codes "{'op':'crash','server':1}") ++ (10 ∷ (json (codes "{'op':'ask','at':1,'client':7,'tag':9,'queue':'q'}") ++ (10 ∷ (codes "x" ++ (10 ∷ json (codes "{'op':'crash','server':2}"))))))))
-    ≡ record { items = record { number = 2; said = Ok (events.Crash 1) } ∷ record { number = 3; said = Err BadQueueName } ∷ []; fault = Some (BadLine 4) }
+    ≡ record { items = record { number = 2; said = Ok (events.Crash 1) } ∷ record { number = 3; said = Err (Text BadQueueName) } ∷ []; fault = Some (BadLine 4) }
 unfolding script_of script_from lines_of lines_on_literals
 numbers_of_lines = refl
 
@@ -456,10 +455,17 @@ item number event = record { number = number; said = Ok event }
 
 -- A text that breaks its rule does nothing, and a crash is for good; neither gives a line but of its refusal.
 refusals :
-    text_of 2 (record { number = 2; said = Err BadGroup } ∷ item 3 (events.Crash 2) ∷ item 5 (events.Crash 2) ∷ item 6 (events.Crash 3) ∷ [])
+    text_of 2 (record { number = 2; said = Err (Text BadGroup) } ∷ item 3 (events.Crash 2) ∷ item 5 (events.Crash 2) ∷ item 6 (events.Crash 3) ∷ [])
     ≡ line (codes "{'line':2,'name':'BadGroup','refused':12}") ++ (line (codes "{'line':5,'name':'ServerDown','refused':32}") ++ line (codes "{'line':6,'name':'NoSuchServer','refused':31}"))
 unfolding text_of text_from output first_world numbers_from refusal_of after next given_by refused_data digits serde_json_on_literals
 refusals = refl
+
+-- the lines that only a session goes on behind
+refused_lines :
+    text_of 1 (record { number = 3; said = Err Bad } ∷ record { number = 4; said = Err TooLong } ∷ [])
+    ≡ line (codes "{'line':3,'name':'BadLine','refused':61}") ++ line (codes "{'line':4,'name':'LineTooLong','refused':62}")
+unfolding text_of text_from output first_world refused_data digits serde_json_on_literals
+refused_lines = refl
 
 -- a put to the clients gives what waits for them, once
 given :

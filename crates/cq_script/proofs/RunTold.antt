@@ -1,7 +1,6 @@
 -- The text of items, told by what the run of their events gives and refuses.
 use Rattle.std.proofs.Common.{◌≡◌, ℕ, ◌+◌, ◌<◌, ◌≤◌, ◌==◌, cond, false, List, [], ◌∷◌, ◌++◌, Option, None, Some, Result, Ok, Err, refl, sym, ap, ◌∙◌, arith}
 use borrow.Author.Tests.{ne_eqb, eq-eqb}
-use Rattle.cq_base.specs.declared.fault.BaseFault.{BaseFault}
 use Rattle.cq_chain.specs.declared.fault.WorldFault.{WorldFault}
 use Rattle.cq_chain.specs.declared.message.Answer.{Answer}
 use Rattle.cq_world.specs.Events.{refusal_of, after}
@@ -9,8 +8,8 @@ use Rattle.cq_world.specs.Runs.{numbered, given_if, given_from, refused_from}
 use Rattle.cq_world.specs.Worlds.{World, first_world}
 use Rattle.cq_world.specs.declared.event.Event.{Event}
 use Rattle.cq_script.specs.Laws.{of_number, outcome_text, said_by_run, number_after, told_by_run, TextIsOfTheRun}
-use Rattle.cq_script.specs.Output.{event_text, said_text, after_said, output, text_from, text_of}
-use Rattle.cq_script.specs.Marks.{events_in, events_of}
+use Rattle.cq_script.specs.Output.{event_text, events_in, events_of, said_text, after_said, output, text_from, text_of}
+use Rattle.cq_script.specs.declared.fault.LineRefusal.{LineRefusal}
 use Rattle.cq_script.specs.declared.lines.Item.{Item}
 
 -- ---- numbers
@@ -78,7 +77,7 @@ same_outcome line w e None = refl
 same_outcome line w e (Some fault) = refl
 
 -- a line, and those behind it
-told_line : (n line : ℕ) (given : List (ℕ × Answer)) (refused : List (ℕ × WorldFault)) (w : World) (said : Result Event BaseFault) (items : List Item)
+told_line : (n line : ℕ) (given : List (ℕ × Answer)) (refused : List (ℕ × WorldFault)) (w : World) (said : Result Event LineRefusal) (items : List Item)
     → ((m : ℕ) (v : World) → IsOf m given refused v (events_of items) → text_from v items ≡ told_by_run m given refused items)
     → IsOf n given refused w (events_in said ++ events_of items)
     → said_text line w said ++ text_from (after_said w said) items ≡ said_by_run n given refused line said ++ told_by_run (number_after n said) given refused items

@@ -1,6 +1,6 @@
 -- The events that JSON objects say: which keys an object has, and in which order its faults count.
 -- All members are read before a text is looked at, so an object with any other fault is bad.
-use Rattle.std.specs.Prelude.{ℕ, ◌-◌, [], ◌∷◌, codes, false, if◌then◌else◌, Result, Ok, Err, unwrap_or}
+use Rattle.std.specs.Prelude.{ℕ, [], ◌∷◌, codes, false, if◌then◌else◌, Result, Ok, Err, unwrap_or}
 use Rattle.std.specs.Str.{bytes_eq}
 use Rattle.serde_json.specs.Data.{Data}
 use Rattle.cq_base.specs.declared.ask.Ask.{Ask}

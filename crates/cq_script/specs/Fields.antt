@@ -1,6 +1,6 @@
 -- What the members of a JSON object say, one reading for each kind of member. A reading gives the
 -- value, or why there is none.
-use Rattle.std.specs.Prelude.{ℕ, ◌-◌, ◌&&◌, codes, List, Bool, true, false, nat_le, if◌then◌else◌, Option, Some, None, Result, Ok, Err, option_map, option_and_then, unwrap_or}
+use Rattle.std.specs.Prelude.{ℕ, ◌&&◌, codes, List, Bool, true, false, nat_le, if◌then◌else◌, Option, Some, None, Result, Ok, Err, option_map, option_and_then, unwrap_or}
 use Rattle.std.specs.List.{list_any}
 use Rattle.std.specs.Str.{bytes_eq}
 use Rattle.serde_json.specs.Data.{Data, Members, no_members, member}

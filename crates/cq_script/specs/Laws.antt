@@ -1,16 +1,15 @@
 -- What a script writes, told by what the run of its events gives and refuses.
 use Rattle.std.specs.Prelude.{◌≡◌, ℕ, ◌+◌, ◌==◌, if◌then◌else◌, List, [], ◌∷◌, ◌++◌, Option, None, Some, Result, Ok, Err}
-use Rattle.cq_base.specs.declared.fault.BaseFault.{BaseFault}
-use Rattle.cq_base.specs.Fault as texts
 use Rattle.cq_chain.specs.declared.fault.WorldFault.{WorldFault}
 use Rattle.cq_chain.specs.declared.message.Answer.{Answer}
 use Rattle.cq_chain.specs.Faults as worlds
 use Rattle.cq_world.specs.Runs.{given_from, refused_from}
 use Rattle.cq_world.specs.Worlds.{first_world}
 use Rattle.cq_world.specs.declared.event.Event.{Event}
+use Rattle.cq_script.specs.Faults.{line_code_of, line_name_of}
 use Rattle.cq_script.specs.Answers.{refused_text}
-use Rattle.cq_script.specs.Output.{given_text, text_of}
-use Rattle.cq_script.specs.Marks.{events_of}
+use Rattle.cq_script.specs.Output.{events_of, given_text, text_of}
+use Rattle.cq_script.specs.declared.fault.LineRefusal.{LineRefusal}
 use Rattle.cq_script.specs.declared.lines.Item.{Item}
 
 -- what has that number, if anything has
@@ -24,14 +23,14 @@ outcome_text line given None = given_text line given
 outcome_text line given (Some fault) = refused_text line (worlds.code_of fault) (worlds.name_of fault)
 
 -- what the line of that number writes, where the next event is the nth of a run that gave and refused this
-abbrev pub said_by_run : ℕ → List (ℕ × Answer) → List (ℕ × WorldFault) → ℕ → Result Event BaseFault → List ℕ
+abbrev pub said_by_run : ℕ → List (ℕ × Answer) → List (ℕ × WorldFault) → ℕ → Result Event LineRefusal → List ℕ
 said_by_run n given refused line (Ok event) = outcome_text line (of_number n given) (of_number n refused)
-said_by_run n given refused line (Err fault) = refused_text line (texts.code_of fault) (texts.name_of fault)
+said_by_run n given refused line (Err refusal) = refused_text line (line_code_of refusal) (line_name_of refusal)
 
 -- the number of the next event behind such a line
-abbrev pub number_after : ℕ → Result Event BaseFault → ℕ
+abbrev pub number_after : ℕ → Result Event LineRefusal → ℕ
 number_after n (Ok event) = n + 1
-number_after n (Err fault) = n
+number_after n (Err refusal) = n
 
 -- what items write, where the next event is the nth of a run that gave and refused this
 unfoldable pub told_by_run : ℕ → List (ℕ × Answer) → List (ℕ × WorldFault) → List Item → List ℕ

@@ -8,7 +8,6 @@ pub mod Lines
 pub mod Answers
 -- what a script does
 pub mod Output
-pub mod Marks
 pub mod Runs
 pub mod Replays
 pub mod Laws

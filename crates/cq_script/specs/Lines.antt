@@ -2,6 +2,7 @@
 use Rattle.std.specs.Prelude.{ℕ, ◌+◌, ◌==◌, Bool, nat_lt, if◌then◌else◌, List, [], ◌∷◌, ◌++◌, length, Option, None, Some, Ok, Err}
 use Rattle.std.specs.List.{list_any}
 use Rattle.cq_script.specs.declared.lines.TheConstants.{LINE_LIMIT, LINES_LIMIT}
+use Rattle.cq_script.specs.declared.fault.LineRefusal.TheVariants.{Text}
 use Rattle.cq_script.specs.declared.fault.ScriptFault.{ScriptFault}
 use Rattle.cq_script.specs.declared.fault.ScriptFault.TheVariants.{BadLine, LineTooLong, TooManyLines, ReadFailed, WriteFailed, NoMemory}
 use Rattle.cq_script.specs.declared.event_line.Line.{Line}
@@ -36,7 +37,7 @@ with_front items script = record { items = items ++ script.items; fault = script
 abbrev pub items_of_line : ℕ → Line → List Item
 items_of_line n Blank = []
 items_of_line n (Event event) = record { number = n; said = Ok event } ∷ []
-items_of_line n (Refused fault) = record { number = n; said = Err fault } ∷ []
+items_of_line n (Refused fault) = record { number = n; said = Err (Text fault) } ∷ []
 
 -- line n, as it was judged, and then the rest of the script
 abbrev pub judged_before : ℕ → Option Line → Script → Script

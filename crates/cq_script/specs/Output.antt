@@ -1,14 +1,14 @@
 -- What the items of a script write, run on a world of servers.
 use Rattle.std.specs.Prelude.{ℕ, List, [], ◌∷◌, ◌++◌, Option, None, Some, Result, Ok, Err}
-use Rattle.cq_base.specs.declared.fault.BaseFault.{BaseFault}
-use Rattle.cq_base.specs.Fault as texts
 use Rattle.cq_chain.specs.declared.fault.WorldFault.{WorldFault}
 use Rattle.cq_chain.specs.declared.message.Answer.{Answer}
 use Rattle.cq_chain.specs.Faults as worlds
 use Rattle.cq_world.specs.Events.{refusal_of, given_by, after}
 use Rattle.cq_world.specs.Worlds.{World, first_world}
 use Rattle.cq_world.specs.declared.event.Event.{Event}
+use Rattle.cq_script.specs.Faults.{line_code_of, line_name_of}
 use Rattle.cq_script.specs.Answers.{answer_text, refused_text}
+use Rattle.cq_script.specs.declared.fault.LineRefusal.{LineRefusal}
 use Rattle.cq_script.specs.declared.lines.Item.{Item}
 
 -- the line that gives an answer, if there is one
@@ -22,14 +22,14 @@ event_text n w event None = given_text n (given_by w event)
 event_text n w event (Some fault) = refused_text n (worlds.code_of fault) (worlds.name_of fault)
 
 -- what is written by the line with that number, which says an event, or has a text that breaks its rule
-abbrev pub said_text : ℕ → World → Result Event BaseFault → List ℕ
+abbrev pub said_text : ℕ → World → Result Event LineRefusal → List ℕ
 said_text n w (Ok event) = event_text n w event (refusal_of w event)
-said_text n w (Err fault) = refused_text n (texts.code_of fault) (texts.name_of fault)
+said_text n w (Err refusal) = refused_text n (line_code_of refusal) (line_name_of refusal)
 
 -- the world after such a line: a text that breaks its rule does nothing
-abbrev pub after_said : World → Result Event BaseFault → World
+abbrev pub after_said : World → Result Event LineRefusal → World
 after_said w (Ok event) = after w event
-after_said w (Err fault) = w
+after_said w (Err refusal) = w
 
 -- What an item writes: one line with its line feed, or nothing.
 unfoldable pub output : World → Item → List ℕ
@@ -43,3 +43,15 @@ text_from w (item ∷ items) = output w item ++ text_from (after_said w item.sai
 -- What the items of a script write, on a first world of so many servers.
 unfoldable pub text_of : ℕ → List Item → List ℕ
 text_of size items = text_from (first_world size) items
+
+-- ---- events apart from their lines
+
+-- the event that a line says, if it says one
+abbrev pub events_in : Result Event LineRefusal → List Event
+events_in (Ok event) = event ∷ []
+events_in (Err refusal) = []
+
+-- the events that items say, in order
+unfoldable pub events_of : List Item → List Event
+events_of [] = []
+events_of (item ∷ items) = events_in item.said ++ events_of items

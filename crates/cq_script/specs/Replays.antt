@@ -4,8 +4,13 @@ use Rattle.std.specs.Io.KnownBytes.{IsAtEnd}
 use Rattle.cq_script.specs.declared.fault.ScriptFault.{ScriptFault}
 use Rattle.cq_script.specs.declared.fault.ScriptFault.TheVariants.{BadLine, LineTooLong, TooManyLines, ReadFailed, WriteFailed, NoMemory}
 use Rattle.cq_script.specs.Lines.{Script, IsOpen, script_of, ended_part}
-use Rattle.cq_script.specs.Output.{text_of}
+use Rattle.cq_script.specs.Laws.{told_by_run}
+use Rattle.cq_script.specs.Output.{events_of, text_of}
 use Rattle.cq_base.specs.Relations.{Front}
+use Rattle.cq_world.specs.Laws.{Headline}
+use Rattle.cq_world.specs.Runs.{given_from, refused_from}
+use Rattle.cq_world.specs.Worlds.{first_world}
+use Rattle.cq_script.specs.declared.lines.Item.{Item}
 
 -- the script has this fault first, if any, and exactly the text of its items on so many servers was written
 pub record WritesScript (size : ℕ) (script : Script) (fault : Option ScriptFault) (output : List ℕ) : Type 0 where
@@ -34,3 +39,13 @@ Replays size (Err TooManyLines) input left output = Fails size TooManyLines inpu
 Replays size (Err ReadFailed) input left output = WritesScript size (script_of (ended_part input)) None output × IsOpen (script_of input).fault
 Replays size (Err WriteFailed) input left output = IsFront size input left output
 Replays size (Err NoMemory) input left output = IsFront size input left output
+
+-- What was written is told of what a run of these items' events gives and refuses, and of this run the headline holds:
+-- each answer whose line is written is one queue object's, over one growing list of requests.
+pub record IsToldOfOneObject (size : ℕ) (items : List Item) (output : List ℕ) : Type 0 where
+  pub text : Front output (told_by_run 1 (given_from 1 (first_world size) (events_of items)) (refused_from 1 (first_world size) (events_of items)) items)
+  pub headline : Headline size (events_of items)
+
+-- what was written is told of the items of the script that the reader held
+abbrev pub Headlines : ℕ → List ℕ → Option (List ℕ) → List ℕ → Type 0
+Headlines size input left output = IfSome left (λ more. IsToldOfOneObject size (script_of (input ++ more)).items output)

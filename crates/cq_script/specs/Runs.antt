@@ -1,5 +1,5 @@
 -- What a run of items has written.
-use Rattle.std.specs.Prelude.{◌≡◌, ℕ, List, ◌++◌, Option, Result, Ok, Err, Bool, true, false}
+use Rattle.std.specs.Prelude.{◌≡◌, ℕ, List, Option, Result, Ok, Err, Bool, true, false}
 use Rattle.std.specs.Io.KnownBytes.{Appends}
 use Rattle.cq_base.specs.Relations.{Front}
 use Rattle.cq_script.specs.declared.fault.ScriptFault.{ScriptFault}
@@ -28,6 +28,16 @@ ends_by_memory (Err TooManyLines) = false
 ends_by_memory (Err ReadFailed) = false
 ends_by_memory (Err WriteFailed) = false
 ends_by_memory (Err NoMemory) = true
+
+-- whether the writing was cut short
+abbrev pub is_cut_short : Result (Unit {0}) ScriptFault → Bool
+is_cut_short (Ok _) = false
+is_cut_short (Err (BadLine n)) = false
+is_cut_short (Err (LineTooLong n)) = false
+is_cut_short (Err TooManyLines) = false
+is_cut_short (Err ReadFailed) = false
+is_cut_short (Err WriteFailed) = true
+is_cut_short (Err NoMemory) = true
 
 -- the writer has not failed where all was written, and has where the answer says so
 abbrev pub EndsWriting : Result (Unit {0}) ScriptFault → Bool → Type 0

@@ -1,12 +1,13 @@
 //! A script's bytes, cut into lines, and the items that its lines make.
-ghost use Rattle.std.specs.Prelude.{◌≡◌, ◌<◌, ◌++◌, OnOk, OnErr};
+ghost use Rattle.std.specs.Prelude.{◌≡◌, ◌+◌, ◌<◌, ◌≤◌, ◌++◌, ℕ, List, length, option_map, OnOk, OnErr};
 ghost use Rattle.cq_script.specs.Lines.{items_of_line};
-ghost use Rattle.cq_script.specs.within.Readings.{nothing_read, line_ended, byte_of, bytes_of, end_of, Follows};
+ghost use Rattle.cq_script.specs.Line.{line_of, Reads};
+ghost use Rattle.cq_script.specs.within.Readings.{nothing_read, forgotten, judged, bytes_of, end_of, Follows, IsCut, room_for, part_of, line_end};
 
 use crate::event_line::{Line, LineFault, event_of};
-use crate::fault::ScriptFault;
-use cq_base::BaseFault;
+use crate::fault::{LineRefusal, ScriptFault};
 use cq_world::Event;
+use memchr::memchr;
 use std::alloc::{AllocError, Global};
 use std::marker::Model;
 
@@ -20,11 +21,11 @@ pub const LINES_LIMIT: u64 = 1_000_000;
 #[derive(Debug, Drop)]
 pub struct Item {
     pub number: u64,
-    /// The event that the line says, or why it says none: a text in it breaks that text's rule.
-    pub said: Result<Event, BaseFault>,
+    /// The event that the line says, or why it says none.
+    pub said: Result<Event, LineRefusal>,
 }
 
-/// A script that is being read, byte by byte.
+/// A script that is being read, piece by piece.
 #[derive(Drop)]
 pub struct Reading {
     alloc: Global,
@@ -36,14 +37,14 @@ pub struct Reading {
 impl Model for Reading {
     ghost use Rattle.std.specs.Prelude.{◌≤◌, ◌+◌, min, vec_len};
     ghost use Rattle.cq_script.specs.within.Readings.{SoFar};
-    ghost use Rattle.cq_script.specs.declared.lines.TheConstants.{LINES_LIMIT};
+    ghost use Rattle.cq_script.specs.declared.lines.TheConstants.{LINE_LIMIT, LINES_LIMIT};
 
     ghost Value = { SoFar };
 
     ghost view = { λ r. record { items = r.items.items; lines = r.lines; begun = r.begun.items } };
 
-    // The lines, with the one that has begun, are not too many.
-    ghost invariant = { λ r. r.lines + min 1 (vec_len r.begun) ≤ LINES_LIMIT };
+    // The lines, with the one that has begun, are not too many, and that one is not too long.
+    ghost invariant = { λ r. (r.lines + min 1 (vec_len r.begun) ≤ LINES_LIMIT) × (vec_len r.begun ≤ LINE_LIMIT) };
 }
 
 impl Reading {
@@ -59,59 +60,96 @@ impl Reading {
         }
     }
 
-    /// The items of the lines that have ended.
-    pub fn into_items(self) -> Vec<Item>
-        ensures { result.items ≡ self.items }
+    /// The items of the lines that have ended since items were last forgotten.
+    pub fn items(&self) -> &[Item]
+        ensures { result.now ≡ self.now.items }
     {
-        self.items
+        self.items.as_slice()
     }
 
-    /// Reads on through these bytes, up to a fault in them.
-    #[tactic(auto, unfolding(crate::specs::within::Readings::bytes_of))]
+    /// Forgets these items.
+    pub fn forget_items(&mut self)
+        ensures { self.new ≡ forgotten self.old }
+    {
+        self.items.clear();
+    }
+
+    /// Reads on through these bytes, up to a fault in them: O(bytes).
     pub fn feed(&mut self, piece: &[u8]) -> Result<(), ScriptFault>
         ensures { Follows result self.new (bytes_of self.old piece.now) }
     {
-        for byte in piece {
-            self.byte(*byte)?;
+        let mut rest = piece;
+        while let Some((line, later)) = cut_line(rest) {
+            self.end_line(line)?;
+            rest = later;
         }
-        Ok(())
+        self.begin(rest)
     }
 
     /// Ends the script here: a line that has begun is the last one.
-    #[tactic(auto, unfolding(crate::specs::within::Readings::end_of))]
+    #[tactic(auto, unfolding(crate::specs::within::Readings::end_of, crate::specs::within::Readings::line_ended))]
     pub fn finish(&mut self) -> Result<(), ScriptFault>
         ensures { Follows result self.new (end_of self.old) }
     {
         if self.begun.is_empty() {
             return Ok(());
         }
-        self.end_line()
+        let read = event_of(self.alloc, self.begun.as_slice());
+        self.judge(read)
     }
 
-    #[tactic(auto, unfolding(crate::specs::within::Readings::byte_of))]
-    fn byte(&mut self, byte: u8) -> Result<(), ScriptFault>
-        ensures { Follows result self.new (byte_of self.old byte) }
+    /// Whether these bytes may come in the line that has begun.
+    #[tactic(auto, unfolding(crate::specs::within::Readings::room_for))]
+    fn may_go_on(&self, part: &[u8]) -> Result<(), ScriptFault>
+        ensures answer { result ≡ room_for self.now part.now }
+        ensures few { OnOk result (self.now.lines < LINES_LIMIT) }
+        ensures short { OnOk result (length self.now.begun + length part.now ≤ LINE_LIMIT) }
     {
         if self.lines >= LINES_LIMIT {
             return Err(ScriptFault::TooManyLines);
         }
-        if byte == b'\n' {
-            return self.end_line();
-        }
-        if self.begun.len() >= LINE_LIMIT {
+        if part.len() > LINE_LIMIT - self.begun.len() {
             return Err(ScriptFault::LineTooLong(self.lines + 1));
         }
-        self.begun.push(byte)?;
         Ok(())
     }
 
-    #[tactic(auto, unfolding(crate::specs::within::Readings::line_ended))]
-    fn end_line(&mut self) -> Result<(), ScriptFault>
+    /// These bytes come in the line that has begun, or begin one.
+    #[tactic(auto, unfolding(crate::specs::within::Readings::part_of))]
+    fn begin(&mut self, part: &[u8]) -> Result<(), ScriptFault>
+        ensures { Follows result self.new (part_of self.old part.now) }
+    {
+        if part.is_empty() {
+            return Ok(());
+        }
+        self.may_go_on(part)?;
+        self.begun.extend_from_slice(part)?;
+        Ok(())
+    }
+
+    /// These bytes end the line that has begun, or are a line. A line that came whole isn't copied.
+    #[tactic(auto, unfolding(crate::specs::within::Readings::line_end))]
+    fn end_line(&mut self, part: &[u8]) -> Result<(), ScriptFault>
+        ensures follows { Follows result self.new (line_end self.old part.now) }
+        ensures short { length self.old.begun ≤ LINE_LIMIT }
+    {
+        self.may_go_on(part)?;
+        if self.begun.is_empty() {
+            let read = event_of(self.alloc, part);
+            return self.judge(read);
+        }
+        self.begun.extend_from_slice(part)?;
+        let read = event_of(self.alloc, self.begun.as_slice());
+        self.judge(read)
+    }
+
+    /// The line that has begun ends, and was read so.
+    fn judge(&mut self, read: Result<Line, LineFault>) -> Result<(), ScriptFault>
         requires { self.old.lines < LINES_LIMIT }
-        ensures { Follows result self.new (line_ended self.old) }
+        ensures { (bytes : List ℕ) → Reads read (line_of bytes) → Follows result self.new (judged self.old (line_of bytes)) }
     {
         let number = self.lines + 1;
-        let line = match event_of(self.alloc, self.begun.as_slice()) {
+        let line = match read {
             Ok(line) => line,
             Err(LineFault::Bad) => return Err(ScriptFault::BadLine(number)),
             Err(LineFault::NoMemory) => return Err(ScriptFault::NoMemory),
@@ -121,6 +159,16 @@ impl Reading {
         self.lines = number;
         Ok(())
     }
+}
+
+/// The first line of these bytes, without its line feed, and the bytes after it, if a line ends in them.
+pub(crate) fn cut_line(bytes: &[u8]) -> Option<(&[u8], &[u8])>
+    ensures { IsCut bytes.now (option_map (λ cut. (cut.0.now, cut.1.now)) result) }
+{
+    let place = memchr(b'\n', bytes)?;
+    let (line, rest) = bytes.split_at(place);
+    let (_, later) = rest.split_at(1);
+    Some((line, later))
 }
 
 /// Adds the item that a line makes, if it is not blank.
@@ -136,7 +184,7 @@ fn push_line(items: &mut Vec<Item>, number: u64, line: Line) -> Result<(), Alloc
         })?,
         Line::Refused(fault) => items.push(Item {
             number,
-            said: Err(fault),
+            said: Err(LineRefusal::Text(fault)),
         })?,
     }
     Ok(())

@@ -1,35 +1,31 @@
-//! Running a script: from a reader of its bytes to a writer of what its items say.
-ghost use Rattle.std.specs.Prelude.{◌≡◌, ℕ, List, map, true, false, if◌then◌else◌, OnOk};
-ghost use Rattle.std.specs.Io.KnownBytes.{Consumes, Appends, Keeps};
-ghost use Rattle.cq_script.specs.Replays.{IsEndedFront, Replays};
-ghost use Rattle.cq_script.specs.within.Readings.{nothing_read, AreEnded, ReadsScript};
-ghost use Rattle.cq_script.specs.declared.fault.ScriptFault.TheVariants.{ReadFailed, WriteFailed, NoMemory};
-ghost use Rattle.cq_script.specs.Runs.{Takes, EndsWriting, OnWritten, ends_by_memory};
-ghost use Rattle.cq_script.specs.Output.{text_of, text_from};
-ghost use Rattle.cq_script.specs.within.Outcomes.{IsAt, nothing_told};
-ghost use Rattle.cq_script.specs.Marks.{events_of, mark_of};
-ghost use Rattle.cq_script.specs.declared.lines.Item.{Item};
-ghost use Rattle.cq_world.specs.Worlds.{World};
+//! Running a script as it is read: from a reader of its bytes to a writer of what comes of its lines.
+ghost use Rattle.std.specs.Prelude.{◌≡◌, ◌≤◌, ◌++◌, ℕ, List, Option, true, false, Err, OnOk};
+ghost use Rattle.std.specs.Io.KnownBytes.{Consumes, Appends, IsAtEnd};
+ghost use Rattle.cq_script.specs.Replays.{Headlines, IsEndedFront, IsFront, Replays};
+ghost use Rattle.cq_script.specs.within.Played.{IsPlayed, Plays};
+ghost use Rattle.cq_script.specs.declared.fault.ScriptFault.TheVariants.{ReadFailed, WriteFailed};
+ghost use Rattle.cq_script.specs.Runs.{OnWritten, ends_by_memory, is_cut_short};
 
 use crate::fault::ScriptFault;
-use crate::lines::{Item, Reading};
-use crate::marks::{Mark, parts_of};
-use crate::outcomes::Told;
+use crate::lines::Reading;
+use crate::outcome::run_items;
 use crate::sink::Sink;
-use crate::source::Source;
+use crate::source::{Source, read_fault};
+use crate::writing::finish_writing;
 use cq_base::ChainSize;
-use cq_world::{Ran, Sim};
+use cq_world::Sim;
 use std::alloc::Global;
 
 /// How many bytes are asked of the reader at a time.
-const CHUNK_SIZE: usize = 8192;
+pub(crate) const PIECE_SIZE: usize = 65_536;
 
-/// Reads a script, to its end or to its first fault, runs the events before that on so many servers, and writes what
-/// comes of each line, in order of the lines. A fault of the writing, or want of memory, is answered in place of one
-/// of the script. Where memory runs out while the script is read, nothing is written; where it runs out in the run,
-/// what came of the events before is written. Where a read has failed, nothing is told of a line that had begun.
-/// What was written is flushed, unless the writing was cut short. O(bytes of the script), and what the servers take
-/// for its events.
+/// Reads a script, to its end or to its first fault, runs its events on so many servers, and writes what comes of each
+/// line, in order of the lines. What one read brings is run and written, and passed on, before more is read: at a
+/// terminal, or behind a pipe, a line is answered when it has ended. A fault of the writing, or want of memory, is
+/// answered in place of one of the script. Where memory runs out, what came of the events before is written, but of
+/// those that the same read brought only if it ran out in the run. Where a read has failed, nothing is told of a line
+/// that had begun. What was written is flushed, unless the writing was cut short. O(bytes of the script), and what the
+/// servers take for its events. Beside the servers it holds what one read brings, and the line that has begun.
 pub fn replay<R: Source, W: Sink>(
     alloc: Global,
     size: ChainSize,
@@ -43,145 +39,117 @@ pub fn replay<R: Source, W: Sink>(
         × Appends (W.contents writer.old) (W.contents writer.new) output
         × Replays size result input (R.remaining reader.new) output
         × (R.has_failed reader.new ≡ true → IsEndedFront size input output) }
+    ensures headline { 1 ≤ size → (input : List ℕ) × (output : List ℕ)
+        × Consumes (R.remaining reader.old) (R.remaining reader.new) input
+        × Appends (W.contents writer.old) (W.contents writer.new) output
+        × Headlines size input (R.remaining reader.new) output }
     ensures reader_sound { OnOk result (R.has_failed reader.new ≡ false) }
     ensures writer_sound { OnWritten result (W.has_failed writer.new ≡ false) }
     ensures flushed { OnWritten result (W.has_flushed writer.new ≡ true) }
     ensures read_failed { result ≡ Err ReadFailed → R.has_failed reader.new ≡ true }
     ensures write_failed { result ≡ Err WriteFailed → W.has_failed writer.new ≡ true }
 {
-    let mut reading = Reading::new(alloc);
-    let ended = read_script(&mut reading, reader);
-    if ran_out(&ended) {
+    let ended = run_script(alloc, size, reader, writer);
+    if was_cut_short(&ended) {
         return ended;
     }
-    run_items(alloc, size, reading.into_items(), writer)?;
+    finish_writing(writer)?;
     ended
 }
 
-/// Whether memory ran out.
-fn ran_out(ended: &Result<(), ScriptFault>) -> bool
-    ensures { result ≡ ends_by_memory ended.now }
+/// Whether the writing was cut short.
+pub(crate) fn was_cut_short(answer: &Result<(), ScriptFault>) -> bool
+    ensures { result ≡ is_cut_short answer.now }
 {
-    matches!(ended, Err(ScriptFault::NoMemory))
+    matches!(
+        answer,
+        Err(ScriptFault::WriteFailed | ScriptFault::NoMemory)
+    )
 }
 
-/// Reads to the end, or to the first fault.
-fn read_script<R: Source>(reading: &mut Reading, reader: &mut R) -> Result<(), ScriptFault>
-    requires { reading.old ≡ nothing_read }
-    ensures reads { (input : List ℕ)
-        × Consumes (R.remaining reader.old) (R.remaining reader.new) input
-        × ReadsScript result reading.new.items input (R.remaining reader.new)
-        × (ends_by_memory result ≡ false → R.has_failed reader.new ≡ true → AreEnded reading.new.items input) }
-    ensures sound { OnOk result (R.has_failed reader.new ≡ false) }
-    ensures failed { result ≡ Err ReadFailed → R.has_failed reader.new ≡ true }
+/// Whether memory ran out.
+fn ran_out(answer: &Result<(), ScriptFault>) -> bool
+    ensures { result ≡ ends_by_memory answer.now }
 {
-    let mut chunk = [0; CHUNK_SIZE];
+    matches!(answer, Err(ScriptFault::NoMemory))
+}
+
+/// Reads to the end, or to the first fault, and runs what each read brings before the next.
+fn run_script<R: Source, W: Sink>(
+    alloc: Global,
+    size: ChainSize,
+    reader: &mut R,
+    writer: &mut W,
+) -> Result<(), ScriptFault>
+    ensures replays { (input : List ℕ) × (output : List ℕ)
+        × Consumes (R.remaining reader.old) (R.remaining reader.new) input
+        × Appends (W.contents writer.old) (W.contents writer.new) output
+        × Replays size result input (R.remaining reader.new) output
+        × IsFront size input (R.remaining reader.new) output
+        × (R.has_failed reader.new ≡ true → IsEndedFront size input output) }
+    ensures sound { OnOk result (R.has_failed reader.new ≡ false) }
+    ensures read_failed { result ≡ Err ReadFailed → R.has_failed reader.new ≡ true }
+    ensures write_failed { result ≡ Err WriteFailed → W.has_failed writer.new ≡ true }
+{
+    let mut sim = Sim::new(alloc, size)?;
+    let mut reading = Reading::new(alloc);
+    let mut piece = [0; PIECE_SIZE];
     loop {
-        match reader.read(&mut chunk) {
+        match reader.read(&mut piece) {
             Ok(0) => break,
-            Ok(count) => reading.feed(&chunk[..count])?,
+            Ok(count) => run_piece(alloc, &mut reading, &mut sim, &piece[..count], writer)?,
             Err(_) => return Err(read_fault(reader)),
         }
     }
     if reader.failed() {
         return Err(ScriptFault::ReadFailed);
     }
-    reading.finish()
+    run_rest(alloc, &mut reading, &mut sim, writer)
 }
 
-/// What to answer after a read gave an error. A reader that says that it has not failed ran out of
-/// memory.
-fn read_fault<R: Source>(reader: &R) -> ScriptFault
-    ensures { result ≡ (if R.has_failed reader.now then ReadFailed else NoMemory) }
-{
-    if reader.failed() {
-        ScriptFault::ReadFailed
-    } else {
-        ScriptFault::NoMemory
-    }
-}
-
-/// Runs the events of the items on so many servers, and writes what comes of each.
-fn run_items<W: Sink>(
+/// Reads on through these bytes, runs the lines that end in them, writes what comes of these, and passes it on.
+fn run_piece<W: Sink>(
     alloc: Global,
-    size: ChainSize,
-    items: Vec<Item>,
+    reading: &mut Reading,
+    sim: &mut Sim,
+    piece: &[u8],
     writer: &mut W,
 ) -> Result<(), ScriptFault>
-    ensures runs { Takes result (text_of size items.items) (W.contents writer.old) (W.contents writer.new) }
-    ensures sound { OnOk result (W.has_failed writer.new ≡ false) }
+    ensures plays { (size : ℕ) (input written : List ℕ) → IsPlayed size input reading.old sim.old written
+        → (output : List ℕ) × Appends (W.contents writer.old) (W.contents writer.new) output
+        × Plays size result (input ++ piece.now) reading.new sim.new (written ++ output) }
+    ensures not_read { ¬ (result ≡ Err ReadFailed) }
     ensures flushed { OnOk result (W.has_flushed writer.new ≡ true) }
     ensures failed { result ≡ Err WriteFailed → W.has_failed writer.new ≡ true }
 {
-    let parts = parts_of(alloc, items)?;
-    let mut sim = Sim::new(alloc, size)?;
-    let ran = sim.run(parts.events.as_slice());
-    write_outcomes(alloc, &ran, parts.marks.as_slice(), writer)
+    let read = reading.feed(piece);
+    if ran_out(&read) {
+        return read;
+    }
+    run_items(alloc, sim, reading.items(), writer)?;
+    reading.forget_items();
+    read
 }
 
-/// Writes what came of a run, line by line.
-fn write_outcomes<W: Sink>(
+/// Ends the script: runs the line that has begun, if there is one, and writes what comes of it.
+fn run_rest<W: Sink>(
     alloc: Global,
-    ran: &Ran,
-    marks: &[Mark],
+    reading: &mut Reading,
+    sim: &mut Sim,
     writer: &mut W,
 ) -> Result<(), ScriptFault>
-    ensures runs { (w : World) (items : List Item) → marks.now ≡ map mark_of items
-        → IsAt ran.now nothing_told w (events_of items)
-        → Takes result (text_from w items) (W.contents writer.old) (W.contents writer.new) }
-    ensures sound { OnOk result (W.has_failed writer.new ≡ false) }
+    ensures replays { (size : ℕ) (input written : List ℕ) (left : Option (List ℕ)) → IsAtEnd left
+        → IsPlayed size input reading.old sim.old written
+        → (output : List ℕ) × Appends (W.contents writer.old) (W.contents writer.new) output
+        × Replays size result input left (written ++ output) × IsFront size input left (written ++ output) }
+    ensures not_read { ¬ (result ≡ Err ReadFailed) }
     ensures flushed { OnOk result (W.has_flushed writer.new ≡ true) }
     ensures failed { result ≡ Err WriteFailed → W.has_failed writer.new ≡ true }
 {
-    let mut told = Told::new();
-    for mark in marks {
-        let text = told.line(alloc, mark, ran)?;
-        write_text(writer, text.as_slice())?;
+    let read = reading.finish();
+    if ran_out(&read) {
+        return read;
     }
-    finish_writing(writer)
-}
-
-/// Has the writer pass on what it may hold, and asks whether all of its calls went well.
-fn finish_writing<W: Sink>(writer: &mut W) -> Result<(), ScriptFault>
-    ensures kept { Keeps (W.contents writer.old) (W.contents writer.new) }
-    ensures answer { EndsWriting result (W.has_failed writer.new) }
-    ensures flushed { OnOk result (W.has_flushed writer.new ≡ true) }
-{
-    if writer.pass_on().is_err() {
-        return Err(write_fault(writer));
-    }
-    if writer.failed() {
-        return Err(ScriptFault::WriteFailed);
-    }
-    Ok(())
-}
-
-/// Writes all of `text`, or a front of it where a write fails.
-fn write_text<W: Sink>(writer: &mut W, text: &[u8]) -> Result<(), ScriptFault>
-    ensures takes { Takes result text.now (W.contents writer.old) (W.contents writer.new) }
-    ensures failed { result ≡ Err WriteFailed → W.has_failed writer.new ≡ true }
-{
-    let mut rest = text;
-    while !rest.is_empty() {
-        match writer.write(rest) {
-            Ok(0) | Err(_) => return Err(write_fault(writer)),
-            Ok(count) => {
-                let (_, later) = rest.split_at(count);
-                rest = later;
-            }
-        }
-    }
-    Ok(())
-}
-
-/// What to answer after a write gave an error or took nothing. A writer that says that it has not
-/// failed ran out of memory.
-fn write_fault<W: Sink>(writer: &W) -> ScriptFault
-    ensures { result ≡ (if W.has_failed writer.now then WriteFailed else NoMemory) }
-{
-    if writer.failed() {
-        ScriptFault::WriteFailed
-    } else {
-        ScriptFault::NoMemory
-    }
+    run_items(alloc, sim, reading.items(), writer)?;
+    read
 }

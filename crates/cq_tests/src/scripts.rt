@@ -3,6 +3,7 @@
 use cq_base::ChainSize;
 use cq_script::{Checked, LINE_LIMIT, LINES_LIMIT, ScriptFault, Sink, Source, replay};
 use std::alloc::Global;
+use std::cell::Cell;
 use std::io;
 use std::io::{ErrorKind, Read, Write};
 use std::test::Fail;
@@ -203,7 +204,7 @@ fn reads_and_writes_in_parts(rt: HostRuntime) {
         (REFUSALS, Ok(()), REFUSALS_TEXT),
     ];
     for (script, answer, text) in cases {
-        for step in [1, 7, 65536] {
+        for step in [1, 2, 7, 8192] {
             let reader = Pieces::new(script.as_bytes(), step);
             let (got, taken) = replayed(rt.alloc(), reader, usize::MAX, false);
             assert_eq!(rt; got, answer, "the answer to {script:?} by {step}");
@@ -214,6 +215,90 @@ fn reads_and_writes_in_parts(rt: HostRuntime) {
             );
         }
     }
+}
+
+/// A read may end at any byte of a script.
+#[test]
+fn reads_may_end_anywhere(rt: HostRuntime) {
+    let one = ChainSize::one();
+    for place in 0..=FIRST_PATH.len() {
+        let (front, later) = FIRST_PATH.as_bytes().split_at(place);
+        let mut taken = Vec::new(rt.alloc());
+        let mut source = Checked::new(front.chain(later));
+        let answer = replay(
+            rt.alloc(),
+            one,
+            &mut source,
+            &mut Checked::new(&mut taken),
+        );
+        assert_eq!(rt; answer, Ok(()), "a script cut at {place}");
+        assert_eq!(rt; taken.as_slice(), FIRST_PATH_TEXT.as_bytes(), "a script cut at {place}");
+    }
+}
+
+/// Gives a line at a time, and notes before each read how many bytes the writer had passed on.
+#[derive(Drop)]
+struct Watcher<'a> {
+    rest: &'a [u8],
+    passed: &'a Cell<usize>,
+    noted: &'a mut Vec<usize>,
+}
+
+impl Read for Watcher<'_> {
+    fn read(&mut self, buf: &mut [u8]) -> io::Result<usize> {
+        self.noted.push(self.passed.get())?;
+        let ended = self.rest.iter().position(|byte| *byte == b'\n');
+        let count = ended.map_or(0, |place| place + 1).min(buf.len());
+        let (front, later) = self.rest.split_at(count);
+        buf[..count].copy_from_slice(front);
+        self.rest = later;
+        Ok(count)
+    }
+}
+
+/// Counts the bytes that it was given, and those of them that it was had to pass on.
+#[derive(Drop)]
+struct Watched<'a> {
+    given: usize,
+    passed: &'a Cell<usize>,
+}
+
+impl Write for Watched<'_> {
+    fn write(&mut self, buf: &[u8]) -> io::Result<usize> {
+        self.given += buf.len();
+        Ok(buf.len())
+    }
+
+    fn flush(&mut self) -> io::Result<()> {
+        self.passed.set(self.given);
+        Ok(())
+    }
+}
+
+/// How many bytes had been passed on before each read, where a read brings a line.
+fn passed_before_reads(alloc: Global, script: &str) -> Vec<usize> {
+    let passed = Cell::new(0);
+    let mut noted = Vec::new(alloc);
+    let mut source = Checked::new(Watcher {
+        rest: script.as_bytes(),
+        passed: &passed,
+        noted: &mut noted,
+    });
+    let mut sink = Checked::new(Watched {
+        given: 0,
+        passed: &passed,
+    });
+    let _ = replay(alloc, ChainSize::one(), &mut source, &mut sink);
+    drop(source);
+    noted
+}
+
+/// When a line is asked for, what comes of all lines before it has been written and passed on.
+#[test]
+fn answers_before_it_reads_on(rt: HostRuntime) {
+    let wants = [0, 0, 87, 87, 168, 168, 300];
+    let noted = passed_before_reads(rt.alloc(), FIRST_PATH);
+    assert_eq!(rt; noted.as_slice(), wants.as_slice());
 }
 
 /// A query at the tail, which crashes once it has answered.

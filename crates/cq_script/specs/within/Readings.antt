@@ -1,5 +1,5 @@
 -- A script that is being read, byte by byte.
-use Rattle.std.specs.Prelude.{◌≡◌, ℕ, ◌+◌, ◌==◌, nat_le, if◌then◌else◌, List, [], ◌∷◌, ◌++◌, length, Option, None, Some, IfSome, Result, Ok, Err}
+use Rattle.std.specs.Prelude.{◌≡◌, ℕ, ◌+◌, ◌==◌, nat_le, nat_lt, false, if◌then◌else◌, List, [], ◌∷◌, ◌++◌, length, Option, None, Some, IfSome, Result, Ok, Err}
 use Rattle.std.specs.Io.KnownBytes.{IsAtEnd}
 use Rattle.cq_script.specs.declared.lines.TheConstants.{LINE_LIMIT, LINES_LIMIT}
 use Rattle.cq_script.specs.declared.fault.ScriptFault.{ScriptFault}
@@ -7,7 +7,7 @@ use Rattle.cq_script.specs.declared.fault.ScriptFault.TheVariants.{BadLine, Line
 use Rattle.cq_script.specs.declared.event_line.Line.{Line}
 use Rattle.cq_script.specs.declared.lines.Item.{Item}
 use Rattle.cq_script.specs.Line.{line_of}
-use Rattle.cq_script.specs.Lines.{Script, items_of_line, IsOpen, script_of, ended_part}
+use Rattle.cq_script.specs.Lines.{Script, items_of_line, IsOpen, script_of, has_line_feed, ended_part}
 
 -- what has been read: the items of the lines that have ended, how many those lines are, and the line that has begun
 pub record SoFar : Type 0 where
@@ -18,6 +18,10 @@ pub record SoFar : Type 0 where
 -- before the first byte
 abbrev pub nothing_read : SoFar
 nothing_read = record { items = []; lines = 0; begun = [] }
+
+-- the same, but that the items were taken away
+abbrev pub forgotten : SoFar → SoFar
+forgotten s = record { items = []; lines = s.lines; begun = s.begun }
 
 -- what more bytes make of it: more of a script, or a whole script that ends at a fault
 pub data Next : Type 0 where
@@ -45,6 +49,33 @@ byte_of s b =
     else (if b == 10 then line_ended s
     else (if nat_le LINE_LIMIT (length s.begun) then stopped s (LineTooLong (s.lines + 1))
     else goes (record { items = s.items; lines = s.lines; begun = s.begun ++ b ∷ [] })))
+
+-- ---- whole parts of lines, without a line feed
+
+-- the cut of bytes behind their first line: before it no line ends, and after it what is left; none: no line ends in them
+abbrev pub IsCut : List ℕ → Option (List ℕ × List ℕ) → Type 0
+IsCut bytes None = has_line_feed bytes ≡ false
+IsCut bytes (Some cut) = (has_line_feed cut.0 ≡ false) × (bytes ≡ cut.0 ++ 10 ∷ cut.1)
+
+-- whether these bytes, or the line feed behind them, may come in the line that has begun
+unfoldable pub room_for : SoFar → List ℕ → Result (Unit {0}) ScriptFault
+room_for s part =
+    if nat_le LINES_LIMIT s.lines then Err TooManyLines
+    else (if nat_lt LINE_LIMIT (length s.begun + length part) then Err (LineTooLong (s.lines + 1)) else Ok tt)
+
+-- where there is room
+abbrev pub on_room : SoFar → Result (Unit {0}) ScriptFault → Next → Next
+on_room s (Ok _) next = next
+on_room s (Err f) next = stopped s f
+
+-- after a part of a line
+unfoldable pub part_of : SoFar → List ℕ → Next
+part_of s [] = goes s
+part_of s (b ∷ bs) = on_room s (room_for s (b ∷ bs)) (goes (record { items = s.items; lines = s.lines; begun = s.begun ++ b ∷ bs }))
+
+-- after the last part of a line, and its line feed
+unfoldable pub line_end : SoFar → List ℕ → Next
+line_end s part = on_room s (room_for s part) (judged s (line_of (s.begun ++ part)))
 
 -- goes on, unless the script has ended
 abbrev pub then_next : (SoFar → Next) → Next → Next

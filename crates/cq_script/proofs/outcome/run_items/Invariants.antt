@@ -1,0 +1,17 @@
+-- The items so far have happened. What came of them was written, but for the text that is kept, and the others write the
+-- rest.
+use Rattle.std.proofs.Common.{◌≡◌, ◌++◌, List, ℕ, drop}
+use Rattle.std.specs.Io.KnownBytes.{Appends}
+use Rattle.cq_world.specs.Stands.{StandsFor}
+use Rattle.cq_world.specs.Worlds.{World}
+use Rattle.cq_script.specs.Output.{text_from}
+use Rattle.cq_script.specs.within.Played.{after_items}
+use Rattle.cq_script.proofs.outcome.run_items.Given as goal
+
+abbrev pub invariant-loop-item : goal.invariant-loop-item
+invariant-loop-item g l =
+    (first : World) → StandsFor l.initial.sim first
+    → (w : World) × (written : List ℕ) × StandsFor l.sim w
+    × Appends (g.W.Write.contents l.initial.writer) (g.W.Write.contents l.writer) written
+    × (text_from first l.items ≡ (written ++ l.text.items) ++ text_from w (drop l.item-index l.items))
+    × (after_items first l.items ≡ after_items w (drop l.item-index l.items))

@@ -1,0 +1,89 @@
+//! What comes of the lines of a script.
+ghost use Rattle.std.specs.Prelude.{◌≡◌, ◌++◌, Err, IfOk, OnOk, OnErr, true};
+ghost use Rattle.cq_script.specs.Runs.{Takes};
+ghost use Rattle.cq_script.specs.declared.fault.ScriptFault.TheVariants.{ReadFailed, WriteFailed};
+ghost use Rattle.cq_script.specs.within.Played.{after_items};
+ghost use Rattle.cq_script.specs.Output.{after_said, event_text, output, text_from};
+ghost use Rattle.cq_world.specs.Events.{after, refusal_of};
+ghost use Rattle.cq_world.specs.Stands.{Shows, StandsFor};
+
+use crate::fault::ScriptFault;
+use crate::lines::Item;
+use crate::output_line::{answer_line, refused_line};
+use crate::sink::Sink;
+use crate::writing::{finish_writing, write_text};
+use cq_base::NoMemory;
+use cq_chain::WorldFault;
+use cq_world::{Event, Sim};
+use std::alloc::Global;
+
+/// After how many bytes of text the writer is given them.
+const TEXT_SIZE: usize = 65_536;
+
+/// Has the event happen, which the line with that number says, and gives what is written of it: the answer that it
+/// gives, or why it is refused. It is empty where the event does neither.
+fn event_line(alloc: Global, number: u64, sim: &mut Sim, event: &Event) -> Result<Vec<u8>, NoMemory>
+    ensures { Shows sim.old (λ w. IfOk result (λ text. (text.items ≡ event_text number w event.now (refusal_of w event.now))
+        × StandsFor sim.new (after w event.now))) }
+{
+    match sim.step(event) {
+        Ok(Some(answer)) => answer_line(alloc, number, &answer),
+        Ok(None) => Ok(Vec::new(alloc)),
+        Err(fault) => match fault {
+            WorldFault::NoMemory => Err(NoMemory),
+            _ => refused_line(alloc, number, fault.code(), fault.name()),
+        },
+    }
+}
+
+/// Has the item happen, and gives what is written of it. What the servers take for its event, and the length of what
+/// is given.
+fn item_line(alloc: Global, sim: &mut Sim, item: &Item) -> Result<Vec<u8>, NoMemory>
+    ensures { Shows sim.old (λ w. IfOk result (λ text. (text.items ≡ output w item.now)
+        × StandsFor sim.new (after_said w item.now.said))) }
+{
+    match &item.said {
+        Ok(event) => event_line(alloc, item.number, sim, event),
+        Err(refusal) => refused_line(alloc, item.number, refusal.code(), refusal.name()),
+    }
+}
+
+/// Has the item happen, and adds what comes of it to the text.
+fn run_item(alloc: Global, sim: &mut Sim, item: &Item, text: &mut Vec<u8>) -> Result<(), NoMemory>
+    ensures ok { Shows sim.old (λ w. OnOk result ((text.new.items ≡ text.old.items ++ output w item.now)
+        × StandsFor sim.new (after_said w item.now.said))) }
+    ensures err { OnErr result (text.new.items ≡ text.old.items) }
+{
+    let line = item_line(alloc, sim, item)?;
+    text.extend_from_slice(line.as_slice())?;
+    Ok(())
+}
+
+/// Has the items happen one after another, writes what comes of each, and passes it on. The text of many is written at
+/// once, so that beside the servers no more is held than the text of one, and `TEXT_SIZE` bytes.
+pub(crate) fn run_items<W: Sink>(
+    alloc: Global,
+    sim: &mut Sim,
+    items: &[Item],
+    writer: &mut W,
+) -> Result<(), ScriptFault>
+    ensures takes { Shows sim.old (λ w. Takes result (text_from w items.now) (W.contents writer.old) (W.contents writer.new)) }
+    ensures runs { Shows sim.old (λ w. OnOk result (StandsFor sim.new (after_items w items.now))) }
+    ensures not_read { ¬ (result ≡ Err ReadFailed) }
+    ensures flushed { OnOk result (W.has_flushed writer.new ≡ true) }
+    ensures failed { result ≡ Err WriteFailed → W.has_failed writer.new ≡ true }
+{
+    let mut text = Vec::new(alloc);
+    for item in items {
+        if run_item(alloc, sim, item, &mut text).is_err() {
+            write_text(writer, text.as_slice())?;
+            return Err(ScriptFault::NoMemory);
+        }
+        if text.len() >= TEXT_SIZE {
+            write_text(writer, text.as_slice())?;
+            text.clear();
+        }
+    }
+    write_text(writer, text.as_slice())?;
+    finish_writing(writer)
+}
