@@ -15,5 +15,7 @@ pub mod Outcomes
 pub mod RunTold
 pub mod Replayed
 pub mod Played
+pub mod Heard
+pub mod CarriedOut
 -- worked lines
 pub mod Rows

@@ -31,6 +31,7 @@ use Rattle.cq_script.specs.Line.{line_of}
 use Rattle.cq_script.specs.Lines.{lines_of, script_from, script_of, ended_part}
 use Rattle.cq_script.specs.Output.{output, text_from, text_of}
 use Rattle.cq_script.specs.Receipts.{handle_in, receipt_handle}
+use Rattle.cq_script.specs.Sessions.{session_item, session_from, session_items}
 use Rattle.cq_script.specs.declared.event_line.Line.{Line}
 use Rattle.cq_script.specs.declared.event_line.Line.TheVariants.{Blank, Event, Refused}
 use Rattle.cq_script.specs.declared.fault.LineRefusal.TheVariants.{Text, Bad, TooLong}
@@ -377,6 +378,18 @@ numbers_of_lines :
     ≡ record { items = record { number = 2; said = Ok (events.Crash 1) } ∷ record { number = 3; said = Err (Text BadQueueName) } ∷ []; fault = Some (BadLine 4) }
 unfolding script_of script_from lines_of lines_on_literals
 numbers_of_lines = refl
+
+-- a session goes on behind a bad line, as the last one is here
+lines_of_a_session :
+    session_items (10 ∷ (json (codes "{'op':'crash','server':1}") ++ (10 ∷ (codes "x" ++ (10 ∷ (json (codes "{'op':'ask','at':1,'client':7,'tag':9,'queue':'q'}") ++ (10 ∷ codes "y")))))))
+    ≡ record { number = 2; said = Ok (events.Crash 1) } ∷ record { number = 3; said = Err Bad } ∷ record { number = 4; said = Err (Text BadQueueName) } ∷ record { number = 5; said = Err Bad } ∷ []
+unfolding session_items session_from session_item lines_of lines_on_literals
+lines_of_a_session = refl
+
+-- and counts them on behind the most that a script may have
+line_of_a_session : session_from 1000001 (codes "x" ∷ [] ∷ []) ≡ record { number = 1000001; said = Err Bad } ∷ []
+unfolding session_from session_item lines_on_literals
+line_of_a_session = refl
 
 last_line : script_from 1000000 ([] ∷ []) ≡ record { items = []; fault = None }
 unfolding script_from lines_on_literals

@@ -10,6 +10,7 @@ pub mod Answers
 pub mod Output
 pub mod Runs
 pub mod Replays
+pub mod Sessions
 pub mod Laws
 -- faults, readers and writers
 pub mod Faults

@@ -2,3 +2,4 @@
 pub mod Readers
 pub mod Readings
 pub mod Played
+pub mod Heard

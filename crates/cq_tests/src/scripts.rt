@@ -1,7 +1,9 @@
 //! Scripts that are cut short or too long, and readers and writers that give up.
 
 use cq_base::ChainSize;
-use cq_script::{Checked, LINE_LIMIT, LINES_LIMIT, ScriptFault, Sink, Source, replay};
+use cq_script::{
+    Checked, LINE_LIMIT, LINES_LIMIT, ScriptFault, Sink, Source, replay, session,
+};
 use std::alloc::Global;
 use std::cell::Cell;
 use std::io;
@@ -217,7 +219,7 @@ fn reads_and_writes_in_parts(rt: HostRuntime) {
     }
 }
 
-/// A read may end at any byte of a script.
+/// A read may end at any byte of a script, and at any byte of a session.
 #[test]
 fn reads_may_end_anywhere(rt: HostRuntime) {
     let one = ChainSize::one();
@@ -233,6 +235,16 @@ fn reads_may_end_anywhere(rt: HostRuntime) {
         );
         assert_eq!(rt; answer, Ok(()), "a script cut at {place}");
         assert_eq!(rt; taken.as_slice(), FIRST_PATH_TEXT.as_bytes(), "a script cut at {place}");
+        let mut told = Vec::new(rt.alloc());
+        let mut source = Checked::new(front.chain(later));
+        let answer = session(
+            rt.alloc(),
+            one,
+            &mut source,
+            &mut Checked::new(&mut told),
+        );
+        assert_eq!(rt; answer, Ok(()), "a session cut at {place}");
+        assert_eq!(rt; told.as_slice(), taken.as_slice(), "a session cut at {place}");
     }
 }
 
@@ -276,7 +288,7 @@ impl Write for Watched<'_> {
 }
 
 /// How many bytes had been passed on before each read, where a read brings a line.
-fn passed_before_reads(alloc: Global, script: &str) -> Vec<usize> {
+fn passed_before_reads(alloc: Global, script: &str, is_session: bool) -> Vec<usize> {
     let passed = Cell::new(0);
     let mut noted = Vec::new(alloc);
     let mut source = Checked::new(Watcher {
@@ -288,7 +300,11 @@ fn passed_before_reads(alloc: Global, script: &str) -> Vec<usize> {
         given: 0,
         passed: &passed,
     });
-    let _ = replay(alloc, ChainSize::one(), &mut source, &mut sink);
+    let _ = if is_session {
+        session(alloc, ChainSize::one(), &mut source, &mut sink)
+    } else {
+        replay(alloc, ChainSize::one(), &mut source, &mut sink)
+    };
     drop(source);
     noted
 }
@@ -297,8 +313,10 @@ fn passed_before_reads(alloc: Global, script: &str) -> Vec<usize> {
 #[test]
 fn answers_before_it_reads_on(rt: HostRuntime) {
     let wants = [0, 0, 87, 87, 168, 168, 300];
-    let noted = passed_before_reads(rt.alloc(), FIRST_PATH);
-    assert_eq!(rt; noted.as_slice(), wants.as_slice());
+    for is_session in [false, true] {
+        let noted = passed_before_reads(rt.alloc(), FIRST_PATH, is_session);
+        assert_eq!(rt; noted.as_slice(), wants.as_slice());
+    }
 }
 
 /// A query at the tail, which crashes once it has answered.
@@ -439,6 +457,39 @@ fn takes_lines_up_to_the_limit(rt: HostRuntime) -> Result<(), Fail> {
     long.insert(0, b' ')?;
     let (answer, _) = replayed(rt.alloc(), Pieces::new(long.as_slice(), 65536), 0, false);
     assert_eq!(rt; answer, Err(ScriptFault::LineTooLong(1)));
+    Ok(())
+}
+
+const GONE_ON: &str = r#"{"line":1,"name":"BadLine","refused":61}
+{"line":3,"name":"BadQueueName","refused":11}
+{"line":4,"name":"LineTooLong","refused":62}
+{"line":5,"name":"BadLine","refused":61}
+{"line":6,"name":"OutboxEmpty","refused":34}
+"#;
+
+/// A line that is bad, a blank one, one whose queue has no name, one that is too long, another bad one, and one that is
+/// refused by the world, without a line feed.
+#[test]
+fn a_session_goes_on(rt: HostRuntime) -> Result<(), Fail> {
+    let long = vec![in rt.alloc(); b' '; LINE_LIMIT + 1]?;
+    let mut lines = Vec::new(rt.alloc());
+    lines.extend_from_slice(
+        b"{\"op\":\"put\"\n\n{\"op\":\"ask\",\"at\":1,\"client\":1,\"tag\":1,\"queue\":\"q\"}\n",
+    )?;
+    lines.extend_from_slice(long.as_slice())?;
+    lines.extend_from_slice(b"\nx\n{\"op\":\"put\",\"from\":1,\"to\":\"clients\"}")?;
+    for step in [997, 8192, 65536] {
+        let mut taken = Vec::new(rt.alloc());
+        let mut source = Checked::new(Pieces::new(lines.as_slice(), step));
+        let answer = session(
+            rt.alloc(),
+            ChainSize::one(),
+            &mut source,
+            &mut Checked::new(&mut taken),
+        );
+        assert_eq!(rt; answer, Ok(()));
+        assert_eq!(rt; taken.as_slice(), GONE_ON.as_bytes(), "by {step} bytes");
+    }
     Ok(())
 }
 
