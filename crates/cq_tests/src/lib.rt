@@ -5,6 +5,8 @@
 #[cfg(test)]
 mod event_lines;
 #[cfg(test)]
+mod memory;
+#[cfg(test)]
 mod scripts;
 #[cfg(test)]
 mod servers;
