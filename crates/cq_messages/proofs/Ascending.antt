@@ -1,5 +1,5 @@
 -- Slots in order of their sequence numbers.
-use Rattle.std.proofs.Common.{◌≡◌, ℕ, ◌<◌, ◌≤◌, List, [], ◌∷◌, length, get_or, arith, suc, zero, ◌≢◌, ◌⊎◌, inl, inr, subst}
+use Rattle.std.proofs.Common.{◌≡◌, ℕ, ◌+◌, ◌<◌, ◌≤◌, List, [], ◌∷◌, length, get_or, arith, suc, zero, ◌≢◌, ◌⊎◌, inl, inr, subst}
 use Rattle.std.proofs.lemmas.Bool.{cases_lt}
 use Rattle.cq_messages.specs.declared.slot.Slot.{Slot}
 use Rattle.cq_messages.specs.Slots.{IsAscending, gone}
@@ -21,6 +21,19 @@ ascending-upto b ss j k h o l = upto (cases_lt j k)
     upto : (j < k) ⊎ (k ≤ j) → (get_or ss j gone).sequence ≤ (get_or ss k gone).sequence
     upto (inl s) = let r = ascending-order b ss j k h s l in omega arith
     upto (inr m) = let same : j ≡ k = omega arith in subst (λ i. (get_or ss j gone).sequence ≤ (get_or ss i gone).sequence) same (omega arith)
+
+pub ascending-far : (b : ℕ) (ss : List Slot) (k : ℕ) → IsAscending b ss → k < length ss → b + k < (get_or ss k gone).sequence
+ascending-far b [] k h l = absurd (omega arith)
+ascending-far b (s ∷ ss) zero h l = let r = h.0 in omega arith
+ascending-far b (s ∷ ss) (suc k) h l = let below = h.0 in let r = ascending-far s.sequence ss k h.1.1 (omega arith) in omega arith
+
+-- each number is larger than the one before it
+pub ascending-apart : (b : ℕ) (ss : List Slot) (j k : ℕ) → IsAscending b ss → j ≤ k → k < length ss → (get_or ss j gone).sequence + k ≤ (get_or ss k gone).sequence + j
+ascending-apart b [] j k h o l = absurd (omega arith)
+ascending-apart b (s ∷ ss) zero zero h o l = omega arith
+ascending-apart b (s ∷ ss) (suc j) zero h o l = absurd (omega arith)
+ascending-apart b (s ∷ ss) zero (suc k) h o l = let r = ascending-far s.sequence ss k h.1.1 (omega arith) in omega arith
+ascending-apart b (s ∷ ss) (suc j) (suc k) h o l = let r = ascending-apart s.sequence ss j k h.1.1 (omega arith) (omega arith) in omega arith
 
 -- where no slot below `low` has that number, and that at `low` has another, which isn't smaller, none has it
 pub ascending-none : (ss : List Slot) (low n : ℕ) → IsAscending 0 ss → ((k : ℕ) → k < low → (get_or ss k gone).sequence < n) → ((k : ℕ) → low ≤ k → k < length ss → n ≤ (get_or ss k gone).sequence)
