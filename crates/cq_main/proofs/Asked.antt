@@ -1,4 +1,4 @@
--- What a parse found says how many servers are asked for.
+-- What a parse found says what is asked for.
 use Rattle.std.proofs.Common.{ℕ, zero, suc, ◌+◌, ◌-◌, ◌<◌, ◌≤◌, ◌&&◌, Bool, true, false, cond, nat_le, List, [], ◌∷◌, Option, Some, None, refl, codes, ap, sym, subst, inl, inr, ◌≡◌, ◌≢◌, ◌⊎◌, ◌∙◌, arith}
 use Rattle.std.specs.Prelude.{IfSome, option_map, unwrap_or, Ok, Err, Result}
 use Rattle.std.specs.Str.Parse.{IsNumeral, digits_value, without_leading_plus}
@@ -15,24 +15,26 @@ use Rattle.cq_main.specs.Outcomes.{all_are}
 use Rattle.clap.specs.declared.parser.matches.Found.{Found}
 use Rattle.clap.proofs.OnLiterals.{clap_on_literals}
 use Rattle.clap.proofs.WalkLemmas.{one_text-rows}
-use Rattle.cq_main.specs.CommandLine.{IsAsked, asked_servers, digit_of, program_app, text_in}
+use Rattle.cq_main.specs.declared.words.Choice.{Choice}
+use Rattle.cq_main.specs.declared.words.Choice.TheVariants.{Replay, Session}
+use Rattle.cq_main.specs.CommandLine.{IsSized, asked_choice, digit_of, name_in, name_of, named_choice, program_app, size_of, text_in}
 
 pub some_same : {A : Type 0} {x y : A} → Some x ≡ Some y → x ≡ y
 some_same {A} {x} {y} is = ap (λ (o : Option A). unwrap_or o x) is
 
-pub asked_without : (found : Option (Text × List Row)) → None ≡ option_map (λ p. p.1) found → IsAsked found 1
-asked_without None e = (codes "1", refl, refl)
-asked_without (Some p) e = cc
+pub sized_without : (found : Option (Text × List Row)) → None ≡ option_map (λ p. p.1) found → IsSized found 1
+sized_without None e = (codes "1", refl, refl)
+sized_without (Some p) e = cc
 
-pub asked_by : {E : Type 0} (gives : Text → Result ℕ E → Type 0)
+pub sized_by : {E : Type 0} (gives : Text → Result ℕ E → Type 0)
     → ((text : Text) (n : ℕ) → gives text (Ok n) → n ≡ digits_value 10 (without_leading_plus text))
     → (found : Option (Text × List Row)) (f : Found) (read : Option ℕ)
     → Some (rows_of f) ≡ option_map (λ p. p.1) found
     → (one_text f (codes "servers") ≡ None → read ≡ None)
     → ((text : Text) → one_text f (codes "servers") ≡ Some text → ReadsOne gives text read)
-    → IfSome read (IsAsked found)
-asked_by gives tells None f read e none value = cc
-asked_by {E} gives tells (Some p) f read e none value = go (one_text f (codes "servers")) refl read none value
+    → IfSome read (IsSized found)
+sized_by gives tells None f read e none value = cc
+sized_by {E} gives tells (Some p) f read e none value = go (one_text f (codes "servers")) refl read none value
   where
     rows : rows_of f ≡ p.1
     rows = cc
@@ -40,7 +42,7 @@ asked_by {E} gives tells (Some p) f read e none value = go (one_text f (codes "s
     go : (text : Option Text) → one_text f (codes "servers") ≡ text → (read : Option ℕ)
         → (one_text f (codes "servers") ≡ None → read ≡ None)
         → ((text : Text) → one_text f (codes "servers") ≡ Some text → ReadsOne gives text read)
-        → IfSome read (IsAsked (Some p))
+        → IfSome read (IsSized (Some p))
     go text is None none value = tt
     go None is (Some n) none value = let no = none is in cc
     go (Some text) is (Some n) none value = (
@@ -100,44 +102,69 @@ digit_by {E} gives tells fails (Some p) f read e value n low is = go read (value
 
 -- ---- good words
 
--- the words are taken, and what is found in them is the text of that digit
-pub record IsGood (words : List Text) (servers : ℕ) : Type 0 where
+-- the words are taken, and what is found in them is the name of the command and the text of that digit
+abbrev IsRead : List Text → Choice → Type 0
+IsRead words choice =
+    (takes program_app words ≡ true) × (name_in (subcommand_of program_app words) ≡ name_of choice)
+    × (text_in (subcommand_of program_app words) ≡ Some ((48 + size_of choice) ∷ []))
+
+pub record IsGood (words : List Text) (choice : Choice) : Type 0 where
   pub taken : takes program_app words ≡ true
-  pub text : text_in (subcommand_of program_app words) ≡ Some ((48 + servers) ∷ [])
-  pub low : 1 ≤ servers
-  pub high : servers ≤ 8
+  pub name : name_in (subcommand_of program_app words) ≡ name_of choice
+  pub text : text_in (subcommand_of program_app words) ≡ Some ((48 + size_of choice) ∷ [])
+  pub low : 1 ≤ size_of choice
+  pub high : size_of choice ≤ 8
 
-good_none : IsGood [] 1
+is_good_read : (words : List Text) (choice : Choice) → IsRead words choice → 1 ≤ size_of choice → size_of choice ≤ 8 → IsGood words choice
+is_good_read words choice read low high = record { taken = read.0; name = read.1; text = read.2; low = low; high = high }
+
+reads_none : IsRead [] (Replay 1)
 unfolding clap_on_literals
-good_none = record { taken = refl; text = refl; low = omega arith; high = omega arith }
+reads_none = (refl, refl, refl)
 
-good_replay : IsGood (codes "replay" ∷ []) 1
+reads_replay : IsRead (codes "replay" ∷ []) (Replay 1)
 unfolding clap_on_literals
-good_replay = record { taken = refl; text = refl; low = omega arith; high = omega arith }
+reads_replay = (refl, refl, refl)
 
-abbrev with_servers : ℕ → List Text
-with_servers n = codes "replay" ∷ codes "--servers" ∷ ((48 + n) ∷ []) ∷ []
-
-good_servers : (n : ℕ) → 1 ≤ n → n ≤ 8 → IsGood (with_servers n) n
+reads_session : IsRead (codes "session" ∷ []) (Session 1)
 unfolding clap_on_literals
-good_servers zero low high = absurd (omega arith)
-good_servers (suc zero) low high = record { taken = refl; text = refl; low = low; high = high }
-good_servers (suc (suc zero)) low high = record { taken = refl; text = refl; low = low; high = high }
-good_servers (suc (suc (suc zero))) low high = record { taken = refl; text = refl; low = low; high = high }
-good_servers (suc (suc (suc (suc zero)))) low high = record { taken = refl; text = refl; low = low; high = high }
-good_servers (suc (suc (suc (suc (suc zero))))) low high = record { taken = refl; text = refl; low = low; high = high }
-good_servers (suc (suc (suc (suc (suc (suc zero)))))) low high = record { taken = refl; text = refl; low = low; high = high }
-good_servers (suc (suc (suc (suc (suc (suc (suc zero))))))) low high = record { taken = refl; text = refl; low = low; high = high }
-good_servers (suc (suc (suc (suc (suc (suc (suc (suc zero)))))))) low high = record { taken = refl; text = refl; low = low; high = high }
-good_servers (suc (suc (suc (suc (suc (suc (suc (suc (suc n))))))))) low high = absurd (omega arith)
+reads_session = (refl, refl, refl)
 
-is_replay : (word : Text) (same : Bool) → bytes_eq word (codes "replay") ≡ same → (servers : ℕ)
-    → cond same (Some 1) None ≡ Some servers → IsGood (word ∷ []) servers
-is_replay word true is servers asked =
-    let word_is : word ≡ codes "replay" = (bytes_eq-Decides word (codes "replay")).0 is in
-    let one : 1 ≡ servers = some_same asked in
-    rw word_is (subst (λ n. IsGood (codes "replay" ∷ []) n) one good_replay)
-is_replay word false is servers asked = cc
+abbrev with_servers : Text → ℕ → List Text
+with_servers name n = name ∷ codes "--servers" ∷ ((48 + n) ∷ []) ∷ []
+
+-- both commands, on that many servers
+abbrev ReadsServers : ℕ → Type 0
+ReadsServers n = IsRead (with_servers (codes "replay") n) (Replay n) × IsRead (with_servers (codes "session") n) (Session n)
+
+reads_servers : (n : ℕ) → 1 ≤ n → n ≤ 8 → ReadsServers n
+unfolding clap_on_literals
+reads_servers zero low high = absurd (omega arith)
+reads_servers (suc zero) low high = ((refl, refl, refl), (refl, refl, refl))
+reads_servers (suc (suc zero)) low high = ((refl, refl, refl), (refl, refl, refl))
+reads_servers (suc (suc (suc zero))) low high = ((refl, refl, refl), (refl, refl, refl))
+reads_servers (suc (suc (suc (suc zero)))) low high = ((refl, refl, refl), (refl, refl, refl))
+reads_servers (suc (suc (suc (suc (suc zero))))) low high = ((refl, refl, refl), (refl, refl, refl))
+reads_servers (suc (suc (suc (suc (suc (suc zero)))))) low high = ((refl, refl, refl), (refl, refl, refl))
+reads_servers (suc (suc (suc (suc (suc (suc (suc zero))))))) low high = ((refl, refl, refl), (refl, refl, refl))
+reads_servers (suc (suc (suc (suc (suc (suc (suc (suc zero)))))))) low high = ((refl, refl, refl), (refl, refl, refl))
+reads_servers (suc (suc (suc (suc (suc (suc (suc (suc (suc n))))))))) low high = absurd (omega arith)
+
+-- a word names a command alone
+data IsNamed (word : Text) (servers : Option ℕ) (choice : Choice) : Type 0 where
+  replays : word ≡ codes "replay" → servers ≡ Some (size_of choice) → choice ≡ Replay (size_of choice) → IsNamed word servers choice
+  sessions : word ≡ codes "session" → servers ≡ Some (size_of choice) → choice ≡ Session (size_of choice) → IsNamed word servers choice
+
+is_named : (word : Text) (servers : Option ℕ) (replay session : Bool) → bytes_eq word (codes "replay") ≡ replay → bytes_eq word (codes "session") ≡ session
+    → (choice : Choice) → cond replay (option_map Replay servers) (cond session (option_map Session servers) None) ≡ Some choice
+    → IsNamed word servers choice
+is_named word (Some n) true session is_replay is_session choice asked =
+    subst (IsNamed word (Some n)) (some_same asked) (replays ((bytes_eq-Decides word (codes "replay")).0 is_replay) refl refl)
+is_named word None true session is_replay is_session choice asked = cc
+is_named word (Some n) false true is_replay is_session choice asked =
+    subst (IsNamed word (Some n)) (some_same asked) (sessions ((bytes_eq-Decides word (codes "session")).0 is_session) refl refl)
+is_named word None false true is_replay is_session choice asked = cc
+is_named word servers false false is_replay is_session choice asked = cc
 
 digit_within : (byte : ℕ) (low high : Bool) → nat_le 49 byte ≡ low → nat_le byte 56 ≡ high → (servers : ℕ)
     → cond (low && high) (Some (byte - 48)) None ≡ Some servers → (byte ≡ 48 + servers) × (1 ≤ servers) × (servers ≤ 8)
@@ -156,22 +183,45 @@ is_digit (byte ∷ []) servers asked =
     (ap (λ b. b ∷ []) found.0, found.1, found.2)
 is_digit (byte ∷ other ∷ rest) servers asked = cc
 
-is_replay_with : (word option number : Text) (first second : Bool) → bytes_eq word (codes "replay") ≡ first → bytes_eq option (codes "--servers") ≡ second
-    → (servers : ℕ) → cond (first && second) (digit_of number) None ≡ Some servers → IsGood (word ∷ option ∷ number ∷ []) servers
-is_replay_with word option number true true is_first is_second servers asked =
-    let word_is : word ≡ codes "replay" = (bytes_eq-Decides word (codes "replay")).0 is_first in
-    let option_is : option ≡ codes "--servers" = (bytes_eq-Decides option (codes "--servers")).0 is_second in
-    let found = is_digit number servers asked in
-    rw (word_is, option_is, found.0) (good_servers servers found.1 found.2)
-is_replay_with word option number true false is_first is_second servers asked = cc
-is_replay_with word option number false second is_first is_second servers asked = cc
+good_alone : (word : Text) (choice : Choice) → IsNamed word (Some 1) choice → IsGood (word ∷ []) choice
+good_alone word choice (replays name one is) =
+    let size : 1 ≡ size_of choice = some_same one in
+    rw (name, is, ← size) (is_good_read (codes "replay" ∷ []) (Replay 1) reads_replay (omega arith) (omega arith))
+good_alone word choice (sessions name one is) =
+    let size : 1 ≡ size_of choice = some_same one in
+    rw (name, is, ← size) (is_good_read (codes "session" ∷ []) (Session 1) reads_session (omega arith) (omega arith))
 
-pub is_good : (words : List Text) (servers : ℕ) → asked_servers words ≡ Some servers → IsGood words servers
-is_good [] servers asked = subst (λ n. IsGood [] n) (some_same asked) good_none
-is_good (word ∷ []) servers asked = is_replay word _ refl servers asked
-is_good (word ∷ option ∷ []) servers asked = cc
-is_good (word ∷ option ∷ number ∷ []) servers asked = is_replay_with word option number _ _ refl refl servers asked
-is_good (word ∷ option ∷ number ∷ other ∷ rest) servers asked = cc
+good_with : (word option number : Text) (choice : Choice) → option ≡ codes "--servers" → IsNamed word (digit_of number) choice → IsGood (word ∷ option ∷ number ∷ []) choice
+good_with word option number choice option_is (replays name digit is) =
+    let found = is_digit number (size_of choice) digit in
+    rw (name, option_is, found.0) (subst (IsGood (with_servers (codes "replay") (size_of choice))) (sym is)
+    (is_good_read _ (Replay (size_of choice)) (reads_servers (size_of choice) found.1 found.2).0 found.1 found.2))
+good_with word option number choice option_is (sessions name digit is) =
+    let found = is_digit number (size_of choice) digit in
+    rw (name, option_is, found.0) (subst (IsGood (with_servers (codes "session") (size_of choice))) (sym is)
+    (is_good_read _ (Session (size_of choice)) (reads_servers (size_of choice) found.1 found.2).1 found.1 found.2))
+
+is_with : (word option number : Text) (same : Bool) → bytes_eq option (codes "--servers") ≡ same
+    → (choice : Choice) → cond same (named_choice word (digit_of number)) None ≡ Some choice → IsGood (word ∷ option ∷ number ∷ []) choice
+is_with word option number true is choice asked =
+    good_with word option number choice ((bytes_eq-Decides option (codes "--servers")).0 is) (is_named word (digit_of number) _ _ refl refl choice asked)
+is_with word option number false is choice asked = cc
+
+pub is_good : (words : List Text) (choice : Choice) → asked_choice words ≡ Some choice → IsGood words choice
+is_good [] choice asked = subst (IsGood []) (some_same asked) (is_good_read [] (Replay 1) reads_none (omega arith) (omega arith))
+is_good (word ∷ []) choice asked = good_alone word choice (is_named word (Some 1) _ _ refl refl choice asked)
+is_good (word ∷ option ∷ []) choice asked = cc
+is_good (word ∷ option ∷ number ∷ []) choice asked = is_with word option number _ refl choice asked
+is_good (word ∷ option ∷ number ∷ other ∷ rest) choice asked = cc
+
+-- what is taken from what good words have as their matches is what they ask for
+pub is_found : {taken : Option Choice} (found : Option (Text × List Row)) (words : List Text) (choice : Choice)
+    → found ≡ subcommand_of program_app words → asked_choice words ≡ Some choice
+    → ((c : Choice) → text_in found ≡ Some ((48 + size_of c) ∷ []) → 1 ≤ size_of c → size_of c ≤ 8 → name_in found ≡ name_of c → taken ≡ Some c)
+    → taken ≡ Some choice
+is_found found words choice is asked takes =
+    let good = is_good words choice asked in
+    takes choice (ap text_in is ∙ good.text) good.low good.high (ap name_in is ∙ good.name)
 
 -- ---- the program's command line
 

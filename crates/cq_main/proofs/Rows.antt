@@ -6,7 +6,8 @@ use Rattle.clap.specs.Words.{fault_of}
 use Rattle.clap.specs.declared.error.kind.ErrorKind.TheVariants.{OutOfMemory}
 use Rattle.clap.proofs.OnLiterals.{clap_on_literals}
 use Rattle.cq_script.specs.declared.fault.ScriptFault.TheVariants.{BadLine, LineTooLong, TooManyLines, ReadFailed, WriteFailed, NoMemory}
-use Rattle.cq_main.specs.CommandLine.{asked_servers, program_app}
+use Rattle.cq_main.specs.declared.words.Choice.TheVariants.{Replay, Session}
+use Rattle.cq_main.specs.CommandLine.{asked_choice, program_app}
 use Rattle.cq_main.specs.Outcomes.{all_are, is_help, is_usage}
 use Rattle.cq_main.specs.Statuses.{fault_text, status_of}
 
@@ -21,15 +22,24 @@ statuses : map status_of (BadLine 3 ∷ LineTooLong 3 ∷ TooManyLines ∷ ReadF
 statuses = refl
 
 good_words :
-    map asked_servers (
+    map asked_choice (
     [] ∷ (codes "replay" ∷ []) ∷ (codes "replay" ∷ codes "--servers" ∷ codes "1" ∷ []) ∷ (codes "replay" ∷ codes "--servers" ∷ codes "8" ∷ [])
-    ∷ (codes "replay" ∷ codes "--servers" ∷ codes "0" ∷ []) ∷ (codes "replay" ∷ codes "--servers" ∷ codes "9" ∷ [])
-    ∷ (codes "live" ∷ []) ∷ (codes "replay" ∷ codes "--server" ∷ codes "3" ∷ []) ∷ (codes "live" ∷ codes "--servers" ∷ codes "3" ∷ []) ∷ []
+    ∷ (codes "session" ∷ []) ∷ (codes "session" ∷ codes "--servers" ∷ codes "1" ∷ []) ∷ (codes "session" ∷ codes "--servers" ∷ codes "8" ∷ []) ∷ []
     )
-    ≡ Some 1 ∷ Some 1 ∷ Some 1 ∷ Some 8 ∷ None ∷ None ∷ None ∷ None ∷ None ∷ []
+    ≡ Some (Replay 1) ∷ Some (Replay 1) ∷ Some (Replay 1) ∷ Some (Replay 8)
+    ∷ Some (Session 1) ∷ Some (Session 1) ∷ Some (Session 8) ∷ []
 good_words = refl
 
-help_words : map (λ words. all_are is_help (fault_of program_app words)) ((codes "--help" ∷ []) ∷ (codes "replay" ∷ codes "-h" ∷ []) ∷ [] ∷ (codes "live" ∷ []) ∷ []) ≡ true ∷ true ∷ false ∷ false ∷ []
+other_words :
+    map asked_choice (
+    (codes "replay" ∷ codes "--servers" ∷ codes "0" ∷ []) ∷ (codes "replay" ∷ codes "--servers" ∷ codes "9" ∷ [])
+    ∷ (codes "session" ∷ codes "--servers" ∷ codes "9" ∷ []) ∷ (codes "session" ∷ codes "replay" ∷ [])
+    ∷ (codes "live" ∷ []) ∷ (codes "replay" ∷ codes "--server" ∷ codes "3" ∷ []) ∷ (codes "live" ∷ codes "--servers" ∷ codes "3" ∷ []) ∷ []
+    )
+    ≡ None ∷ None ∷ None ∷ None ∷ None ∷ None ∷ None ∷ []
+other_words = refl
+
+help_words : map (λ words. all_are is_help (fault_of program_app words)) ((codes "--help" ∷ []) ∷ (codes "replay" ∷ codes "-h" ∷ []) ∷ (codes "session" ∷ codes "-h" ∷ []) ∷ [] ∷ (codes "live" ∷ []) ∷ []) ≡ true ∷ true ∷ true ∷ false ∷ false ∷ []
 unfolding clap_on_literals
 help_words = refl
 
@@ -37,9 +47,10 @@ bad_words :
     map (λ words. all_are is_usage (fault_of program_app words)) (
     (codes "live" ∷ []) ∷ (codes "replay" ∷ codes "--servers" ∷ codes "9" ∷ []) ∷ (codes "replay" ∷ codes "--servers" ∷ codes "0" ∷ [])
     ∷ (codes "replay" ∷ codes "--server" ∷ codes "3" ∷ []) ∷ (codes "--servers" ∷ codes "3" ∷ []) ∷ (codes "replay" ∷ codes "extra" ∷ [])
+    ∷ (codes "session" ∷ codes "--servers" ∷ codes "9" ∷ []) ∷ (codes "session" ∷ codes "replay" ∷ [])
     ∷ [] ∷ (codes "--help" ∷ []) ∷ []
     )
-    ≡ true ∷ true ∷ true ∷ true ∷ true ∷ true ∷ false ∷ false ∷ []
+    ≡ true ∷ true ∷ true ∷ true ∷ true ∷ true ∷ true ∷ true ∷ false ∷ false ∷ []
 unfolding clap_on_literals
 bad_words = refl
 

@@ -1,16 +1,22 @@
 -- The command line of the program, in the words of clap's own specification.
-use Rattle.std.specs.Prelude.{◌≡◌, ℕ, ◌-◌, ◌&&◌, nat_le, if◌then◌else◌, List, Option, Some, None, true, [], ◌∷◌, codes, pos}
+use Rattle.std.specs.Prelude.{◌≡◌, ℕ, ◌-◌, ◌&&◌, nat_le, if◌then◌else◌, List, Option, Some, None, option_map, true, [], ◌∷◌, codes, pos}
 use Rattle.std.specs.Str.{bytes_eq}
 use Rattle.std.specs.Str.Parse.{digits_value, without_leading_plus}
 use Rattle.clap.specs.Words.{App, Row, Rule, Text, new_app, new_rule, one_of, with_rule, with_subcommand}
 use Rattle.clap.specs.Simple.{on_top}
 use Rattle.clap.specs.declared.builder.value_parser.ValueParser.TheVariants.{Signed}
 use Rattle.cq_main.specs.declared.words.Choice.{Choice}
-use Rattle.cq_main.specs.declared.words.Choice.TheVariants.{Replay}
+use Rattle.cq_main.specs.declared.words.Choice.TheVariants.{Replay, Session}
 
 -- how many servers the chain begins with
 abbrev pub size_of : Choice → ℕ
 size_of (Replay size) = size
+size_of (Session size) = size
+
+-- the name of the command
+abbrev pub name_of : Choice → Text
+name_of (Replay size) = codes "replay"
+name_of (Session size) = codes "session"
 
 -- `--servers N`, a number from 1 to 8, which is 1 if it isn't given
 abbrev pub servers_rule : Rule
@@ -21,27 +27,36 @@ servers_rule = record (new_rule (codes "servers")) {
   parser = Some (Signed (pos 1) (pos 8));
 }
 
--- `replay [--servers N]`
-abbrev pub replay_app : App
-replay_app = with_rule (new_app (codes "replay")) servers_rule
+-- a command of that name, with `[--servers N]`
+abbrev pub command_app : Text → App
+command_app name = with_rule (new_app name) servers_rule
 
--- the program without its subcommand; its words begin behind its name
+-- the program without its commands; its words begin behind its name
 abbrev pub bare_app : App
 bare_app = on_top (λ s. record s { no_binary_name = true }) (new_app (codes "cq"))
 
--- the program, whose one subcommand is `replay`
+-- the program, whose commands are `replay` and `session`
 abbrev pub program_app : App
-program_app = with_subcommand bare_app replay_app.top
+program_app = with_subcommand (with_subcommand bare_app (command_app (codes "replay")).top) (command_app (codes "session")).top
 
 -- the text of the number of servers that a parse found: "1" where no subcommand stands
 abbrev pub text_in : Option (Text × List Row) → Option Text
 text_in None = Some (codes "1")
 text_in (Some found) = one_of (codes "servers") found.1
 
+-- the name of the command that a parse found: "replay" where no subcommand stands
+abbrev pub name_in : Option (Text × List Row) → Text
+name_in None = codes "replay"
+name_in (Some found) = found.0
+
 -- so many servers are asked for: the text, of which a plus may stand first, is that number in decimal
-abbrev pub IsAsked : Option (Text × List Row) → ℕ → Type 0
-IsAsked found servers =
+abbrev pub IsSized : Option (Text × List Row) → ℕ → Type 0
+IsSized found servers =
     (text : Text) × (text_in found ≡ Some text) × (servers ≡ digits_value 10 (without_leading_plus text))
+
+-- the command of that name is asked for, on so many servers
+abbrev pub IsAsked : Option (Text × List Row) → Choice → Type 0
+IsAsked found choice = (name_in found ≡ name_of choice) × IsSized found (size_of choice)
 
 -- ---- good words
 
@@ -50,10 +65,15 @@ abbrev pub digit_of : Text → Option ℕ
 digit_of (byte ∷ []) = if nat_le 49 byte && nat_le byte 56 then Some (byte - 48) else None
 digit_of _ = None
 
--- how many servers good words ask for: none; `replay`; `replay --servers N`
-abbrev pub asked_servers : List Text → Option ℕ
-asked_servers [] = Some 1
-asked_servers (word ∷ []) = if bytes_eq word (codes "replay") then Some 1 else None
-asked_servers (word ∷ option ∷ number ∷ []) =
-    if bytes_eq word (codes "replay") && bytes_eq option (codes "--servers") then digit_of number else None
-asked_servers _ = None
+-- the command that a word names, on so many servers
+abbrev pub named_choice : Text → Option ℕ → Option Choice
+named_choice word servers =
+    if bytes_eq word (codes "replay") then option_map Replay servers
+    else (if bytes_eq word (codes "session") then option_map Session servers else None)
+
+-- what good words ask for: none, `replay` and `replay --servers N`; `session` and `session --servers N`
+abbrev pub asked_choice : List Text → Option Choice
+asked_choice [] = Some (Replay 1)
+asked_choice (word ∷ []) = named_choice word (Some 1)
+asked_choice (word ∷ option ∷ number ∷ []) = if bytes_eq option (codes "--servers") then named_choice word (digit_of number) else None
+asked_choice _ = None

@@ -5,8 +5,9 @@ ghost use Rattle.std.specs.IoError.{error_kind};
 ghost use Rattle.clap.specs.Words.{fault_of, kind_of};
 ghost use Rattle.cq_script.specs.Checks.{inner_of, is_failed, is_flushed};
 ghost use Rattle.cq_script.specs.Replays.{Replays};
-ghost use Rattle.cq_main.specs.CommandLine.{asked_servers, program_app, size_of};
+ghost use Rattle.cq_main.specs.CommandLine.{asked_choice, program_app, size_of};
 ghost use Rattle.cq_main.specs.Outcomes.{EndsAt, Helps, Refuses, Runs, all_are, is_help, is_usage, unread_text};
+ghost use Rattle.cq_main.specs.declared.words.Choice.{Choice};
 ghost use Rattle.cq_script.specs.declared.fault.ScriptFault.TheVariants.{NoMemory};
 ghost use Rattle.std.specs.declared.io.ErrorKind.TheVariants.{OutOfMemory as NoRoom};
 
@@ -77,8 +78,8 @@ pub fn run<R: Read, W: Write, E: Write>(
 ) -> u8
     requires reader { is_failed reader.old ≡ false }
     requires output { is_failed output.old ≡ false }
-    ensures good { (servers : ℕ) → asked_servers (map string_bytes words.now) ≡ Some servers
-        → Runs servers result (R.remaining (inner_of reader.old)) (R.remaining (inner_of reader.new))
+    ensures good { (choice : Choice) → asked_choice (map string_bytes words.now) ≡ Some choice
+        → Runs (size_of choice) result (R.remaining (inner_of reader.old)) (R.remaining (inner_of reader.new))
         (W.contents (inner_of output.old)) (W.contents (inner_of output.new)) (is_failed errors.new)
         (E.contents (inner_of errors.old)) (E.contents (inner_of errors.new))
         ⊎ EndsAt NoMemory result (is_failed errors.new) (E.contents (inner_of errors.old))

@@ -5,17 +5,23 @@ use cq_base::ChainSize;
 use std::test::Fail;
 
 #[test]
-fn runs_a_script(rt: HostRuntime) -> Result<(), Fail> {
-    let rows: [(&[&str], u8); 4] = [
-        (&[], 1),
-        (&["replay"], 1),
-        (&["replay", "--servers", "3"], 3),
-        (&["replay", "--servers=8"], 8),
+fn names_the_command(rt: HostRuntime) -> Result<(), Fail> {
+    let one = ChainSize::one();
+    let three = ChainSize::new(3).ok_or("no size of a chain")?;
+    let eight = ChainSize::new(8).ok_or("no size of a chain")?;
+    let rows: [(&[&str], Choice); 6] = [
+        (&[], Choice::Replay { size: one }),
+        (&["replay"], Choice::Replay { size: one }),
+        (
+            &["replay", "--servers", "3"],
+            Choice::Replay { size: three },
+        ),
+        (&["replay", "--servers=8"], Choice::Replay { size: eight }),
+        (&["session"], Choice::Session { size: one }),
+        (&["session", "--servers=8"], Choice::Session { size: eight }),
     ];
-    for (words, servers) in rows {
-        let size = ChainSize::new(servers).ok_or("no size of a chain")?;
-        let choice = choice_of(rt.alloc(), words)?;
-        assert_eq!(rt; choice, Choice::Replay { size }, "{words:?}");
+    for (words, choice) in rows {
+        assert_eq!(rt; choice_of(rt.alloc(), words)?, choice, "{words:?}");
     }
     Ok(())
 }
@@ -23,7 +29,7 @@ fn runs_a_script(rt: HostRuntime) -> Result<(), Fail> {
 /// Each fault of the words, and the word that its text has to name.
 #[test]
 fn names_the_word_at_fault(rt: HostRuntime) -> Result<(), Fail> {
-    let rows: [(&[&str], ErrorKind, &str); 11] = [
+    let rows: [(&[&str], ErrorKind, &str); 13] = [
         (
             &["replay", "--servers", "0"],
             ErrorKind::ValueValidation,
@@ -55,6 +61,16 @@ fn names_the_word_at_fault(rt: HostRuntime) -> Result<(), Fail> {
             "'--servers <N>'",
         ),
         (&["replay", "extra"], ErrorKind::UnknownArgument, "'extra'"),
+        (
+            &["session", "--servers", "9"],
+            ErrorKind::ValueValidation,
+            "'9'",
+        ),
+        (
+            &["session", "replay"],
+            ErrorKind::UnknownArgument,
+            "'replay'",
+        ),
         (
             &["replay", "--server", "3"],
             ErrorKind::UnknownArgument,

@@ -1,16 +1,14 @@
 -- What a parse of the words gives is what they ask for, and where it fails it says why.
-use Rattle.std.proofs.Common.{rules, ◌≡◌, ◌∙◌, Some, ap, map, sym, arith}
+use Rattle.std.proofs.Common.{◌≡◌, ◌∙◌, Some, ap, map, sym}
 use Rattle.std.proofs.lemmas.Result.{err_from_is_err_and}
 use Rattle.clap.specs.Words.{fault_of, is_simple, is_simple_and_free, subcommand_of, takes}
-use Rattle.cq_main.specs.CommandLine.{text_in}
-use Rattle.cq_main.proofs.Asked.{is_good, kinds_at, program_is_free, program_is_simple}
+use Rattle.cq_main.proofs.Asked.{is_found, is_good, kinds_at, program_is_free, program_is_simple}
 use Rattle.cq_main.proofs.words.choice_of.Goals as goal
-use Rattle.cq_main.proofs.words.choice_of.Goals.{in-Some+in_default-new, in_default}
 
 pub returns-in_err-matches-clause-good : goal.returns-in_err-matches-clause-good
-returns-in_err-matches-clause-good g c = λ servers asked.
+returns-in_err-matches-clause-good g c = λ choice asked.
     let words = map g.S.AsStr.text c.args.words.now in
-    let good = is_good words servers asked in
+    let good = is_good words choice asked in
     let fault = err_from_is_err_and c.from_residual-in_err-matches.result c.from_residual-in_err-matches.ensures.1 in
     rw (fault.1, fault.2) (c.in_err-matches.ensures.passes (ap (λ app. takes app words) c.in_ok-program.ensures ∙ good.taken))
 
@@ -21,36 +19,22 @@ returns-in_err-matches-clause-faults g c = λ some.
     let fault = err_from_is_err_and c.from_residual-in_err-matches.result c.from_residual-in_err-matches.ensures.1 in
     rw (fault.1, fault.2) (kinds_at _ words c.in_err-matches.field-0.0 c.in_ok-program.ensures told)
 
-pub returns-in-Some-new-clause-good : goal.returns-in-Some-new-clause-good
-returns-in-Some-new-clause-good g c = λ servers asked.
+pub returns-in-Some-clause-good : goal.returns-in-Some-clause-good
+returns-in-Some-clause-good g c = λ choice asked.
     let words = map g.S.AsStr.text c.args.words.now in
-    let good = is_good words servers asked in
     let rows = (c.in_ok-matches.ensures.ok.2 (ap is_simple c.in_ok-program.ensures ∙ program_is_simple)).1 ∙ ap (λ app. subcommand_of app words) c.in_ok-program.ensures in
-    let found : c.servers_in.result ≡ Some servers = c.servers_in.ensures.digit servers (omega (arith, good.high)) (ap text_in rows ∙ good.text) in
-    let is = c.in-Some.is in
-    let value = c.in-Some-new.ensures.value in
+    let found : Some c.in-Some.choice ≡ Some choice = is_found _ words choice rows asked c.in-Some.ensures.good in
     cc
 
-pub returns-in-Some-new-clause-faults : goal.returns-in-Some-new-clause-faults
-returns-in-Some-new-clause-faults g c = λ some.
+pub returns-in-Some-clause-faults : goal.returns-in-Some-clause-faults
+returns-in-Some-clause-faults g c = λ some.
     let words = map g.S.AsStr.text c.args.words.now in
     some (ap (λ app. fault_of app words) (sym c.in_ok-program.ensures) ∙ c.in_ok-matches.ensures.kinds (ap is_simple_and_free c.in_ok-program.ensures ∙ program_is_free))
 
 pub returns-clause-good : goal.returns-clause-good
-returns-clause-good g c = λ servers asked.
+returns-clause-good g c = λ choice asked.
     let words = map g.S.AsStr.text c.args.words.now in
-    let good = is_good words servers asked in
-    let low = good.low in
-    let high = good.high in
     let rows = (c.in_ok-matches.ensures.ok.2 (ap is_simple c.in_ok-program.ensures ∙ program_is_simple)).1 ∙ ap (λ app. subcommand_of app words) c.in_ok-program.ensures in
-    let found : c.servers_in.result ≡ Some servers = c.servers_in.ensures.digit servers (omega (arith, high)) (ap text_in rows ∙ good.text) in
-    elim c.match-servers_in.branch [
-      | in-Some+in_default-new w ↦
-          let is = w.in-Some.is in
-          let valid = w.new.ensures.valid in
-          let none = w.in_default-new.is in
-          search rules
-      | in_default w ↦
-          let none = w.in_default.is in
-          cc
-    ]
+    let found = is_found _ words choice rows asked c.choice_in.ensures.good in
+    let none = c.in_default.is in
+    cc

@@ -7,5 +7,7 @@ use Rattle.cq_main.proofs.words.program.Goals as goal
 pub returns : goal.returns
 returns c =
     let bare_is : app_of c.about.result ≡ bare_app = search rules in
-    IfOk-weaker c.subcommand.result _ _ (λ command adds. adds.shape c.in_ok-replay_command.ensures.local
-    ∙ ap₂ with_subcommand bare_is (ap (λ (a : App). a.top) c.in_ok-replay_command.ensures.app)) c.subcommand.ensures
+    let with_replay = c.in_ok-subcommand.ensures.shape c.in_ok-replay.ensures.local
+    ∙ ap₂ with_subcommand bare_is (ap (λ (a : App). a.top) c.in_ok-replay.ensures.app) in
+    IfOk-weaker c.subcommand-2.result _ _ (λ command adds. adds.shape c.in_ok-session.ensures.local
+    ∙ ap₂ with_subcommand with_replay (ap (λ (a : App). a.top) c.in_ok-session.ensures.app)) c.subcommand-2.ensures
