@@ -9,6 +9,9 @@ use Rattle.clap.specs.declared.error.kind.ErrorKind.TheVariants.{DisplayHelp, Di
 use Rattle.cq_script.specs.Replays.{Replays}
 use Rattle.cq_script.specs.declared.fault.ScriptFault.{ScriptFault}
 use Rattle.cq_script.specs.declared.fault.ScriptFault.TheVariants.{WriteFailed}
+use Rattle.cq_script.specs.Sessions.{Sessions}
+use Rattle.cq_main.specs.declared.words.Choice.{Choice}
+use Rattle.cq_main.specs.declared.words.Choice.TheVariants.{Replay, Session}
 use Rattle.cq_main.specs.Statuses.{fault_text, status_of}
 
 -- ---- faults of the words
@@ -41,17 +44,23 @@ Tells fault failed old new = failed ≡ false → Appends old new (fault_text fa
 abbrev pub EndsAt : ScriptFault → ℕ → Bool → Option (List ℕ) → Option (List ℕ) → Type 0
 EndsAt fault status failed old new = (status ≡ status_of fault) × Tells fault failed old new
 
--- the answer of a replay ended the program
+-- the answer of a replay or a session ended the program
 abbrev pub Ends : Result (Unit {0}) ScriptFault → ℕ → Bool → Option (List ℕ) → Option (List ℕ) → Type 0
 Ends (Ok _) status failed old new = (status ≡ 0) × (new ≡ old)
 Ends (Err fault) status failed old new = EndsAt fault status failed old new
 
--- a script was replayed on so many servers
-abbrev pub Runs : ℕ → ℕ → Option (List ℕ) → Option (List ℕ) → Option (List ℕ) → Option (List ℕ) → Bool → Option (List ℕ) → Option (List ℕ) → Type 0
-Runs servers status unread left written output failed old new =
+-- On so many servers, a script was replayed, or the lines of a session were run: with this answer, `input` was read,
+-- `left` is what the reader has left, if that is known, and `output` was written.
+abbrev pub CarriesOut : Choice → Result (Unit {0}) ScriptFault → List ℕ → Option (List ℕ) → List ℕ → Type 0
+CarriesOut (Replay size) answer input left output = Replays size answer input left output
+CarriesOut (Session size) answer input left output = Sessions size answer input left output
+
+-- what was asked for was run, to the end of the program
+abbrev pub Runs : Choice → ℕ → Option (List ℕ) → Option (List ℕ) → Option (List ℕ) → Option (List ℕ) → Bool → Option (List ℕ) → Option (List ℕ) → Type 0
+Runs choice status unread left written output failed old new =
     (answer : Result (Unit {0}) ScriptFault) × (input : List ℕ) × (text : List ℕ)
     × Consumes unread left input × Appends written output text
-    × Replays servers answer input left text × Ends answer status failed old new
+    × CarriesOut choice answer input left text × Ends answer status failed old new
 
 -- help was written, with the guide at its end; or the writer failed, which is a fault
 abbrev pub Helps : List ℕ → ℕ → Bool → Option (List ℕ) → Option (List ℕ) → Bool → Option (List ℕ) → Option (List ℕ) → Type 0

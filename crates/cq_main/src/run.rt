@@ -4,9 +4,8 @@ ghost use Rattle.std.specs.Io.KnownBytes.{Appends, Consumes, Keeps};
 ghost use Rattle.std.specs.IoError.{error_kind};
 ghost use Rattle.clap.specs.Words.{fault_of, kind_of};
 ghost use Rattle.cq_script.specs.Checks.{inner_of, is_failed, is_flushed};
-ghost use Rattle.cq_script.specs.Replays.{Replays};
-ghost use Rattle.cq_main.specs.CommandLine.{asked_choice, program_app, size_of};
-ghost use Rattle.cq_main.specs.Outcomes.{EndsAt, Helps, Refuses, Runs, all_are, is_help, is_usage, unread_text};
+ghost use Rattle.cq_main.specs.CommandLine.{asked_choice, program_app};
+ghost use Rattle.cq_main.specs.Outcomes.{CarriesOut, EndsAt, Helps, Refuses, Runs, all_are, is_help, is_usage, unread_text};
 ghost use Rattle.cq_main.specs.declared.words.Choice.{Choice};
 ghost use Rattle.cq_script.specs.declared.fault.ScriptFault.TheVariants.{NoMemory};
 ghost use Rattle.std.specs.declared.io.ErrorKind.TheVariants.{OutOfMemory as NoRoom};
@@ -15,7 +14,7 @@ use crate::report::report;
 use crate::words::{Choice, choice_of};
 use clap::Error;
 use clap::error::ErrorKind;
-use cq_script::{Checked, ScriptFault, Sink, replay};
+use cq_script::{Checked, ScriptFault, Sink, replay, session};
 use std::alloc::Global;
 use std::io;
 use std::io::{Read, Write};
@@ -67,8 +66,8 @@ A fault is told by one line on standard error, such as "cq: 61 BadLine line 3"."
 /// The status after a command line that is not understood.
 const USAGE: u8 = 2;
 
-/// Does what the words ask for. It replays the script of the reader, or writes help, on `output`; a fault, or what is
-/// wrong with the words, goes to `errors`. Gives the status with which the program ends.
+/// Does what the words ask for. It replays the script of the reader, runs a session with it, or writes help, on
+/// `output`; a fault, or what is wrong with the words, goes to `errors`. Gives the status with which the program ends.
 pub fn run<R: Read, W: Write, E: Write>(
     alloc: Global,
     words: &[String],
@@ -79,7 +78,7 @@ pub fn run<R: Read, W: Write, E: Write>(
     requires reader { is_failed reader.old ≡ false }
     requires output { is_failed output.old ≡ false }
     ensures good { (choice : Choice) → asked_choice (map string_bytes words.now) ≡ Some choice
-        → Runs (size_of choice) result (R.remaining (inner_of reader.old)) (R.remaining (inner_of reader.new))
+        → Runs choice result (R.remaining (inner_of reader.old)) (R.remaining (inner_of reader.new))
         (W.contents (inner_of output.old)) (W.contents (inner_of output.new)) (is_failed errors.new)
         (E.contents (inner_of errors.old)) (E.contents (inner_of errors.new))
         ⊎ EndsAt NoMemory result (is_failed errors.new) (E.contents (inner_of errors.old))
@@ -105,7 +104,7 @@ pub fn run<R: Read, W: Write, E: Write>(
     }
 }
 
-/// Replays a script, and tells its fault.
+/// Runs what was asked for, and tells its fault.
 fn carry_out<R: Read, W: Write, E: Write>(
     alloc: Global,
     choice: Choice,
@@ -115,14 +114,33 @@ fn carry_out<R: Read, W: Write, E: Write>(
 ) -> u8
     requires reader { is_failed reader.old ≡ false }
     requires output { is_failed output.old ≡ false }
-    ensures { Runs (size_of choice) result (R.remaining (inner_of reader.old)) (R.remaining (inner_of reader.new))
+    ensures { Runs choice result (R.remaining (inner_of reader.old)) (R.remaining (inner_of reader.new))
         (W.contents (inner_of output.old)) (W.contents (inner_of output.new)) (is_failed errors.new)
         (E.contents (inner_of errors.old)) (E.contents (inner_of errors.new)) }
 {
-    let size = choice.size();
-    match replay(alloc, size, reader, output) {
+    match answer_of(alloc, choice, reader, output) {
         Ok(()) => 0,
         Err(fault) => report(&fault, errors),
+    }
+}
+
+/// Runs what was asked for.
+fn answer_of<R: Read, W: Write>(
+    alloc: Global,
+    choice: Choice,
+    reader: &mut Checked<R>,
+    output: &mut Checked<W>,
+) -> Result<(), ScriptFault>
+    requires reader { is_failed reader.old ≡ false }
+    requires output { is_failed output.old ≡ false }
+    ensures { (input : List ℕ) × (text : List ℕ)
+        × Consumes (R.remaining (inner_of reader.old)) (R.remaining (inner_of reader.new)) input
+        × Appends (W.contents (inner_of output.old)) (W.contents (inner_of output.new)) text
+        × CarriesOut choice result input (R.remaining (inner_of reader.new)) text }
+{
+    match choice {
+        Choice::Replay { size } => replay(alloc, size, reader, output),
+        Choice::Session { size } => session(alloc, size, reader, output),
     }
 }
 

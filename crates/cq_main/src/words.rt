@@ -25,17 +25,6 @@ pub enum Choice {
     Session { size: ChainSize },
 }
 
-impl Choice {
-    /// How many servers the chain begins with.
-    pub fn size(self) -> ChainSize
-        ensures { result ≡ size_of self }
-    {
-        match self {
-            Choice::Replay { size } | Choice::Session { size } => size,
-        }
-    }
-}
-
 const REPLAY: &str = "replay";
 
 const SESSION: &str = "session";

@@ -35,14 +35,18 @@ fn run_on(alloc: Global, words: &[&str], script: &str) -> Result<Ended, AllocErr
 }
 
 #[test]
-fn replays_and_tells_faults(rt: HostRuntime) -> Result<(), Fail> {
+fn runs_and_tells_faults(rt: HostRuntime) -> Result<(), Fail> {
     let crash = r#"{"op":"crash","server":2}"#;
     let refused = r#"{"line":1,"name":"NoSuchServer","refused":31}"#;
-    let rows: [(&[&str], &str, u8, &str, &str); 4] = [
+    let bad = r#"{"line":2,"name":"BadLine","refused":61}"#;
+    let rows: [(&[&str], &str, u8, &str, &str); 7] = [
         (&[], crash, 0, refused, ""),
         (&["replay"], crash, 0, refused, ""),
         (&["replay", "--servers", "2"], crash, 0, "", ""),
         (&["replay"], "\nx", 2, "", "cq: 61 BadLine line 2\n"),
+        (&["session"], crash, 0, refused, ""),
+        (&["session", "--servers", "2"], crash, 0, "", ""),
+        (&["session"], "\nx", 0, bad, ""),
     ];
     for (words, script, status, output, errors) in rows {
         let got = run_on(rt.alloc(), words, script)?;
@@ -59,13 +63,15 @@ fn replays_and_tells_faults(rt: HostRuntime) -> Result<(), Fail> {
 
 #[test]
 fn helps(rt: HostRuntime) -> Result<(), Fail> {
-    let rows: [&[&str]; 6] = [
+    let rows: [&[&str]; 8] = [
         &["--help"],
         &["-h"],
         &["help"],
         &["replay", "--help"],
         &["replay", "-h"],
         &["help", "replay"],
+        &["session", "--help"],
+        &["help", "session"],
     ];
     for words in rows {
         let got = run_on(rt.alloc(), words, "x")?;
