@@ -54,11 +54,18 @@ Kinds of "ask" in an arrive, with the keys that stand beside "kind"; those in br
 An event that can't happen changes nothing, and is told by a line such as
 {"line":5,"name":"ServerDown","refused":32}.
 
-Example:
+Commands, and when to use which:
+  replay   for a script: it ends at its first fault, as at a line that says no event
+  session  for a program at the other end of a pipe, or a person at a terminal: there is no limit to
+           the lines, and a bad one is told by a line such as {"line":3,"name":"BadLine","refused":61},
+           and the session goes on
+
+Examples:
   cq replay --servers 3 < SCRIPT
+  cq session
 
 Exit statuses:
-  0  the script ran to its end
+  0  the script, or the session, ran to its end
   2  a usage fault, or a fault of the script: 61 BadLine, 62 LineTooLong, 63 TooManyLines
   3  the reader or the writer failed, or memory ran out: 64 ReadFailed, 65 WriteFailed, 20 NoMemory
 A fault is told by one line on standard error, such as "cq: 61 BadLine line 3"."#;
