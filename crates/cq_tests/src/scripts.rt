@@ -1,9 +1,7 @@
 //! Scripts that are cut short or too long, and readers and writers that give up.
 
 use cq_base::ChainSize;
-use cq_script::{
-    Checked, LINE_LIMIT, LINES_LIMIT, ScriptFault, Sink, Source, replay, session,
-};
+use cq_script::{Checked, LINE_LIMIT, LINES_LIMIT, ScriptFault, Sink, Source, replay, session};
 use std::alloc::Global;
 use std::cell::Cell;
 use std::io;
@@ -227,24 +225,22 @@ fn reads_may_end_anywhere(rt: HostRuntime) {
         let (front, later) = FIRST_PATH.as_bytes().split_at(place);
         let mut taken = Vec::new(rt.alloc());
         let mut source = Checked::new(front.chain(later));
-        let answer = replay(
-            rt.alloc(),
-            one,
-            &mut source,
-            &mut Checked::new(&mut taken),
-        );
+        let answer = replay(rt.alloc(), one, &mut source, &mut Checked::new(&mut taken));
         assert_eq!(rt; answer, Ok(()), "a script cut at {place}");
-        assert_eq!(rt; taken.as_slice(), FIRST_PATH_TEXT.as_bytes(), "a script cut at {place}");
+        assert_eq!(rt;
+            taken.as_slice(),
+            FIRST_PATH_TEXT.as_bytes(),
+            "a script cut at {place}"
+        );
         let mut told = Vec::new(rt.alloc());
         let mut source = Checked::new(front.chain(later));
-        let answer = session(
-            rt.alloc(),
-            one,
-            &mut source,
-            &mut Checked::new(&mut told),
-        );
+        let answer = session(rt.alloc(), one, &mut source, &mut Checked::new(&mut told));
         assert_eq!(rt; answer, Ok(()), "a session cut at {place}");
-        assert_eq!(rt; told.as_slice(), taken.as_slice(), "a session cut at {place}");
+        assert_eq!(rt;
+            told.as_slice(),
+            taken.as_slice(),
+            "a session cut at {place}"
+        );
     }
 }
 
