@@ -178,6 +178,3 @@ pub fn refused_line(alloc: Global, line: u64, code: u16, name: &str) -> Result<V
     let value = refused_value(alloc, line, code, name)?;
     line_of_value(alloc, &value)
 }
-
-#[cfg(test)]
-mod tests;
