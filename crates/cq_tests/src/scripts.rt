@@ -273,7 +273,7 @@ struct Watched<'a> {
 
 impl Write for Watched<'_> {
     fn write(&mut self, buf: &[u8]) -> io::Result<usize> {
-        self.given += buf.len();
+        self.given = self.given.saturating_add(buf.len());
         Ok(buf.len())
     }
 
