@@ -3,6 +3,7 @@ pub mod MasterStands
 pub mod Neighbours
 pub mod OrderStands
 pub mod Repairs
+pub mod Replicas
 pub mod Rows
 pub mod ServerRefusals
 pub mod ServerStands

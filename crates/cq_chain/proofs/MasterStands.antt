@@ -211,7 +211,7 @@ pub hears-others : (from : ℕ) (message : rust.Message) (x : Message) (m : Mast
     → Means message x → hears from x m ≡ no_order m
 unfolding hears
 hears-others from (sent.Fwd place e) x m have adopted ready h = ap (λ y. hears from y m) h
-hears-others from (sent.Snap state) x m have adopted ready h = ap (λ y. hears from y m) h
+hears-others from (sent.Snap state) x m have adopted ready h = ap (λ y. hears from y m) h.is
 hears-others from (sent.Ack place) x m have adopted ready h = ap (λ y. hears from y m) h
 hears-others from sent.BeHead x m have adopted ready h = ap (λ y. hears from y m) h
 hears-others from (sent.Report pred) x m have adopted ready h = ap (λ y. hears from y m) h

@@ -1,5 +1,5 @@
 -- What a server stands for after it took an order of the master, a snapshot, or a crash.
-use Rattle.std.proofs.Common.{◌≡◌, ℕ, ◌∙◌, ap, List, [], ◌∷◌, ◌++◌, length, Some, None, Bool, true, false, not, ◌&&◌, subst, refl, nat_le, arith, is_none, Result, Ok, Err, OnOk}
+use Rattle.std.proofs.Common.{◌≡◌, ℕ, ◌∙◌, List, [], ◌∷◌, ◌++◌, length, Some, None, Bool, true, false, not, ◌&&◌, subst, refl, nat_le, arith, is_none, Result, Ok, Err, OnOk}
 use Rattle.cq_base.specs.declared.ask.Entry.{Entry}
 use Rattle.cq_base.specs.declared.party.Party.{Party}
 use Rattle.cq_base.specs.declared.party.Party.TheVariants as parties
@@ -9,7 +9,10 @@ use Rattle.cq_chain.specs.Messages.{Message, Snap, Ack, Have, Adopted, Ready}
 use Rattle.cq_chain.specs.Servers.{Server, acts, is_that}
 use Rattle.cq_chain.specs.Stands.{StandsFor, Does, posted}
 use Rattle.cq_chain.specs.Steps.{Step, silent, when, to_server, tail_news, with_history, restored, reported, repair, adopting, as_tail, tailed, is_restoring, takes}
+use Rattle.cq_chain.specs.within.Replicas.{Replica, Recalls}
 use Rattle.cq_chain.specs.within.Waiting.{Posts, KeepsAll, Waits}
+use Rattle.cq_store.specs.Stands as stores
+use Rattle.cq_store.specs.Stands.{count_of}
 use Rattle.cq_chain.proofs.ServerStands.{stands, stands-by, parts, nothing-sent}
 
 -- room is made twice
@@ -21,7 +24,6 @@ down-stands : (kept : kept.Server) (s : Server) (outbox : Party → List Message
 down-stands kept s outbox h = let p = parts kept s outbox h in stands (record kept { down = true }) (record s { down = true }) outbox (record {
   entries = p.entries;
   acked = p.acked;
-  floor = p.floor;
   pred = p.pred;
   succ = p.succ;
   head = p.head;
@@ -39,7 +41,6 @@ head-stands : (kept : kept.Server) (s : Server) (outbox : Party → List Message
 head-stands kept s outbox h = let p = parts kept s outbox h in stands (record kept { head = true; pred = None }) (record s { head = true; pred = None }) outbox (record {
   entries = p.entries;
   acked = p.acked;
-  floor = p.floor;
   pred = refl;
   succ = p.succ;
   head = refl;
@@ -54,14 +55,13 @@ headed-stands kept s outbox h = nothing-sent (record kept { head = true; pred = 
 
 -- a new predecessor
 pub reported-stands : (kept : kept.Server) (s : Server) (outbox : Party → List Message) (boxes : List (Party × Lane)) (pred n k : ℕ) → StandsFor kept s outbox
-    → Posts kept.outboxes boxes ((parties.Master, Have pred n) ∷ (parties.Server pred, Ack k) ∷ []) → n ≡ length kept.history → k ≡ kept.acked
+    → Posts kept.outboxes boxes ((parties.Master, Have pred n) ∷ (parties.Server pred, Ack k) ∷ []) → n ≡ count_of kept.replica.store → k ≡ kept.acked
     → StandsFor (record kept { pred = Some pred; outboxes = boxes }) (reported pred s).server (posted outbox (reported pred s).sent)
 reported-stands kept s outbox boxes pred n k h posts is_n is_k = let p = parts kept s outbox h in
-    let sent : (parties.Master, Have pred n) ∷ (parties.Server pred, Ack k) ∷ [] ≡ (reported pred s).sent = rw (is_n, p.entries, is_k, p.acked) in
+    let sent : (parties.Master, Have pred n) ∷ (parties.Server pred, Ack k) ∷ [] ≡ (reported pred s).sent = rw (is_n, p.entries.store.count, is_k, p.acked) in
     stands (record kept { pred = Some pred; outboxes = boxes }) (reported pred s).server (posted outbox (reported pred s).sent) (record {
       entries = p.entries;
       acked = p.acked;
-      floor = p.floor;
       pred = refl;
       succ = p.succ;
       head = p.head;
@@ -73,14 +73,13 @@ reported-stands kept s outbox boxes pred n k h posts is_n is_k = let p = parts k
 
 -- a new successor
 pub adopting-stands : (kept : kept.Server) (s : Server) (outbox : Party → List Message) (boxes : List (Party × Lane)) (succ have n : ℕ) → StandsFor kept s outbox
-    → Posts kept.outboxes boxes (repair succ have s ++ (parties.Master, Adopted succ n) ∷ []) → n ≡ length kept.history
+    → Posts kept.outboxes boxes (repair succ have s ++ (parties.Master, Adopted succ n) ∷ []) → n ≡ count_of kept.replica.store
     → StandsFor (record kept { at_least = None; succ = Some succ; outboxes = boxes }) (adopting succ have s).server (posted outbox (adopting succ have s).sent)
 adopting-stands kept s outbox boxes succ have n h posts is_n = let p = parts kept s outbox h in
-    let is : n ≡ length s.entries = is_n ∙ ap (λ es. length es) p.entries in
+    let is : n ≡ length s.entries = is_n ∙ p.entries.store.count in
     stands (record kept { at_least = None; succ = Some succ; outboxes = boxes }) (adopting succ have s).server (posted outbox (adopting succ have s).sent) (record {
       entries = p.entries;
       acked = p.acked;
-      floor = p.floor;
       pred = p.pred;
       succ = refl;
       head = p.head;
@@ -95,7 +94,6 @@ pub tail-stands : (kept : kept.Server) (s : Server) (outbox : Party → List Mes
 tail-stands kept s outbox least h = let p = parts kept s outbox h in stands (record kept { at_least = Some least; succ = None }) (as_tail least s) outbox (record {
   entries = p.entries;
   acked = p.acked;
-  floor = p.floor;
   pred = p.pred;
   succ = refl;
   head = p.head;
@@ -114,12 +112,11 @@ pub tailed-news : (least : ℕ) (s : Server) → tail_news (record s { at_least 
 tailed-news least s = both-when (acts (as_tail least s)) (to_server s.pred (Ack (length s.entries))) ((parties.Master, Ready) ∷ [])
 
 -- the history of a snapshot
-pub history-stands : (kept : kept.Server) (s : Server) (outbox : Party → List Message) (history es : List Entry) (n : ℕ) → StandsFor kept s outbox → history ≡ es → n ≡ length history
-    → StandsFor (record kept { history = history; floor = n }) (with_history s es) outbox
-history-stands kept s outbox history es n h is is_n = let p = parts kept s outbox h in stands (record kept { history = history; floor = n }) (with_history s es) outbox (record {
-  entries = is;
+pub history-stands : (kept : kept.Server) (s : Server) (outbox : Party → List Message) (replica : Replica) (es : List Entry) → StandsFor kept s outbox → Recalls replica es (length es)
+    → StandsFor (record kept { replica = replica }) (with_history s es) outbox
+history-stands kept s outbox replica es h recalls = let p = parts kept s outbox h in stands (record kept { replica = replica }) (with_history s es) outbox (record {
+  entries = recalls;
   acked = p.acked;
-  floor = is_n ∙ ap (λ xs. length xs) is;
   pred = p.pred;
   succ = p.succ;
   head = p.head;
@@ -130,9 +127,9 @@ history-stands kept s outbox history es n h is is_n = let p = parts kept s outbo
 })
 
 -- whether a snapshot is taken, by what the server keeps
-pub restoring-of : (s : Server) (kept : kept.Server) (outbox : Party → List Message) (from : ℕ) (es : List Entry) → StandsFor kept s outbox
-    → (is_that kept.pred from && is_none kept.succ && nat_le (length kept.history) (length es)) ≡ is_restoring s from es
-restoring-of s kept outbox from es h = let p = parts kept s outbox h in rw (p.pred, p.succ, p.entries)
+pub restoring-of : (s : Server) (kept : kept.Server) (outbox : Party → List Message) (from : ℕ) (state : stores.StoreKept) (es : List Entry) → StandsFor kept s outbox → stores.StandsFor state es
+    → (is_that kept.pred from && is_none kept.succ && nat_le (count_of kept.replica.store) (count_of state)) ≡ is_restoring s from es
+restoring-of s kept outbox from state es h is = let p = parts kept s outbox h in rw (p.pred, p.succ, p.entries.store.count, is.count)
 
 pub takes-restoring : (s : Server) (from : ℕ) (es : List Entry) → is_restoring s from es ≡ true → takes (parties.Server from) (Snap es) s ≡ restored es s
 unfolding takes

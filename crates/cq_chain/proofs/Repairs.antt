@@ -1,6 +1,6 @@
 -- What a new successor is sent.
-use Rattle.std.proofs.Common.{◌≡◌, ℕ, ◌+◌, ◌∙◌, ap, sym, subst, refl, List, [], ◌∷◌, ◌++◌, length, drop, nat_le, true, false, arith, take, get_or, ◌<◌, Result, Ok, Err, IfOk}
-use Rattle.std.proofs.lemmas.List.{length-take-le, take_more}
+use Rattle.std.proofs.Common.{◌≡◌, ℕ, ◌+◌, ◌-◌, ◌≤◌, ◌∙◌, ap, sym, subst, refl, List, [], ◌∷◌, ◌++◌, length, drop, nat_le, true, false, arith, take, get_or, ◌<◌, Result, Ok, Err, IfOk}
+use Rattle.std.proofs.lemmas.List.{length-take-le, take_more, take_all, length-drop, get_or-drop}
 use Rattle.cq_base.specs.declared.ask.Entry.{Entry}
 use Rattle.cq_base.specs.declared.party.Party.{Party}
 use Rattle.cq_base.specs.declared.party.Party.TheVariants as parties
@@ -54,6 +54,30 @@ sent-more to have i place es e lane new within is h at more =
 pub sent-none : (to place : ℕ) (es : List Entry) (lane : List rust.Message) → lane ≡ [] → es ≡ [] → AllFor (parties.Server to) lane (forwards to place es)
 sent-none to place es lane empty none = subst (λ ys. AllFor (parties.Server to) ys (forwards to place es)) (sym empty) (subst (λ xs. AllFor (parties.Server to) [] (forwards to place xs)) (sym none)
     (subst (λ xs. AllFor (parties.Server to) [] xs) (sym (forwards-none to place)) tt))
+
+-- the same by how many come before the next one
+
+pub sent-start : (to have : ℕ) (history : List Entry) (lane : List rust.Message) → lane ≡ [] → AllFor (parties.Server to) lane (forwards to (have + 1) (take (have - have) (drop have history)))
+sent-start to have history lane empty =
+    let n : have - have ≡ 0 = omega arith in
+    sent-none to (have + 1) (take (have - have) (drop have history)) lane empty (ap (λ k. take k (drop have history)) n)
+
+pub sent-next : (to have before place : ℕ) (history : List Entry) (e : Entry) (lane new : List rust.Message) → have ≤ before → before < length history → e ≡ get_or history before e
+    → AllFor (parties.Server to) lane (forwards to (have + 1) (take (before - have) (drop have history))) → place ≡ before + 1 → new ≡ lane ++ kept.Fwd place e ∷ []
+    → AllFor (parties.Server to) new (forwards to (have + 1) (take (before + 1 - have) (drop have history)))
+sent-next to have before place history e lane new from within is h at more =
+    let n : before - have + 1 ≡ before + 1 - have = omega (arith, from) in
+    let i : have + (before - have) ≡ before = omega (arith, from) in
+    let all = length-drop have history in
+    subst (λ k. AllFor (parties.Server to) new (forwards to (have + 1) (take k (drop have history)))) n
+    (sent-more to have (before - have) place (drop have history) e lane new (omega (arith, all, from, within))
+    (is ∙ ap (λ k. get_or history k e) (sym i) ∙ sym (get_or-drop have history (before - have) e)) h (at ∙ ap (λ k. k + 1) (sym i) ∙ omega arith) more)
+
+pub sent-all : (to have before : ℕ) (history : List Entry) (lane : List rust.Message) → length history ≤ before → AllFor (parties.Server to) lane (forwards to (have + 1) (take (before - have) (drop have history)))
+    → AllFor (parties.Server to) lane (forwards to (have + 1) (drop have history))
+sent-all to have before history lane end h =
+    let all = length-drop have history in
+    subst (λ es. AllFor (parties.Server to) lane (forwards to (have + 1) es)) (take_all (before - have) (drop have history) (omega (arith, all, end))) h
 
 -- what is made is what is sent
 pub made-by : {E : Type 0} (r : Result Lane E) (all other : ℕ → List (Party × Message)) → ((to : ℕ) → all to ≡ other to) → IfOk r (λ lane. (to : ℕ) → AllFor (parties.Server to) lane.messages (all to)) → IfOk r (λ lane. (to : ℕ) → AllFor (parties.Server to) lane.messages (other to))

@@ -3,7 +3,6 @@ use Rattle.std.proofs.Common.{◌≡◌, ℕ, ◌≤◌, ◌<◌, ◌∙◌, ap,
 use Rattle.std.specs.Result.{IsErrAnd}
 use Rattle.std.proofs.lemmas.Bool.{leb-true, leb-false, lt-ltb, le-ltb}
 use Rattle.cq_base.specs.declared.ask.Entry.{Entry}
-use Rattle.cq_base.specs.History.{last_moment}
 use Rattle.cq_base.specs.declared.limits.TheConstants.{HISTORY_LIMIT}
 use Rattle.cq_base.specs.declared.party.Party.TheVariants as parties
 use Rattle.cq_chain.specs.declared.fault.WorldFault.{WorldFault}
@@ -13,7 +12,9 @@ use Rattle.cq_chain.specs.declared.message.Message.TheVariants as kept
 use Rattle.cq_chain.specs.Messages.{Message, Fwd, Snap, Ack, BeHead, Report, Adopt, BeTail}
 use Rattle.cq_chain.specs.Refusals.{unless_full, refusal_of_arrival, refusal_of_query, refusal_of_taking}
 use Rattle.cq_chain.specs.Servers.{Server, acts, is_that}
-use Rattle.cq_chain.specs.Stands.{Means, IsRefusedBy}
+use Rattle.cq_chain.specs.Stands.{Means, IsSnapshot, IsRefusedBy}
+use Rattle.cq_store.specs.Stands as stores
+use Rattle.cq_store.specs.Stands.{StoreKept, count_of, last_of}
 use Rattle.cq_chain.specs.Steps.{is_next, forwarded, acknowledged, headed, reported, adopting, tailed, silent, takes}
 
 -- want of memory is told where nothing else refuses
@@ -21,11 +22,11 @@ pub no_memory : (result : Result (Unit {0}) WorldFault) (refusal : Option WorldF
 no_memory (Ok x) refusal h none = none
 no_memory (Err fault) refusal h none = subst (λ f. IsRefusedBy refusal (Err f)) (sym h) none
 
-full-at_limit : (kept entries : List Entry) → kept ≡ entries → nat_le HISTORY_LIMIT (length kept) ≡ true → unless_full entries ≡ Some HistoryFull
-full-at_limit kept entries same h = let e : nat_lt (length entries) HISTORY_LIMIT ≡ false = le-ltb (length entries) HISTORY_LIMIT (subst (λ es. HISTORY_LIMIT ≤ length es) same (leb-true HISTORY_LIMIT (length kept) h)) in rw e
+full-at_limit : (count : ℕ) (entries : List Entry) → count ≡ length entries → nat_le HISTORY_LIMIT count ≡ true → unless_full entries ≡ Some HistoryFull
+full-at_limit count entries same h = let e : nat_lt (length entries) HISTORY_LIMIT ≡ false = le-ltb (length entries) HISTORY_LIMIT (subst (λ n. HISTORY_LIMIT ≤ n) same (leb-true HISTORY_LIMIT count h)) in rw e
 
-room-below_limit : (kept entries : List Entry) → kept ≡ entries → nat_le HISTORY_LIMIT (length kept) ≡ false → unless_full entries ≡ None
-room-below_limit kept entries same h = let e : nat_lt (length entries) HISTORY_LIMIT ≡ true = lt-ltb (length entries) HISTORY_LIMIT (subst (λ es. length es < HISTORY_LIMIT) same (leb-false HISTORY_LIMIT (length kept) h)) in rw e
+room-below_limit : (count : ℕ) (entries : List Entry) → count ≡ length entries → nat_le HISTORY_LIMIT count ≡ false → unless_full entries ≡ None
+room-below_limit count entries same h = let e : nat_lt (length entries) HISTORY_LIMIT ≡ true = lt-ltb (length entries) HISTORY_LIMIT (subst (λ n. n < HISTORY_LIMIT) same (leb-false HISTORY_LIMIT count h)) in rw e
 
 -- ---- arrivals
 
@@ -33,13 +34,13 @@ pub refused-elsewhere : (s : Server) → s.head ≡ false → refusal_of_arrival
 unfolding refusal_of_arrival
 refused-elsewhere s h = rw h
 
-pub refused-full : (s : Server) (kept : List Entry) → s.head ≡ true → kept ≡ s.entries → nat_le HISTORY_LIMIT (length kept) ≡ true → refusal_of_arrival s ≡ Some HistoryFull
+pub refused-full : (s : Server) (count : ℕ) → s.head ≡ true → count ≡ length s.entries → nat_le HISTORY_LIMIT count ≡ true → refusal_of_arrival s ≡ Some HistoryFull
 unfolding refusal_of_arrival
-refused-full s kept h same full = rw h (full-at_limit kept s.entries same full)
+refused-full s count h same full = rw h (full-at_limit count s.entries same full)
 
-pub not-refused : (s : Server) (kept : List Entry) → s.head ≡ true → kept ≡ s.entries → nat_le HISTORY_LIMIT (length kept) ≡ false → refusal_of_arrival s ≡ None
+pub not-refused : (s : Server) (count : ℕ) → s.head ≡ true → count ≡ length s.entries → nat_le HISTORY_LIMIT count ≡ false → refusal_of_arrival s ≡ None
 unfolding refusal_of_arrival
-not-refused s kept h same room = rw h (room-below_limit kept s.entries same room)
+not-refused s count h same room = rw h (room-below_limit count s.entries same room)
 
 -- ---- queries
 
@@ -53,13 +54,13 @@ query-not-refused s h = rw h
 
 -- ---- messages
 
-pub refused-next : (s : Server) (kept : List Entry) (from place : ℕ) (e : Entry) → is_next s from place e ≡ true → kept ≡ s.entries → nat_le HISTORY_LIMIT (length kept) ≡ true → refusal_of_taking (parties.Server from) (Fwd place e) s ≡ Some HistoryFull
+pub refused-next : (s : Server) (count from place : ℕ) (e : Entry) → is_next s from place e ≡ true → count ≡ length s.entries → nat_le HISTORY_LIMIT count ≡ true → refusal_of_taking (parties.Server from) (Fwd place e) s ≡ Some HistoryFull
 unfolding refusal_of_taking
-refused-next s kept from place e h same full = rw h (full-at_limit kept s.entries same full)
+refused-next s count from place e h same full = rw h (full-at_limit count s.entries same full)
 
-pub next-not-refused : (s : Server) (kept : List Entry) (from place : ℕ) (e : Entry) → is_next s from place e ≡ true → kept ≡ s.entries → nat_le HISTORY_LIMIT (length kept) ≡ false → refusal_of_taking (parties.Server from) (Fwd place e) s ≡ None
+pub next-not-refused : (s : Server) (count from place : ℕ) (e : Entry) → is_next s from place e ≡ true → count ≡ length s.entries → nat_le HISTORY_LIMIT count ≡ false → refusal_of_taking (parties.Server from) (Fwd place e) s ≡ None
 unfolding refusal_of_taking
-next-not-refused s kept from place e h same room = rw h (room-below_limit kept s.entries same room)
+next-not-refused s count from place e h same room = rw h (room-below_limit count s.entries same room)
 
 pub other-not-refused : (s : Server) (from place : ℕ) (e : Entry) → is_next s from place e ≡ false → refusal_of_taking (parties.Server from) (Fwd place e) s ≡ None
 unfolding refusal_of_taking
@@ -87,7 +88,7 @@ unfolding refusal_of_taking
 ack-not-refused s from n m is = ap (λ x. refusal_of_taking (parties.Server from) x s) is
 
 -- what a snapshot stands for
-pub snapshot-seen : (message : rust.Message) (state : List Entry) (m : Message) → message ≡ kept.Snap state → Means message m → m ≡ Snap state
+pub snapshot-seen : (message : rust.Message) (state : StoreKept) (m : Message) → message ≡ kept.Snap state → Means message m → IsSnapshot state m
 snapshot-seen message state m is h = means-seen message (kept.Snap state) m is h
 
 pub snapshot-not-refused : (s : Server) (from : ℕ) (state : List Entry) (m : Message) → m ≡ Snap state → refusal_of_taking (parties.Server from) m s ≡ None
@@ -96,7 +97,7 @@ snapshot-not-refused s from state m is = ap (λ x. refusal_of_taking (parties.Se
 
 -- what no server says to a server
 
-pub takes-others : (s : Server) (from : ℕ) (message : rust.Message) (m : Message) → ((place : ℕ) (e : Entry) → message ≡ kept.Fwd place e → ⊥) → ((state : List Entry) → message ≡ kept.Snap state → ⊥)
+pub takes-others : (s : Server) (from : ℕ) (message : rust.Message) (m : Message) → ((place : ℕ) (e : Entry) → message ≡ kept.Fwd place e → ⊥) → ((state : StoreKept) → message ≡ kept.Snap state → ⊥)
     → ((place : ℕ) → message ≡ kept.Ack place → ⊥) → Means message m → takes (parties.Server from) m s ≡ silent s
 unfolding takes
 takes-others s from (kept.Fwd place e) m fwd snap ack h = absurd (fwd place e refl)
@@ -114,7 +115,7 @@ takes-others s from (kept.Answer answer) m fwd snap ack h = ap (λ x. takes (par
 pub others-not-refused : (s : Server) (from : ℕ) (message : rust.Message) (m : Message) → ((place : ℕ) (e : Entry) → message ≡ kept.Fwd place e → ⊥) → Means message m → refusal_of_taking (parties.Server from) m s ≡ None
 unfolding refusal_of_taking
 others-not-refused s from (kept.Fwd place e) m fwd h = absurd (fwd place e refl)
-others-not-refused s from (kept.Snap state) m fwd h = ap (λ x. refusal_of_taking (parties.Server from) x s) h
+others-not-refused s from (kept.Snap state) m fwd h = ap (λ x. refusal_of_taking (parties.Server from) x s) h.is
 others-not-refused s from (kept.Ack place) m fwd h = ap (λ x. refusal_of_taking (parties.Server from) x s) h
 others-not-refused s from kept.BeHead m fwd h = ap (λ x. refusal_of_taking (parties.Server from) x s) h
 others-not-refused s from (kept.Report pred) m fwd h = ap (λ x. refusal_of_taking (parties.Server from) x s) h
@@ -154,7 +155,7 @@ pub takes-no_order : (s : Server) (message : rust.Message) (m : Message) → (me
     → ((least : ℕ) → message ≡ kept.BeTail least → ⊥) → Means message m → takes parties.Master m s ≡ silent s
 unfolding takes
 takes-no_order s (kept.Fwd place e) m head report adopt tail h = ap (λ x. takes parties.Master x s) h
-takes-no_order s (kept.Snap state) m head report adopt tail h = ap (λ x. takes parties.Master x s) h
+takes-no_order s (kept.Snap state) m head report adopt tail h = ap (λ x. takes parties.Master x s) h.is
 takes-no_order s (kept.Ack place) m head report adopt tail h = ap (λ x. takes parties.Master x s) h
 takes-no_order s kept.BeHead m head report adopt tail h = absurd (head refl)
 takes-no_order s (kept.Report pred) m head report adopt tail h = absurd (report pred refl)
@@ -174,7 +175,8 @@ unfolding refusal_of_taking
 clients-not-refused s m = refl
 
 -- the next entry, by what the server keeps
-pub next-of : (s : Server) (pred : Option ℕ) (entries : List Entry) (from place : ℕ) (e : Entry) → pred ≡ s.pred → entries ≡ s.entries
-    → (is_that pred from && place == length entries + 1 && nat_le (last_moment entries) e.moment) ≡ is_next s from place e
-next-of s pred entries from place e is_pred is = ap (λ p. is_that p from && place == length entries + 1 && nat_le (last_moment entries) e.moment) is_pred
-    ∙ ap (λ es. is_that s.pred from && place == length es + 1 && nat_le (last_moment es) e.moment) is
+pub next-of : (s : Server) (pred : Option ℕ) (store : StoreKept) (from place : ℕ) (e : Entry) → pred ≡ s.pred → stores.StandsFor store s.entries
+    → (is_that pred from && place == count_of store + 1 && nat_le (last_of store) e.moment) ≡ is_next s from place e
+next-of s pred store from place e is_pred is = ap (λ p. is_that p from && place == count_of store + 1 && nat_le (last_of store) e.moment) is_pred
+    ∙ ap (λ n. is_that s.pred from && place == n + 1 && nat_le (last_of store) e.moment) is.count
+    ∙ ap (λ l. is_that s.pred from && place == length s.entries + 1 && nat_le l e.moment) is.last

@@ -3,17 +3,20 @@ use Rattle.std.proofs.Common.{◌≡◌, ℕ, ◌+◌, ◌∙◌, ap, sym, List,
 use Rattle.cq_base.specs.declared.ask.Entry.{Entry}
 use Rattle.cq_base.specs.declared.ask.Query.{Query}
 use Rattle.cq_base.specs.declared.ask.Request.{Request}
+use Rattle.cq_base.specs.History.{last_moment}
 use Rattle.cq_base.specs.declared.party.Party.{Party}
 use Rattle.cq_base.specs.declared.party.Party.TheVariants as parties
 use Rattle.cq_chain.specs.declared.message.Answer.{Answer}
 use Rattle.cq_chain.specs.declared.server.Server as kept
 use Rattle.cq_chain.specs.Lanes.{Lane}
 use Rattle.cq_chain.specs.within.Boxes.{messages_for}
+use Rattle.cq_chain.specs.within.Replicas.{Replica, Recalls}
 use Rattle.cq_chain.specs.Messages.{Message, Fwd, Ack, Ready, Answers}
 use Rattle.cq_chain.specs.Servers.{Server, acts, reaches}
 use Rattle.cq_chain.specs.Stands.{AllMean, Holds, StandsFor, posted}
 use Rattle.cq_chain.specs.Steps.{Step, settled, appended, passed_on, tail_news, to_server, answer_to, answer_to_query, stamped, arrived, asked, acknowledged}
 use Rattle.cq_chain.specs.within.Waiting.{Waits, Posts, KeepsAll}
+use Rattle.cq_store.specs.Stands.{count_of}
 use Rattle.cq_chain.proofs.Mailing.{means-length, waits-kept, posts-after, posted-append}
 
 -- ---- the parts
@@ -32,8 +35,8 @@ on_err (Ok x) q = tt
 on_err (Err e) q = q
 
 -- it acts
-pub acting : (kept : kept.Server) (s : Server) (outbox : Party → List Message) → StandsFor kept s outbox → reaches (length kept.history) kept.at_least ≡ acts s
-acting kept s outbox h = let p = parts kept s outbox h in ap (λ es. reaches (length es) kept.at_least) p.entries ∙ ap (λ l. reaches (length s.entries) l) p.at_least
+pub acting : (kept : kept.Server) (s : Server) (outbox : Party → List Message) → StandsFor kept s outbox → reaches (count_of kept.replica.store) kept.at_least ≡ acts s
+acting kept s outbox h = let p = parts kept s outbox h in ap (λ n. reaches n kept.at_least) p.entries.store.count ∙ ap (λ l. reaches (length s.entries) l) p.at_least
 
 -- ---- outboxes
 
@@ -42,7 +45,6 @@ pub with_boxes : (kept : kept.Server) (s : Server) (outbox next : Party → List
 with_boxes kept s outbox next boxes h waits = let p = parts kept s outbox h in stands (record kept { outboxes = boxes }) s next (record {
   entries = p.entries;
   acked = p.acked;
-  floor = p.floor;
   pred = p.pred;
   succ = p.succ;
   head = p.head;
@@ -50,6 +52,20 @@ with_boxes kept s outbox next boxes h waits = let p = parts kept s outbox h in s
   full = p.full;
   down = p.down;
   waiting = waits;
+})
+
+-- with another replica of the same
+pub with_replica : (kept : kept.Server) (s : Server) (outbox : Party → List Message) (replica : Replica) → StandsFor kept s outbox → Recalls replica s.entries s.floor → StandsFor (record kept { replica = replica }) s outbox
+with_replica kept s outbox replica h recalls = let p = parts kept s outbox h in stands (record kept { replica = replica }) s outbox (record {
+  entries = recalls;
+  acked = p.acked;
+  pred = p.pred;
+  succ = p.succ;
+  head = p.head;
+  at_least = p.at_least;
+  full = p.full;
+  down = p.down;
+  waiting = p.waiting;
 })
 
 -- with room
@@ -81,15 +97,14 @@ waiting-length kept s outbox to h = means-length (messages_for kept.outboxes to)
 -- ---- parts of steps
 
 -- a server that acts is settled
-pub settled-stands : (kept : kept.Server) (s : Server) (outbox : Party → List Message) (n m : ℕ) → StandsFor kept s outbox → acts s ≡ true → n ≡ length kept.history → m ≡ length kept.history
-    → StandsFor (record kept { acked = n; floor = m; full = true }) (settled s) outbox
-settled-stands kept s outbox n m h acting is_n is_m = let p = parts kept s outbox h in
+pub settled-stands : (kept : kept.Server) (s : Server) (outbox : Party → List Message) (n : ℕ) (replica : Replica) → StandsFor kept s outbox → acts s ≡ true → n ≡ count_of kept.replica.store
+    → ((history : List Entry) (floor : ℕ) → Recalls kept.replica history floor → Recalls replica history (length history)) → StandsFor (record kept { acked = n; replica = replica; full = true }) (settled s) outbox
+settled-stands kept s outbox n replica h acting is_n forgets = let p = parts kept s outbox h in
     let now : Server = record s { acked = length s.entries; floor = length s.entries; full = true } in
-    subst (λ t. StandsFor (record kept { acked = n; floor = m; full = true }) t outbox) (sym (ap (λ b. if b then now else s) acting))
-    (stands (record kept { acked = n; floor = m; full = true }) now outbox (record {
-      entries = p.entries;
-      acked = is_n ∙ ap (λ es. length es) p.entries;
-      floor = is_m ∙ ap (λ es. length es) p.entries;
+    subst (λ t. StandsFor (record kept { acked = n; replica = replica; full = true }) t outbox) (sym (ap (λ b. if b then now else s) acting))
+    (stands (record kept { acked = n; replica = replica; full = true }) now outbox (record {
+      entries = forgets s.entries s.floor p.entries;
+      acked = is_n ∙ p.entries.store.count;
       pred = p.pred;
       succ = p.succ;
       head = p.head;
@@ -100,11 +115,10 @@ settled-stands kept s outbox n m h acting is_n is_m = let p = parts kept s outbo
     }))
 
 -- with one more entry
-pub appended-stands : (kept : kept.Server) (s : Server) (outbox : Party → List Message) (e : Entry) (history : List Entry) → StandsFor kept s outbox → history ≡ kept.history ++ e ∷ [] → StandsFor (record kept { history = history }) (appended s e) outbox
-appended-stands kept s outbox e history h more = let p = parts kept s outbox h in stands (record kept { history = history }) (appended s e) outbox (record {
-  entries = more ∙ ap (λ es. es ++ e ∷ []) p.entries;
+pub appended-stands : (kept : kept.Server) (s : Server) (outbox : Party → List Message) (e : Entry) (replica : Replica) → StandsFor kept s outbox → Recalls replica (s.entries ++ e ∷ []) s.floor → StandsFor (record kept { replica = replica }) (appended s e) outbox
+appended-stands kept s outbox e replica h more = let p = parts kept s outbox h in stands (record kept { replica = replica }) (appended s e) outbox (record {
+  entries = more;
   acked = p.acked;
-  floor = p.floor;
   pred = p.pred;
   succ = p.succ;
   head = p.head;
@@ -135,6 +149,9 @@ tells-place old now pred n acting acted is_pred is_n = rw (acting, acted, is_pre
 pub stands-by : (kept : kept.Server) (outbox : Party → List Message) (step other : Step) → step ≡ other → StandsFor kept other.server (posted outbox other.sent) → StandsFor kept step.server (posted outbox step.sent)
 stands-by kept outbox step other same h = subst (λ x. StandsFor kept x.server (posted outbox x.sent)) (sym same) h
 
+pub stamped-by : (entries : List Entry) (clock last : ℕ) (request : Request) (e : Entry) → e ≡ record { moment = max clock last; request = request } → last ≡ last_moment entries → e ≡ stamped entries clock request
+stamped-by entries clock last request e is same = subst (λ l. e ≡ record { moment = max clock l; request = request }) same is
+
 pub arrived-stands : (new : kept.Server) (clock : ℕ) (request : Request) (s : Server) (outbox : Party → List Message) (e : Entry) → e ≡ stamped s.entries clock request
     → StandsFor new (settled (appended s e)) (posted outbox (passed_on s e)) → StandsFor new (arrived clock request s).server (posted outbox (arrived clock request s).sent)
 unfolding arrived
@@ -151,14 +168,14 @@ pub ignored-stands : (kept : kept.Server) (n : ℕ) (s : Server) (outbox : Party
 ignored-stands kept n s outbox h old = rw old (nothing-sent kept s outbox h)
 
 -- an acknowledgement is kept and passed on
-pub acknowledged-stands : (kept : kept.Server) (boxes mid : List (Party × Lane)) (n k l : ℕ) (s : Server) (outbox : Party → List Message) → StandsFor kept s outbox → KeepsAll kept.outboxes mid
-    → Posts mid boxes (to_server kept.pred (Ack k)) → k ≡ n → l ≡ max kept.floor n → nat_lt s.acked n ≡ true → StandsFor (record kept { acked = k; floor = l; outboxes = boxes }) (acknowledged n s).server (posted outbox (acknowledged n s).sent)
-acknowledged-stands kept boxes mid n k l s outbox h keeps posts is_k is_l news = let p = parts kept s outbox h in
+pub acknowledged-stands : (kept : kept.Server) (boxes mid : List (Party × Lane)) (n k : ℕ) (replica : Replica) (s : Server) (outbox : Party → List Message) → StandsFor kept s outbox → KeepsAll kept.outboxes mid
+    → Posts mid boxes (to_server kept.pred (Ack k)) → k ≡ n → Recalls replica s.entries (max s.floor n) → nat_lt s.acked n ≡ true
+    → StandsFor (record kept { acked = k; replica = replica; outboxes = boxes }) (acknowledged n s).server (posted outbox (acknowledged n s).sent)
+acknowledged-stands kept boxes mid n k replica s outbox h keeps posts is_k forgets news = let p = parts kept s outbox h in
     let now : Server = record s { acked = n; floor = max s.floor n } in
-    rw news (stands (record kept { acked = k; floor = l; outboxes = boxes }) now (posted outbox (to_server s.pred (Ack n))) (record {
-      entries = p.entries;
+    rw news (stands (record kept { acked = k; replica = replica; outboxes = boxes }) now (posted outbox (to_server s.pred (Ack n))) (record {
+      entries = forgets;
       acked = is_k;
-      floor = is_l ∙ ap (λ f. max f n) p.floor;
       pred = p.pred;
       succ = p.succ;
       head = p.head;

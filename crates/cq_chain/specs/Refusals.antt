@@ -1,5 +1,5 @@
 -- When a server refuses what comes to it.
-use Rattle.std.specs.Prelude.{ℕ, List, length, Bool, false, nat_lt, if◌then◌else◌, Option, None, Some}
+use Rattle.std.specs.Prelude.{List, length, Bool, false, nat_lt, if◌then◌else◌, Option, None, Some}
 use Rattle.cq_base.specs.declared.ask.Entry.{Entry}
 use Rattle.cq_base.specs.declared.limits.TheConstants.{HISTORY_LIMIT}
 use Rattle.cq_base.specs.declared.party.Party.{Party}

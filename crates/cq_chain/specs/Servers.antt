@@ -32,6 +32,10 @@ reaches count (Some least) = nat_le least count
 abbrev pub acts : Server → Bool
 acts s = reaches (length s.entries) s.at_least
 
+-- So many entries it keeps one by one, since it may have to send them once more.
+abbrev pub kept : Server → ℕ
+kept s = length s.entries - s.floor
+
 -- whether it is that server
 abbrev pub is_that : Option ℕ → ℕ → Bool
 is_that None id = false

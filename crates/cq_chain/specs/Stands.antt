@@ -1,5 +1,6 @@
 -- What has to be kept of a server's state and its outboxes, and what it means that a call is a step.
 use Rattle.std.specs.Prelude.{◌≡◌, List, [], ◌∷◌, ◌++◌, drop, Option, None, Some, Result, Ok, Err, ⊤, if◌then◌else◌}
+use Rattle.cq_base.specs.declared.ask.Entry.{Entry}
 use Rattle.cq_base.specs.declared.party.Party.{Party}
 use Rattle.cq_base.specs.declared.party.Party.TheVariants as parties
 use Rattle.cq_chain.specs.declared.fault.WorldFault.{WorldFault}
@@ -8,17 +9,25 @@ use Rattle.cq_chain.specs.declared.message.Message.TheVariants as kept
 use Rattle.cq_chain.specs.declared.master.Master as rust_master
 use Rattle.cq_chain.specs.declared.server.Server as rust_server
 use Rattle.cq_chain.specs.within.Boxes.{messages_for}
+use Rattle.cq_chain.specs.within.Replicas.{Recalls}
 use Rattle.cq_chain.specs.Faults.{IsRefusal}
 use Rattle.cq_chain.specs.Masters.{Master, Order}
 use Rattle.cq_chain.specs.Messages.{Message, Fwd, Snap, Ack, BeHead, Report, Adopt, BeTail, Have, Adopted, Ready, Answers}
 use Rattle.cq_chain.specs.Parties.{same, addressed}
 use Rattle.cq_chain.specs.Servers.{Server}
 use Rattle.cq_chain.specs.Steps.{Step}
+use Rattle.cq_store.specs.Stands as stores
+
+-- What is kept of a snapshot stands for each message that bears a history for which the store stands.
+pub record IsSnapshot (store : stores.StoreKept) (m : Message) : Type 0 where
+  pub entries : List Entry
+  pub is : m ≡ Snap entries
+  pub stands : stores.StandsFor store entries
 
 -- a message as it is kept stands for a message
 abbrev pub Means : rust.Message → Message → Type 0
 Means (kept.Fwd place entry) m = m ≡ Fwd place entry
-Means (kept.Snap state) m = m ≡ Snap state
+Means (kept.Snap state) m = IsSnapshot state m
 Means (kept.Ack place) m = m ≡ Ack place
 Means kept.BeHead m = m ≡ BeHead
 Means (kept.Report pred) m = m ≡ Report pred
@@ -46,9 +55,8 @@ drained outbox to p = if same to p then drop 1 (outbox p) else outbox p
 
 -- What is kept of a server stands for a state and for what waits in the outbox to each party.
 pub record Holds (kept : rust_server.Server) (s : Server) (outbox : Party → List Message) : Type 0 where
-  pub entries : kept.history ≡ s.entries
+  pub entries : Recalls kept.replica s.entries s.floor
   pub acked : kept.acked ≡ s.acked
-  pub floor : kept.floor ≡ s.floor
   pub pred : kept.pred ≡ s.pred
   pub succ : kept.succ ≡ s.succ
   pub head : kept.head ≡ s.head

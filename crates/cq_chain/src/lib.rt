@@ -5,17 +5,18 @@
 
 mod client;
 mod fault;
-mod history;
 mod lane;
 mod master;
 mod message;
 mod outboxes;
+mod replica;
 mod server;
+mod snapshot;
 
 pub use client::Client;
 pub use fault::{ClientFault, WorldFault};
-pub use history::History;
 pub use lane::Lane;
 pub use master::Master;
 pub use message::{Answer, Message};
 pub use server::Server;
+pub use snapshot::Snapshot;

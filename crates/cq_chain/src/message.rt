@@ -1,5 +1,5 @@
 //! What servers, the master and the clients tell each other.
-use crate::history::History;
+use crate::snapshot::Snapshot;
 use cq_base::{Entry, Reply, ServerId};
 
 /// What a server answers to a client.
@@ -21,8 +21,8 @@ pub struct Answer {
 pub enum Message {
     /// To a successor: the entry at that place of the sender's history, from 1.
     Fwd { place: u64, entry: Entry },
-    /// To a successor that joins: the sender's whole history, which knows how many entries it has.
-    Snap { state: History },
+    /// To a successor that joins: the state of the sender after its whole history.
+    Snap { state: Snapshot },
     /// To a predecessor: all entries up to that place have reached the tail.
     Ack { place: u64 },
     /// From the master: the server is the head from now on.

@@ -4,8 +4,9 @@ ghost use Rattle.cq_base.specs.declared.limits.TheConstants.{HISTORY_LIMIT};
 ghost use Rattle.cq_base.specs.declared.party.Party as rust_party;
 ghost use Rattle.cq_chain.specs.Messages as sent;
 ghost use Rattle.cq_chain.specs.Servers as states;
-ghost use Rattle.cq_chain.specs.Servers.{first_member, joining, acts, is_that};
+ghost use Rattle.cq_chain.specs.Servers.{first_member, joining, acts, is_that, kept};
 ghost use Rattle.cq_chain.specs.Stands.{StandsFor, IsFirst, drained};
+ghost use Rattle.cq_store.specs.Stands.{count_of};
 
 mod append;
 mod arrive;
@@ -15,24 +16,23 @@ mod repair;
 mod restore;
 mod take;
 
-use crate::history::History;
 use crate::message::Message;
 use crate::outboxes::Outboxes;
+use crate::replica::Replica;
 use cq_base::{ChainSize, HISTORY_LIMIT, NoMemory, Party, ServerId};
 use std::alloc::Global;
 
 /// A server of the chain, with its outboxes (van Renesse and Schneider, "Chain Replication for Supporting High
-/// Throughput and Availability", OSDI 2004, section 3). It keeps its whole history, and a message waits in an
-/// outbox until `put` takes it out.
+/// Throughput and Availability", OSDI 2004, section 3). Of its history it keeps the store that answers for it, and
+/// the entries that its successor may still need. A message waits in an outbox until `put` takes it out.
 ///
 /// A call makes all the room that it needs before its first change. So after `NoMemory`, as after each other
 /// fault, the server is as it was.
 #[derive(Drop)]
 pub struct Server {
     alloc: Global,
-    history: History,
+    replica: Replica,
     acked: u64,
-    floor: u64,
     pred: Option<ServerId>,
     succ: Option<ServerId>,
     head: bool,
@@ -91,9 +91,8 @@ impl Server {
     {
         Ok(Server {
             alloc,
-            history: History::new(alloc)?,
+            replica: Replica::new(alloc)?,
             acked: 0,
-            floor: 0,
             pred: before(id),
             succ: after(id, size),
             head: id.get() == 1,
@@ -111,9 +110,8 @@ impl Server {
     {
         Ok(Server {
             alloc,
-            history: History::new(alloc)?,
+            replica: Replica::new(alloc)?,
             acked: 0,
-            floor: 0,
             pred: None,
             succ: None,
             head: false,
@@ -148,7 +146,16 @@ impl Server {
         ensures { (s : states.Server) (outbox : rust_party.Party → List sent.Message) → StandsFor self.now s outbox
             → result ≡ length s.entries }
     {
-        self.history.count()
+        self.replica.count()
+    }
+
+    /// How many of its entries it keeps one by one, since they may have to be sent once more: O(1). All others are
+    /// forgotten, but for what they did to the store.
+    pub fn kept(&self) -> u64
+        ensures { (s : states.Server) (outbox : rust_party.Party → List sent.Message) → StandsFor self.now s outbox
+            → result ≡ kept s }
+    {
+        self.replica.kept()
     }
 
     /// How many of its entries are known to have reached the tail: O(1).
@@ -173,7 +180,7 @@ impl Server {
             → result ≡ acts s }
     {
         match self.at_least {
-            Some(least) => least <= self.history.count(),
+            Some(least) => least <= self.replica.count(),
             None => false,
         }
     }
@@ -196,8 +203,8 @@ impl Server {
 
     /// It may take no more entry.
     fn is_at_limit(&self) -> bool
-        ensures { result ≡ nat_le HISTORY_LIMIT (length self.now.history) }
+        ensures { result ≡ nat_le HISTORY_LIMIT (count_of self.now.replica.store) }
     {
-        HISTORY_LIMIT <= self.history.count()
+        HISTORY_LIMIT <= self.replica.count()
     }
 }

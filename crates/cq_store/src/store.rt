@@ -80,6 +80,7 @@ impl Store {
             × StandsFor self.new (entries ++ entry.now ∷ [])) }
         ensures err { (entries : List Entry) → StandsFor self.old entries → OnErr result
             (StandsFor self.new entries) }
+        ensures ok_count { OnOk result (count_of self.new ≡ count_of self.old + 1) }
         ensures err_count { OnErr result (count_of self.new ≡ count_of self.old) }
         ensures err_last { OnErr result (last_of self.new ≡ last_of self.old) }
     {
@@ -104,6 +105,7 @@ impl Store {
             (reply ≡ object.reply_to entries entry.now) × StandsFor self.new (entries ++ entry.now ∷ [])) }
         ensures err { (entries : List Entry) → StandsFor self.old entries → OnErr result
             (StandsFor self.new entries) }
+        ensures ok_count { OnOk result (count_of self.new ≡ count_of self.old + 1) }
         ensures err_count { OnErr result (count_of self.new ≡ count_of self.old) }
         ensures err_last { OnErr result (last_of self.new ≡ last_of self.old) }
     {

@@ -1,14 +1,15 @@
 //! One entry more, which goes on to the successor, or is answered.
-ghost use Rattle.std.specs.Prelude.{◌≡◌, ◌<◌, ◌≤◌, ℕ, List, length, OnOk, OnErr};
+ghost use Rattle.std.specs.Prelude.{◌≡◌, ◌<◌, ◌≤◌, ℕ, List, OnOk, OnErr};
 ghost use Rattle.cq_base.specs.declared.limits.TheConstants.{HISTORY_LIMIT};
 ghost use Rattle.cq_base.specs.declared.party.Party as rust_party;
-ghost use Rattle.cq_base.specs.History.{last_moment, reply_to};
+ghost use Rattle.cq_base.specs.History.{reply_to};
 ghost use Rattle.cq_chain.specs.Messages as sent;
 ghost use Rattle.cq_chain.specs.Servers as states;
 ghost use Rattle.cq_chain.specs.Servers.{acts};
 ghost use Rattle.cq_chain.specs.Stands.{StandsFor, Does, Keeps, posted};
 ghost use Rattle.cq_chain.specs.Steps.{appended, passed_on, settled, tail_news};
 ghost use Rattle.cq_chain.specs.within.Waiting.{HasRoom};
+ghost use Rattle.cq_store.specs.Stands.{count_of, last_of};
 
 use super::Server;
 use crate::message::{Answer, Message};
@@ -18,7 +19,7 @@ impl Server {
     /// Makes room for what a step sends.
     pub(super) fn reserve(&mut self) -> Result<(), NoMemory>
         ensures keeps { Keeps self.old self.new }
-        ensures history { self.new.history ≡ self.old.history }
+        ensures replica { self.new.replica ≡ self.old.replica }
         ensures room { OnOk result (HasRoom self.new.outboxes 4 self.new.pred self.new.succ) }
     {
         self.outboxes.reserve_all(self.alloc, self.pred, self.succ)
@@ -34,7 +35,7 @@ impl Server {
     {
         let client = entry.request.client;
         let number = entry.request.number;
-        let length = self.history.count();
+        let length = self.replica.count();
         let forward = Message::Fwd {
             place: length,
             entry,
@@ -54,8 +55,8 @@ impl Server {
 
     /// One more entry, which is sent on, in room that was made.
     pub(super) fn append(&mut self, entry: Entry) -> Result<(), NoMemory>
-        requires limit { length self.old.history < HISTORY_LIMIT }
-        requires stamped { last_moment self.old.history ≤ entry.moment }
+        requires limit { count_of self.old.replica.store < HISTORY_LIMIT }
+        requires stamped { last_of self.old.replica.store ≤ entry.moment }
         requires room { HasRoom self.old.outboxes 4 self.old.pred self.old.succ }
         ensures ok { OnOk result (Does self.old self.new
             (λ s. record { server = appended s entry; sent = passed_on s entry })) }
@@ -63,7 +64,7 @@ impl Server {
         ensures left { OnOk result (HasRoom self.new.outboxes 2 self.new.pred self.new.succ) }
     {
         let forward = entry.try_copy()?;
-        let reply = self.history.append(entry)?;
+        let reply = self.replica.append(entry)?;
         self.pass_on(forward, reply);
         Ok(())
     }
@@ -75,7 +76,7 @@ impl Server {
             → acted ≡ acts old → old.pred ≡ now.pred → StandsFor self.new now (posted outbox (tail_news old now)) }
     {
         if self.is_acting() {
-            let place = self.history.count();
+            let place = self.replica.count();
             self.outboxes.push_server(self.pred, Message::Ack { place });
             if !acted {
                 self.outboxes.push(Party::Master, Message::Ready);
@@ -89,8 +90,8 @@ impl Server {
             → StandsFor self.new (settled s) outbox }
     {
         if self.is_acting() {
-            self.acked = self.history.count();
-            self.floor = self.history.count();
+            self.acked = self.replica.count();
+            self.replica.forget_all();
             self.full = true;
         }
     }

@@ -1,13 +1,13 @@
 //! Requests at the head, and queries at the tail.
-ghost use Rattle.std.specs.Prelude.{◌≡◌, ◌<◌, ◌≤◌, max, List, length, IfOk, OnOk, OnErr};
+ghost use Rattle.std.specs.Prelude.{◌≡◌, ◌<◌, ◌≤◌, max, List, IfOk, OnOk, OnErr};
 ghost use Rattle.cq_base.specs.declared.limits.TheConstants.{HISTORY_LIMIT};
 ghost use Rattle.cq_base.specs.declared.party.Party as rust_party;
-ghost use Rattle.cq_base.specs.History.{last_moment};
 ghost use Rattle.cq_chain.specs.Messages as sent;
 ghost use Rattle.cq_chain.specs.Refusals.{refusal_of_arrival, refusal_of_query};
 ghost use Rattle.cq_chain.specs.Servers as states;
 ghost use Rattle.cq_chain.specs.Stands.{StandsFor, Does, Keeps, IsRefusedBy};
-ghost use Rattle.cq_chain.specs.Steps.{stamped, arrived, asked};
+ghost use Rattle.cq_chain.specs.Steps.{arrived, asked};
+ghost use Rattle.cq_store.specs.Stands.{count_of, last_of};
 
 use super::Server;
 use crate::fault::WorldFault;
@@ -23,10 +23,10 @@ fn later(a: Moment, b: Moment) -> Moment
 impl Server {
     /// The entry that a request becomes: its moment is no earlier than that of the entry before it.
     fn stamped(&self, clock: Moment, request: &Request) -> Result<Entry, NoMemory>
-        ensures value { IfOk result (λ entry. entry ≡ stamped self.now.history clock request.now) }
-        ensures after_last { IfOk result (λ entry. last_moment self.now.history ≤ entry.moment) }
+        ensures value { IfOk result (λ entry. entry ≡ record { moment = max clock (last_of self.now.replica.store); request = request.now }) }
+        ensures after_last { IfOk result (λ entry. last_of self.now.replica.store ≤ entry.moment) }
     {
-        let moment = later(clock, self.history.last());
+        let moment = later(clock, self.replica.last());
         Ok(Entry {
             moment,
             request: request.try_copy()?,
@@ -35,7 +35,7 @@ impl Server {
 
     /// A request becomes the next entry.
     fn enter(&mut self, request: &Request, clock: Moment) -> Result<(), NoMemory>
-        requires { length self.old.history < HISTORY_LIMIT }
+        requires { count_of self.old.replica.store < HISTORY_LIMIT }
         ensures ok { OnOk result (Does self.old self.new (arrived clock request.now)) }
         ensures err { OnErr result (Keeps self.old self.new) }
     {
@@ -78,8 +78,8 @@ impl Server {
             client: query.client,
             number: query.tag,
             is_query: true,
-            length: self.history.count(),
-            reply: self.history.query(query),
+            length: self.replica.count(),
+            reply: self.replica.query(query),
         };
         self.outboxes.push(Party::Clients, Message::Answer(answer));
         Ok(())

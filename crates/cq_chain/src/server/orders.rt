@@ -23,7 +23,7 @@ impl Server {
         ensures ok { OnOk result (Does self.old self.new (reported pred)) }
         ensures err { OnErr result (Keeps self.old self.new) }
     {
-        let count = self.history.count();
+        let count = self.replica.count();
         let place = self.acked;
         self.outboxes.reserve(self.alloc, Party::Master)?;
         self.outboxes.reserve(self.alloc, Party::Server(pred))?;
@@ -35,13 +35,12 @@ impl Server {
         Ok(())
     }
 
-    /// Its successor is that one, which has so many entries: O(entries sent), and what a copy of the store takes
-    /// where the whole history is sent.
+    /// Its successor is that one, which has so many entries: O(entries sent), or what a copy of the store takes.
     fn adopt(&mut self, succ: ServerId, have: u64) -> Result<(), NoMemory>
         ensures ok { OnOk result (Does self.old self.new (adopting succ have)) }
         ensures err { OnErr result (Keeps self.old self.new) }
     {
-        let count = self.history.count();
+        let count = self.replica.count();
         let messages = self.repair(have)?;
         self.outboxes.reserve(self.alloc, Party::Master)?;
         self.outboxes

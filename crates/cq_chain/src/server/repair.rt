@@ -1,57 +1,51 @@
 //! What a new successor is sent.
-ghost use Rattle.std.specs.Prelude.{◌≡◌, ◌<◌, ◌+◌, ℕ, List, [], ◌∷◌, length, drop, IfOk};
-ghost use Rattle.cq_base.specs.declared.limits.TheConstants.{SLICE_LIMIT};
+ghost use Rattle.std.specs.Prelude.{◌≡◌, ◌≤◌, ◌+◌, ◌-◌, ℕ, List, [], ◌∷◌, length, drop, IfOk};
+ghost use Rattle.cq_base.specs.declared.ask.Entry as rust_entry;
 ghost use Rattle.cq_base.specs.declared.party.Party as rust_party;
 ghost use Rattle.cq_base.specs.declared.party.Party.TheVariants as parties;
 ghost use Rattle.cq_chain.specs.Messages as sent;
 ghost use Rattle.cq_chain.specs.Servers as states;
 ghost use Rattle.cq_chain.specs.Stands.{StandsFor};
 ghost use Rattle.cq_chain.specs.Steps.{forwards, repair};
+ghost use Rattle.cq_chain.specs.within.Replicas.{Recalls};
 ghost use Rattle.cq_chain.specs.within.Waiting.{AllFor};
+ghost use Rattle.cq_store.specs.Stands as stores;
+ghost use Rattle.cq_store.specs.Stands.{count_of};
 
 use super::Server;
-use crate::history::History;
 use crate::lane::Lane;
 use crate::message::Message;
-use cq_base::{Entry, NoMemory};
+use crate::replica::Replica;
+use crate::snapshot::Snapshot;
+use cq_base::NoMemory;
+use cq_store::Store;
 use std::alloc::Global;
 
-/// The entries after so many, each as a message: O(entries).
-fn forwards(alloc: Global, have: u64, entries: &[Entry]) -> Result<Lane, NoMemory>
-    requires { have + length entries.now < SLICE_LIMIT }
-    ensures { IfOk result (λ lane. (to : ℕ)
-        → AllFor (parties.Server to) lane.messages (forwards to (have + 1) entries.now)) }
+/// The entries after so many, all of which are kept, each as a message: O(entries after these).
+fn missing(alloc: Global, have: u64, replica: &Replica) -> Result<Lane, NoMemory>
+    requires { count_of replica.now.store - length replica.now.entries ≤ have }
+    ensures { (history : List rust_entry.Entry) (floor : ℕ) → Recalls replica.now history floor
+        → IfOk result (λ lane. (to : ℕ)
+        → AllFor (parties.Server to) lane.messages (forwards to (have + 1) (drop have history))) }
 {
     let mut lane = Lane::new(alloc);
-    let mut place = have;
-    for entry in entries {
-        place += 1;
-        let entry = entry.try_copy()?;
+    for before in have..replica.count() {
+        let entry = replica.entry_after(before).try_copy()?;
+        let place = before + 1;
         lane.reserve(1)?;
         lane.push(Message::Fwd { place, entry });
     }
     Ok(lane)
 }
 
-/// The entries of the history after so many, each as a message: O(entries after these).
-fn missing(alloc: Global, have: u64, entries: &[Entry]) -> Result<Lane, NoMemory>
-    ensures { IfOk result (λ lane. (to : ℕ)
-        → AllFor (parties.Server to) lane.messages (forwards to (have + 1) (drop have entries.now))) }
-{
-    let count = entries.len() as u64;
-    if count <= have {
-        return Ok(Lane::new(alloc));
-    }
-    forwards(alloc, have, &entries[have as usize..])
-}
-
-/// The whole history in one message: O(entries), and what a copy of the store takes.
-fn snapshot(alloc: Global, history: &History) -> Result<Lane, NoMemory>
-    ensures { IfOk result (λ lane. (to : ℕ)
-        → AllFor (parties.Server to) lane.messages ((parties.Server to, sent.Snap history.now) ∷ [])) }
+/// The whole state in one message: what a copy of the store takes.
+fn snapshot(alloc: Global, store: &Store) -> Result<Lane, NoMemory>
+    ensures { (history : List rust_entry.Entry) → stores.StandsFor store.now history
+        → IfOk result (λ lane. (to : ℕ)
+        → AllFor (parties.Server to) lane.messages ((parties.Server to, sent.Snap history) ∷ [])) }
 {
     let mut lane = Lane::new(alloc);
-    let state = history.try_copy()?;
+    let state = Snapshot::of(store)?;
     lane.reserve(1)?;
     lane.push(Message::Snap { state });
     Ok(lane)
@@ -59,15 +53,15 @@ fn snapshot(alloc: Global, history: &History) -> Result<Lane, NoMemory>
 
 impl Server {
     /// What a new successor that has so many entries is to be sent: the entries that it lacks, or the whole
-    /// history where the server may not send some of these one by one any more.
+    /// state where the server has forgotten some of these.
     pub(super) fn repair(&self, have: u64) -> Result<Lane, NoMemory>
         ensures { (s : states.Server) (outbox : rust_party.Party → List sent.Message) → StandsFor self.now s outbox
             → IfOk result (λ lane. (to : ℕ) → AllFor (parties.Server to) lane.messages (repair to have s)) }
     {
-        if self.floor <= have {
-            missing(self.alloc, have, self.history.entries())
+        if self.replica.floor() <= have {
+            missing(self.alloc, have, &self.replica)
         } else {
-            snapshot(self.alloc, &self.history)
+            snapshot(self.alloc, self.replica.store())
         }
     }
 }

@@ -3,13 +3,13 @@ ghost use Rattle.std.specs.Prelude.{◌≡◌, ◌<◌, ◌≤◌, ◌+◌, ◌=
 ghost use Rattle.cq_base.specs.declared.limits.TheConstants.{HISTORY_LIMIT};
 ghost use Rattle.cq_base.specs.declared.party.Party as rust_party;
 ghost use Rattle.cq_base.specs.declared.party.Party.TheVariants as parties;
-ghost use Rattle.cq_base.specs.History.{last_moment};
 ghost use Rattle.cq_chain.specs.Messages as sent;
 ghost use Rattle.cq_chain.specs.Refusals.{refusal_of_taking};
 ghost use Rattle.cq_chain.specs.Servers as states;
 ghost use Rattle.cq_chain.specs.Servers.{is_that};
 ghost use Rattle.cq_chain.specs.Stands.{StandsFor, Does, Keeps, IsRefusedBy, Means};
-ghost use Rattle.cq_chain.specs.Steps.{is_next, forwarded, acknowledged, takes};
+ghost use Rattle.cq_chain.specs.Steps.{forwarded, acknowledged, takes};
+ghost use Rattle.cq_store.specs.Stands.{count_of, last_of};
 
 use super::{Server, is_that};
 use crate::fault::WorldFault;
@@ -26,19 +26,19 @@ fn is_after(place: u64, count: u64) -> bool
 impl Server {
     /// A forwarded entry is the next one of the predecessor.
     fn is_next(&self, from: ServerId, place: u64, entry: &Entry) -> bool
-        ensures value { result ≡ (is_that self.now.pred from && place == length self.now.history + 1
-            && nat_le (last_moment self.now.history) entry.now.moment) }
-        ensures after_last { result ≡ true → last_moment self.now.history ≤ entry.now.moment }
+        ensures value { result ≡ (is_that self.now.pred from && place == count_of self.now.replica.store + 1
+            && nat_le (last_of self.now.replica.store) entry.now.moment) }
+        ensures after_last { result ≡ true → last_of self.now.replica.store ≤ entry.now.moment }
     {
         is_that(self.pred, from)
-            && is_after(place, self.history.count())
-            && self.history.last().get() <= entry.moment.get()
+            && is_after(place, self.replica.count())
+            && self.replica.last().get() <= entry.moment.get()
     }
 
     /// The next entry of the predecessor is appended.
     fn take_next(&mut self, entry: &Entry) -> Result<(), NoMemory>
-        requires limit { length self.old.history < HISTORY_LIMIT }
-        requires stamped { last_moment self.old.history ≤ entry.now.moment }
+        requires limit { count_of self.old.replica.store < HISTORY_LIMIT }
+        requires stamped { last_of self.old.replica.store ≤ entry.now.moment }
         ensures ok { OnOk result (Does self.old self.new (forwarded entry.now)) }
         ensures err { OnErr result (Keeps self.old self.new) }
     {
@@ -73,13 +73,13 @@ impl Server {
         ensures ok { OnOk result (Does self.old self.new (λ s. acknowledged (min place (length s.entries)) s)) }
         ensures err { OnErr result (Keeps self.old self.new) }
     {
-        let place = place.min(self.history.count());
+        let place = place.min(self.replica.count());
         if place <= self.acked {
             return Ok(());
         }
         self.outboxes.reserve_server(self.alloc, self.pred)?;
         self.acked = place;
-        self.floor = self.floor.max(place);
+        self.replica.forget(place);
         self.outboxes.push_server(self.pred, Message::Ack { place });
         Ok(())
     }
@@ -103,16 +103,16 @@ impl Server {
     ///
     /// - `Fwd`: the next entry of the predecessor becomes an entry of the server, which sends it on; where it acts
     ///   it answers the clients and acknowledges to its predecessor. O(1), and what the store takes for an entry.
-    /// - `Snap` of the predecessor: a server with no successor, which has no more entries, takes the history over
-    ///   and answers none of it. O(entries), and what a copy of the store takes.
+    /// - `Snap` of the predecessor: a server with no successor, which has no more entries, takes the state over and
+    ///   answers none of its entries. It takes what a copy of the store takes.
     /// - `Ack`: an acknowledgement, of no more entries than the server has, is kept and passed on to the
-    ///   predecessor, if it is news. O(1).
+    ///   predecessor, if it is news, and these entries are forgotten. O(entries forgotten).
     /// - `BeHead` of the master: it is the head. O(1).
     /// - `Report` of the master: it has that predecessor, tells the master how many entries it has, and the
     ///   predecessor which are acknowledged. O(1).
     /// - `Adopt` of the master: it has that successor, acts no more, sends it the entries that it lacks, one by one
-    ///   or as a snapshot, and tells the master how many entries it has. O(entries sent), and for a snapshot
-    ///   O(entries) and what a copy of the store takes.
+    ///   or as a snapshot, and tells the master how many entries it has. O(entries sent), or what a copy of the
+    ///   store takes.
     /// - `BeTail` of the master: it is the tail, and acts once it has so many entries. O(1).
     ///
     /// A server that begins to act tells the master. What else comes is ignored. A chain is mended as in van Renesse

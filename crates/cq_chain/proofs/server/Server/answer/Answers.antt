@@ -14,4 +14,4 @@ returns-clause-ok c = λ s outbox h.
     let query = c.args.query.now in
     let answer : Answer = record { client = query.client; number = query.tag; is_query = true; length = c.count.result; reply = c.query.result } in
     asked-stands c.args.self.now c.push.new.self c.reserve.new.self query s outbox answer h c.in_ok-reserve.ensures.keeps (c.push.ensures.posts (sent.Answers answer) refl)
-    (rw (c.count.ensures, c.query.ensures, p.entries))
+    (rw (c.count.ensures, p.entries.store.count, c.query.ensures s.entries p.entries.store))

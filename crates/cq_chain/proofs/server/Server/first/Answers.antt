@@ -9,7 +9,6 @@ pub returns : goal.returns
 returns c = stands _ (first_member c.args.size c.args.id) (λ _. []) (record {
   entries = c.in_ok-new.ensures;
   acked = refl;
-  floor = refl;
   pred = c.before-2.ensures;
   succ = c.after.ensures;
   head = ap (λ n. n == 1) c.get.ensures.value;

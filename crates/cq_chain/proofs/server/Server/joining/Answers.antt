@@ -9,7 +9,6 @@ pub returns : goal.returns
 returns c = stands _ joining (λ _. []) (record {
   entries = c.in_ok-new.ensures;
   acked = refl;
-  floor = refl;
   pred = refl;
   succ = refl;
   head = refl;

@@ -1,5 +1,5 @@
 -- The entry goes to the successor, and its answer to the clients if the server acts.
-use Rattle.std.proofs.Common.{◌∙◌, ◌≡◌, ◌+◌, ◌∷◌, ◌++◌, [], ap, sym, refl, true, false, length, length-append}
+use Rattle.std.proofs.Common.{◌∙◌, ◌≡◌, ◌+◌, ◌∷◌, ◌++◌, [], sym, refl, true, false, length, length-append}
 use Rattle.cq_base.specs.declared.party.Party.TheVariants as parties
 use Rattle.cq_chain.specs.declared.message.Answer.{Answer}
 use Rattle.cq_chain.specs.Messages as sent
@@ -15,7 +15,7 @@ returns-then-is_acting-clause-stands c = λ s outbox h replied.
     let p = parts c.args.self.now (appended s e) outbox h in
     let first = to_server c.args.self.now.succ (sent.Fwd c.count-length.result e) in
     let answer : Answer = record { client = e.request.client; number = e.request.number; is_query = false; length = c.count-length.result; reply = c.args.reply } in
-    let place : c.count-length.result ≡ length s.entries + 1 = c.count-length.ensures ∙ ap (λ es. length es) p.entries ∙ length-append s.entries (e ∷ []) in
+    let place : c.count-length.result ≡ length s.entries + 1 = c.count-length.ensures ∙ p.entries.store.count ∙ length-append s.entries (e ∷ []) in
     let mid = with_posts c.args.self.now (appended s e) outbox c.push_server.new.self first first h (c.push_server.ensures.posts (sent.Fwd c.count-length.result e) refl) refl in
     let acting : acts (appended s e) ≡ true = sym (c.is_acting.ensures (appended s e) _ mid) ∙ c.if-is_acting.true in
     let is : answer ≡ answer_to s.entries e = rw (place, replied) in
@@ -28,7 +28,7 @@ returns-else-is_acting-clause-stands c = λ s outbox h replied.
     let e = c.args.entry in
     let p = parts c.args.self.now (appended s e) outbox h in
     let first = to_server c.args.self.now.succ (sent.Fwd c.count-length.result e) in
-    let place : c.count-length.result ≡ length s.entries + 1 = c.count-length.ensures ∙ ap (λ es. length es) p.entries ∙ length-append s.entries (e ∷ []) in
+    let place : c.count-length.result ≡ length s.entries + 1 = c.count-length.ensures ∙ p.entries.store.count ∙ length-append s.entries (e ∷ []) in
     let mid = with_posts c.args.self.now (appended s e) outbox c.push_server.new.self first first h (c.push_server.ensures.posts (sent.Fwd c.count-length.result e) refl) refl in
     let acting : acts (appended s e) ≡ false = sym (c.is_acting.ensures (appended s e) _ mid) ∙ c.if-is_acting.false in
     with_posts c.args.self.now (appended s e) outbox c.push_server.new.self (first ++ []) _ h

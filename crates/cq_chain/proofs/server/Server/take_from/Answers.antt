@@ -6,11 +6,11 @@ use Rattle.cq_chain.proofs.server.Server.take_from.Goals as goal
 
 pub returns-in_err-take_snap-in-Snap-clause-refused : goal.returns-in_err-take_snap-in-Snap-clause-refused
 returns-in_err-take_snap-in-Snap-clause-refused c = λ s outbox m h means.
-    no_memory c.from_residual.result _ c.from_residual.ensures.1 (snapshot-not-refused s c.args.from c.in-Snap.state m (snapshot-seen c.args.message.now c.in-Snap.state m c.in-Snap.is means))
+    no_memory c.from_residual.result _ c.from_residual.ensures.1 (let is = snapshot-seen c.args.message.now c.in-Snap.state m c.in-Snap.is means in snapshot-not-refused s c.args.from is.entries m is.is)
 
 pub returns-in_ok-take_snap-in-Snap-clause-refused : goal.returns-in_ok-take_snap-in-Snap-clause-refused
 returns-in_ok-take_snap-in-Snap-clause-refused c = λ s outbox m h means.
-    snapshot-not-refused s c.args.from c.in-Snap.state m (snapshot-seen c.args.message.now c.in-Snap.state m c.in-Snap.is means)
+    let is = snapshot-seen c.args.message.now c.in-Snap.state m c.in-Snap.is means in snapshot-not-refused s c.args.from is.entries m is.is
 
 pub returns-in_err-take_ack-in-Ack-clause-refused : goal.returns-in_err-take_ack-in-Ack-clause-refused
 returns-in_err-take_ack-in-Ack-clause-refused c = λ s outbox m h means.

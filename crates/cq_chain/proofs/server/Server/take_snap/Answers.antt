@@ -8,10 +8,10 @@ use Rattle.cq_chain.proofs.ServerStands.{stands-by, nothing-sent}
 use Rattle.cq_chain.proofs.server.Server.take_snap.Goals as goal
 
 pub returns-then-not-is_restoring-clause-ok : goal.returns-then-not-is_restoring-clause-ok
-returns-then-not-is_restoring-clause-ok c = λ s outbox h.
-    let other = sym (restoring-of s c.args.self.now outbox c.args.from c.args.state.now h) ∙ sym c.is_restoring.ensures ∙ c.if-not-is_restoring.true in
-    stands-by c.args.self.now outbox _ _ (takes-no_snapshot s c.args.from c.args.state.now other) (nothing-sent c.args.self.now s outbox h)
+returns-then-not-is_restoring-clause-ok c = λ es is s outbox h.
+    let other = sym (restoring-of s c.args.self.now outbox c.args.from c.args.state.now es h is) ∙ sym c.is_restoring.ensures ∙ c.if-not-is_restoring.true in
+    stands-by c.args.self.now outbox _ _ (takes-no_snapshot s c.args.from es other) (nothing-sent c.args.self.now s outbox h)
 
 pub returns-clause-ok : goal.returns-clause-ok
-returns-clause-ok c = does-as c.args.self.now c.restore.new.self (restored c.args.state.now) (takes (parties.Server c.args.from) (sent.Snap c.args.state.now)) c.restore.result
-    (λ s outbox h. takes-restoring s c.args.from c.args.state.now (sym (restoring-of s c.args.self.now outbox c.args.from c.args.state.now h) ∙ sym c.is_restoring.ensures ∙ c.if-not-is_restoring.false)) c.restore.ensures.ok
+returns-clause-ok c = λ es is. does-as c.args.self.now c.restore.new.self (restored es) (takes (parties.Server c.args.from) (sent.Snap es)) c.restore.result
+    (λ s outbox h. takes-restoring s c.args.from es (sym (restoring-of s c.args.self.now outbox c.args.from c.args.state.now es h is) ∙ sym c.is_restoring.ensures ∙ c.if-not-is_restoring.false)) (c.restore.ensures.ok es is)

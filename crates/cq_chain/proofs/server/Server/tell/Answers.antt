@@ -1,5 +1,5 @@
 -- By whether the server acted before.
-use Rattle.std.proofs.Common.{◌∙◌, ◌∷◌, ◌++◌, [], ap, sym, refl, length}
+use Rattle.std.proofs.Common.{◌∙◌, ◌∷◌, ◌++◌, [], sym, refl}
 use Rattle.cq_base.specs.declared.party.Party.TheVariants as parties
 use Rattle.cq_chain.specs.Messages as sent
 use Rattle.cq_chain.specs.Steps.{to_server}
@@ -13,7 +13,7 @@ returns-then-not-acted c = λ old now outbox h acted same.
     let first = to_server c.args.self.now.pred (sent.Ack c.count-place.result) in
     with_posts c.args.self.now now outbox c.push.new.self (first ++ (parties.Master, sent.Ready) ∷ []) _ h
     (posts-then c.args.self.now.outboxes c.push_server.new.self c.push.new.self first ((parties.Master, sent.Ready) ∷ []) (c.push_server.ensures.posts (sent.Ack c.count-place.result) refl) (c.push.ensures.posts sent.Ready refl))
-    (tells-ready old now c.args.self.now.pred c.count-place.result (sym (c.is_acting.ensures now outbox h) ∙ c.if-is_acting.true) (sym acted ∙ c.if-not-acted.true) (p.pred ∙ sym same) (c.count-place.ensures ∙ ap (λ es. length es) p.entries))
+    (tells-ready old now c.args.self.now.pred c.count-place.result (sym (c.is_acting.ensures now outbox h) ∙ c.if-is_acting.true) (sym acted ∙ c.if-not-acted.true) (p.pred ∙ sym same) (c.count-place.ensures ∙ p.entries.store.count))
 
 pub returns-else-not-acted : goal.returns-else-not-acted
 returns-else-not-acted c = λ old now outbox h acted same.
@@ -21,4 +21,4 @@ returns-else-not-acted c = λ old now outbox h acted same.
     let first = to_server c.args.self.now.pred (sent.Ack c.count-place.result) in
     with_posts c.args.self.now now outbox c.push_server.new.self (first ++ []) _ h
     (posts-then c.args.self.now.outboxes c.push_server.new.self c.push_server.new.self first [] (c.push_server.ensures.posts (sent.Ack c.count-place.result) refl) (posts-none c.push_server.new.self))
-    (tells-place old now c.args.self.now.pred c.count-place.result (sym (c.is_acting.ensures now outbox h) ∙ c.if-is_acting.true) (sym acted ∙ c.if-not-acted.false) (p.pred ∙ sym same) (c.count-place.ensures ∙ ap (λ es. length es) p.entries))
+    (tells-place old now c.args.self.now.pred c.count-place.result (sym (c.is_acting.ensures now outbox h) ∙ c.if-is_acting.true) (sym acted ∙ c.if-not-acted.false) (p.pred ∙ sym same) (c.count-place.ensures ∙ p.entries.store.count))
