@@ -181,6 +181,13 @@ fn check_server(
     Ok(())
 }
 
+/// How many entries a server keeps one by one.
+fn check_kept(rt: &impl Abort, sim: &Sim, number: u32, kept: u64) -> Result<(), Fail> {
+    let server = sim.server(server(number)?).ok_or("no such server")?;
+    assert_eq!(rt; server.kept(), kept);
+    Ok(())
+}
+
 /// The first answer that is put to the clients is that of a creation.
 fn check_given(
     rt: &impl Abort,

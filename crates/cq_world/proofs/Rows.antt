@@ -18,7 +18,7 @@ use Rattle.cq_chain.specs.declared.message.Answer.{Answer}
 use Rattle.cq_chain.specs.Messages.{Message, Fwd}
 use Rattle.cq_chain.specs.Masters.{detected, joined, hears, refusal_of_detection, refusal_of_join}
 use Rattle.cq_chain.specs.Refusals.{refusal_of_arrival, refusal_of_query, refusal_of_taking}
-use Rattle.cq_chain.specs.Servers.{acts}
+use Rattle.cq_chain.specs.Servers.{acts, kept}
 use Rattle.cq_chain.specs.Steps.{arrived, asked, takes, forwards}
 use Rattle.cq_world.specs.Events.{refusal_of, next, after, given_by}
 use Rattle.cq_world.specs.Runs.{world_after, given_from, refused_from, made_from, made, longest_at, longest_from, committed}
@@ -104,6 +104,27 @@ two_made = refl
 two_replies : map (λ a. a.reply) (made 3 two) ≡ Created 1 ∷ Counts 0 0 ∷ Sent 1 ∷ []
 unfolding made made_from after next refusal_of first_world numbers_from refusal_of_arrival refusal_of_query refusal_of_taking arrived asked takes reply_to counts_after history fact_of fresh_fact is_fresh of_client about on live removed_lately creations effect_of effect_on effect_off last_moment messages duplicate standing message_of hands touches until is_deleted
 two_replies = refl
+
+-- ---- entries are kept until they are acknowledged
+
+abbrev passed_on : List Event
+passed_on = arrive 1 0 1 create ∷ (move 1 2 ++ (arrive 1 0 2 send ∷ (move 1 2)))
+
+-- how many entries each of two servers keeps
+abbrev kept_by : World → ℕ × ℕ
+kept_by w = (kept (w.server 1), kept (w.server 2))
+
+passed_on_kept : kept_by (world_after (first_world 2) passed_on) ≡ (2, 0)
+unfolding world_after after next refusal_of first_world numbers_from refusal_of_arrival refusal_of_taking arrived takes reply_to history fact_of fresh_fact is_fresh of_client about on live removed_lately creations effect_of effect_on effect_off last_moment messages duplicate standing message_of hands touches until is_deleted
+passed_on_kept = refl
+
+acknowledged_kept : kept_by (world_after (first_world 2) (passed_on ++ move 2 1)) ≡ (1, 0)
+unfolding world_after after next refusal_of first_world numbers_from refusal_of_arrival refusal_of_taking arrived takes reply_to history fact_of fresh_fact is_fresh of_client about on live removed_lately creations effect_of effect_on effect_off last_moment messages duplicate standing message_of hands touches until is_deleted
+acknowledged_kept = refl
+
+all_acknowledged_kept : kept_by (world_after (first_world 2) (passed_on ++ (move 2 1 ++ move 2 1))) ≡ (0, 0)
+unfolding world_after after next refusal_of first_world numbers_from refusal_of_arrival refusal_of_taking arrived takes reply_to history fact_of fresh_fact is_fresh of_client about on live removed_lately creations effect_of effect_on effect_off last_moment messages duplicate standing message_of hands touches until is_deleted
+all_acknowledged_kept = refl
 
 -- ---- changes that are refused
 

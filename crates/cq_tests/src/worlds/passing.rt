@@ -39,6 +39,8 @@ fn go_down_and_up(rt: &impl Abort, alloc: Global, sim: &mut Sim) -> Result<(), F
     go_on(rt, alloc, sim, &down)?;
     check_waiting(rt, sim, TWO, ONE, 1, 0)?;
     check_given(rt, alloc, sim, 2, 1, 1)?;
+    check_kept(rt, sim, 1, 1)?;
+    check_kept(rt, sim, 2, 0)?;
     check_waiting(rt, sim, TWO, Who::Clients, 0, 0)?;
     let put = [(Row::Put(TWO, ONE), 0)];
     go_on(rt, alloc, sim, &put)?;
@@ -46,6 +48,7 @@ fn go_down_and_up(rt: &impl Abort, alloc: Global, sim: &mut Sim) -> Result<(), F
     let take = [(Row::Take(TWO, ONE), 0)];
     go_on(rt, alloc, sim, &take)?;
     check_waiting(rt, sim, TWO, ONE, 0, 0)?;
+    check_kept(rt, sim, 1, 0)?;
     check_server(rt, sim, 1, 1, 1)?;
     check_server(rt, sim, 2, 1, 1)
 }
