@@ -77,6 +77,56 @@ summary-set low high i v least from end was h from_is end_is reach below reached
       reached = λ l. (reached.0, record { inside = omega (arith, reached.1); within = omega (arith, length-set low i v, reached.1); is = reached.1.1.1 ∙ sym at });
     })
 
+-- what a write leaves as it is
+set-elsewhere : (low high high' : List ℕ) (i v : ℕ) → ((j : ℕ) → j ≢ i / BLOCK → get_or high' j 0 ≡ get_or high j 0) → IsElsewhere low high (set low i v) high' (i / BLOCK)
+set-elsewhere low high high' i v same = record {
+  shorter = λ k n l. omega (arith, length-set low i v);
+  longer = λ k n l. omega (arith, length-set low i v);
+  same_low = λ k n l. get_or-set_other low i k v 0 (other_place i k (i / BLOCK) refl n);
+  same_high = same;
+}
+
+-- a bound of the block's other numbers, and of the new one, is one of all
+bound-set : (low high : List ℕ) (i v bound : ℕ) → IsSummary low high → i < length low → bound ≤ v → bound ≤ get_or high (i / BLOCK) 0 → (k : ℕ) → k / BLOCK ≡ i / BLOCK → k < length low → bound ≤ get_or (set low i v) k 0
+bound-set low high i v bound was h small_v small k e l = by (cases_eq k i)
+  where
+    by : (k ≡ i) ⊎ (k ≡ i → ⊥) → bound ≤ get_or (set low i v) k 0
+    by (inl same) = subst (λ n. bound ≤ get_or (set low i v) n 0) (sym same) (let at = get_or-set_same low i v 0 h in omega (arith, at, small_v))
+    by (inr other) = let below : get_or high (i / BLOCK) 0 ≤ get_or low k 0 = subst (λ j. get_or high j 0 ≤ get_or low k 0) e (was.below k l) in omega (arith, get_or-set_other low i k v 0 other, below, small)
+
+-- a number below all of its block is written, there and above
+pub summary-lower : (low high : List ℕ) (i v : ℕ) → IsSummary low high → i < length low → v ≤ get_or high (i / BLOCK) 0 → IsSummary (set low i v) (set high (i / BLOCK) v)
+summary-lower low high i v was h small =
+    let b = i / BLOCK in
+    let in_high : b < length high = omega (arith, was.long) in
+    let at : get_or (set high b v) b 0 ≡ v = get_or-set_same high b v 0 in_high in
+    let all = length-set low i v in
+    summary-change low high (set low i v) (set high b v) b was (set-elsewhere low high (set high b v) i v (λ j n. get_or-set_other high b j v 0 n))
+    (record {
+      long = omega (arith, all, length-set high b v, was.long);
+      short = omega (arith, all, length-set high b v, was.short);
+      below = λ k e l. let inside : k < length low = omega (arith, all, l) in omega (arith, at, bound-set low high i v v was h (omega arith) small k e inside);
+      reached = λ l. (i, record { inside = refl; within = omega (arith, all, h); is = get_or-set_same low i v 0 h ∙ sym at });
+    })
+
+-- a number that isn't the least of its block is written over another that wasn't
+pub summary-keep : (low high : List ℕ) (i v : ℕ) → IsSummary low high → i < length low → get_or high (i / BLOCK) 0 ≤ v → get_or low i 0 ≢ get_or high (i / BLOCK) 0 → IsSummary (set low i v) high
+summary-keep low high i v was h above differs =
+    let b = i / BLOCK in
+    let all = length-set low i v in
+    summary-change low high (set low i v) high b was (set-elsewhere low high high i v (λ j n. refl))
+    (record {
+      long = omega (arith, all, was.long);
+      short = omega (arith, all, was.short);
+      below = λ k e l. bound-set low high i v (get_or high b 0) was h above (omega arith) k e (omega (arith, all, l));
+      reached = λ l.
+          let r = was.reached b (omega (arith, all, l)) in
+          let k = r.0 in
+          let w : IsLeastOf low b (get_or high b 0) k = r.1 in
+          let other : k ≢ i = λ same. differs (subst (λ n. get_or low n 0 ≡ get_or high b 0) same w.is) in
+          (k, record { inside = w.inside; within = omega (arith, all, w.within); is = get_or-set_other low i k v 0 other ∙ w.is });
+    })
+
 -- one number more leaves the earlier ones as they are
 push_other : (low : List ℕ) (n k : ℕ) → k < length low → get_or (low ++ n ∷ []) k 0 ≡ get_or low k 0
 push_other low n k h = get_or_append_left low (n ∷ []) 0 k h

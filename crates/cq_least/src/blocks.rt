@@ -11,8 +11,8 @@ use std::marker::Model;
 pub const BLOCK: usize = 32;
 
 /// A list in blocks, and above it the least number of each block. A search reads the rest of one block, asks the list
-/// above for the next block that has a number small enough, and reads that one. A write reads one block, and writes
-/// one number above.
+/// above for the next block that has a number small enough, and reads that one. A write reads its block where it takes
+/// the least number away, and writes one number above where the least of the block changes.
 #[derive(Drop)]
 pub struct Blocks<T: Leasts> {
     low: Vec<u64>,
@@ -84,12 +84,21 @@ impl<T: Leasts> Leasts for Blocks<T> {
     }
 
     fn set(&mut self, at: usize, number: u64) {
+        let before = self.low[at];
+        if number == before {
+            return;
+        }
         self.low[at] = number;
         let block = at / BLOCK;
-        let from = block * BLOCK;
-        let end = self.low.len().min(from + BLOCK);
-        let least = least_of(&self.low, from, end);
-        self.high.set(block, least);
+        let least = self.high.get(block);
+        if number < least {
+            self.high.set(block, number);
+        } else if before == least {
+            let from = block * BLOCK;
+            let end = self.low.len().min(from + BLOCK);
+            let least = least_of(&self.low, from, end);
+            self.high.set(block, least);
+        }
     }
 
     fn push(&mut self, number: u64) -> Result<(), AllocError> {
