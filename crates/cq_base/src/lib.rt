@@ -9,8 +9,6 @@ mod number;
 mod party;
 mod receipt;
 mod reply;
-#[cfg(test)]
-mod tests;
 mod text;
 
 pub use ask::{Ask, Entry, Query, Request};

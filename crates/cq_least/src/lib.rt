@@ -5,8 +5,6 @@
 mod blocks;
 mod flat;
 mod leasts;
-#[cfg(test)]
-mod tests;
 mod tower;
 
 pub use blocks::Blocks;

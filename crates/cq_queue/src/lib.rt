@@ -5,8 +5,6 @@ mod accepted;
 mod change;
 mod delete;
 mod queue;
-#[cfg(test)]
-mod tests;
 mod window;
 
 pub use queue::Queue;

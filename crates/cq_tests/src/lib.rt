@@ -11,6 +11,4 @@ mod scripts;
 #[cfg(test)]
 mod servers;
 #[cfg(test)]
-mod stores;
-#[cfg(test)]
 mod worlds;

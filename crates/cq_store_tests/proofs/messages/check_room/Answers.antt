@@ -3,7 +3,7 @@ use Rattle.std.proofs.Common.{◌<◌, get_or, arith}
 use Rattle.cq_base.specs.declared.limits.TheConstants.{HISTORY_LIMIT}
 use Rattle.std.proofs.lemmas.List.Elements.{All-from_get_or}
 use Rattle.cq_messages.proofs.Standing.{at-among, no_message}
-use Rattle.cq_messages.proofs.tests.check_room.Goals as goal
+use Rattle.cq_store_tests.proofs.messages.check_room.Goals as goal
 
 pub push-requires-clause-new : goal.push-requires-clause-new
 push-requires-clause-new g c = λ m a. c.requires m (c.take_three.ensures m a)

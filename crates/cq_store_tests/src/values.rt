@@ -1,5 +1,5 @@
-//! What rows can't compute: texts in a loop, copies, faults, and how values are shown.
-use crate::{
+//! What rows can't compute of values: texts in a loop, copies, faults, and how they are shown.
+use cq_base::{
     Ask, BaseFault, BatchSize, Body, ChainSize, DedupId, Deliveries, Delivery, Entry, GroupId,
     Moment, NoMemory, Query, QueueName, Receipt, Refusal, Reply, Request, Seconds, ServerId,
 };

@@ -1,7 +1,8 @@
 //! Rows on a store, each an ask and its answer.
+use super::common::{receipt, received, seconds};
 use cq_base::{
-    Ask, BatchSize, Body, DedupId, Delivery, Entry, GroupId, Moment, NoMemory, Query, QueueName,
-    Receipt, Reply, Request, Seconds,
+    Ask, BatchSize, Body, DedupId, Entry, GroupId, Moment, NoMemory, Query, QueueName, Reply,
+    Request,
 };
 use cq_store::Store;
 use std::alloc::Global;
@@ -38,14 +39,6 @@ enum Row {
     Delete(u64, u64),
     /// The same, and the visibility timeout in seconds.
     Change(u64, u64, u32),
-}
-
-fn seconds(seconds: u32) -> Result<Seconds, Fail> {
-    Ok(Seconds::new(seconds).ok_or("no timeout")?)
-}
-
-fn receipt(sequence: u64, handing: u64) -> Result<Receipt, Fail> {
-    Ok(Receipt::new(1, sequence, handing).ok_or("no receipt")?)
 }
 
 fn create(queue: QueueName, content: bool) -> Result<Ask, Fail> {
@@ -130,17 +123,6 @@ fn entry_of(alloc: Global, moment: u64, client: u32, number: u64, row: Row) -> R
         ask,
     };
     Ok(Entry { moment, request })
-}
-
-fn received(alloc: Global, deliveries: &[Delivery]) -> Result<String, Fail> {
-    let mut text = String::from_str(alloc, "received")?;
-    for delivery in deliveries {
-        let body = delivery.body.as_str();
-        let receipt = delivery.receipt;
-        let one = format!(in alloc; " {body} {receipt}")?;
-        text.push_str(one.as_str())?;
-    }
-    Ok(text)
 }
 
 /// `created 1`, `sent 1`, `refused 1` and the like, or the bodies and receipts handed out.

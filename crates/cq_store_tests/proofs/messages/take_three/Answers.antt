@@ -3,7 +3,7 @@ use Rattle.std.proofs.Common.{subst}
 use Rattle.cq_base.specs.Relations.{Among}
 use Rattle.cq_base.proofs.Among.{among-filter}
 use Rattle.cq_messages.specs.Changes.{is_other}
-use Rattle.cq_messages.proofs.tests.take_three.Goals as goal
+use Rattle.cq_store_tests.proofs.messages.take_three.Goals as goal
 
 pub returns : goal.returns
 returns c = λ m a.

@@ -3,7 +3,7 @@ use Rattle.std.proofs.Common.{◌≡◌, ◌<◌, ◌+◌, ◌⊎◌, ◌∙◌,
 use Rattle.cq_base.specs.Messages.{Message}
 use Rattle.cq_base.specs.Relations.{Among}
 use Rattle.cq_base.proofs.Among.{among-append}
-use Rattle.cq_messages.proofs.tests.push.Goals as goal
+use Rattle.cq_store_tests.proofs.messages.push.Goals as goal
 
 pub push-requires-clause-order : goal.push-requires-clause-order
 push-requires-clause-order c = λ m a.

@@ -1,8 +1,9 @@
 //! Rows on one queue, each an ask and its answer.
 ghost use Rattle.std.specs.Prelude.{◌<◌, ◌≤◌};
 
-use crate::Queue;
-use cq_base::{BatchSize, Body, DedupId, Delivery, GroupId, Moment, Receipt, Refusal, Seconds};
+use super::common::{receipt, received, seconds};
+use cq_base::{BatchSize, Body, DedupId, GroupId, Moment, Receipt, Refusal, Seconds};
+use cq_queue::Queue;
 use std::alloc::Global;
 use std::process::Abort;
 use std::test::Fail;
@@ -27,28 +28,9 @@ enum Row {
     Counts,
 }
 
-fn seconds(seconds: u32) -> Result<Seconds, Fail> {
-    Ok(Seconds::new(seconds).ok_or("no timeout")?)
-}
-
-fn receipt(sequence: u64, handing: u64) -> Result<Receipt, Fail> {
-    Ok(Receipt::new(1, sequence, handing).ok_or("no receipt")?)
-}
-
 fn refused(alloc: Global, refusal: Refusal) -> Result<String, Fail> {
     let code = refusal.code();
     Ok(format!(in alloc; "refused {code}")?)
-}
-
-fn received(alloc: Global, deliveries: &[Delivery]) -> Result<String, Fail> {
-    let mut text = String::from_str(alloc, "received")?;
-    for delivery in deliveries {
-        let body = delivery.body.as_str();
-        let receipt = delivery.receipt;
-        let one = format!(in alloc; " {body} {receipt}")?;
-        text.push_str(one.as_str())?;
-    }
-    Ok(text)
 }
 
 /// Refuses a moment before the last, and too many uses.

@@ -1,5 +1,5 @@
 //! Lists of many numbers, each search against a walk.
-use crate::{Flat, Leasts, new_tower};
+use cq_least::{Flat, Leasts, new_tower};
 use std::process::Abort;
 use std::test::Fail;
 

@@ -3,8 +3,8 @@ ghost use Rattle.std.specs.Prelude.{◌≡◌, ◌<◌, ◌+◌, [], OnOk};
 ghost use Rattle.cq_base.specs.Messages as object;
 ghost use Rattle.cq_base.specs.Relations.{Among};
 
-use crate::{Message, Messages};
 use cq_base::{BatchSize, Body, GroupId, Moment};
+use cq_messages::{Message, Messages};
 use std::alloc::Global;
 use std::process::Abort;
 use std::test::Fail;
