@@ -190,15 +190,20 @@ fn check(
     check_rows(rt, alloc, &mut queue, rows)
 }
 
+/// The queue 7 has what it was made with, and nothing came to it.
+fn check_new(rt: &impl Abort, queue: &Queue) {
+    assert_eq!(rt; queue.incarnation(), 7);
+    assert_eq!(rt; queue.visibility().get(), 30);
+    assert_eq!(rt; queue.content(), true);
+    assert_eq!(rt; queue.last().get(), 0);
+    assert_eq!(rt; queue.used(), 0);
+}
+
 #[test]
 fn a_new_queue_has_nothing(rt: HostRuntime) -> Result<(), Fail> {
     let visibility = seconds(30)?;
     let queue = Queue::new(rt.alloc(), 7, visibility, true)?;
-    assert_eq!(&rt; queue.incarnation(), 7);
-    assert_eq!(&rt; queue.visibility().get(), 30);
-    assert_eq!(&rt; queue.content(), true);
-    assert_eq!(&rt; queue.last().get(), 0);
-    assert_eq!(&rt; queue.used(), 0);
+    check_new(&rt, &queue);
     Ok(())
 }
 

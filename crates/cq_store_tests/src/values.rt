@@ -143,28 +143,22 @@ fn ids_are_made_as_sha256sum_makes_them(rt: HostRuntime) -> Result<(), Fail> {
 #[test]
 fn numbers_end_where_the_rules_say(rt: HostRuntime) {
     let largest = 1_152_921_504_606_846_976;
-    assert_eq!(rt;
-        Moment::new(largest).map(|moment| moment.get()),
-        Some(largest)
-    );
-    assert_eq!(rt; Moment::new(largest + 1), None);
+    for (number, want) in [(largest, Some(largest)), (largest + 1, None)] {
+        assert_eq!(rt; Moment::new(number).map(|moment| moment.get()), want);
+    }
     assert_eq!(rt; Moment::zero().get(), 0);
-    assert_eq!(rt;
-        Seconds::new(43_200).map(|timeout| timeout.get()),
-        Some(43_200)
-    );
-    assert_eq!(rt; Seconds::new(43_201), None);
-    assert_eq!(rt; BatchSize::new(1).map(|size| size.get()), Some(1));
-    assert_eq!(rt; BatchSize::new(10).map(|size| size.get()), Some(10));
-    assert_eq!(rt; BatchSize::new(0), None);
-    assert_eq!(rt; BatchSize::new(11), None);
-    assert_eq!(rt; ChainSize::new(1).map(|size| size.get()), Some(1));
-    assert_eq!(rt; ChainSize::new(8).map(|size| size.get()), Some(8));
-    assert_eq!(rt; ChainSize::new(0), None);
-    assert_eq!(rt; ChainSize::new(9), None);
-    assert_eq!(rt; ServerId::new(1).map(|id| id.get()), Some(1));
-    assert_eq!(rt; ServerId::new(u32::MAX).map(|id| id.get()), Some(u32::MAX));
-    assert_eq!(rt; ServerId::new(0), None);
+    for (number, want) in [(43_200, Some(43_200)), (43_201, None)] {
+        assert_eq!(rt; Seconds::new(number).map(|timeout| timeout.get()), want);
+    }
+    for (number, want) in [(0, None), (1, Some(1)), (10, Some(10)), (11, None)] {
+        assert_eq!(rt; BatchSize::new(number).map(|size| size.get()), want);
+    }
+    for (number, want) in [(0, None), (1, Some(1)), (8, Some(8)), (9, None)] {
+        assert_eq!(rt; ChainSize::new(number).map(|size| size.get()), want);
+    }
+    for (number, want) in [(0, None), (1, Some(1)), (u32::MAX, Some(u32::MAX))] {
+        assert_eq!(rt; ServerId::new(number).map(|id| id.get()), want);
+    }
 }
 
 /// The text that the receipt of these numbers writes behind `old`.
