@@ -1,4 +1,5 @@
-//! Rows on one queue, each an ask and its answer.
+//! Rows on one queue, each an ask and its answer. Those on groups in order and on made ids stand among the worked lists of
+//! `cq_base/proofs`, and in `stores`.
 ghost use Rattle.std.specs.Prelude.{◌<◌, ◌≤◌};
 
 use super::common::{receipt, received, seconds};
@@ -13,10 +14,6 @@ use std::test::Fail;
 enum Row {
     /// The group and the body, which is the deduplication id too.
     Send(&'static str, &'static str),
-    /// The body of a send in group a without a deduplication id.
-    SendWithout(&'static str),
-    /// The deduplication id and the body of a send in group a.
-    SendAs(&'static str, &'static str),
     Receive(u8),
     /// The size, and the visibility timeout in seconds.
     ReceiveFor(u8, u32),
@@ -48,13 +45,13 @@ fn send(
     queue: &mut Queue,
     moment: Moment,
     group: &str,
-    dedup: Option<&DedupId>,
     body: &str,
 ) -> Result<String, Fail> {
     let group = GroupId::new(alloc, group)?;
+    let dedup = DedupId::new(alloc, body)?;
     let body = Body::new(alloc, body)?;
     expect_order(rt, queue, moment);
-    match queue.send(moment, &group, dedup, &body)? {
+    match queue.send(moment, &group, Some(&dedup), &body)? {
         Ok(sequence) => Ok(format!(in alloc; "sent {sequence}")?),
         Err(refusal) => refused(alloc, refusal),
     }
@@ -113,15 +110,7 @@ fn answer(
 ) -> Result<String, Fail> {
     let moment = Moment::new(moment).ok_or("no moment")?;
     match row {
-        Row::Send(group, body) => {
-            let dedup = DedupId::new(alloc, body)?;
-            send(rt, alloc, queue, moment, group, Some(&dedup), body)
-        }
-        Row::SendWithout(body) => send(rt, alloc, queue, moment, "a", None, body),
-        Row::SendAs(dedup, body) => {
-            let dedup = DedupId::new(alloc, dedup)?;
-            send(rt, alloc, queue, moment, "a", Some(&dedup), body)
-        }
+        Row::Send(group, body) => send(rt, alloc, queue, moment, group, body),
         Row::Receive(size) => receive(rt, alloc, queue, moment, size, None),
         Row::ReceiveFor(size, visibility) => {
             receive(rt, alloc, queue, moment, size, Some(seconds(visibility)?))
@@ -164,6 +153,8 @@ fn check_copy(
     check_row(rt, alloc, &mut copy, moment, row, want)
 }
 
+/// What comes to the queue, each with its moment and answer. A copy of the queue as it was just before gives the
+/// same answer.
 fn check_rows(
     rt: &impl Abort,
     alloc: Global,
@@ -175,19 +166,6 @@ fn check_rows(
         check_row(rt, alloc, queue, *moment, *row, want)?;
     }
     Ok(())
-}
-
-/// What comes to a queue with a visibility timeout of 30 s, each with its moment and answer. A copy of the
-/// queue as it was just before gives the same answer.
-fn check(
-    rt: &impl Abort,
-    alloc: Global,
-    content: bool,
-    rows: &[(u64, Row, &'static str)],
-) -> Result<(), Fail> {
-    let visibility = seconds(30)?;
-    let mut queue = Queue::new(alloc, 1, visibility, content)?;
-    check_rows(rt, alloc, &mut queue, rows)
 }
 
 /// The queue 7 has what it was made with, and nothing came to it.
@@ -229,62 +207,9 @@ fn each_call_is_answered(rt: HostRuntime) -> Result<(), Fail> {
         (8, Row::Send("a", "a3"), "sent 3"),
         (8, Row::Counts, "counts 1 1"),
     ];
-    check(&rt, rt.alloc(), false, &rows)
-}
-
-/// Each group hands out all it has before the next.
-#[test]
-fn groups_go_by_their_oldest_message(rt: HostRuntime) -> Result<(), Fail> {
-    let rows = [
-        (0, Row::Send("x", "x1"), "sent 1"),
-        (0, Row::Send("w", "w1"), "sent 2"),
-        (0, Row::Send("w", "w2"), "sent 3"),
-        (0, Row::Send("y", "y1"), "sent 4"),
-        (0, Row::Send("x", "x2"), "sent 5"),
-        (0, Row::Send("z", "z1"), "sent 6"),
-        (0, Row::Send("w", "w3"), "sent 7"),
-        (0, Row::Send("x", "x3"), "sent 8"),
-        (0, Row::Send("z", "z2"), "sent 9"),
-        (0, Row::Send("w", "w4"), "sent 10"),
-        (0, Row::Send("x", "x4"), "sent 11"),
-        (0, Row::Send("z", "z3"), "sent 12"),
-        (
-            1,
-            Row::Receive(10),
-            "received x1 1-1-1 x2 1-5-1 x3 1-8-1 x4 1-11-1 w1 1-2-1 w2 1-3-1 w3 1-7-1 w4 1-10-1 y1 1-4-1 z1 1-6-1",
-        ),
-        (1, Row::Receive(10), "received"),
-    ];
-    check(&rt, rt.alloc(), false, &rows)
-}
-
-/// A queue that makes ids takes the one that is given before the one that it would make, and knows a made one
-/// by the same id given.
-#[test]
-fn ids_are_made_where_none_is_given(rt: HostRuntime) -> Result<(), Fail> {
-    let abc = "ba7816bf8f01cfea414140de5dae2223b00361a396177a9cb410ff61f20015ad";
-    let rows = [
-        (0, Row::SendWithout("abc"), "sent 1"),
-        (1, Row::SendAs(abc, "abc"), "sent 1"),
-        (2, Row::SendAs("x", "abc"), "sent 2"),
-        (3, Row::SendWithout("abd"), "sent 3"),
-        (300_000, Row::SendWithout("abc"), "sent 4"),
-    ];
-    check(&rt, rt.alloc(), true, &rows)
-}
-
-/// A queue that makes no ids refuses a send without one, which renews and frees no id.
-#[test]
-fn a_missing_id_is_refused(rt: HostRuntime) -> Result<(), Fail> {
-    let abc = "ba7816bf8f01cfea414140de5dae2223b00361a396177a9cb410ff61f20015ad";
-    let rows = [
-        (0, Row::SendAs(abc, "abc"), "sent 1"),
-        (1, Row::SendWithout("abc"), "refused 8"),
-        (299_999, Row::SendAs(abc, "abc"), "sent 1"),
-        (299_999, Row::SendWithout("abc"), "refused 8"),
-        (300_000, Row::SendAs(abc, "abc"), "sent 2"),
-    ];
-    check(&rt, rt.alloc(), false, &rows)
+    let visibility = seconds(30)?;
+    let mut queue = Queue::new(rt.alloc(), 1, visibility, false)?;
+    check_rows(&rt, rt.alloc(), &mut queue, &rows)
 }
 
 /// The row is answered so, and so many ids are kept then.
