@@ -188,15 +188,20 @@ fn go_on(rt: &impl Abort, alloc: Global, store: &mut Store, lines: &[Line]) -> R
     Ok(())
 }
 
+/// A new store, and what it answers to these lines.
+fn begin(rt: &impl Abort, alloc: Global, store: &mut Store, lines: &[Line]) -> Result<(), Fail> {
+    assert_eq!(rt; store.count(), 0);
+    assert_eq!(rt; store.last().get(), 0);
+    go_on(rt, alloc, store, lines)
+}
+
 /// The store of these lines.
 fn check(rt: &impl Abort, alloc: Global, lines: &[Line]) -> Result<Store, Fail> {
     let mut store = match Store::new(alloc) {
         Ok(store) => store,
         Err(_) => Store::new(alloc)?,
     };
-    assert_eq!(rt; store.count(), 0);
-    assert_eq!(rt; store.last().get(), 0);
-    go_on(rt, alloc, &mut store, lines)?;
+    begin(rt, alloc, &mut store, lines)?;
     Ok(store)
 }
 
@@ -210,13 +215,33 @@ fn copy_of(rt: &impl Abort, store: &Store) -> Result<Store, Fail> {
     Ok(copy)
 }
 
+fn go_on_both(
+    rt: &impl Abort,
+    alloc: Global,
+    store: &mut Store,
+    copy: &mut Store,
+    lines: &[Line],
+) -> Result<(), Fail> {
+    go_on(rt, alloc, store, lines)?;
+    go_on(rt, alloc, copy, lines)
+}
+
+/// The store goes on, and then a copy that was made before.
+fn go_on_twice(
+    rt: &impl Abort,
+    alloc: Global,
+    store: &mut Store,
+    lines: &[Line],
+) -> Result<(), Fail> {
+    let mut copy = copy_of(rt, store)?;
+    go_on_both(rt, alloc, store, &mut copy, lines)
+}
+
 /// What the store of the first lines and a copy of it answer to the next ones: each the same, as if the
 /// other weren't there.
 fn check_copy(rt: &impl Abort, alloc: Global, lines: &[Line], next: &[Line]) -> Result<(), Fail> {
     let mut store = check(rt, alloc, lines)?;
-    let mut copy = copy_of(rt, &store)?;
-    go_on(rt, alloc, &mut store, next)?;
-    go_on(rt, alloc, &mut copy, next)
+    go_on_twice(rt, alloc, &mut store, next)
 }
 
 fn query_of(alloc: Global, name: &str) -> Result<Query, Fail> {
@@ -228,6 +253,24 @@ fn query_of(alloc: Global, name: &str) -> Result<Query, Fail> {
     })
 }
 
+/// What the store answers to a query of the queue.
+fn counted(alloc: Global, store: &Store, name: &str) -> Result<String, Fail> {
+    let query = query_of(alloc, name)?;
+    shown(alloc, &store.query(&query))
+}
+
+fn check_counted(
+    rt: &impl Abort,
+    alloc: Global,
+    store: &Store,
+    name: &str,
+    want: &str,
+) -> Result<(), Fail> {
+    let got = counted(alloc, store, name)?;
+    assert_eq!(rt; got.as_str(), want, "of {name}");
+    Ok(())
+}
+
 /// The counts of the queue after these lines.
 fn check_counts(
     rt: &impl Abort,
@@ -237,10 +280,7 @@ fn check_counts(
     want: &str,
 ) -> Result<(), Fail> {
     let store = check(rt, alloc, lines)?;
-    let query = query_of(alloc, name)?;
-    let got = shown(alloc, &store.query(&query))?;
-    assert_eq!(rt; got.as_str(), want, "of {name}");
-    Ok(())
+    check_counted(rt, alloc, &store, name, want)
 }
 
 /// Groups of several messages, of which ten are handed out.

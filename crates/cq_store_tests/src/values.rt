@@ -140,25 +140,45 @@ fn ids_are_made_as_sha256sum_makes_them(rt: HostRuntime) -> Result<(), Fail> {
     Ok(())
 }
 
-#[test]
-fn numbers_end_where_the_rules_say(rt: HostRuntime) {
+fn check_moments(rt: &impl Abort) {
     let largest = 1_152_921_504_606_846_976;
     for (number, want) in [(largest, Some(largest)), (largest + 1, None)] {
         assert_eq!(rt; Moment::new(number).map(|moment| moment.get()), want);
     }
     assert_eq!(rt; Moment::zero().get(), 0);
+}
+
+fn check_timeouts(rt: &impl Abort) {
     for (number, want) in [(43_200, Some(43_200)), (43_201, None)] {
         assert_eq!(rt; Seconds::new(number).map(|timeout| timeout.get()), want);
     }
+}
+
+fn check_batch_sizes(rt: &impl Abort) {
     for (number, want) in [(0, None), (1, Some(1)), (10, Some(10)), (11, None)] {
         assert_eq!(rt; BatchSize::new(number).map(|size| size.get()), want);
     }
+}
+
+fn check_chain_sizes(rt: &impl Abort) {
     for (number, want) in [(0, None), (1, Some(1)), (8, Some(8)), (9, None)] {
         assert_eq!(rt; ChainSize::new(number).map(|size| size.get()), want);
     }
+}
+
+fn check_server_ids(rt: &impl Abort) {
     for (number, want) in [(0, None), (1, Some(1)), (u32::MAX, Some(u32::MAX))] {
         assert_eq!(rt; ServerId::new(number).map(|id| id.get()), want);
     }
+}
+
+#[test]
+fn numbers_end_where_the_rules_say(rt: HostRuntime) {
+    check_moments(&rt);
+    check_timeouts(&rt);
+    check_batch_sizes(&rt);
+    check_chain_sizes(&rt);
+    check_server_ids(&rt);
 }
 
 /// The text that the receipt of these numbers writes behind `old`.
@@ -182,13 +202,19 @@ fn receipts_are_written(rt: HostRuntime) -> Result<(), Fail> {
     Ok(())
 }
 
+/// The receipt of that text is written as that text.
+fn check_read(rt: &impl Abort, alloc: Global, text: &str) -> Result<(), Fail> {
+    let receipt = Receipt::read(text.as_bytes()).ok_or("no receipt")?;
+    let mut again = Vec::new(alloc);
+    receipt.write_into(&mut again)?;
+    assert_eq!(rt; again.as_slice(), text.as_bytes());
+    Ok(())
+}
+
 #[test]
 fn receipts_are_read(rt: HostRuntime) -> Result<(), Fail> {
     for text in ["1-2-3", "18446744073709551615-1-1"] {
-        let receipt = Receipt::read(text.as_bytes()).ok_or("no receipt")?;
-        let mut again = Vec::new(rt.alloc());
-        receipt.write_into(&mut again)?;
-        assert_eq!(rt; again.as_slice(), text.as_bytes());
+        check_read(&rt, rt.alloc(), text)?;
     }
     assert_eq!(rt; Receipt::read(b"1-2-3"), Receipt::new(1, 2, 3));
     for text in [
@@ -310,6 +336,16 @@ fn reply(alloc: Global, kind: u8) -> Result<Reply, Fail> {
     })
 }
 
+fn check_alike(rt: &impl Abort, alloc: Global, copy: &Reply, original: &Reply) -> Result<(), Fail> {
+    assert_eq!(rt; shown(alloc, copy)?, shown(alloc, original)?);
+    Ok(())
+}
+
+fn check_copy(rt: &impl Abort, alloc: Global, original: &Reply) -> Result<(), Fail> {
+    let copy = original.try_copy()?;
+    check_alike(rt, alloc, &copy, original)
+}
+
 #[test]
 fn copies_of_replies_are_equal(rt: HostRuntime) -> Result<(), Fail> {
     let alloc = rt.alloc();
@@ -317,8 +353,7 @@ fn copies_of_replies_are_equal(rt: HostRuntime) -> Result<(), Fail> {
     assert_eq!(rt; original.try_copy()?, original);
     for kind in 0..8 {
         let original = reply(alloc, kind)?;
-        let copy = original.try_copy()?;
-        assert_eq!(rt; shown(alloc, &copy)?, shown(alloc, &original)?);
+        check_copy(&rt, alloc, &original)?;
     }
     Ok(())
 }
