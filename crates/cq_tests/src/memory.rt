@@ -187,6 +187,31 @@ fn are_received(reply: &Reply, first: u16, handing: u32) -> bool {
     }
 }
 
+/// The entry of a receive hands out that message and the next nine of its group.
+fn check_received(
+    rt: &impl Abort,
+    desk: &mut Desk,
+    entry: &Entry,
+    first: u16,
+    handing: u32,
+) -> Result<(), Fail> {
+    let reply = apply(rt, desk, entry)?;
+    assert!(rt; are_received(&reply, first, handing), "{first}");
+    Ok(())
+}
+
+/// It comes a second time, too.
+fn receive_again(
+    rt: &impl Abort,
+    desk: &mut Desk,
+    entry: &Entry,
+    first: u16,
+    handing: u32,
+) -> Result<(), Fail> {
+    check_received(rt, desk, entry, first, handing)?;
+    check_received(rt, desk, entry, first, handing)
+}
+
 /// A receive, and a repeat of it, hand out that message and the next nine of its group.
 fn receive_ten(
     rt: &impl Abort,
@@ -196,11 +221,7 @@ fn receive_ten(
     handing: u32,
 ) -> Result<(), Fail> {
     let entry = made(alloc, desk, Call::Receive).ok_or("no entry")?;
-    let reply = apply(rt, desk, &entry)?;
-    assert!(rt; are_received(&reply, first, handing), "{first}");
-    let repeat = apply(rt, desk, &entry)?;
-    assert!(rt; are_received(&repeat, first, handing), "{first} again");
-    Ok(())
+    receive_again(rt, desk, &entry, first, handing)
 }
 
 fn receive_none(rt: &impl Abort, alloc: Global, desk: &mut Desk) -> Result<(), Fail> {
@@ -352,12 +373,26 @@ fn copy_of(desk: &Desk) -> Option<Desk> {
     }
 }
 
+/// The last round on a copy, which tells the same before.
+fn last_round_of(
+    rt: &impl Abort,
+    alloc: Global,
+    copy: &mut Desk,
+    before: Readings,
+) -> Result<(), Fail> {
+    assert_eq!(rt; told(copy), before);
+    last_round(rt, alloc, copy)
+}
+
+fn use_copy(rt: &impl Abort, alloc: Global, desk: &Desk, before: Readings) -> Result<(), Fail> {
+    let mut copy = copy_of(desk).ok_or("no copy")?;
+    last_round_of(rt, alloc, &mut copy, before)
+}
+
 /// The last round on a copy, which changes nothing of the store.
 fn check_copy(rt: &impl Abort, alloc: Global, desk: &Desk) -> Result<(), Fail> {
     let before = told(desk);
-    let mut copy = copy_of(desk).ok_or("no copy")?;
-    assert_eq!(rt; told(&copy), before);
-    last_round(rt, alloc, &mut copy)?;
+    use_copy(rt, alloc, desk, before)?;
     assert_eq!(rt; told(desk), before);
     Ok(())
 }

@@ -33,14 +33,21 @@ fn go_through(
     check_waiting(rt, tail, 0, 0, 0)
 }
 
+/// Whether it is the head, and whether it acts as tail. It is full.
+fn check_place(rt: &impl Abort, server: &Server, head: bool, acting: bool) {
+    assert_eq!(rt; server.is_head(), head);
+    assert_eq!(rt; server.is_acting(), acting);
+    assert!(rt; server.is_full());
+}
+
 fn check_a_request_goes_through_a_chain_of_two(
     rt: &impl Abort,
     alloc: Global,
     head: &mut Server,
     tail: &mut Server,
 ) -> Result<(), Fail> {
-    assert!(rt; head.is_head() && !head.is_acting() && head.is_full());
-    assert!(rt; !tail.is_head() && tail.is_acting() && tail.is_full());
+    check_place(rt, head, true, false);
+    check_place(rt, tail, false, true);
     go_through(rt, alloc, head, tail)
 }
 
@@ -88,11 +95,20 @@ fn check_queries_come_to_the_tail_alone(
     check_waiting(rt, tail, 0, 0, 1)
 }
 
+fn query_both(
+    rt: &impl Abort,
+    alloc: Global,
+    head: &mut Server,
+    tail: &mut Server,
+) -> Result<(), Fail> {
+    let query = counts(alloc)?;
+    check_queries_come_to_the_tail_alone(rt, &query, head, tail)
+}
+
 #[test]
 fn queries_come_to_the_tail_alone(rt: HostRuntime) -> Result<(), Fail> {
     let alloc = rt.alloc();
-    let query = counts(alloc)?;
     let mut head = member(&rt, alloc, 1, 2)?;
     let mut tail = member(&rt, alloc, 2, 2)?;
-    check_queries_come_to_the_tail_alone(&rt, &query, &mut head, &mut tail)
+    query_both(&rt, alloc, &mut head, &mut tail)
 }

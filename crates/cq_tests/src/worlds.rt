@@ -123,26 +123,36 @@ fn step(sim: &mut Sim, event: &Event) -> Result<Option<Answer>, WorldFault> {
     }
 }
 
+/// The number of the fault for which the event is refused, or 0.
+fn fault_code(sim: &mut Sim, event: &Event) -> u16 {
+    match step(sim, event) {
+        Ok(_) => 0,
+        Err(fault) => fault.code(),
+    }
+}
+
 /// The events, each of which is refused as its line says.
 fn go_on(rt: &impl Abort, alloc: Global, sim: &mut Sim, lines: &[Line]) -> Result<(), Fail> {
     for (row, want) in lines {
         let event = event_of(alloc, *row)?;
-        let got = match step(sim, &event) {
-            Ok(_) => 0,
-            Err(fault) => fault.code(),
-        };
-        assert_eq!(rt; got, *want);
+        assert_eq!(rt; fault_code(sim, &event), *want);
     }
     Ok(())
+}
+
+/// The answer that the event gives.
+fn given_by(sim: &mut Sim, event: &Event) -> Result<Answer, Fail> {
+    match step(sim, event) {
+        Ok(Some(answer)) => Ok(answer),
+        Ok(None) => Err(Fail::from("no answer")),
+        Err(_) => Err(Fail::from("refused")),
+    }
 }
 
 /// The answer that is put to the clients.
 fn given(alloc: Global, sim: &mut Sim, from: u32) -> Result<Answer, Fail> {
     let event = event_of(alloc, Row::Put(Who::Server(from), Who::Clients))?;
-    match step(sim, &event) {
-        Ok(given) => Ok(given.ok_or("no answer")?),
-        Err(_) => Err(Fail::from("refused")),
-    }
+    given_by(sim, &event)
 }
 
 fn check_created(rt: &impl Abort, answer: &Answer, number: u64, length: u64) {

@@ -23,20 +23,30 @@ fn again(client: &Client) -> Result<Option<Request>, Fail> {
     }
 }
 
+/// It asks by that request.
+fn check_asked(rt: &impl Abort, client: &mut Client, want: &Request) -> Result<(), Fail> {
+    let got = ask(client, &want.ask)?;
+    assert!(rt; got == *want);
+    Ok(())
+}
+
 /// It asks under the number that it has to.
 fn check_ask(rt: &impl Abort, alloc: Global, client: &mut Client, number: u64) -> Result<(), Fail> {
     let want = create(alloc, number)?;
-    let got = ask(client, &want.ask)?;
-    assert!(rt; got == want);
+    check_asked(rt, client, &want)
+}
+
+/// That request is the open one.
+fn check_open(rt: &impl Abort, client: &Client, want: &Request) -> Result<(), Fail> {
+    let got = again(client)?.ok_or("no request is open")?;
+    assert!(rt; got == *want);
     Ok(())
 }
 
 /// The open request is that of that number.
 fn check_again(rt: &impl Abort, alloc: Global, client: &Client, number: u64) -> Result<(), Fail> {
     let want = create(alloc, number)?;
-    let got = again(client)?.ok_or("no request is open")?;
-    assert!(rt; got == want);
-    Ok(())
+    check_open(rt, client, &want)
 }
 
 /// No request is open.
@@ -46,13 +56,16 @@ fn check_closed(rt: &impl Abort, client: &Client) -> Result<(), Fail> {
     Ok(())
 }
 
+fn is_busy(client: &mut Client, what: &Ask) -> bool {
+    ask(client, what) == Err(ClientFault::Busy)
+}
+
 /// It refuses to ask, since a request is open.
 fn check_busy(rt: &impl Abort, alloc: Global, client: &mut Client) -> Result<(), Fail> {
     let other = Ask::Remove {
         queue: QueueName::new(alloc, "r.fifo")?,
     };
-    let got = ask(client, &other);
-    assert!(rt; got == Err(ClientFault::Busy));
+    assert!(rt; is_busy(client, &other));
     Ok(())
 }
 

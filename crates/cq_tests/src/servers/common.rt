@@ -75,16 +75,12 @@ pub(super) fn ask(server: &mut Server, query: &Query) -> Result<(), WorldFault> 
     first
 }
 
-pub(super) fn take(
-    server: &mut Server,
-    from: ServerId,
-    message: &Message,
-) -> Result<(), WorldFault> {
+fn take(server: &mut Server, from: ServerId, message: &Message) -> Result<(), Fail> {
     let first = server.take(Party::Server(from), message);
     if first == Err(WorldFault::NoMemory) {
-        return server.take(Party::Server(from), message);
+        return Ok(server.take(Party::Server(from), message)?);
     }
-    first
+    Ok(first?)
 }
 
 /// The request of that number arrives at that moment of the server's clock.
@@ -107,8 +103,11 @@ pub(super) fn pass(
     taker: u32,
 ) -> Result<(), Fail> {
     let sender = id(sender)?;
-    let message = from.put(party(taker)?).ok_or("nothing waits")?;
-    Ok(take(to, sender, &message)?)
+    let taker = party(taker)?;
+    match from.put(taker) {
+        Some(message) => take(to, sender, &message),
+        None => Err(Fail::from("nothing waits")),
+    }
 }
 
 fn reply_text(alloc: Global, reply: &Reply) -> Result<String, Fail> {
@@ -141,8 +140,10 @@ fn text(alloc: Global, message: &Message) -> Result<String, Fail> {
 
 /// The first message that waits for the party.
 fn put_text(alloc: Global, server: &mut Server, to: Party) -> Result<String, Fail> {
-    let message = server.put(to).ok_or("nothing waits")?;
-    text(alloc, &message)
+    match server.put(to) {
+        Some(message) => text(alloc, &message),
+        None => Err(Fail::from("nothing waits")),
+    }
 }
 
 /// The first message that waits for the party is that one.
