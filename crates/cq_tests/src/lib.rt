@@ -1,5 +1,5 @@
-//! The tests of stores, servers, worlds and scripts, by their public calls. They stand here since a crate that has tests is
-//! proved twice.
+//! The tests of servers, worlds and scripts, and of a store that is refused memory, by their public calls. They stand here
+//! since a crate that has tests is proved twice.
 #![tactic(auto)]
 
 #[cfg(test)]
