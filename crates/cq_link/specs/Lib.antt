@@ -1,0 +1,6 @@
+pub mod Faults
+pub mod Links
+pub mod Tags
+pub mod Inboxes
+pub mod Memories
+pub mod within
