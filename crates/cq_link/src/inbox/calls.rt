@@ -41,7 +41,7 @@ impl<T: Drop> InTake<T> {
         ensures taken { MatchOption result (taken_in self.new ≡ taken_in self.old) (λ item. taken_in self.new ≡ taken_in self.old ++ item ∷ []) }
     {
         match self.receiver.try_recv_as::<Takes, R>(rt, &mut self.pass) {
-            Ok(item) => Some(item),
+            Ok(taken) => Some(taken),
             Err(_) => None,
         }
     }
