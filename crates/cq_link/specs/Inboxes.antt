@@ -10,7 +10,7 @@ use Rattle.cq_link.specs.declared.inbox.InTake.{InTake}
 use Rattle.cq_link.specs.declared.inbox.InLeft.{InLeft}
 use Rattle.cq_link.specs.Tags.{of, put_by}
 
--- Which inbox it is. No two inboxes are the same while both have an end.
+-- Which inbox it is: by its table of passes, and the key that belongs to it.
 abbrev pub InboxId : Type 0 → Type 0
 InboxId T = TableId × Badge (Key (Tagged T))
 

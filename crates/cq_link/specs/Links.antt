@@ -8,7 +8,7 @@ use Rattle.cq_link.specs.declared.link.Putter.{Putter}
 use Rattle.cq_link.specs.declared.link.Taker.{Taker}
 use Rattle.cq_link.specs.declared.link.Left.{Left}
 
--- Which link it is. No two links are the same while both have an end.
+-- Which link it is: where its ring lies.
 abbrev pub LinkId : Type 0
 LinkId = Ptr × Ptr × Names × Global
 

@@ -1,6 +1,5 @@
 //! What a node needs of the ends of a link or of an inbox.
 ghost use Rattle.std.specs.Prelude.{◌≡◌, List, [], ◌∷◌, ◌++◌, OnOk, IfErr, MatchOption};
-ghost use Rattle.cq_link.specs.Links.{LinkId, putter_link, taker_link, put_on, taken_from};
 
 use crate::link::{Putter, Taker};
 use std::sync::Wait;
