@@ -1,3 +1,2 @@
-mod Asked
 mod Rows
 mod Told

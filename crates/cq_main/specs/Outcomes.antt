@@ -2,39 +2,13 @@
 -- after.
 use Rattle.std.specs.Prelude.{◌≡◌, ◌⊎◌, ℕ, Bool, true, false, List, [], ◌∷◌, ◌++◌, codes, Option, Result, Ok, Err}
 use Rattle.std.specs.Io.KnownBytes.{Appends, Consumes}
-use Rattle.std.specs.List.{list_all}
-use Rattle.clap.specs.Kinds.{Kinds}
-use Rattle.clap.specs.declared.error.kind.ErrorKind.{ErrorKind}
-use Rattle.clap.specs.declared.error.kind.ErrorKind.TheVariants.{DisplayHelp, DisplayVersion, OutOfMemory}
 use Rattle.cq_script.specs.Replays.{Replays}
 use Rattle.cq_script.specs.declared.fault.ScriptFault.{ScriptFault}
 use Rattle.cq_script.specs.declared.fault.ScriptFault.TheVariants.{WriteFailed}
 use Rattle.cq_script.specs.Sessions.{Sessions}
-use Rattle.cq_main.specs.declared.words.Choice.{Choice}
-use Rattle.cq_main.specs.declared.words.Choice.TheVariants.{Replay, Session}
+use Rattle.cq_words.specs.declared.choice.Choice.{Choice}
+use Rattle.cq_words.specs.declared.choice.Choice.TheVariants.{Replay, Session}
 use Rattle.cq_main.specs.Statuses.{fault_text, status_of}
-
--- ---- faults of the words
-
--- help was asked for, and not what the words may else be taken for
-abbrev pub is_help : ErrorKind → Bool
-is_help DisplayHelp = true
-is_help DisplayVersion = true
-is_help _ = false
-
--- the words are at fault
-abbrev pub is_usage : ErrorKind → Bool
-is_usage DisplayHelp = false
-is_usage DisplayVersion = false
-is_usage OutOfMemory = false
-is_usage _ = true
-
--- there is a fault, and each that may be told is such a one
-abbrev pub all_are : (ErrorKind → Bool) → Kinds → Bool
-all_are is_such [] = false
-all_are is_such (kind ∷ kinds) = list_all is_such (kind ∷ kinds)
-
--- ---- what was done
 
 -- the line of a fault was written, unless the writer failed
 abbrev pub Tells : ScriptFault → Bool → Option (List ℕ) → Option (List ℕ) → Type 0

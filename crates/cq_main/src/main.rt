@@ -4,7 +4,6 @@
 
 mod report;
 mod run;
-mod words;
 
 use crate::run::{run, tell_unread};
 use cq_script::Checked;

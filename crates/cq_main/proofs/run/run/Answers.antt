@@ -2,9 +2,9 @@
 use Rattle.std.proofs.Common.{inl, inr, map}
 use Rattle.std.specs.Prelude.{string_bytes}
 use Rattle.clap.specs.Words.{fault_of}
-use Rattle.cq_main.specs.CommandLine.{program_app}
-use Rattle.cq_main.specs.Outcomes.{is_help, is_usage}
-use Rattle.cq_main.proofs.Asked.{all_are_some, has_such}
+use Rattle.cq_words.specs.CommandLine.{program_app}
+use Rattle.cq_words.specs.WordFaults.{is_help, is_usage}
+use Rattle.cq_words.proofs.Asked.{all_are_some, has_such}
 use Rattle.cq_main.proofs.run.run.Goals as goal
 
 pub returns-in-Err-clause-help : goal.returns-in-Err-clause-help

@@ -1,6 +1,6 @@
 -- An error that neither asks for help nor is want of memory is a fault of the words, and nothing goes to the output.
 use Rattle.std.proofs.Common.{◌∙◌, ap, refl}
-use Rattle.cq_main.specs.Outcomes.{is_help}
+use Rattle.cq_words.specs.WordFaults.{is_help}
 use Rattle.cq_main.proofs.Told.{no_help}
 use Rattle.cq_main.proofs.run.tell_error.Goals as goal
 

@@ -1,8 +1,8 @@
 use Rattle.std.proofs.Common.{rules, ap, ap₂, ◌≡◌, ◌∙◌}
 use Rattle.std.proofs.lemmas.Result.{IfOk-weaker}
 use Rattle.clap.specs.Words.{App, app_of, with_subcommand}
-use Rattle.cq_main.specs.CommandLine.{bare_app}
-use Rattle.cq_main.proofs.words.program.Goals as goal
+use Rattle.cq_words.specs.CommandLine.{bare_app}
+use Rattle.cq_words.proofs.choice.program.Goals as goal
 
 pub returns : goal.returns
 returns c =

@@ -1,7 +1,7 @@
 use Rattle.std.specs.Str.Parse.{ExplainsUnsignedError, HasUnsignedDigitsIfOk, ParsesUnsigned}
 use Rattle.clap.specs.Words.{found_of}
-use Rattle.cq_main.proofs.Asked.{digit_by, digit_without, sized_by, sized_without}
-use Rattle.cq_main.proofs.words.servers_in.Goals as goal
+use Rattle.cq_words.proofs.Asked.{digit_by, digit_without, sized_by, sized_without}
+use Rattle.cq_words.proofs.choice.servers_in.Goals as goal
 
 pub returns-in-None-clause-asked : goal.returns-in-None-clause-asked
 returns-in-None-clause-asked c = sized_without _ c.in-None.ensures.rows

@@ -5,8 +5,8 @@ use Rattle.std.specs.Str.Parse.{digits_value, without_leading_plus}
 use Rattle.clap.specs.Words.{App, Row, Rule, Text, new_app, new_rule, one_of, with_rule, with_subcommand}
 use Rattle.clap.specs.Simple.{on_top}
 use Rattle.clap.specs.declared.builder.value_parser.ValueParser.TheVariants.{Signed}
-use Rattle.cq_main.specs.declared.words.Choice.{Choice}
-use Rattle.cq_main.specs.declared.words.Choice.TheVariants.{Replay, Session}
+use Rattle.cq_words.specs.declared.choice.Choice.{Choice}
+use Rattle.cq_words.specs.declared.choice.Choice.TheVariants.{Replay, Session}
 
 -- how many servers the chain begins with
 abbrev pub size_of : Choice → ℕ

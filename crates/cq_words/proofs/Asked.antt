@@ -11,13 +11,13 @@ use Rattle.clap.specs.declared.error.Error.{Error}
 use Rattle.clap.specs.declared.error.kind.ErrorKind.{ErrorKind}
 use Rattle.clap.specs.declared.error.kind.ErrorKind.TheVariants.{OutOfMemory}
 use Rattle.std.specs.List.{list_all}
-use Rattle.cq_main.specs.Outcomes.{all_are}
+use Rattle.cq_words.specs.WordFaults.{all_are}
 use Rattle.clap.specs.declared.parser.matches.Found.{Found}
 use Rattle.clap.proofs.OnLiterals.{clap_on_literals}
 use Rattle.clap.proofs.WalkLemmas.{one_text-rows}
-use Rattle.cq_main.specs.declared.words.Choice.{Choice}
-use Rattle.cq_main.specs.declared.words.Choice.TheVariants.{Replay, Session}
-use Rattle.cq_main.specs.CommandLine.{IsSized, asked_choice, digit_of, name_in, name_of, named_choice, program_app, size_of, text_in}
+use Rattle.cq_words.specs.declared.choice.Choice.{Choice}
+use Rattle.cq_words.specs.declared.choice.Choice.TheVariants.{Replay, Session}
+use Rattle.cq_words.specs.CommandLine.{IsSized, asked_choice, digit_of, name_in, name_of, named_choice, program_app, size_of, text_in}
 
 pub some_same : {A : Type 0} {x y : A} → Some x ≡ Some y → x ≡ y
 some_same {A} {x} {y} is = ap (λ (o : Option A). unwrap_or o x) is

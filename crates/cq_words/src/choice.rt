@@ -1,11 +1,11 @@
-//! The command line: what its words ask for, and what help says.
+//! What the words of the command line ask for.
 ghost use Rattle.std.specs.Prelude.{◌≡◌, ◌≢◌, ℕ, ◌<◌, ◌≤◌, ◌+◌, [], ◌∷◌, IfOk, IfSome, IsErrAnd, MatchResult, Some, false, map};
 ghost use Rattle.clap.specs.Words.{HasKind, app_of, fault_of, kind_of, subcommand_of, subcommand_rows_of};
 ghost use Rattle.clap.specs.declared.builder.command.Command.TheViews.{out-Command};
 ghost use Rattle.clap.specs.declared.error.kind.ErrorKind.TheVariants.{OutOfMemory};
-ghost use Rattle.cq_main.specs.declared.words.TheConstants.{ZERO_DIGIT};
-ghost use Rattle.cq_main.specs.declared.words.Choice.{Choice};
-ghost use Rattle.cq_main.specs.CommandLine.{IsAsked, IsSized, asked_choice, command_app, name_in, name_of, program_app, size_of, text_in};
+ghost use Rattle.cq_words.specs.declared.choice.TheConstants.{ZERO_DIGIT};
+ghost use Rattle.cq_words.specs.declared.choice.Choice.{Choice};
+ghost use Rattle.cq_words.specs.CommandLine.{IsAsked, IsSized, asked_choice, command_app, name_in, name_of, program_app, size_of, text_in};
 
 use clap::error::ErrorKind;
 use clap::{Arg, ArgMatches, Command, Error, value_parser};

@@ -1,0 +1,24 @@
+-- Which faults of the words ask for help, and which say that the words are at fault.
+use Rattle.std.specs.Prelude.{Bool, true, false, [], ◌∷◌}
+use Rattle.std.specs.List.{list_all}
+use Rattle.clap.specs.Kinds.{Kinds}
+use Rattle.clap.specs.declared.error.kind.ErrorKind.{ErrorKind}
+use Rattle.clap.specs.declared.error.kind.ErrorKind.TheVariants.{DisplayHelp, DisplayVersion, OutOfMemory}
+
+-- help was asked for, and not what the words may else be taken for
+abbrev pub is_help : ErrorKind → Bool
+is_help DisplayHelp = true
+is_help DisplayVersion = true
+is_help _ = false
+
+-- the words are at fault
+abbrev pub is_usage : ErrorKind → Bool
+is_usage DisplayHelp = false
+is_usage DisplayVersion = false
+is_usage OutOfMemory = false
+is_usage _ = true
+
+-- there is a fault, and each that may be told is such a one
+abbrev pub all_are : (ErrorKind → Bool) → Kinds → Bool
+all_are is_such [] = false
+all_are is_such (kind ∷ kinds) = list_all is_such (kind ∷ kinds)

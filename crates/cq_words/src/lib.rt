@@ -1,0 +1,7 @@
+//! The command line of the program `cq`: what its words ask for, and what help says.
+//! `specs/` holds the rules.
+#![tactic(auto)]
+
+mod choice;
+
+pub use choice::{Choice, choice_of};
