@@ -1,14 +1,10 @@
 -- lines in
-pub mod JsonText
-pub mod Members
-pub mod Receipts
 pub mod Sizes
 pub mod Cutting
 pub mod ReadSoFar
 pub mod Parts
 pub mod Ends
 -- lines out
-pub mod Floats
 pub mod Fronts
 pub mod Outcomes
 -- what a script does

@@ -1,11 +1,7 @@
 -- lines in
-pub mod Fields
-pub mod Receipts
 pub mod Events
 pub mod Line
 pub mod Lines
--- lines out
-pub mod Answers
 -- what a script does
 pub mod Output
 pub mod Runs

@@ -1,11 +1,8 @@
 -- What a line of a script says. A line is the list of its bytes, its line feed left out.
 use Rattle.std.specs.Prelude.{ℕ, ◌≡◌, ◌||◌, ◌==◌, List, Bool, if◌then◌else◌, Option, Some, None, Result, Ok, Err}
 use Rattle.std.specs.List.{list_all}
-use Rattle.std.specs.Str.{is_utf8}
-use Rattle.serde_json.specs.Data.{Data}
-use Rattle.serde_json.specs.Read.{read}
 use Rattle.cq_script.specs.Events.{event_in}
-use Rattle.cq_script.specs.Fields.{Reason, bad, refused, ◌>>=◌, or_bad}
+use Rattle.cq_json.specs.Fields.{Reason, bad, refused, ◌>>=◌, or_bad, json_of}
 use Rattle.cq_world.specs.declared.event.Event.{Event}
 use Rattle.cq_script.specs.declared.event_line.Line.{Line}
 use Rattle.cq_script.specs.declared.event_line.Line.TheVariants as lines
@@ -15,11 +12,6 @@ use Rattle.cq_script.specs.declared.event_line.LineFault.TheVariants.{Bad, NoMem
 -- a space, a tab or a carriage return
 abbrev pub is_blank_byte : ℕ → Bool
 is_blank_byte b = b == 32 || b == 9 || b == 13
-
--- The value that the bytes are as JSON, by serde_json's rules: of a key that an object has twice the
--- last value stands, arrays and objects nest to 127 levels, and each number fits a double.
-abbrev pub json_of : List ℕ → Option Data
-json_of bytes = if is_utf8 bytes then read bytes else None
 
 -- the event that the bytes say
 abbrev pub event_from : List ℕ → Result Event Reason

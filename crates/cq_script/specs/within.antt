@@ -1,5 +1,4 @@
 -- What the clauses of private functions cite. Nobody who calls this crate has to read it.
-pub mod Readers
 pub mod Readings
 pub mod Played
 pub mod Heard

@@ -1,14 +1,13 @@
 //! The JSON of events.
 ghost use Rattle.serde_json.specs.View.{view};
 ghost use Rattle.cq_script.specs.Events as spec;
-ghost use Rattle.cq_script.specs.within.Readers.{Gives, same};
+ghost use Rattle.cq_json.specs.Readers.{Gives, same};
 
-use crate::ask::read_ask;
-use crate::fields::{
-    Stop, has_only, member_at, moment_at, party_at, server_at, text_at, u32_at, u64_at,
-};
-use crate::texts::queue_name;
 use cq_base::{Party, Query, Request, ServerId};
+use cq_json::{
+    Stop, has_only, member_at, moment_at, party_at, queue_name, read_ask, server_at, text_at,
+    u32_at, u64_at,
+};
 use cq_world::Event;
 use serde_json::Value;
 use std::alloc::Global;

@@ -1,17 +1,14 @@
 //! A line of a script, and the event that it says.
 ghost use Rattle.std.specs.Prelude.{◌≡◌, Ok, Err, true};
 ghost use Rattle.std.specs.List.{list_all};
-ghost use Rattle.serde_json.specs.View.{view};
-ghost use Rattle.cq_script.specs.Line.{is_blank_byte, json_of, event_from, line_of, Reads};
-ghost use Rattle.cq_script.specs.Fields.{or_bad};
-ghost use Rattle.cq_script.specs.within.Readers.{Gives, same};
+ghost use Rattle.cq_script.specs.Line.{is_blank_byte, event_from, line_of, Reads};
+ghost use Rattle.cq_json.specs.Readers.{Gives, same};
 ghost use Rattle.cq_script.specs.declared.event_line.Line.TheVariants as lines;
 
 use crate::event::read_event;
-use crate::fields::Stop;
 use cq_base::BaseFault;
+use cq_json::{Stop, parse};
 use cq_world::Event;
-use serde_json::Value;
 use std::alloc::Global;
 use thiserror::Error;
 
@@ -43,22 +40,6 @@ fn is_blank(bytes: &[u8]) -> bool
     bytes
         .iter()
         .all(|byte| *byte == b' ' || *byte == b'\t' || *byte == b'\r')
-}
-
-#[tactic(auto, using(crate::proofs::JsonText::json_of_read, crate::proofs::JsonText::json_of_refused))]
-fn parse(alloc: Global, bytes: &[u8]) -> Result<Value, Stop>
-    ensures { Gives view result (or_bad (json_of bytes.now)) }
-{
-    match Value::from_slice(alloc, bytes) {
-        Ok(value) => Ok(value),
-        Err(error) => {
-            if error.is_memory() {
-                Err(Stop::Memory)
-            } else {
-                Err(Stop::Bad)
-            }
-        }
-    }
 }
 
 fn read_object(alloc: Global, bytes: &[u8]) -> Result<Event, Stop>

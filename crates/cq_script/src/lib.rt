@@ -3,29 +3,25 @@
 //! `specs/` holds the rules.
 #![tactic(auto)]
 
-mod ask;
 mod checked;
 mod event;
 mod event_line;
 mod fault;
-mod fields;
 pub mod laws;
 mod lines;
 mod outcome;
-mod output_line;
 mod run;
 mod session_reading;
 mod sessions;
 mod sink;
 mod source;
-mod texts;
 mod writing;
 
 pub use checked::Checked;
+pub use cq_json::{answer_line, refused_line};
 pub use event_line::{Line, LineFault, event_of};
 pub use fault::{LineRefusal, ScriptFault};
 pub use lines::{LINE_LIMIT, LINES_LIMIT};
-pub use output_line::{answer_line, refused_line};
 pub use run::replay;
 pub use sessions::session;
 pub use sink::Sink;

@@ -9,11 +9,11 @@ ghost use Rattle.cq_world.specs.Stands.{Shows, StandsFor};
 
 use crate::fault::ScriptFault;
 use crate::lines::Item;
-use crate::output_line::{answer_line, refused_line};
 use crate::sink::Sink;
 use crate::writing::{finish_writing, write_text};
 use cq_base::NoMemory;
 use cq_chain::WorldFault;
+use cq_json::{answer_line, refused_line};
 use cq_world::{Event, Sim};
 use std::alloc::Global;
 

@@ -5,7 +5,7 @@ use Rattle.std.specs.List.{before_first, after_first}
 use Rattle.std.specs.Str.{bytes_eq}
 use Rattle.std.specs.Str.Parse.{digits_value}
 use Rattle.cq_base.specs.Handle.{Handle, handle_text}
-use Rattle.cq_script.specs.Fields.{Reason, bad}
+use Rattle.cq_json.specs.Fields.{Reason, bad}
 
 -- the byte between two numbers of a handle
 abbrev pub is_hyphen : ℕ → Bool

@@ -2,8 +2,9 @@
 -- value, or why there is none.
 use Rattle.std.specs.Prelude.{ℕ, ◌&&◌, codes, List, Bool, true, false, nat_le, if◌then◌else◌, Option, Some, None, Result, Ok, Err, option_map, option_and_then, unwrap_or}
 use Rattle.std.specs.List.{list_any}
-use Rattle.std.specs.Str.{bytes_eq}
+use Rattle.std.specs.Str.{bytes_eq, is_utf8}
 use Rattle.serde_json.specs.Data.{Data, Members, no_members, member}
+use Rattle.serde_json.specs.Read.{read}
 use Rattle.serde_json.specs.Find.{get, as_bool, as_number, as_u64, as_str, as_object}
 use Rattle.cq_base.specs.Texts.{is_queue_name, is_id, has_body_characters, has_body_length}
 use Rattle.cq_base.specs.declared.fault.BaseFault.{BaseFault}
@@ -27,6 +28,13 @@ abbrev pub ◌>>=◌ : {A B : Type 0} → Result A Reason → (A → Result B Re
 abbrev pub or_bad : {A : Type 0} → Option A → Result A Reason
 or_bad None = Err bad
 or_bad (Some x) = Ok x
+
+-- ---- values
+
+-- The value that the bytes are as JSON, by serde_json's rules: of a key that an object has twice the
+-- last value stands, arrays and objects nest to 127 levels, and each number fits a double.
+abbrev pub json_of : List ℕ → Option Data
+json_of bytes = if is_utf8 bytes then read bytes else None
 
 -- ---- members
 

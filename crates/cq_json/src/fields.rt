@@ -6,17 +6,18 @@ ghost use Rattle.std.specs.Option.{option_copied};
 ghost use Rattle.std.specs.Str.{bytes_eq};
 ghost use Rattle.serde_json.specs.View.{view};
 ghost use Rattle.cq_base.specs.declared.limits.TheConstants.{MOMENT_LIMIT, SECONDS_LIMIT, BATCH_LIMIT, PARTY_LIMIT, NUMBER_LIMIT};
-ghost use Rattle.cq_script.specs.Fields as spec;
-ghost use Rattle.cq_script.specs.within.Readers.{Gives, same};
+ghost use Rattle.cq_json.specs.Fields as spec;
+ghost use Rattle.cq_json.specs.Readers.{Gives, same};
 
 use cq_base::{
     BATCH_LIMIT, BaseFault, BatchSize, MOMENT_LIMIT, Moment, NUMBER_LIMIT, PARTY_LIMIT, Party,
     SECONDS_LIMIT, Seconds, ServerId,
 };
 use serde_json::{Map, Value};
+use std::alloc::Global;
 
 /// Why reading a line stopped before an event was made.
-pub(crate) enum Stop {
+pub enum Stop {
     /// The line is none of the script's.
     Bad,
     /// One of its texts breaks that text's rule.
@@ -27,7 +28,7 @@ pub(crate) enum Stop {
 
 impl From<BaseFault> for Stop {
     ghost use Rattle.std.specs.Prelude.{◌≡◌};
-    ghost use Rattle.cq_script.specs.within.Readers.{stop_of};
+    ghost use Rattle.cq_json.specs.Readers.{stop_of};
 
     ghost from_gives = { λ fault stop. stop ≡ stop_of fault };
 
@@ -35,6 +36,23 @@ impl From<BaseFault> for Stop {
         match fault {
             BaseFault::NoMemory => Stop::Memory,
             _ => Stop::Text(fault),
+        }
+    }
+}
+
+/// The value that the bytes are as JSON: O(bytes).
+#[tactic(auto, using(crate::proofs::JsonText::json_of_read, crate::proofs::JsonText::json_of_refused))]
+pub fn parse(alloc: Global, bytes: &[u8]) -> Result<Value, Stop>
+    ensures { Gives view result (spec.or_bad (spec.json_of bytes.now)) }
+{
+    match Value::from_slice(alloc, bytes) {
+        Ok(value) => Ok(value),
+        Err(error) => {
+            if error.is_memory() {
+                Err(Stop::Memory)
+            } else {
+                Err(Stop::Bad)
+            }
         }
     }
 }
@@ -55,7 +73,7 @@ fn are_among(keys: &[&str], members: &Map<String, Value>) -> bool
 
 /// Whether it is an object, and no key in it is another than these.
 #[tactic(auto, using(crate::proofs::Members::members_among_view))]
-pub(crate) fn has_only(value: &Value, keys: &[&str]) -> bool
+pub fn has_only(value: &Value, keys: &[&str]) -> bool
     ensures { result ≡ spec.has_only (map (λ key. key.now) keys.now) (view value.now) }
 {
     match value.as_object() {
@@ -65,7 +83,7 @@ pub(crate) fn has_only(value: &Value, keys: &[&str]) -> bool
 }
 
 /// The value under the key.
-pub(crate) fn member_at<'v>(value: &'v Value, key: &str) -> Result<&'v Value, Stop>
+pub fn member_at<'v>(value: &'v Value, key: &str) -> Result<&'v Value, Stop>
     ensures { Gives (λ v. view v.now) result (spec.member_at key.now (view value.now)) }
 {
     match value.get(key) {
@@ -75,7 +93,7 @@ pub(crate) fn member_at<'v>(value: &'v Value, key: &str) -> Result<&'v Value, St
 }
 
 /// The text under the key.
-pub(crate) fn text_at<'v>(value: &'v Value, key: &str) -> Result<&'v str, Stop>
+pub fn text_at<'v>(value: &'v Value, key: &str) -> Result<&'v str, Stop>
     ensures { Gives (λ t. t.now) result (spec.text_at key.now (view value.now)) }
 {
     match member_at(value, key)?.as_str() {
@@ -141,42 +159,42 @@ fn party(value: &Value) -> Result<Party, Stop>
 }
 
 /// The server under the key.
-pub(crate) fn server_at(value: &Value, key: &str) -> Result<ServerId, Stop>
+pub fn server_at(value: &Value, key: &str) -> Result<ServerId, Stop>
     ensures { Gives same result (spec.number_at 1 PARTY_LIMIT key.now (view value.now)) }
 {
     server(member_at(value, key)?)
 }
 
 /// The party under the key.
-pub(crate) fn party_at(value: &Value, key: &str) -> Result<Party, Stop>
+pub fn party_at(value: &Value, key: &str) -> Result<Party, Stop>
     ensures { Gives same result (spec.party_at key.now (view value.now)) }
 {
     party(member_at(value, key)?)
 }
 
 /// The number under the key.
-pub(crate) fn u32_at(value: &Value, key: &str) -> Result<u32, Stop>
+pub fn u32_at(value: &Value, key: &str) -> Result<u32, Stop>
     ensures { Gives same result (spec.number_at 0 PARTY_LIMIT key.now (view value.now)) }
 {
     Ok(whole(member_at(value, key)?, 0, u64::from(PARTY_LIMIT))? as u32)
 }
 
 /// The number under the key.
-pub(crate) fn u64_at(value: &Value, key: &str) -> Result<u64, Stop>
+pub fn u64_at(value: &Value, key: &str) -> Result<u64, Stop>
     ensures { Gives same result (spec.number_at 0 NUMBER_LIMIT key.now (view value.now)) }
 {
     whole(member_at(value, key)?, 0, NUMBER_LIMIT)
 }
 
 /// The moment under the key.
-pub(crate) fn moment_at(value: &Value, key: &str) -> Result<Moment, Stop>
+pub fn moment_at(value: &Value, key: &str) -> Result<Moment, Stop>
     ensures { Gives same result (spec.number_at 0 MOMENT_LIMIT key.now (view value.now)) }
 {
     Ok(Moment::new(whole(member_at(value, key)?, 0, MOMENT_LIMIT)?).unwrap())
 }
 
 /// The text under the key, which may be missing.
-pub(crate) fn text_if_at<'v>(value: &'v Value, key: &str) -> Result<Option<&'v str>, Stop>
+pub fn text_if_at<'v>(value: &'v Value, key: &str) -> Result<Option<&'v str>, Stop>
     ensures { Gives option_copied result (spec.text_if_at key.now (view value.now)) }
 {
     match value.get(key) {
@@ -189,7 +207,7 @@ pub(crate) fn text_if_at<'v>(value: &'v Value, key: &str) -> Result<Option<&'v s
 }
 
 /// The truth value under the key, which may be missing.
-pub(crate) fn truth_if_at(value: &Value, key: &str) -> Result<Option<bool>, Stop>
+pub fn truth_if_at(value: &Value, key: &str) -> Result<Option<bool>, Stop>
     ensures { Gives same result (spec.truth_if_at key.now (view value.now)) }
 {
     match value.get(key) {
@@ -202,14 +220,14 @@ pub(crate) fn truth_if_at(value: &Value, key: &str) -> Result<Option<bool>, Stop
 }
 
 /// The visibility timeout under the key.
-pub(crate) fn seconds_at(value: &Value, key: &str) -> Result<Seconds, Stop>
+pub fn seconds_at(value: &Value, key: &str) -> Result<Seconds, Stop>
     ensures { Gives same result (spec.number_at 0 SECONDS_LIMIT key.now (view value.now)) }
 {
     seconds(member_at(value, key)?)
 }
 
 /// The visibility timeout under the key, which may be missing.
-pub(crate) fn seconds_if_at(value: &Value, key: &str) -> Result<Option<Seconds>, Stop>
+pub fn seconds_if_at(value: &Value, key: &str) -> Result<Option<Seconds>, Stop>
     ensures { Gives same result (spec.number_if_at 0 SECONDS_LIMIT key.now (view value.now)) }
 {
     match value.get(key) {
@@ -219,7 +237,7 @@ pub(crate) fn seconds_if_at(value: &Value, key: &str) -> Result<Option<Seconds>,
 }
 
 /// The number of messages under the key, which may be missing.
-pub(crate) fn batch_size_if_at(value: &Value, key: &str) -> Result<Option<BatchSize>, Stop>
+pub fn batch_size_if_at(value: &Value, key: &str) -> Result<Option<BatchSize>, Stop>
     ensures { Gives same result (spec.number_if_at 1 BATCH_LIMIT key.now (view value.now)) }
 {
     match value.get(key) {

@@ -2,9 +2,9 @@
 use Rattle.std.specs.Prelude.{◌≡◌, Result, Ok, Err}
 use Rattle.cq_base.specs.declared.fault.BaseFault.{BaseFault}
 use Rattle.cq_base.specs.declared.fault.BaseFault.TheVariants as faults
-use Rattle.cq_script.specs.Fields.{Reason, bad, refused}
-use Rattle.cq_script.specs.declared.fields.Stop.{Stop}
-use Rattle.cq_script.specs.declared.fields.Stop.TheVariants.{Bad, Text, Memory}
+use Rattle.cq_json.specs.Fields.{Reason, bad, refused}
+use Rattle.cq_json.specs.declared.fields.Stop.{Stop}
+use Rattle.cq_json.specs.declared.fields.Stop.TheVariants.{Bad, Text, Memory}
 
 -- why a reader stops where a text could not be made
 abbrev pub stop_of : BaseFault → Stop

@@ -2,7 +2,7 @@
 ghost use Rattle.std.specs.Prelude.{◌≡◌, ◌∷◌, ◌++◌, [], false, IfOk};
 ghost use Rattle.serde_json.specs.View.{view};
 ghost use Rattle.serde_json.specs.Written.{compact_text, has_float};
-ghost use Rattle.cq_script.specs.Answers.{delivery_data, deliveries_data, created_data, removed_data, sent_data, received_data, deleted_data, changed_data, counts_data, refusal_data, reply_data, request_data, query_data, told_data, answer_data, refused_data, answer_text, refused_text};
+ghost use Rattle.cq_json.specs.Answers.{delivery_data, deliveries_data, created_data, removed_data, sent_data, received_data, deleted_data, changed_data, counts_data, refusal_data, reply_data, request_data, query_data, told_data, answer_data, refused_data, answer_text, refused_text};
 
 use cq_base::{Delivery, NoMemory, Reply};
 use cq_chain::Answer;

@@ -1,7 +1,7 @@
 //! The JSON of asks.
 ghost use Rattle.serde_json.specs.View.{view};
-ghost use Rattle.cq_script.specs.Events as spec;
-ghost use Rattle.cq_script.specs.within.Readers.{Gives, same};
+ghost use Rattle.cq_json.specs.Asks as spec;
+ghost use Rattle.cq_json.specs.Readers.{Gives, same};
 
 use crate::fields::{
     Stop, batch_size_if_at, has_only, seconds_at, seconds_if_at, text_at, text_if_at, truth_if_at,
@@ -19,7 +19,7 @@ const DEFAULT_SECONDS: u32 = 30;
 /// `MaxNumberOfMessages`).
 const DEFAULT_BATCH: u8 = 1;
 
-#[tactic(auto, unfolding(crate::specs::Events::create_in))]
+#[tactic(auto, unfolding(crate::specs::Asks::create_in))]
 fn read_create(alloc: Global, value: &Value) -> Result<Ask, Stop>
     ensures { Gives same result (spec.create_in (view value.now)) }
 {
@@ -36,7 +36,7 @@ fn read_create(alloc: Global, value: &Value) -> Result<Ask, Stop>
     })
 }
 
-#[tactic(auto, unfolding(crate::specs::Events::remove_in))]
+#[tactic(auto, unfolding(crate::specs::Asks::remove_in))]
 fn read_remove(alloc: Global, value: &Value) -> Result<Ask, Stop>
     ensures { Gives same result (spec.remove_in (view value.now)) }
 {
@@ -49,7 +49,7 @@ fn read_remove(alloc: Global, value: &Value) -> Result<Ask, Stop>
     })
 }
 
-#[tactic(auto, unfolding(crate::specs::Events::send_in))]
+#[tactic(auto, unfolding(crate::specs::Asks::send_in))]
 fn read_send(alloc: Global, value: &Value) -> Result<Ask, Stop>
     ensures { Gives same result (spec.send_in (view value.now)) }
 {
@@ -68,7 +68,7 @@ fn read_send(alloc: Global, value: &Value) -> Result<Ask, Stop>
     })
 }
 
-#[tactic(auto, unfolding(crate::specs::Events::receive_in))]
+#[tactic(auto, unfolding(crate::specs::Asks::receive_in))]
 fn read_receive(alloc: Global, value: &Value) -> Result<Ask, Stop>
     ensures { Gives same result (spec.receive_in (view value.now)) }
 {
@@ -85,7 +85,7 @@ fn read_receive(alloc: Global, value: &Value) -> Result<Ask, Stop>
     })
 }
 
-#[tactic(auto, unfolding(crate::specs::Events::delete_in))]
+#[tactic(auto, unfolding(crate::specs::Asks::delete_in))]
 fn read_delete(alloc: Global, value: &Value) -> Result<Ask, Stop>
     ensures { Gives same result (spec.delete_in (view value.now)) }
 {
@@ -100,7 +100,7 @@ fn read_delete(alloc: Global, value: &Value) -> Result<Ask, Stop>
     })
 }
 
-#[tactic(auto, unfolding(crate::specs::Events::change_in))]
+#[tactic(auto, unfolding(crate::specs::Asks::change_in))]
 fn read_change(alloc: Global, value: &Value) -> Result<Ask, Stop>
     ensures { Gives same result (spec.change_in (view value.now)) }
 {
@@ -118,8 +118,8 @@ fn read_change(alloc: Global, value: &Value) -> Result<Ask, Stop>
 }
 
 /// The ask that the value says.
-#[tactic(auto, unfolding(crate::specs::Events::ask_in))]
-pub(crate) fn read_ask(alloc: Global, value: &Value) -> Result<Ask, Stop>
+#[tactic(auto, unfolding(crate::specs::Asks::ask_in))]
+pub fn read_ask(alloc: Global, value: &Value) -> Result<Ask, Stop>
     ensures { Gives same result (spec.ask_in (view value.now)) }
 {
     let kind = text_at(value, "kind")?;

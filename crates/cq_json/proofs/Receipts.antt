@@ -13,8 +13,8 @@ use Rattle.std.proofs.lemmas.Bool.Decides.{nat_tests}
 use borrow.Author.Tests.{ne_eqb, eq-eqb}
 use Rattle.cq_base.specs.Handle.{Handle, IsHandle, IsHandleNumber, handle_text}
 use Rattle.cq_base.proofs.HandleTexts.{same_handle}
-use Rattle.cq_script.specs.Fields.{Reason, bad}
-use Rattle.cq_script.specs.Receipts.{is_hyphen, handle_in, is_handle_number, is_handle, is_text_of, receipt_handle}
+use Rattle.cq_json.specs.Fields.{Reason, bad}
+use Rattle.cq_json.specs.Receipts.{is_hyphen, handle_in, is_handle_number, is_handle, is_text_of, receipt_handle}
 
 own : IsNumeralModel (AllDigits 10) (digits_value 10)
 own = numerals_by_value (AllDigits 10) tells_digits
