@@ -1,0 +1,8 @@
+//! The tests of scripts and sessions, by their public calls. They stand here since a crate that has tests is proved twice,
+//! and the program need not wait for them.
+#![tactic(auto)]
+
+#[cfg(test)]
+mod event_lines;
+#[cfg(test)]
+mod scripts;
