@@ -1,5 +1,8 @@
 //! The events of the world.
-use cq_base::{Moment, Party, Query, Request, ServerId};
+ghost use Rattle.std.specs.Prelude.{◌≡◌, IfOk};
+ghost use Rattle.cq_world.specs.Owners.{party_of};
+
+use cq_base::{Moment, NoMemory, Party, Query, Request, ServerId};
 
 /// One thing that happens in the world.
 #[derive(Debug, PartialEq, Eq, Drop)]
@@ -37,4 +40,50 @@ pub enum Event {
     Join {
         server: ServerId,
     },
+}
+
+impl Event {
+    /// The party whose event it is: each event is one party's alone, and a message that goes from one party to another
+    /// is put by the first and taken by the second.
+    pub fn party(&self) -> Party
+        ensures { result ≡ party_of self.now }
+    {
+        match self {
+            Event::Arrive { at, .. } => Party::Server(*at),
+            Event::Ask { at, .. } => Party::Server(*at),
+            Event::Put { from, .. } => *from,
+            Event::Take { to, .. } => *to,
+            Event::Crash { server } => Party::Server(*server),
+            Event::Detect { .. } => Party::Master,
+            Event::Join { .. } => Party::Master,
+        }
+    }
+
+    /// The same event. It shares the texts: O(1).
+    pub fn try_copy(&self) -> Result<Event, NoMemory>
+        ensures { IfOk result (λ copy. copy ≡ self.now) }
+    {
+        Ok(match self {
+            Event::Arrive { at, clock, request } => Event::Arrive {
+                at: *at,
+                clock: *clock,
+                request: request.try_copy()?,
+            },
+            Event::Ask { at, query } => Event::Ask {
+                at: *at,
+                query: query.try_copy()?,
+            },
+            Event::Put { from, to } => Event::Put {
+                from: *from,
+                to: *to,
+            },
+            Event::Take { from, to } => Event::Take {
+                from: *from,
+                to: *to,
+            },
+            Event::Crash { server } => Event::Crash { server: *server },
+            Event::Detect { server } => Event::Detect { server: *server },
+            Event::Join { server } => Event::Join { server: *server },
+        })
+    }
 }
