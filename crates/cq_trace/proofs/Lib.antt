@@ -1,0 +1,2 @@
+pub mod OfAudit
+pub mod Rows

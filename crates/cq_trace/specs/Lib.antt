@@ -1,0 +1,4 @@
+pub mod Orders
+pub mod Audits
+pub mod Faults
+pub mod within
