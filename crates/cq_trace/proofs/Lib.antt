@@ -1,2 +1,3 @@
 pub mod OfAudit
+pub mod OfLaws
 pub mod Rows

@@ -1,4 +1,5 @@
 pub mod Orders
 pub mod Audits
 pub mod Faults
+pub mod Deeds
 pub mod within

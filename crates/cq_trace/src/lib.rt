@@ -4,6 +4,7 @@
 mod auditing;
 mod bad_traces;
 mod fault;
+pub mod laws;
 mod order;
 mod rounds;
 mod trace;
