@@ -8,6 +8,7 @@ use std::test::Fail;
 
 mod changes;
 mod passing;
+mod traces;
 
 // Where the world refuses an event for want of memory, the event is tried once more, and a run goes on from there. So under
 // `rt try --test --fail-alloc N`, which refuses the Nth allocation of each test, each test passes, or ends
