@@ -1,8 +1,5 @@
--- objects in
 pub mod JsonText
 pub mod Members
 pub mod Receipts
--- lines out
-pub mod Floats
--- worked objects and lines
+-- worked objects
 pub mod Rows

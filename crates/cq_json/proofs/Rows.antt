@@ -1,4 +1,4 @@
--- Worked objects and lines, each computed by the definitions to what the rules give. The results were worked out by hand.
+-- Worked objects, each computed by the definitions to what the rules give. The results were worked out by hand.
 use Rattle.std.proofs.Common.{◌≡◌, ℕ, List, [], ◌∷◌, ◌++◌, map, None, Some, Result, Ok, Err, true, false, cond, nat_eq, codes, refl}
 use Rattle.std.specs.Prelude.{⊤}
 use Rattle.std.specs.Fmt.{digits}
@@ -8,10 +8,6 @@ use Rattle.cq_base.specs.Handle.{Handle}
 use Rattle.cq_base.specs.declared.ask.Ask.{Ask}
 use Rattle.cq_base.specs.declared.ask.Ask.TheVariants.{Create, Remove, Send, Receive, Delete, Change}
 use Rattle.cq_base.specs.declared.fault.BaseFault.TheVariants.{BadQueueName, BadGroup, BadDedup, InvalidMessageContents, BodyLength}
-use Rattle.cq_base.specs.declared.reply.Refusal.TheVariants.{QueueDoesNotExist}
-use Rattle.cq_base.specs.declared.reply.Reply.{Reply}
-use Rattle.cq_base.specs.declared.reply.Reply.TheVariants.{Created, Removed, Sent, Received, Deleted, Changed, Counts, Refused as Denied}
-use Rattle.cq_json.specs.Answers.{answer_data, answer_text, refused_data, refused_text}
 use Rattle.cq_json.specs.Asks.{create_in, remove_in, send_in, receive_in, delete_in, change_in, ask_in}
 use Rattle.cq_json.specs.Fields.{Reason, bad, refused, ◌>>=◌, or_bad, json_of}
 use Rattle.cq_json.specs.Receipts.{handle_in, receipt_handle}
@@ -210,65 +206,3 @@ bad_receipts =
 are_bad_receipts : map receipt_handle bad_receipts ≡ map (λ _. Err bad) bad_receipts
 unfolding receipt_handle handle_in digits
 are_bad_receipts = refl
-
--- ---- answers
-
--- a request's answer, at line 9
-abbrev told : Reply → List ℕ
-told reply = answer_text 9 (record { client = 7; number = 10; is_query = false; length = 8; reply = reply })
-
--- the line that says so, with ' for "
-abbrev line : List ℕ → List ℕ
-line text = json text ++ (10 ∷ [])
-
-abbrev request_line : List ℕ → List ℕ
-request_line reply = line (codes "{'client':7,'length':8,'line':9,'number':10,'reply':" ++ (reply ++ codes "}"))
-
-created : told (Created 1) ≡ request_line (codes "{'incarnation':1,'kind':'created'}")
-unfolding answer_data digits serde_json_on_literals
-created = refl
-
-removed : told Removed ≡ request_line (codes "{'kind':'removed'}")
-unfolding answer_data digits serde_json_on_literals
-removed = refl
-
-sent : told (Sent 5) ≡ request_line (codes "{'kind':'sent','sequence':5}")
-unfolding answer_data digits serde_json_on_literals
-sent = refl
-
-received_none : told (Received []) ≡ request_line (codes "{'kind':'received','messages':[]}")
-unfolding answer_data digits serde_json_on_literals
-received_none = refl
-
-received :
-    told (Received (record { receipt = receipt; group = codes "a"; body = codes "hello" } ∷ record { receipt = receipt; group = codes "b"; body = codes "ho" } ∷ []))
-    ≡ request_line (codes "{'kind':'received','messages':[{'body':'hello','group':'a','receipt':'1-2-3'},{'body':'ho','group':'b','receipt':'1-2-3'}]}")
-unfolding answer_data digits serde_json_on_literals
-received = refl
-
-deleted : told (Deleted true) ≡ request_line (codes "{'kind':'deleted','removed':true}")
-unfolding answer_data digits serde_json_on_literals
-deleted = refl
-
-deleted_nothing : told (Deleted false) ≡ request_line (codes "{'kind':'deleted','removed':false}")
-unfolding answer_data digits serde_json_on_literals
-deleted_nothing = refl
-
-changed : told Changed ≡ request_line (codes "{'kind':'changed'}")
-unfolding answer_data digits serde_json_on_literals
-changed = refl
-
-denied : told (Denied QueueDoesNotExist) ≡ request_line (codes "{'code':1,'kind':'refused','name':'QueueDoesNotExist'}")
-unfolding answer_data digits serde_json_on_literals
-denied = refl
-
--- an answer to a query has a tag, and no number
-counted :
-    answer_text 9 (record { client = 7; number = 10; is_query = true; length = 8; reply = Counts 1 3 })
-    ≡ line (codes "{'client':7,'length':8,'line':9,'reply':{'in_flight':3,'kind':'counts','visible':1},'tag':10}")
-unfolding answer_data digits serde_json_on_literals
-counted = refl
-
-refused_event : refused_text 1 31 (codes "NoSuchServer") ≡ line (codes "{'line':1,'name':'NoSuchServer','refused':31}")
-unfolding refused_data digits serde_json_on_literals
-refused_event = refl

@@ -4,7 +4,7 @@ use Rattle.std.proofs.lemmas.List.{drop_more, drop_all}
 use Rattle.cq_chain.specs.declared.fault.WorldFault.{WorldFault}
 use Rattle.cq_chain.specs.declared.message.Answer.{Answer}
 use Rattle.cq_chain.specs.Faults.{code_of, name_of}
-use Rattle.cq_json.specs.Answers.{refused_text}
+use Rattle.cq_answers.specs.Answers.{refused_text}
 use Rattle.cq_script.specs.Output.{after_said, event_text, given_text, output, text_from}
 use Rattle.cq_script.specs.declared.lines.Item.{Item}
 use Rattle.cq_script.specs.within.Played.{after_items}

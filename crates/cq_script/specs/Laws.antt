@@ -7,7 +7,7 @@ use Rattle.cq_world.specs.Runs.{given_from, refused_from}
 use Rattle.cq_world.specs.Worlds.{first_world}
 use Rattle.cq_world.specs.declared.event.Event.{Event}
 use Rattle.cq_script.specs.Faults.{line_code_of, line_name_of}
-use Rattle.cq_json.specs.Answers.{refused_text}
+use Rattle.cq_answers.specs.Answers.{refused_text}
 use Rattle.cq_script.specs.Output.{events_of, given_text, text_of}
 use Rattle.cq_script.specs.declared.fault.LineRefusal.{LineRefusal}
 use Rattle.cq_script.specs.declared.lines.Item.{Item}

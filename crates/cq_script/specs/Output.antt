@@ -7,7 +7,7 @@ use Rattle.cq_world.specs.Events.{refusal_of, given_by, after}
 use Rattle.cq_world.specs.Worlds.{World, first_world}
 use Rattle.cq_world.specs.declared.event.Event.{Event}
 use Rattle.cq_script.specs.Faults.{line_code_of, line_name_of}
-use Rattle.cq_json.specs.Answers.{answer_text, refused_text}
+use Rattle.cq_answers.specs.Answers.{answer_text, refused_text}
 use Rattle.cq_script.specs.declared.fault.LineRefusal.{LineRefusal}
 use Rattle.cq_script.specs.declared.lines.Item.{Item}
 

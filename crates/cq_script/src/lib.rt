@@ -18,7 +18,7 @@ mod source;
 mod writing;
 
 pub use checked::Checked;
-pub use cq_json::{answer_line, refused_line};
+pub use cq_answers::{answer_line, refused_line};
 pub use event_line::{Line, LineFault, event_of};
 pub use fault::{LineRefusal, ScriptFault};
 pub use lines::{LINE_LIMIT, LINES_LIMIT};

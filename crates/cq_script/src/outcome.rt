@@ -11,9 +11,9 @@ use crate::fault::ScriptFault;
 use crate::lines::Item;
 use crate::sink::Sink;
 use crate::writing::{finish_writing, write_text};
+use cq_answers::{answer_line, refused_line};
 use cq_base::NoMemory;
 use cq_chain::WorldFault;
-use cq_json::{answer_line, refused_line};
 use cq_world::{Event, Sim};
 use std::alloc::Global;
 

@@ -6,7 +6,7 @@ use Rattle.serde_json.specs.Written.{has_float, items_have_float}
 use Rattle.cq_base.specs.declared.reply.Delivery.{Delivery}
 use Rattle.cq_base.specs.declared.reply.Reply.{Reply}
 use Rattle.cq_base.specs.declared.reply.Reply.TheVariants.{Created, Removed, Sent, Received, Deleted, Changed, Counts, Refused}
-use Rattle.cq_json.specs.Answers.{delivery_data, reply_data, request_data, query_data, answer_data, refused_data}
+use Rattle.cq_answers.specs.Answers.{delivery_data, reply_data, request_data, query_data, answer_data, refused_data}
 use Rattle.cq_chain.specs.declared.message.Answer.{Answer}
 
 items_have_float-deliveries : (ds : List Delivery) → items_have_float (items_of (map delivery_data ds)) ≡ false
