@@ -1,0 +1,1 @@
+"""The protocol of Amazon SQS in front of `cq`, which keeps the queues."""
