@@ -66,7 +66,7 @@ class Members:
             return []
         if not isinstance(value, list) or not all(isinstance(one, str) for one in value):
             raise errors.invalid_parameter(f"{name} must be a list of strings.")
-        return value
+        return [_as_text(name, one) for one in value]
 
     def texts_by_name(self, name: str) -> dict[str, str]:
         """A map of texts. Clients also give numbers and truth values there, and mean their texts."""
@@ -75,7 +75,7 @@ class Members:
             return {}
         if not isinstance(value, dict):
             raise errors.invalid_parameter(f"{name} must be a map.")
-        return {key: _as_text(name, one) for key, one in value.items()}
+        return {_as_text(name, key): _as_text(name, one) for key, one in value.items()}
 
     def entries(self) -> list[Members]:
         value = self.values.get("Entries")
@@ -158,7 +158,7 @@ def _as_text(name: str, value: Any) -> str:
     if isinstance(value, int):
         return str(value)
     if not isinstance(value, str) or _has_surrogate(value):
-        raise errors.invalid_parameter(f"The values of {name} must be strings.")
+        raise errors.invalid_parameter(f"{name} must hold strings of Unicode characters.")
     return value
 
 

@@ -45,7 +45,7 @@ class JsonWire:
             raise errors.no_such_action(self._target)
         try:
             members = json.loads(body or b"{}")
-        except ValueError:
+        except (ValueError, RecursionError):
             raise errors.invalid_parameter("The request's body is no JSON.") from None
         if not isinstance(members, dict):
             raise errors.invalid_parameter("The request's body is no JSON object.")

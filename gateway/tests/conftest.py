@@ -1,0 +1,115 @@
+"""What tests share: started gateways, the ways to call them, and moto where it is installed."""
+
+from __future__ import annotations
+
+import itertools
+import re
+from collections.abc import Callable
+from typing import Any
+
+import pytest
+
+from started import START, ByBoto3, ByJson, ByQuery, Refused, Started, boto3_client
+
+try:
+    import moto
+    import moto.sqs.models
+except ImportError:
+    moto = None
+
+ONE = ["--servers", "1"]
+CHAIN = ["--servers", "3", "--lose", "0.2"]
+_names = itertools.count(1)
+
+
+def _started(words: list[str], room):
+    started = Started(*words, room=room)
+    yield started
+    assert started.stop() == 0
+
+
+@pytest.fixture(scope="session")
+def one(tmp_path_factory):
+    """A gateway on one server, whose clock the tests set."""
+    yield from _started(ONE, tmp_path_factory.mktemp("one"))
+
+
+@pytest.fixture(scope="session")
+def chain(tmp_path_factory):
+    """The same on a chain of three that loses a server five times a second."""
+    yield from _started(CHAIN, tmp_path_factory.mktemp("chain"))
+
+
+@pytest.fixture(params=["one", "chain"])
+def gateway(request):
+    return request.getfixturevalue(request.param)
+
+
+@pytest.fixture(params=["boto3", "json", "query"])
+def call(request, gateway) -> Callable[..., dict[str, Any]]:
+    if request.param == "boto3":
+        return ByBoto3(gateway.client())
+    return ByJson(gateway.url) if request.param == "json" else ByQuery(gateway.url)
+
+
+def new_name() -> str:
+    return f"q{next(_names)}.fifo"
+
+
+def new_queue(call, **attributes: str) -> str:
+    given = {"FifoQueue": "true", **attributes}
+    return call("CreateQueue", QueueName=new_name(), Attributes=given)["QueueUrl"]
+
+
+class Rules:
+    """A queue service whose clock stands still until a test moves it."""
+
+    def __init__(self, call, move: Callable[[int], None]) -> None:
+        self.call = call
+        self.move = move
+
+    def queue(self, **attributes: str) -> str:
+        return new_queue(self.call, **attributes)
+
+    def send(self, queue: str, dedup: str, group: str = "g", body: str = "b", **more: Any) -> dict[str, Any]:
+        return self.call("SendMessage", QueueUrl=queue, MessageBody=body, MessageGroupId=group,
+                         MessageDeduplicationId=dedup, **more)
+
+    def receive(self, queue: str, size: int = 10, **more: Any) -> list[dict[str, Any]]:
+        return self.call("ReceiveMessage", QueueUrl=queue, MaxNumberOfMessages=size, **more).get("Messages", [])
+
+    def bodies(self, queue: str, size: int = 10, **more: Any) -> list[str]:
+        return [message["Body"] for message in self.receive(queue, size, **more)]
+
+    def delete(self, queue: str, message: dict[str, Any]) -> None:
+        self.call("DeleteMessage", QueueUrl=queue, ReceiptHandle=message["ReceiptHandle"])
+
+    def change(self, queue: str, message: dict[str, Any], seconds: int) -> None:
+        self.call("ChangeMessageVisibility", QueueUrl=queue, ReceiptHandle=message["ReceiptHandle"],
+                  VisibilityTimeout=seconds)
+
+    def refused(self, code: str, action: Callable[[], Any]) -> None:
+        with pytest.raises(Refused) as refusal:
+            action()
+        assert re.fullmatch(rf"(AWS\.SimpleQueueService\.)?{code}", refusal.value.code)
+
+
+@pytest.fixture(params=["one", "chain", "moto"])
+def rules(request, monkeypatch):
+    if request.param != "moto":
+        gateway = request.getfixturevalue(request.param)
+        yield Rules(ByBoto3(gateway.client()), lambda step: gateway.set_clock(gateway.moment + step))
+        return
+    if moto is None:
+        pytest.skip("moto isn't installed")
+    moment = [START]
+    monkeypatch.setattr(moto.sqs.models, "unix_time_millis", lambda *_: float(moment[0]))
+    monkeypatch.setattr(moto.sqs.models, "unix_time", lambda *_: moment[0] / 1000)
+
+    def move(step: int) -> None:
+        moment[0] += step
+
+    if request.node.get_closest_marker("moto_differs"):
+        request.node.add_marker(pytest.mark.xfail(strict=True, reason="moto's rule is another one"))
+    with moto.mock_aws():
+        yield Rules(ByBoto3(boto3_client(None)), move)

@@ -1,0 +1,241 @@
+"""A gateway that was started for tests, and three ways to call it."""
+
+from __future__ import annotations
+
+import base64
+import json
+import os
+import re
+import subprocess
+import sys
+import urllib.error
+import urllib.parse
+import urllib.request
+import xml.etree.ElementTree
+from pathlib import Path
+from typing import Any
+
+import boto3
+import botocore.exceptions
+from botocore.config import Config
+
+TOP = Path(__file__).resolve().parents[2]
+START = 1_700_000_000_000
+
+
+def program() -> str:
+    return os.environ.get("HOBBYCHAIR_CQ") or str(TOP / "crates" / "cq_main" / "out" / "cq_main")
+
+
+def command(*words: str) -> list[str]:
+    return [sys.executable, "-m", "hobbychair", *words]
+
+
+def environment() -> dict[str, str]:
+    path = os.pathsep.join(filter(None, [str(TOP / "gateway"), os.environ.get("PYTHONPATH")]))
+    return {**os.environ, "PYTHONPATH": path, "HOBBYCHAIR_CQ": program()}
+
+
+class Refused(Exception):
+    """An error of SQS, whichever way it came."""
+
+    def __init__(self, code: str, status: int, shape: str | None = None) -> None:
+        super().__init__(f"{code} {status}")
+        self.code = code
+        self.status = status
+        self.shape = shape
+
+
+class Started:
+    """A running gateway."""
+
+    def __init__(self, *words: str, room: Path | None = None) -> None:
+        self.words = list(words)
+        self.clock_file = None
+        if room is not None:
+            self.clock_file = room / "clock"
+            self.set_clock(START)
+            self.words += ["--clock-file", str(self.clock_file)]
+        self.start()
+
+    def start(self) -> None:
+        self.process = subprocess.Popen(
+            command("--port", "0", *self.words), env=environment(), stdout=subprocess.PIPE, text=True
+        )
+        assert self.process.stdout is not None
+        self.said: list[str] = []
+        for line in self.process.stdout:
+            self.said.append(line.strip())
+            if line.startswith("listening on "):
+                self.url = line.split()[-1]
+                return
+        raise RuntimeError(f"the gateway ended with {self.process.wait()}: {self.said}")
+
+    def set_clock(self, moment: int) -> None:
+        assert self.clock_file is not None
+        self.moment = moment
+        new = self.clock_file.with_suffix(".new")
+        new.write_text(str(moment))
+        new.replace(self.clock_file)
+
+    def kill(self) -> None:
+        self.process.kill()
+        self.process.wait()
+
+    def stop(self) -> int:
+        self.process.terminate()
+        try:
+            return self.process.wait(20)
+        finally:
+            self.process.kill()
+
+    def client(self):
+        return boto3_client(self.url)
+
+
+def boto3_client(url: str | None, **more: Any):
+    return boto3.client(
+        "sqs",
+        endpoint_url=url,
+        region_name="us-east-1",
+        aws_access_key_id="any",
+        aws_secret_access_key="any",
+        config=Config(retries={"max_attempts": 0}, max_pool_connections=64, **more),
+    )
+
+
+class ByBoto3:
+    """Calls by the real client, in the protocol that its version speaks."""
+
+    def __init__(self, client) -> None:
+        self.client = client
+
+    def __call__(self, action: str, **members: Any) -> dict[str, Any]:
+        method = re.sub(r"(?<!^)(?=[A-Z])", "_", action).lower()
+        try:
+            result = getattr(self.client, method)(**members)
+        except botocore.exceptions.ClientError as error:
+            answer = error.response
+            raise Refused(answer["Error"]["Code"], answer["ResponseMetadata"]["HTTPStatusCode"],
+                          type(error).__name__) from None
+        result.pop("ResponseMetadata", None)
+        return result
+
+
+def post(url: str, body: bytes, headers: dict[str, str]) -> tuple[int, dict[str, str], bytes]:
+    request = urllib.request.Request(url, data=body, headers=headers, method="POST")
+    try:
+        with urllib.request.urlopen(request, timeout=60) as response:
+            return response.status, dict(response.headers), response.read()
+    except urllib.error.HTTPError as error:
+        return error.code, dict(error.headers), error.read()
+
+
+class ByJson:
+    """Calls in AWS JSON 1.0, written here."""
+
+    def __init__(self, url: str) -> None:
+        self.url = url
+
+    def __call__(self, action: str, **members: Any) -> dict[str, Any]:
+        headers = {"X-Amz-Target": f"AmazonSQS.{action}", "Content-Type": "application/x-amz-json-1.0",
+                   "x-amzn-query-mode": "true"}
+        status, got, body = post(self.url + "/", json.dumps(members, default=_base64).encode(), headers)
+        assert got["Content-Type"] == "application/x-amz-json-1.0" and got["x-amzn-RequestId"]
+        result = json.loads(body)
+        if status != 200:
+            code, fault = got["x-amzn-query-error"].split(";")
+            assert fault == ("Sender" if status < 500 else "Receiver")
+            raise Refused(code, status, result["__type"].split("#")[1])
+        return _with_bytes(result)
+
+
+def _base64(value: bytes) -> str:
+    return base64.b64encode(value).decode()
+
+
+def _with_bytes(result: Any) -> Any:
+    if isinstance(result, dict):
+        return {key: base64.b64decode(value) if key == "BinaryValue" else _with_bytes(value)
+                for key, value in result.items()}
+    return [_with_bytes(one) for one in result] if isinstance(result, list) else result
+
+
+_FLAT = {"AttributeNames": "AttributeName", "MessageAttributeNames": "MessageAttributeName", "TagKeys": "TagKey",
+         "MessageSystemAttributeNames": "MessageSystemAttributeName"}
+_PAIRS = {"Attributes": ("Attribute", "Name"), "Tags": ("Tag", "Key"), "tags": ("Tag", "Key"),
+          "MessageAttributes": ("MessageAttribute", "Name"), "MessageSystemAttributes": ("MessageSystemAttribute", "Name")}
+_RESULT_PAIRS = {"Attribute": ("Attributes", "Name"), "Tag": ("Tags", "Key"), "MessageAttribute": ("MessageAttributes", "Name")}
+
+
+class ByQuery:
+    """Calls in the older query form, written here: to the queue's own URL, where there is one."""
+
+    def __init__(self, url: str) -> None:
+        self.url = url
+
+    def __call__(self, action: str, **members: Any) -> dict[str, Any]:
+        url = self.url + "/"
+        queue = members.pop("QueueUrl", None)
+        fields = {"Action": action, "Version": "2012-11-05", **self._flat(action, members)}
+        if queue is not None and queue.startswith("http"):
+            url = queue
+        elif queue is not None:
+            fields["QueueUrl"] = queue
+        body = urllib.parse.urlencode(fields).encode()
+        status, got, answer = post(url, body, {"Content-Type": "application/x-www-form-urlencoded"})
+        assert got["Content-Type"].startswith("text/xml")
+        root = xml.etree.ElementTree.fromstring(re.sub(rb' xmlns="[^"]*"', b"", answer))
+        if status != 200:
+            assert root.tag == "ErrorResponse" and root.findtext("RequestId")
+            assert root.findtext("Error/Type") == ("Sender" if status < 500 else "Receiver")
+            raise Refused(root.findtext("Error/Code"), status)
+        assert root.tag == f"{action}Response" and root.findtext("ResponseMetadata/RequestId")
+        result = root.find(f"{action}Result")
+        return {} if result is None else self._members(result)
+
+    def _flat(self, action: str, members: dict[str, Any]) -> dict[str, str]:
+        flat: dict[str, str] = {}
+        for name, value in members.items():
+            if name in _FLAT:
+                flat.update({f"{_FLAT[name]}.{place}": one for place, one in enumerate(value, 1)})
+            elif name in _PAIRS:
+                tag, key = _PAIRS[name]
+                for place, (one, content) in enumerate(value.items(), 1):
+                    flat[f"{tag}.{place}.{key}"] = one
+                    inner = content if isinstance(content, dict) else {"": content}
+                    for part, text in inner.items():
+                        text = _base64(text) if isinstance(text, bytes) else text
+                        flat[f"{tag}.{place}.Value{'.' + part if part else ''}"] = text
+            elif name == "Entries":
+                if not value:
+                    flat["Entries"] = ""
+                for place, entry in enumerate(value, 1):
+                    inner = self._flat(action, entry)
+                    flat.update({f"{action}RequestEntry.{place}.{part}": text for part, text in inner.items()})
+            else:
+                flat[name] = str(value)
+        return flat
+
+    def _members(self, element) -> dict[str, Any]:
+        found: dict[str, Any] = {}
+        for child in element:
+            if child.tag in _RESULT_PAIRS:
+                member, key = _RESULT_PAIRS[child.tag]
+                value = child.find("Value")
+                content: Any = value.text or ""
+                if len(value):
+                    content = {part.tag: base64.b64decode(part.text) if part.tag == "BinaryValue" else part.text
+                               for part in value}
+                found.setdefault(member, {})[child.findtext(key)] = content
+            elif child.tag == "Message":
+                found.setdefault("Messages", []).append(self._members(child))
+            elif child.tag.endswith("BatchResultEntry"):
+                found.setdefault("Successful", []).append(self._members(child))
+            elif child.tag == "BatchResultErrorEntry":
+                found.setdefault("Failed", []).append(self._members(child))
+            elif child.tag == "QueueUrl" and element.tag == "ListQueuesResult":
+                found.setdefault("QueueUrls", []).append(child.text)
+            else:
+                found[child.tag] = {"true": True, "false": False}.get(child.text, child.text or "")
+        return found

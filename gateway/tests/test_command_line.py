@@ -1,0 +1,91 @@
+"""The command line, and what is said where the gateway can't start or has to end."""
+
+from __future__ import annotations
+
+import os
+import signal
+import subprocess
+import time
+import urllib.error
+
+import pytest
+
+from started import ByJson, Started, command, environment
+
+
+def run(*words: str, **variables: str) -> subprocess.CompletedProcess:
+    return subprocess.run(command(*words), env={**environment(), **variables}, capture_output=True, text=True, timeout=60)
+
+
+@pytest.mark.parametrize("words", [
+    ["live"], ["--port", "x"], ["--port", "65536"], ["--servers", "0"], ["--servers", "9"], ["--lose", "0"],
+    ["--lose", "nan"], ["--account", "1"], ["dump"], ["serve", "extra"],
+])
+def test_bad_words_end_with_status_2(words):
+    ended = run(*words)
+    assert ended.returncode == 2 and ended.stdout == ""
+    assert ended.stderr.splitlines()[-1].startswith("hobbychair-sqs")
+
+
+def test_help_names_the_commands():
+    ended = run("--help")
+    assert ended.returncode == 0 and "dump" in ended.stdout and "serve" in ended.stdout
+    assert "--journal" in run("serve", "--help").stdout
+
+
+def test_a_missing_program_is_told():
+    for words, variables in ([["--cq", "/nowhere/cq"], {}], [[], {"HOBBYCHAIR_CQ": "/nowhere/cq"}]):
+        ended = run("--port", "0", *words, **variables)
+        assert ended.returncode == 1 and ended.stderr == "hobbychair-sqs: /nowhere/cq is no program\n"
+
+
+def test_a_program_that_ends_at_once_is_told(tmp_path):
+    ended = run("--port", "0", "--journal", str(tmp_path / "journal"), "--cq", "/bin/false")
+    assert ended.returncode == 1 and "cq is gone" in ended.stderr
+
+
+def test_a_port_that_is_taken_is_told():
+    gateway = Started()
+    port = gateway.url.rsplit(":", 1)[-1]
+    ended = run("--port", port)
+    assert ended.returncode == 1 and len(ended.stderr.splitlines()) == 1 and "can't listen" in ended.stderr
+    assert gateway.stop() == 0
+
+
+def children(pid: int) -> list[int]:
+    with open(f"/proc/{pid}/task/{pid}/children") as file:
+        return [int(word) for word in file.read().split()]
+
+
+def test_a_gateway_whose_cq_is_gone_ends_and_says_so():
+    gateway = Started()
+    call = ByJson(gateway.url)
+    call("CreateQueue", QueueName="q.fifo", Attributes={"FifoQueue": "true"})
+    (cq,) = children(gateway.process.pid)
+    os.kill(cq, signal.SIGKILL)
+    assert gateway.process.wait(20) == 1
+    with pytest.raises(urllib.error.URLError):
+        call("ListQueues")
+
+
+def test_cq_ends_with_the_gateway():
+    gateway = Started()
+    (cq,) = children(gateway.process.pid)
+    gateway.kill()
+    for _ in range(100):
+        if not os.path.exists(f"/proc/{cq}") or open(f"/proc/{cq}/stat").read().split()[2] == "Z":
+            return
+        time.sleep(0.05)
+    raise AssertionError("cq still runs")
+
+
+def test_a_chain_loses_servers_while_clients_work():
+    gateway = Started("--servers", "1", "--lose", "0.05")
+    call = ByJson(gateway.url)
+    call("CreateQueue", QueueName="q.fifo", Attributes={"FifoQueue": "true"})
+    for place in range(300):
+        sent = call("SendMessage", QueueUrl="q.fifo", MessageBody="b", MessageGroupId="g",
+                    MessageDeduplicationId=str(place))
+        assert sent["SequenceNumber"] == f"{place + 1:020}"
+    time.sleep(0.3)
+    assert gateway.stop() == 0

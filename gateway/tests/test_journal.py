@@ -1,0 +1,162 @@
+"""The journal: what a start keeps, cuts off and refuses."""
+
+from __future__ import annotations
+
+import json
+import subprocess
+
+import pytest
+
+from conftest import new_name
+from started import ByBoto3, Started, command, environment, program
+
+from hobbychair.journal import HEADER, MARK
+
+
+@pytest.fixture
+def journal(tmp_path):
+    """A journal of a queue with three messages."""
+    path = tmp_path / "journal"
+    gateway = Started("--journal", str(path), room=tmp_path)
+    call = ByBoto3(gateway.client())
+    call("CreateQueue", QueueName="q.fifo", Attributes={"FifoQueue": "true", "VisibilityTimeout": "0"})
+    for place in range(3):
+        call("SendMessage", QueueUrl="q.fifo", MessageBody=f"m{place}", MessageGroupId="g", MessageDeduplicationId=str(place))
+    assert gateway.stop() == 0
+    return path
+
+
+def bodies(path, tmp_path) -> list[str]:
+    gateway = Started("--journal", str(path), room=tmp_path)
+    messages = ByBoto3(gateway.client())("ReceiveMessage", QueueUrl="q.fifo", MaxNumberOfMessages=10)["Messages"]
+    assert gateway.stop() == 0
+    return [message["Body"] for message in messages]
+
+
+def start(path, *words: str) -> subprocess.CompletedProcess:
+    return subprocess.run(command("--port", "0", "--journal", str(path), *words), env=environment(), timeout=60,
+                          capture_output=True, text=True)
+
+
+def test_all_that_is_kept_comes_again(tmp_path):
+    path = tmp_path / "journal"
+    gateway = Started("--journal", str(path), room=tmp_path)
+    call = ByBoto3(gateway.client())
+    attributes = {"FifoQueue": "true", "VisibilityTimeout": "100"}
+    queue = call("CreateQueue", QueueName=new_name(), Attributes=attributes, tags={"a": "1"})["QueueUrl"].split("/")[-1]
+    gone = call("CreateQueue", QueueName=new_name(), Attributes=attributes)["QueueUrl"].split("/")[-1]
+    call("DeleteQueue", QueueUrl=gone)
+    call("SetQueueAttributes", QueueUrl=queue, Attributes={"DeduplicationScope": "messageGroup"})
+    call("TagQueue", QueueUrl=queue, Tags={"b": "2"})
+    call("UntagQueue", QueueUrl=queue, TagKeys=["a"])
+    given = {"x": {"DataType": "Binary", "BinaryValue": b"\0\xff"}, "y": {"DataType": "String", "StringValue": "ü"}}
+    for dedup in ("1", "2", "3"):
+        call("SendMessage", QueueUrl=queue, MessageBody="b" + dedup, MessageGroupId=dedup, MessageDeduplicationId=dedup,
+             MessageAttributes=given)
+    gateway.set_clock(gateway.moment + 5_000)
+    whole = {"QueueUrl": queue, "AttributeNames": ["All"], "MessageAttributeNames": ["All"]}
+    (first,) = call("ReceiveMessage", **whole, ReceiveRequestAttemptId="x")["Messages"]
+    (second,) = call("ReceiveMessage", **whole)["Messages"]
+    call("DeleteMessage", QueueUrl=queue, ReceiptHandle=second["ReceiptHandle"])
+    names = ["All"]
+    before = call("GetQueueAttributes", QueueUrl=queue, AttributeNames=names)["Attributes"]
+    call("PurgeQueue", QueueUrl=call("CreateQueue", QueueName="p.fifo", Attributes=attributes)["QueueUrl"])
+    gateway.kill()
+
+    gateway.start()
+    call = ByBoto3(gateway.client())
+    assert call("GetQueueAttributes", QueueUrl=queue, AttributeNames=names)["Attributes"] == before
+    assert call("ListQueueTags", QueueUrl=queue)["Tags"] == {"b": "2"}
+    assert [url.split("/")[-1] for url in call("ListQueues")["QueueUrls"]] == ["p.fifo", queue]
+    (again,) = call("ReceiveMessage", **whole, ReceiveRequestAttemptId="x")["Messages"]
+    assert again == first
+    (third,) = call("ReceiveMessage", **whole)["Messages"]
+    assert third["Body"] == "b3" and third["MessageAttributes"] == given
+    with pytest.raises(Exception, match="PurgeQueueInProgress"):
+        call("PurgeQueue", QueueUrl="p.fifo")
+    with pytest.raises(Exception, match="QueueDeletedRecently"):
+        call("CreateQueue", QueueName=gone, Attributes=attributes)
+    assert gateway.stop() == 0
+
+
+@pytest.mark.parametrize("cut", [1, 5, 12, 40])
+def test_a_cut_last_record_is_cut_off(journal, tmp_path, cut):
+    journal.write_bytes(journal.read_bytes()[:-cut])
+    assert bodies(journal, tmp_path) == ["m0", "m1"]
+    assert bodies(journal, tmp_path) == ["m0", "m1"]
+
+
+def test_a_last_record_with_a_wrong_byte_is_cut_off(journal, tmp_path):
+    data = bytearray(journal.read_bytes())
+    data[-3] ^= 1
+    journal.write_bytes(data)
+    assert bodies(journal, tmp_path) == ["m0", "m1"]
+
+
+@pytest.mark.parametrize("part", ["mark", "length", "checksum", "text"])
+def test_other_damage_stops_the_start_with_its_place(journal, part):
+    data = bytearray(journal.read_bytes())
+    second = data.index(MARK, data.index(MARK) + 1)
+    data[second + {"mark": 1, "length": 5, "checksum": 9, "text": 30}[part]] ^= 1
+    journal.write_bytes(data)
+    ended = start(journal)
+    assert ended.returncode == 1 and ended.stdout == ""
+    assert ended.stderr == (
+        f"hobbychair-sqs: {journal} is damaged at byte {second}, and there are good records behind it\n")
+    assert journal.read_bytes() == data, "a damaged journal is left as it is"
+
+
+def test_a_file_that_is_no_journal_is_left_alone(tmp_path):
+    path = tmp_path / "letter"
+    path.write_text("Dear Sir or Madam")
+    ended = start(path)
+    assert ended.returncode == 1 and len(ended.stderr.splitlines()) == 1 and "is no journal" in ended.stderr
+    assert path.read_text() == "Dear Sir or Madam"
+
+
+def test_a_journal_that_was_cut_at_its_birth_begins_anew(tmp_path):
+    path = tmp_path / "journal"
+    path.write_bytes(HEADER[:5])
+    gateway = Started("--journal", str(path))
+    assert gateway.stop() == 0
+    assert path.read_bytes() == HEADER
+
+
+def test_a_reply_that_differs_stops_the_start(journal):
+    import zlib
+    data = journal.read_bytes()
+    place = data.rindex(MARK)
+    record = json.loads(data[place + len(MARK) + 8 :])
+    record["digest"] = "0" * 32
+    text = json.dumps(record).encode()
+    length = len(text).to_bytes(4, "big")
+    journal.write_bytes(data[:place] + MARK + length + zlib.crc32(length + text).to_bytes(4, "big") + text)
+    ended = start(journal)
+    assert ended.returncode == 1 and len(ended.stderr.splitlines()) == 1
+    assert "isn't the one that was given" in ended.stderr
+
+
+def test_a_second_gateway_is_kept_out(journal):
+    gateway = Started("--journal", str(journal))
+    ended = start(journal)
+    assert ended.returncode == 1
+    assert ended.stderr == f"hobbychair-sqs: {journal} is in use by another process\n"
+    assert gateway.stop() == 0
+
+
+def test_a_journal_that_cannot_be_written_ends_the_gateway(tmp_path):
+    ended = start(tmp_path / "none" / "journal")
+    assert ended.returncode == 1 and len(ended.stderr.splitlines()) == 1 and "No such file" in ended.stderr
+
+
+def test_a_dump_is_a_script(journal):
+    script = subprocess.run(command("dump", str(journal)), env=environment(), capture_output=True, check=True).stdout
+    answers = subprocess.run([program(), "replay"], input=script, capture_output=True, check=True).stdout
+    replies = [json.loads(line)["reply"] for line in answers.splitlines()]
+    assert replies == [{"incarnation": 1, "kind": "created"}] + [
+        {"kind": "sent", "sequence": place} for place in (1, 2, 3)]
+
+
+def test_a_dump_of_no_journal_fails(tmp_path):
+    ended = subprocess.run(command("dump", str(tmp_path / "none")), env=environment(), capture_output=True, text=True)
+    assert ended.returncode == 1 and len(ended.stderr.splitlines()) == 1
