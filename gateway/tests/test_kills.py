@@ -9,20 +9,23 @@ import threading
 import time
 
 import pytest
+from botocore.exceptions import HTTPClientError
 
 from conftest import CHAIN, ONE
 from started import ByBoto3, Started, command, environment, program
 
 KILLS = int(os.environ.get("HOBBYCHAIR_TEST_KILLS", "50"))
 CLIENTS = 6
+TIMEOUT = 30
 
 
 class Load:
-    """Clients that note what was acknowledged: messages sent, messages received, messages deleted."""
+    """Clients that note what was acknowledged: messages sent, handed out and deleted."""
 
     def __init__(self, seed: int) -> None:
         self.random = random.Random(seed)
         self.sent: dict[str, list[str]] = {}
+        self.recent: list[str] = []
         self.maybe_sent: set[str] = set()
         self.deleted: set[str] = set()
         self.maybe_deleted: set[str] = set()
@@ -43,10 +46,10 @@ class Load:
                     self._send(call, queue, client, place)
                     if place % 2:
                         self._receive(call, queue)
-            except AssertionError as error:
-                failures.append(error)
-            except Exception:  # The gateway is gone.
+            except HTTPClientError:  # The gateway is gone.
                 pass
+            except BaseException as error:
+                failures.append(error)
 
         threads = [threading.Thread(target=work, args=(client,)) for client in range(CLIENTS)]
         for thread in threads:
@@ -61,75 +64,80 @@ class Load:
 
     def _send(self, call, queue: str, client: int, place: int) -> None:
         body = f"{self.round}-{client}-{place}"
-        group = f"g{client}"
         self.maybe_sent.add(body)
-        result = call("SendMessage", QueueUrl=queue, MessageBody=body, MessageGroupId=group, MessageDeduplicationId=body)
+        result = call("SendMessage", QueueUrl=queue, MessageBody=body, MessageGroupId=f"g{client}",
+                      MessageDeduplicationId=body)
         self.numbers[body] = result["SequenceNumber"]
-        self.sent.setdefault(group, []).append(body)
+        self.sent.setdefault(f"g{client}", []).append(body)
+        self.recent.append(body)
 
     def _receive(self, call, queue: str) -> None:
-        for message in call("ReceiveMessage", QueueUrl=queue, MaxNumberOfMessages=3, VisibilityTimeout=0,
+        for message in call("ReceiveMessage", QueueUrl=queue, MaxNumberOfMessages=3, VisibilityTimeout=TIMEOUT,
                             AttributeNames=["All"]).get("Messages", []):
-            body, count = message["Body"], int(message["Attributes"]["ApproximateReceiveCount"])
-            assert body not in self.deleted, f"{body} came again after its deletion was acknowledged"
-            self.counts[body] = max(count, self.counts.get(body, 0))
-            if random.random() < 0.7:
-                self.maybe_deleted.add(body)
+            self._note(message)
+            if self.random.random() < 0.7:
+                self.maybe_deleted.add(message["Body"])
                 call("DeleteMessage", QueueUrl=queue, ReceiptHandle=message["ReceiptHandle"])
-                # With an old receipt the message stays, and that is a good answer too.
+                self.deleted.add(message["Body"])
+            else:
+                call("ChangeMessageVisibility", QueueUrl=queue, ReceiptHandle=message["ReceiptHandle"],
+                     VisibilityTimeout=0)
 
-    def check(self, gateway: Started, queue: str) -> None:
-        """What was acknowledged is there, in order, and a repeated send is told the number of the first."""
-        call = ByBoto3(gateway.client())
+    def _note(self, message: dict) -> None:
+        body, count = message["Body"], int(message["Attributes"]["ApproximateReceiveCount"])
+        assert body in self.maybe_sent, f"{body} was never sent"
+        assert body not in self.deleted, f"{body} came again after its deletion was acknowledged"
+        assert count > self.counts.get(body, 0), f"an acknowledged handing of {body} was forgotten"
+        assert self.numbers.get(body) in (None, message["Attributes"]["SequenceNumber"])
+        self.counts[body] = count
+
+    def repeat(self, call, queue: str) -> None:
+        """A repeated send is told the number of the first."""
+        for body in self.random.sample(self.recent, min(20, len(self.recent))):
+            again = call("SendMessage", QueueUrl=queue, MessageBody=body, MessageGroupId="other",
+                         MessageDeduplicationId=body)
+            assert again["SequenceNumber"] == self.numbers[body]
+        self.recent = []
+
+    def drain(self, call, queue: str) -> None:
+        """All that was acknowledged, and not deleted, is there, each group in its order."""
         there: dict[str, list[str]] = {}
-        counts: dict[str, int] = {}
-        handed = []
-        while messages := call("ReceiveMessage", QueueUrl=queue, MaxNumberOfMessages=10, VisibilityTimeout=600,
+        while messages := call("ReceiveMessage", QueueUrl=queue, MaxNumberOfMessages=10, VisibilityTimeout=TIMEOUT,
                                AttributeNames=["All"]).get("Messages", []):
             for message in messages:
+                self._note(message)
                 there.setdefault(message["Attributes"]["MessageGroupId"], []).append(message["Body"])
-                counts[message["Body"]] = int(message["Attributes"]["ApproximateReceiveCount"])
-                handed.append(message["ReceiptHandle"])
-                number = self.numbers.get(message["Body"])
-                assert number in (None, message["Attributes"]["SequenceNumber"])
-        found = {body for bodies in there.values() for body in bodies}
-        assert found <= self.maybe_sent
+                self.deleted.add(message["Body"])
+            result = call("DeleteMessageBatch", QueueUrl=queue, Entries=[
+                {"Id": str(place), "ReceiptHandle": message["ReceiptHandle"]}
+                for place, message in enumerate(messages)])
+            assert len(result["Successful"]) == len(messages)
         for group, bodies in self.sent.items():
-            missing = [body for body in bodies if body not in found and body not in self.maybe_deleted]
+            found = there.get(group, [])
+            missing = [body for body in bodies if body not in self.maybe_deleted and body not in found]
             assert missing == [], f"acknowledged and lost: {missing[:5]}"
-            order = [body for body in there.get(group, []) if body in set(bodies)]
-            assert order == [body for body in bodies if body in found]
-        for body, count in counts.items():
-            assert count > self.counts.get(body, 0), f"a handing of {body} was forgotten"
-        for bodies in self.sent.values():
-            for body in bodies[-3:]:
-                again = call("SendMessage", QueueUrl=queue, MessageBody=body, MessageGroupId="other",
-                             MessageDeduplicationId=body)
-                assert again["SequenceNumber"] == self.numbers[body]
-        self.deleted |= self.maybe_sent - found
-        self.maybe_sent = set(found)
+            acknowledged = set(bodies)
+            assert [body for body in found if body in acknowledged] == [body for body in bodies if body in found]
+        self.sent = {}
         self.maybe_deleted = set()
-        self.sent = {group: [body for body in bodies if body in found] for group, bodies in self.sent.items()}
-        self.counts = counts
-        for start in range(0, len(handed), 10):
-            changed = call("ChangeMessageVisibilityBatch", QueueUrl=queue, Entries=[
-                {"Id": str(place), "ReceiptHandle": handle, "VisibilityTimeout": 0}
-                for place, handle in enumerate(handed[start : start + 10])])
-            assert not changed.get("Failed")
 
 
 @pytest.mark.parametrize("words", [ONE, CHAIN], ids=["one", "chain"])
 def test_what_was_acknowledged_outlives_kills(words, tmp_path):
     journal = tmp_path / "journal"
     load = Load(7)
-    gateway = Started(*words, "--journal", str(journal))
+    gateway = Started(*words, "--journal", str(journal), room=tmp_path)
     call = ByBoto3(gateway.client())
     url = call("CreateQueue", QueueName="q.fifo", Attributes={"FifoQueue": "true"}, tags={"a": "b"})["QueueUrl"]
     name = url.rsplit("/", 1)[-1]
-    for _ in range(KILLS):
-        load.run(gateway, name, random.uniform(0.02, 0.5))
+    for kill in range(1, KILLS + 1):
+        load.run(gateway, name, load.random.uniform(0.02, 0.6))
+        gateway.set_clock(gateway.moment + 1000 * TIMEOUT)
         gateway.start()
-        load.check(gateway, name)
+        call = ByBoto3(gateway.client())
+        load.repeat(call, name)
+        if load.random.random() < 0.5 or kill == KILLS:
+            load.drain(call, name)
     assert ByBoto3(gateway.client())("ListQueueTags", QueueUrl=name)["Tags"] == {"a": "b"}
     assert gateway.stop() == 0
     script = subprocess.run(command("dump", str(journal)), env=environment(), capture_output=True, check=True).stdout
@@ -137,3 +145,4 @@ def test_what_was_acknowledged_outlives_kills(words, tmp_path):
     assert len(answers.splitlines()) == len(script.splitlines()) // 2 > KILLS
     assert b"refused" not in answers
     print(f"{KILLS} kills, {len(load.numbers)} sends acknowledged, {len(load.deleted)} messages deleted")
+    assert len(load.numbers) > 10 * KILLS
