@@ -9,6 +9,7 @@ import threading
 import time
 
 import pytest
+from botocore.exceptions import ConnectionError as NotConnected
 from botocore.exceptions import HTTPClientError
 
 from conftest import CHAIN, ONE
@@ -46,7 +47,7 @@ class Load:
                     self._send(call, queue, client, place)
                     if place % 2:
                         self._receive(call, queue)
-            except HTTPClientError:  # The gateway is gone.
+            except (HTTPClientError, NotConnected):  # The gateway is gone.
                 pass
             except BaseException as error:
                 failures.append(error)
