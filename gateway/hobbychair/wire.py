@@ -33,6 +33,8 @@ class Reply:
     status: int
     headers: dict[str, str]
     body: bytes
+    worth_keeping: bool = True
+    """Whether it is given again to a client that asks once more since it was lost."""
 
 
 class JsonWire:

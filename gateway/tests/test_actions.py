@@ -3,6 +3,7 @@
 from __future__ import annotations
 
 import hashlib
+import json
 import time
 from concurrent.futures import ThreadPoolExecutor
 
@@ -489,3 +490,41 @@ def test_queues_go_by_their_names(gateway):
     assert len(receive(call, name)) == 2
     headers = {"X-Amz-Target": "AmazonSQS.ListQueueTags"}
     assert post(f"{gateway.url}/000000000000/{name}", b"{}", headers)[0] == 200
+
+
+# Lost answers
+
+def again(gateway, invocation: str, attempt: int, action: str, **members) -> tuple[int, bytes]:
+    headers = {"X-Amz-Target": f"AmazonSQS.{action}", "amz-sdk-invocation-id": invocation,
+               "amz-sdk-request": f"attempt={attempt}; max=5"}
+    status, _, body = post(gateway.url + "/", json.dumps(members).encode(), headers)
+    return status, body
+
+
+def test_a_lost_answer_is_given_once_more(gateway):
+    call = ByJson(gateway.url)
+    queue = new_queue(call)
+    send(call, queue, "1")
+    send(call, queue, "2")
+    first = again(gateway, f"{queue}-a", 1, "ReceiveMessage", QueueUrl=queue, MaxNumberOfMessages=1)
+    assert again(gateway, f"{queue}-a", 2, "ReceiveMessage", QueueUrl=queue, MaxNumberOfMessages=1) == first
+    assert b"ReceiptHandle" in first[1]
+    assert b"Messages" not in again(gateway, f"{queue}-b", 2, "ReceiveMessage", QueueUrl=queue)[1]
+    removed = again(gateway, f"{queue}-a", 1, "DeleteQueue", QueueUrl=queue)
+    assert removed[0] == 200 and again(gateway, f"{queue}-a", 3, "DeleteQueue", QueueUrl=queue) == removed
+    assert again(gateway, f"{queue}-a", 1, "DeleteQueue", QueueUrl=queue)[0] == 400
+
+
+def test_a_long_poll_that_is_asked_again_goes_on(gateway):
+    call = ByJson(gateway.url)
+    queue = new_queue(call)
+    with ThreadPoolExecutor(2) as pool:
+        polls = []
+        for attempt in (1, 2):
+            polls.append(pool.submit(again, gateway, queue, attempt, "ReceiveMessage", QueueUrl=queue, WaitTimeSeconds=10))
+            time.sleep(0.2)
+        send(call, queue, "1")
+        assert polls[0].result() == polls[1].result() and b"ReceiptHandle" in polls[0].result()[1]
+    # An empty answer isn't kept: who asks again waits again.
+    send(call, queue, "2", group="other")
+    assert b"ReceiptHandle" in again(gateway, f"{queue}-b", 2, "ReceiveMessage", QueueUrl=queue)[1]
