@@ -67,16 +67,13 @@ class Cq:
 
     async def _read(self) -> None:
         assert self._process.stdout is not None
-        how = "its output ended"
         try:
             while line := await self._process.stdout.readline():
                 self.on_output(json.loads(line))
         except (ValueError, OSError) as error:
-            how = f"its output can't be read: {error}"
-        if self._process.returncode is None and how == "its output ended":
-            status = await self._process.wait()
-            how = f"it ended with status {status}"
-        self.on_end(how)
+            self.on_end(f"its output can't be read: {error}")
+            return
+        self.on_end(f"it ended with status {await self._process.wait()}")
 
     async def stop(self) -> None:
         """Ends the program and waits for its end. Nothing is handed on any more."""
@@ -88,5 +85,11 @@ class Cq:
             except ProcessLookupError:
                 pass
             await self._process.wait()
+        assert self._process.stdin is not None
+        self._process.stdin.close()
+        try:
+            await self._process.stdin.wait_closed()
+        except OSError:
+            pass  # What was written last has reached nobody.
         if self._reader is not None:
             self._reader.cancel()

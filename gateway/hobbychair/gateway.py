@@ -12,8 +12,9 @@ from aiohttp import web
 
 from hobbychair.actions import Actions
 from hobbychair.clock import Clock, FileClock
-from hobbychair.cq import Cq
-from hobbychair.journal import Journal, NoJournal
+from hobbychair.cq import Cq, CqMissing
+from hobbychair.errors import SqsError
+from hobbychair.journal import Journal, JournalDamaged, NoJournal
 from hobbychair.queues import Queues
 from hobbychair.server import Server
 from hobbychair.store import Store
@@ -42,12 +43,14 @@ class Gateway:
         self._clock = Clock() if settings.clock_file is None else FileClock(settings.clock_file)
         self._ended: asyncio.Event = asyncio.Event()
         self._failed: str | None = None
+        self._serving = False
+        self._goes_on: asyncio.Task[None] | None = None
 
     async def run(self) -> str | None:
         """Serves until a signal comes, or tells why it had to end."""
         settings = self._settings
         journal = NoJournal() if settings.journal is None else Journal(settings.journal)
-        process = await Cq.start(settings.program, settings.servers)
+        self._process = process = await Cq.start(settings.program, settings.servers)
         process.on_end = self._program_ended
         try:
             store = Store(Queues(), self._clock, journal)
@@ -61,13 +64,17 @@ class Gateway:
                 losing = asyncio.create_task(self._lose_servers(store, settings.lose))
             for number in (signal.SIGINT, signal.SIGTERM):
                 asyncio.get_running_loop().add_signal_handler(number, self._ended.set)
+            self._serving = True
             await self._ended.wait()
+            self._serving = False
             if losing is not None:
                 losing.cancel()
             await runner.cleanup()
             return self._failed
         finally:
-            await process.stop()
+            if self._goes_on is not None:
+                self._goes_on.cancel()
+            await self._process.stop()
             journal.close()
 
     async def _replay(self, store: Store, journal: Journal) -> None:
@@ -100,10 +107,34 @@ class Gateway:
         while True:
             await asyncio.sleep(seconds)
             if store.chain is not None:
-                await store.chain.replace_one()
+                try:
+                    await store.chain.replace_one()
+                except SqsError:  # The program ended meanwhile.
+                    pass
 
     def _program_ended(self, how: str) -> None:
-        self._failed = f"cq is gone: {how}"
-        print(f"hobbychair-sqs: {self._failed}", file=sys.stderr, flush=True)
-        self._store.give_up(self._failed)
+        why = f"cq is gone: {how}"
+        print(f"hobbychair-sqs: {why}", file=sys.stderr, flush=True)
+        if self._serving and isinstance(self._store.journal, Journal) and self._store.chain is not None:
+            self._store.hold(why)
+            self._goes_on = asyncio.create_task(self._go_on(self._store.journal))
+        else:
+            self._end(why)
+
+    def _end(self, why: str) -> None:
+        self._failed = why
+        self._store.give_up(why)
         self._ended.set()
+
+    async def _go_on(self, journal: Journal) -> None:
+        """Starts the program again, and brings it to where the journal is. If that one ends as well, so does all."""
+        try:
+            await self._process.stop()
+            await journal.settled()
+            self._process = await Cq.start(self._settings.program, self._settings.servers)
+            self._process.on_end = self._program_ended
+            await self._store.go_on(self._process, self._settings.servers, journal.written_records())
+            print("hobbychair-sqs: cq was started again, and is where the journal is", file=sys.stderr, flush=True)
+        except (CqMissing, JournalDamaged, SqsError) as error:
+            print(f"hobbychair-sqs: {error}", file=sys.stderr, flush=True)
+            self._end(str(error))

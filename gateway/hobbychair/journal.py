@@ -4,6 +4,7 @@ from __future__ import annotations
 
 import asyncio
 import fcntl
+import io
 import json
 import os
 import sys
@@ -113,6 +114,7 @@ class Journal:
         self._waiting: list[dict[str, Any]] = []
         self._appended = 0
         self._on_disk = 0
+        self._size = 0
         self._more = asyncio.Event()
         self._written = asyncio.Condition()
         self._task: asyncio.Task[None] | None = None
@@ -127,6 +129,10 @@ class Journal:
     def records(self) -> Records:
         return Records(os.fdopen(os.dup(self._descriptor), "rb"), str(self._path))
 
+    def written_records(self) -> Records:
+        """What is on disk by now, while more may be written."""
+        return Records(io.BytesIO(os.pread(self._descriptor, self._size, 0)), str(self._path))
+
     def begin(self, end: int) -> None:
         """Cuts off what is behind the last good record, and begins to write behind it."""
         os.ftruncate(self._descriptor, end)
@@ -134,6 +140,7 @@ class Journal:
         if end == 0:
             self._write_all(HEADER)
         os.fsync(self._descriptor)
+        self._size = os.fstat(self._descriptor).st_size
         self._task = asyncio.create_task(self._keep_writing())
 
     def append(self, record: dict[str, Any]) -> None:
@@ -170,6 +177,7 @@ class Journal:
     def _commit(self, data: bytes) -> None:
         self._write_all(data)
         os.fdatasync(self._descriptor)
+        self._size += len(data)
 
     def _write_all(self, data: bytes) -> None:
         left = memoryview(data)

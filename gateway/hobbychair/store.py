@@ -3,7 +3,7 @@
 from __future__ import annotations
 
 import asyncio
-from collections.abc import Sequence
+from collections.abc import Iterable, Sequence
 from typing import Any
 
 from hobbychair import digests
@@ -29,6 +29,8 @@ class Store:
         self.clients = Clients()
         self.chain: Chain | None = None
         self._tags = 0
+        self._held: list[Request] | None = None
+        self._comparing = False
 
     def connect(self, process: Cq, servers: int) -> None:
         self.chain = Chain(process, servers, self._settled, self._refused)
@@ -73,9 +75,12 @@ class Store:
         return Request(what, client, number, clock, done, digest)
 
     def _carry(self, requests: list[Request]) -> None:
-        if self.chain is None:
+        if self._held is not None:
+            self._held.extend(requests)
+        elif self.chain is None:
             raise service_unavailable("The store is gone.")
-        self.chain.carry(requests)
+        else:
+            self.chain.carry(requests)
 
     async def _answer(self, request: Request) -> Answer | SqsError:
         try:
@@ -101,7 +106,8 @@ class Store:
                         f"the reply to client {request.client}'s request {request.number} isn't the one that was given"
                     ))
                     return
-            outcome = self.queues.settle(request.what, request.reply, request.clock)
+            # Where a fresh program takes the place of one that ended, the tables know it all already.
+            outcome = Outcome() if self._comparing else self.queues.settle(request.what, request.reply, request.clock)
             if outcome.changed and request.expected_digest is None:
                 self.journal.append({
                     "clock": request.clock,
@@ -131,7 +137,7 @@ class Store:
 
     # Starting from a journal
 
-    async def replay(self, records: Sequence[dict[str, Any]] | Any) -> int:
+    async def replay(self, records: Iterable[dict[str, Any]]) -> int:
         """Feeds all records to a fresh store and to the tables, and compares each reply."""
         count = 0
         piece: list[Request] = []
@@ -144,16 +150,52 @@ class Store:
                 continue
             self.clock.not_below(record["clock"])
             self.clients.saw(record["client"], record["number"])
-            what = Ask(record["ask"], record["kept"])
-            piece.append(self._request(what, record["client"], record["number"], record["clock"], record["digest"]))
+            piece.append(self._of_record(record))
             if len(piece) == _REPLAY_PIECE:
                 await self._replay_piece(piece)
                 piece = []
         await self._replay_piece(piece)
         return count
 
+    def _of_record(self, record: dict[str, Any]) -> Request:
+        what = Ask(record["ask"], record["kept"])
+        return self._request(what, record["client"], record["number"], record["clock"], record["digest"])
+
     async def _replay_piece(self, piece: list[Request]) -> None:
         self._carry(piece)
+        for request in piece:
+            await request.done
+
+    # Going on where the program has ended
+
+    def hold(self, why: str) -> None:
+        """The program is gone: all that is open waits for another one."""
+        assert self.chain is not None
+        self._held = self.chain.give_up(why)
+        self.chain = None
+
+    async def go_on(self, process: Cq, servers: int, records: Iterable[dict[str, Any]]) -> None:
+        """Feeds the journal to a fresh program, and then asks what is open, in its order and with its clocks."""
+        chain = Chain(process, servers, self._settled, self._refused)
+        process.listen()
+        self._comparing = True
+        piece: list[Request] = []
+        for record in records:
+            if "ask" in record:
+                piece.append(self._of_record(record))
+            if len(piece) == _REPLAY_PIECE:
+                await self._compare(chain, piece)
+                piece = []
+        await self._compare(chain, piece)
+        self._comparing = False
+        held, self._held = self._held or [], None
+        for request in held:
+            request.reply = None
+        self.chain = chain
+        chain.carry(held)
+
+    async def _compare(self, chain: Chain, piece: list[Request]) -> None:
+        chain.carry(piece)
         for request in piece:
             await request.done
 
@@ -162,4 +204,7 @@ class Store:
         if self.chain is not None:
             for request in self.chain.give_up(why):
                 self._fail(request, service_unavailable(why))
+        for request in self._held or []:
+            self._fail(request, service_unavailable(why))
+        self._held = None
         self.chain = None

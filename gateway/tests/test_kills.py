@@ -4,16 +4,15 @@ from __future__ import annotations
 
 import os
 import random
+import signal
 import subprocess
 import threading
 import time
 
 import pytest
-from botocore.exceptions import ConnectionError as NotConnected
-from botocore.exceptions import HTTPClientError
 
 from conftest import CHAIN, ONE
-from started import ByBoto3, Started, command, environment, program
+from started import ByBoto3, Refused, Started, command, environment, program
 
 KILLS = int(os.environ.get("HOBBYCHAIR_TEST_KILLS", "50"))
 CLIENTS = 6
@@ -47,17 +46,17 @@ class Load:
                     self._send(call, queue, client, place)
                     if place % 2:
                         self._receive(call, queue)
-            except (HTTPClientError, NotConnected):  # The gateway is gone.
-                pass
-            except BaseException as error:
-                failures.append(error)
+            except Exception as error:
+                # While the gateway is killed a connection or an answer may break off, and nothing else may happen.
+                if not stop.is_set() or isinstance(error, (AssertionError, Refused)):
+                    failures.append(error)
 
         threads = [threading.Thread(target=work, args=(client,)) for client in range(CLIENTS)]
         for thread in threads:
             thread.start()
         time.sleep(seconds)
-        gateway.kill()
         stop.set()
+        gateway.kill()
         for thread in threads:
             thread.join()
         self.round += 1
@@ -147,3 +146,48 @@ def test_what_was_acknowledged_outlives_kills(words, tmp_path):
     assert b"refused" not in answers
     print(f"{KILLS} kills, {len(load.numbers)} sends acknowledged, {len(load.deleted)} messages deleted")
     assert len(load.numbers) > 10 * KILLS
+
+
+@pytest.mark.parametrize("words", [ONE, CHAIN], ids=["one", "chain"])
+def test_no_client_sees_that_cq_was_killed(words, tmp_path):
+    gateway = Started(*words, "--journal", str(tmp_path / "journal"))
+    calls = [ByBoto3(gateway.client()) for _ in range(CLIENTS)]
+    calls[0]("CreateQueue", QueueName="q.fifo", Attributes={"FifoQueue": "true", "VisibilityTimeout": "600"})
+    failures: list[BaseException] = []
+    received: dict[str, list[int]] = {f"g{client}": [] for client in range(CLIENTS)}
+
+    def work(client: int) -> None:
+        call = calls[client]
+        try:
+            for place in range(40):
+                call("SendMessage", QueueUrl="q.fifo", MessageBody=str(place), MessageGroupId=f"g{client}",
+                     MessageDeduplicationId=f"{client}-{place}")
+                for message in call("ReceiveMessage", QueueUrl="q.fifo", AttributeNames=["All"]).get("Messages", []):
+                    assert message["Attributes"]["ApproximateReceiveCount"] == "1"
+                    received[message["Attributes"]["MessageGroupId"]].append(int(message["Body"]))
+                    call("DeleteMessage", QueueUrl="q.fifo", ReceiptHandle=message["ReceiptHandle"])
+        except BaseException as error:
+            failures.append(error)
+
+    threads = [threading.Thread(target=work, args=(client,)) for client in range(CLIENTS)]
+    for thread in threads:
+        thread.start()
+    kills = 0
+    observer = ByBoto3(gateway.client())
+    while any(thread.is_alive() for thread in threads):
+        time.sleep(0.1)
+        # An answer of the store says that the program runs again.
+        observer("GetQueueAttributes", QueueUrl="q.fifo", AttributeNames=["All"])
+        pid = gateway.process.pid
+        with open(f"/proc/{pid}/task/{pid}/children") as file:
+            for child in file.read().split():
+                os.kill(int(child), signal.SIGKILL)
+                kills += 1
+    for thread in threads:
+        thread.join()
+    assert failures == [] and kills > 2
+    while messages := calls[0]("ReceiveMessage", QueueUrl="q.fifo", AttributeNames=["All"]).get("Messages", []):
+        received[messages[0]["Attributes"]["MessageGroupId"]].append(int(messages[0]["Body"]))
+        calls[0]("DeleteMessage", QueueUrl="q.fifo", ReceiptHandle=messages[0]["ReceiptHandle"])
+    assert all(places == list(range(40)) for places in received.values())
+    assert gateway.stop() == 0
