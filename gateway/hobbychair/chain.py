@@ -185,6 +185,10 @@ class Chain:
         while None in await self._write_fenced(moves):
             pass
 
+    async def ready(self) -> None:
+        """Waits until the program has answered."""
+        await self._write_fenced([])
+
     async def replace_one(self) -> None:
         """Joins a server, waits until it acts, and then crashes one while requests are on their way."""
         await self._join()

@@ -55,15 +55,20 @@ class Gateway:
         try:
             store = Store(Queues(), self._clock, journal)
             self._store = store
-            store.connect(process, settings.servers)
-            if isinstance(journal, Journal):
-                await self._replay(store, journal)
+            try:
+                await store.connect(process, settings.servers)
+                if isinstance(journal, Journal):
+                    await self._replay(store, journal)
+            except SqsError as error:
+                raise NotStarted(self._failed or error.message) from None
+            for number in (signal.SIGINT, signal.SIGTERM):
+                asyncio.get_running_loop().add_signal_handler(number, self._ended.set)
             runner = await self._listen(store)
             losing = None
             if settings.lose is not None:
                 losing = asyncio.create_task(self._lose_servers(store, settings.lose))
-            for number in (signal.SIGINT, signal.SIGTERM):
-                asyncio.get_running_loop().add_signal_handler(number, self._ended.set)
+            if self._failed is not None:
+                raise NotStarted(self._failed)
             self._serving = True
             await self._ended.wait()
             self._serving = False
@@ -79,12 +84,7 @@ class Gateway:
 
     async def _replay(self, store: Store, journal: Journal) -> None:
         records = journal.records()
-        try:
-            count = await store.replay(records)
-        except Exception as error:
-            if self._failed is not None:
-                raise NotStarted(self._failed) from None
-            raise error
+        count = await store.replay(records)
         journal.begin(records.end)
         if count:
             print(f"replayed {count} records of the journal", flush=True)
@@ -114,7 +114,8 @@ class Gateway:
 
     def _program_ended(self, how: str) -> None:
         why = f"cq is gone: {how}"
-        print(f"hobbychair-sqs: {why}", file=sys.stderr, flush=True)
+        if self._serving:
+            print(f"hobbychair-sqs: {why}", file=sys.stderr, flush=True)
         if self._serving and isinstance(self._store.journal, Journal) and self._store.chain is not None:
             self._store.hold(why)
             self._goes_on = asyncio.create_task(self._go_on(self._store.journal))

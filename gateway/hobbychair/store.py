@@ -32,9 +32,11 @@ class Store:
         self._held: list[Request] | None = None
         self._comparing = False
 
-    def connect(self, process: Cq, servers: int) -> None:
+    async def connect(self, process: Cq, servers: int) -> None:
+        """Takes up a fresh program, and waits until it has answered."""
         self.chain = Chain(process, servers, self._settled, self._refused)
         process.listen()
+        await self.chain.ready()
 
     async def ask(self, ask: Ask) -> Answer:
         """The answer to one ask; a refusal is raised as the error of SQS that it is."""
@@ -178,6 +180,7 @@ class Store:
         """Feeds the journal to a fresh program, and then asks what is open, in its order and with its clocks."""
         chain = Chain(process, servers, self._settled, self._refused)
         process.listen()
+        await chain.ready()
         self._comparing = True
         piece: list[Request] = []
         for record in records:

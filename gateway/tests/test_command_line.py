@@ -41,7 +41,7 @@ def test_a_missing_program_is_told():
 
 def test_a_program_that_ends_at_once_is_told(tmp_path):
     ended = run("--port", "0", "--journal", str(tmp_path / "journal"), "--cq", "/bin/false")
-    assert ended.returncode == 1 and "cq is gone" in ended.stderr
+    assert ended.returncode == 1 and ended.stderr == "hobbychair-sqs: cq is gone: it ended with status 1\n"
 
 
 def test_a_port_that_is_taken_is_told():
