@@ -18,8 +18,9 @@ def test_a_deleted_message_is_not_sent_again_within_five_minutes(rules):
     first = rules.send(queue, "d")
     rules.delete(queue, rules.receive(queue)[0])
     rules.move(299_999)
-    assert rules.send(queue, "d")["SequenceNumber"] == first["SequenceNumber"]
+    again = rules.send(queue, "d")
     assert rules.receive(queue) == []
+    assert again["SequenceNumber"] == first["SequenceNumber"]
     rules.move(1)
     assert rules.send(queue, "d")["SequenceNumber"] > first["SequenceNumber"]
     assert len(rules.receive(queue)) == 1
