@@ -69,6 +69,8 @@ class Chain:
         written: list[dict[str, Any]] = []
         first = self._process.lines_written + 1
         for request in requests:
+            if self._half_way and isinstance(request.what, Count):
+                continue  # What it has to count may stand still before the tail; it is asked when the chain is whole.
             written.extend(self._lines_before(request))
             request.line = first + len(written)
             self._by_line[request.line] = request

@@ -89,3 +89,16 @@ def test_a_chain_loses_servers_while_clients_work():
         assert sent["SequenceNumber"] == f"{place + 1:020}"
     time.sleep(0.3)
     assert gateway.stop() == 0
+
+
+def test_counts_are_of_their_own_moment_while_servers_are_lost(tmp_path):
+    gateway = Started("--servers", "3", "--lose", "0.02", room=tmp_path)
+    call = ByJson(gateway.url)
+    call("CreateQueue", QueueName="q.fifo", Attributes={"FifoQueue": "true", "VisibilityTimeout": "10"})
+    call("SendMessage", QueueUrl="q.fifo", MessageBody="b", MessageGroupId="g", MessageDeduplicationId="d")
+    for _ in range(150):
+        assert len(call("ReceiveMessage", QueueUrl="q.fifo")["Messages"]) == 1
+        gateway.set_clock(gateway.moment + 10_000)
+        told = call("GetQueueAttributes", QueueUrl="q.fifo", AttributeNames=["All"])["Attributes"]
+        assert told["ApproximateNumberOfMessages"] == "1"
+    assert gateway.stop() == 0
