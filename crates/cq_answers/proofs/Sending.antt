@@ -1,7 +1,7 @@
 -- What is sent of an array, one value after the other.
-use Rattle.std.proofs.Common.{◌≡◌, ℕ, suc, List, [], ◌∷◌, ◌++◌, map, length, Some, ap, refl, subst, sym}
-use Rattle.serde.specs.Event.{Log, Logs, seq_begins, seq_ends}
-use Rattle.serde_json.specs.Data.{Data, array, item, no_items}
+use Rattle.std.proofs.Common.{◌≡◌, suc, List, [], ◌∷◌, ◌++◌, length, ap, refl, subst}
+use Rattle.serde.specs.Event.{Log, Logs, seq_ends}
+use Rattle.serde_json.specs.Data.{Data}
 use Rattle.serde_json.specs.Events.{SendsValue, SendsItems, items_len}
 use Rattle.serde_json.specs.View.{items_of}
 use Rattle.cq_answers.specs.within.Parts.{SendsEach}
