@@ -1,0 +1,100 @@
+//! What a server's node does at one end of a link, in one step.
+ghost use Rattle.std.specs.Prelude.{◌≡◌, ◌++◌, None, true, false, Ok, Option, List, OnOk, OnErr};
+ghost use Rattle.cq_base.specs.declared.party.Party as rust_party;
+ghost use Rattle.cq_chain.specs.declared.message.Message as rust_message;
+ghost use Rattle.cq_chain.specs.Stands.{Keeps};
+ghost use Rattle.cq_live.specs.Ends.{listed};
+ghost use Rattle.cq_live.specs.Moves.{Passes, PutsOne, TakesOne, Reads};
+
+use crate::ends::{In, Out};
+use cq_base::Party;
+use cq_chain::{Message, Server, WorldFault};
+use cq_link::{PutEnd, TakeEnd};
+use std::sync::Wait;
+
+/// The message that was handed back, or else the first that waits in the core's outbox.
+fn first_message(core: &mut Server, to: Party, kept: Option<Message>) -> Option<Message>
+    ensures { (back : rust_party.Party → Option rust_message.Message) → back to ≡ kept
+        → Passes core.old core.new back to result }
+{
+    match kept {
+        Some(message) => Some(message),
+        None => core.put(to),
+    }
+}
+
+/// Puts the first message for a party on its link: false where there is none or the link is full.
+pub fn put_one<R: Wait, P: PutEnd<Message> + Drop>(
+    rt: &R,
+    core: &mut Server,
+    to: Party,
+    out: &mut Out<P>,
+) -> bool
+    ensures link { P.link out.new.end ≡ P.link out.old.end }
+    ensures put { (back : rust_party.Party → Option rust_message.Message) → back to ≡ out.old.kept → result ≡ true
+        → PutsOne core.old core.new back to out.new.kept (P.list out.old.end) (P.list out.new.end) }
+    ensures unchanged { result ≡ false → P.list out.new.end ≡ P.list out.old.end }
+    ensures idle { (back : rust_party.Party → Option rust_message.Message) → back to ≡ out.old.kept → result ≡ false
+        → Passes core.old core.new back to out.new.kept }
+{
+    match first_message(core, to, out.kept.take()) {
+        Some(message) => match out.end.put(rt, message) {
+            Ok(()) => true,
+            Err(full) => {
+                out.kept = Some(full.0);
+                false
+            }
+        },
+        None => false,
+    }
+}
+
+/// Gives the core a message.
+fn read(core: &mut Server, from: Party, message: &Message) -> Result<(), WorldFault>
+    ensures ok { (back : rust_party.Party → Option rust_message.Message)
+        → OnOk result (TakesOne core.old core.new back from message.now) }
+    ensures err { OnErr result (Keeps core.old core.new) }
+{
+    core.take(from, message)
+}
+
+/// The message that was taken but not read, or else the next one of the link.
+fn next_message<R: Wait, T: TakeEnd<Message> + Drop>(rt: &R, end: &mut In<T>) -> Option<Message>
+    ensures link { T.link end.new.end ≡ T.link end.old.end }
+    ensures unread { end.new.unread ≡ None }
+    ensures list { (seen : List rust_message.Message) → T.list end.old.end ≡ seen ++ listed end.old.unread
+        → T.list end.new.end ≡ seen ++ listed result }
+{
+    match end.unread.take() {
+        Some(message) => Some(message),
+        None => end.end.take(rt),
+    }
+}
+
+/// Gives the core the next message of a link: false where there is none. One for which the core has no room stays
+/// unread.
+pub fn take_one<R: Wait, T: TakeEnd<Message> + Drop>(
+    rt: &R,
+    core: &mut Server,
+    from: Party,
+    end: &mut In<T>,
+) -> Result<bool, WorldFault>
+    ensures link { T.link end.new.end ≡ T.link end.old.end }
+    ensures taken { (back : rust_party.Party → Option rust_message.Message) (seen : List rust_message.Message)
+        → T.list end.old.end ≡ seen ++ listed end.old.unread
+        → result ≡ Ok true → Reads core.old core.new back from seen end.new.unread (T.list end.new.end) }
+    ensures list { (seen : List rust_message.Message) → T.list end.old.end ≡ seen ++ listed end.old.unread
+        → (result ≡ Ok true → ⊥) → T.list end.new.end ≡ seen ++ listed end.new.unread }
+    ensures idle { (result ≡ Ok true → ⊥) → Keeps core.old core.new }
+{
+    match next_message(rt, end) {
+        Some(message) => match read(core, from, &message) {
+            Ok(()) => Ok(true),
+            Err(fault) => {
+                end.unread = Some(message);
+                Err(fault)
+            }
+        },
+        None => Ok(false),
+    }
+}
