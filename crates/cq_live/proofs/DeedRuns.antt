@@ -1,22 +1,20 @@
 -- Runs that go on by one more deed, the deeds that the calls of a core are, and the first cores.
-use Rattle.std.proofs.Common.{◌≡◌, ℕ, ◌∙◌, ap, sym, refl, subst, cond, List, [], ◌∷◌, ◌++◌, drop, length, append_assoc, Bool, true, false, Option, Some, None}
+use Rattle.std.proofs.Common.{◌≡◌, ℕ, ◌∙◌, ap, sym, refl, subst, cond, List, [], ◌∷◌, ◌++◌, length, append_assoc, true, false, Option, Some, None}
 use Rattle.cq_base.specs.declared.ask.Request.{Request}
 use Rattle.cq_base.specs.declared.party.Party.{Party}
 use Rattle.cq_chain.specs.declared.master.Master as rust_master
 use Rattle.cq_chain.specs.declared.message.Message as rust
 use Rattle.cq_chain.specs.declared.server.Server as rust_server
 use Rattle.cq_base.specs.declared.party.Party.TheVariants as parties
-use Rattle.cq_chain.specs.Masters.{Master, Order, first_master}
+use Rattle.cq_chain.specs.Masters.{first_master}
 use Rattle.cq_chain.specs.Messages.{Message}
-use Rattle.cq_chain.specs.Parties.{same, addressed}
 use Rattle.cq_chain.specs.Servers.{Server, first_member, joining}
 use Rattle.cq_chain.specs.Stands as chain
 use Rattle.cq_chain.specs.Stands.{Means, IsFirst, posted, drained}
-use Rattle.cq_chain.specs.Steps.{Step, arrived, takes, crashed}
-use Rattle.cq_trace.specs.Deeds.{Deed, Arrived, Asked, Put, Took, Crashed, Detected, Joined, Standing, behind, Heads, StandsAs, IsMasterAs, Keeps, Puts, Steps, Orders, Does, DoesMaster, Run, ServerRun, MasterRun, put_in, put_to, taken_in, taken_from}
+use Rattle.cq_chain.specs.Steps.{arrived, takes, crashed}
+use Rattle.cq_trace.specs.Deeds.{Deed, Arrived, Asked, Put, Took, Crashed, Detected, Joined, Standing, behind, StandsAs, IsMasterAs, Keeps, Does, DoesMaster, Run, ServerRun, MasterRun, put_in, put_to, taken_in, taken_from}
 use Rattle.cq_world.specs.Worlds.{is_in, numbers_from, first_world}
-use Rattle.cq_world.proofs.Parties.{same-true, same-turned}
-use Rattle.cq_live.proofs.Standings.{set_back, as-first, as-put, as-drawn, server-step, master-order}
+use Rattle.cq_live.proofs.Standings.{set_back, as-first, as-put, as-drawn, server-step}
 
 -- ---- runs
 

@@ -1,3 +1,5 @@
 pub mod Standings
 pub mod DeedRuns
 pub mod Moving
+pub mod Places
+pub mod NodeSteps

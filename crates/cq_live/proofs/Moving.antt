@@ -1,5 +1,5 @@
 -- Moves of a server's node, by the calls of its core.
-use Rattle.std.proofs.Common.{◌≡◌, ◌∙◌, ap, sym, refl, subst, cond, List, [], ◌∷◌, ◌++◌, map, drop, Bool, true, false, Option, Some, None, Result, Ok, Err, OnOk}
+use Rattle.std.proofs.Common.{◌≡◌, ◌∙◌, ap, sym, refl, subst, cond, List, [], drop, Bool, true, false, Option, Some, None, Result, Ok, Err, OnOk}
 use Rattle.cq_base.specs.declared.party.Party.{Party}
 use Rattle.cq_chain.specs.declared.message.Message as rust
 use Rattle.cq_chain.specs.declared.server.Server as rust_server
@@ -10,10 +10,10 @@ use Rattle.cq_chain.specs.Stands as chain
 use Rattle.cq_chain.specs.Stands.{Means, IsFirst, drained}
 use Rattle.cq_chain.specs.Steps.{takes}
 use Rattle.cq_live.specs.Ends.{with_back}
-use Rattle.cq_live.specs.Moves.{Passes, PutsOne, TakesOne}
-use Rattle.cq_trace.specs.Deeds.{Put, Took, StandsAs, Keeps, Does, behind}
+use Rattle.cq_live.specs.Moves.{Passes, TakesOne}
+use Rattle.cq_trace.specs.Deeds.{Put, StandsAs, Keeps, Does, behind}
 use Rattle.cq_live.proofs.DeedRuns.{does-after, server-put, server-drawn, server-took}
-use Rattle.cq_world.proofs.Parties.{same-true, same-refl, same-turned}
+use Rattle.cq_world.proofs.Parties.{same-true, same-refl}
 
 -- what was handed back stays so
 back_same : (back : Party → Option rust.Message) (to : Party) (o : Option rust.Message) → back to ≡ o → (p : Party) → back p ≡ with_back back to o p

@@ -1,20 +1,17 @@
 -- What the calls of a core tell of a node that keeps, for each party, the message that a full link handed back.
-use Rattle.std.proofs.Common.{◌≡◌, ℕ, ◌∙◌, ap, sym, refl, subst, cond, List, [], ◌∷◌, ◌++◌, drop, length, append_assoc, Bool, true, false, Option, Some, None}
-use Rattle.cq_base.specs.declared.ask.Request.{Request}
+use Rattle.std.proofs.Common.{◌≡◌, ◌∙◌, ap, sym, refl, subst, cond, List, [], ◌∷◌, ◌++◌, drop, Bool, true, false, Option, Some, None}
 use Rattle.cq_base.specs.declared.party.Party.{Party}
 use Rattle.cq_chain.specs.declared.master.Master as rust_master
 use Rattle.cq_chain.specs.declared.message.Message as rust
 use Rattle.cq_chain.specs.declared.server.Server as rust_server
-use Rattle.cq_base.specs.declared.party.Party.TheVariants as parties
-use Rattle.cq_chain.specs.Masters.{Master, Order, first_master}
+use Rattle.cq_chain.specs.Masters.{Master, Order}
 use Rattle.cq_chain.specs.Messages.{Message}
 use Rattle.cq_chain.specs.Parties.{same, addressed}
-use Rattle.cq_chain.specs.Servers.{Server, first_member, joining}
+use Rattle.cq_chain.specs.Servers.{Server}
 use Rattle.cq_chain.specs.Stands as chain
 use Rattle.cq_chain.specs.Stands.{Means, IsFirst, posted, drained}
-use Rattle.cq_chain.specs.Steps.{Step, arrived, takes, crashed}
-use Rattle.cq_trace.specs.Deeds.{Deed, Arrived, Asked, Put, Took, Crashed, Detected, Joined, Standing, behind, Heads, StandsAs, IsMasterAs, Keeps, Puts, Steps, Orders, Does, DoesMaster, Run, ServerRun, MasterRun, put_in, put_to, taken_in, taken_from}
-use Rattle.cq_world.specs.Worlds.{is_in, numbers_from, first_world}
+use Rattle.cq_chain.specs.Steps.{Step}
+use Rattle.cq_trace.specs.Deeds.{Standing, behind, Heads, Keeps, Puts, Steps, Orders}
 use Rattle.cq_world.proofs.Parties.{same-true, same-turned}
 
 -- what a core and what was handed back stand for, by what the core stands for

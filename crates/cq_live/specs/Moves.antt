@@ -1,9 +1,11 @@
 -- What one step of a server's node does to what its core stands for, and to the list of one end.
-use Rattle.std.specs.Prelude.{◌≡◌, List, [], ◌∷◌, ◌++◌, Option}
+use Rattle.std.specs.Prelude.{◌≡◌, ◌==◌, ℕ, List, [], ◌∷◌, ◌++◌, slice_get, if◌then◌else◌, Option, Some}
 use Rattle.cq_base.specs.declared.party.Party.{Party}
 use Rattle.cq_chain.specs.declared.message.Message.{Message}
 use Rattle.cq_chain.specs.declared.server.Server.{Server}
-use Rattle.cq_live.specs.Ends.{listed, with_back}
+use Rattle.cq_live.specs.declared.ends.In.{In}
+use Rattle.cq_live.specs.declared.ends.Out.{Out}
+use Rattle.cq_live.specs.Ends.{party_at, listed, with_back, back_of}
 use Rattle.cq_trace.specs.Deeds.{Put, Took, StandsAs, Keeps, Does}
 
 -- nothing is done, but the first message for that party may have left the core's outbox and be kept
@@ -25,3 +27,27 @@ pub record Reads (old new : Server) (back : Party → Option Message) (from : Pa
   pub message : Message
   pub list : after ≡ (seen ++ message ∷ []) ++ listed unread
   pub done : TakesOne old new back from message
+
+-- ---- ends in their places
+
+module _ {P : Type 0} (list : P → List Message) where
+  -- on each link the messages of its place were put
+  abbrev pub ArePut : List (Out P) → (ℕ → List Message) → Type 0
+  ArePut outs sent = (place : ℕ) (out : Out P) → slice_get outs place ≡ Some out → list out.end ≡ sent place
+
+  -- The first message for the party at that place is put on its link, behind what was put on each link before.
+  pub record PutsAt (old new : Server) (before after : List (Out P)) (kept : Option Message) (sent : ℕ → List Message) (place : ℕ) : Type 0 where
+    pub message : Message
+    pub done : Does (Put (party_at place) message) (record { core = old; back = back_of before kept }) (record { core = new; back = back_of after kept })
+    pub lists : ArePut after (λ at. sent at ++ (if at == place then message ∷ [] else []))
+
+module _ {T : Type 0} (list : T → List Message) where
+  -- from each link the messages of its place were taken, and after them one that wasn't read, if there is one
+  abbrev pub AreTaken : List (In T) → (ℕ → List Message) → Type 0
+  AreTaken ins seen = (place : ℕ) (end : In T) → slice_get ins place ≡ Some end → list end.end ≡ seen place ++ listed end.unread
+
+  -- The core takes the next message of the party at that place, after what was taken from each link before.
+  pub record TakesAt (old new : Server) (back : Party → Option Message) (after : List (In T)) (seen : ℕ → List Message) (place : ℕ) : Type 0 where
+    pub message : Message
+    pub done : TakesOne old new back (party_at place) message
+    pub lists : AreTaken after (λ at. seen at ++ (if at == place then message ∷ [] else []))

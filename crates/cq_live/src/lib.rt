@@ -4,5 +4,7 @@
 
 mod ends;
 mod moves;
+mod server_node;
 
 pub use ends::{In, Out, ToClients};
+pub use server_node::ServerNode;

@@ -1,12 +1,13 @@
 //! What a server's node does at one end of a link, in one step.
-ghost use Rattle.std.specs.Prelude.{◌≡◌, ◌++◌, None, true, false, Ok, Option, List, OnOk, OnErr};
+ghost use Rattle.std.specs.Prelude.{◌≡◌, ℕ, ◌++◌, map, None, true, false, Ok, Option, List, OnOk, OnErr};
 ghost use Rattle.cq_base.specs.declared.party.Party as rust_party;
 ghost use Rattle.cq_chain.specs.declared.message.Message as rust_message;
 ghost use Rattle.cq_chain.specs.Stands.{Keeps};
-ghost use Rattle.cq_live.specs.Ends.{listed};
-ghost use Rattle.cq_live.specs.Moves.{Passes, PutsOne, TakesOne, Reads};
+ghost use Rattle.cq_live.specs.Ends.{listed, back_of};
+ghost use Rattle.cq_trace.specs.Deeds.{StandsAs, Keeps as StandingKept};
+ghost use Rattle.cq_live.specs.Moves.{Passes, PutsOne, TakesOne, Reads, ArePut, PutsAt, AreTaken, TakesAt};
 
-use crate::ends::{In, Out};
+use crate::ends::{In, Out, party_at};
 use cq_base::Party;
 use cq_chain::{Message, Server, WorldFault};
 use cq_link::{PutEnd, TakeEnd};
@@ -95,6 +96,51 @@ pub fn take_one<R: Wait, T: TakeEnd<Message> + Drop>(
                 Err(fault)
             }
         },
+        None => Ok(false),
+    }
+}
+
+/// Puts the first message for the party at that place on its link: false where there is none, or no such place, or the
+/// link is full.
+pub fn put_at<R: Wait, P: PutEnd<Message> + Drop>(
+    rt: &R,
+    core: &mut Server,
+    outs: &mut Vec<Out<P>>,
+    place: u32,
+) -> bool
+    ensures links { map (λ out. P.link out.end) outs.new.items ≡ map (λ out. P.link out.end) outs.old.items }
+    ensures put { (kept : Option rust_message.Message) (sent : ℕ → List rust_message.Message)
+        → ArePut P.list outs.old.items sent → result ≡ true
+        → PutsAt P.list core.old core.new outs.old.items outs.new.items kept sent place }
+    ensures idle { (kept : Option rust_message.Message) → result ≡ false
+        → StandingKept StandsAs (record { core = core.old; back = back_of outs.old.items kept }) (record { core = core.new; back = back_of outs.new.items kept }) }
+    ensures lists { (sent : ℕ → List rust_message.Message)
+        → ArePut P.list outs.old.items sent → result ≡ false → ArePut P.list outs.new.items sent }
+{
+    match outs.get_mut(place as usize) {
+        Some(out) => put_one(rt, core, party_at(place), out),
+        None => false,
+    }
+}
+
+/// Gives the core the next message of the party at that place: false where there is none, or no such place. One for which
+/// the core has no room stays unread.
+pub fn take_at<R: Wait, T: TakeEnd<Message> + Drop>(
+    rt: &R,
+    core: &mut Server,
+    ins: &mut Vec<In<T>>,
+    place: u32,
+) -> Result<bool, WorldFault>
+    ensures links { map (λ end. T.link end.end) ins.new.items ≡ map (λ end. T.link end.end) ins.old.items }
+    ensures taken { (back : rust_party.Party → Option rust_message.Message) (seen : ℕ → List rust_message.Message)
+        → AreTaken T.list ins.old.items seen → result ≡ Ok true
+        → TakesAt T.list core.old core.new back ins.new.items seen place }
+    ensures lists { (seen : ℕ → List rust_message.Message)
+        → AreTaken T.list ins.old.items seen → (result ≡ Ok true → ⊥) → AreTaken T.list ins.new.items seen }
+    ensures idle { (result ≡ Ok true → ⊥) → Keeps core.old core.new }
+{
+    match ins.get_mut(place as usize) {
+        Some(end) => take_one(rt, core, party_at(place), end),
         None => Ok(false),
     }
 }
