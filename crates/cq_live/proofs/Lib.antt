@@ -3,3 +3,4 @@ pub mod DeedRuns
 pub mod Moving
 pub mod Places
 pub mod NodeSteps
+pub mod FirstCores

@@ -3,6 +3,7 @@
 #![tactic(auto)]
 
 mod ends;
+mod first_core;
 mod moves;
 mod server_node;
 
