@@ -4,8 +4,12 @@
 
 mod ends;
 mod first_core;
+mod flags;
 mod moves;
 mod server_node;
+mod turns;
 
 pub use ends::{In, Out, ToClients};
+pub use flags::Flags;
 pub use server_node::ServerNode;
+pub use turns::{Always, Gate, Stop, Turn};

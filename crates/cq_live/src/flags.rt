@@ -1,0 +1,63 @@
+//! What nodes on different threads tell each other beside their links.
+use cq_base::{NoMemory, ServerId};
+use std::alloc::Global;
+use std::sync::atomic::AtomicBool;
+use std::sync::atomic::Ordering::SeqCst;
+
+/// Which servers have crashed, and which of the two clients have ended. All nodes of a run share it. No contract says
+/// anything of it: a server that is told to be down too early, or too late, changes only what the nodes do next.
+#[derive(Drop)]
+pub struct Flags {
+    crashed: Vec<AtomicBool>,
+    first_ended: AtomicBool,
+    second_ended: AtomicBool,
+}
+
+impl Flags {
+    /// No server of so many has crashed, and no client has ended.
+    pub fn new(alloc: Global, servers: u32) -> Result<Flags, NoMemory> {
+        let mut crashed = Vec::new(alloc);
+        for _ in 0..servers {
+            crashed.push(AtomicBool::new(false))?;
+        }
+        Ok(Flags {
+            crashed,
+            first_ended: AtomicBool::new(false),
+            second_ended: AtomicBool::new(false),
+        })
+    }
+
+    /// The flag of that server, if it is one of them.
+    fn flag(&self, id: ServerId) -> Option<&AtomicBool> {
+        self.crashed.get((id.get() - 1) as usize)
+    }
+
+    /// The server has crashed. It does nothing for a server that isn't one of them.
+    pub fn crash(&self, id: ServerId) {
+        if let Some(flag) = self.flag(id) {
+            flag.store(true, SeqCst);
+        }
+    }
+
+    /// Whether the server has crashed.
+    pub fn has_crashed(&self, id: ServerId) -> bool {
+        match self.flag(id) {
+            Some(flag) => flag.load(SeqCst),
+            None => false,
+        }
+    }
+
+    /// The first client has ended, or the second.
+    pub fn end(&self, second: bool) {
+        if second {
+            self.second_ended.store(true, SeqCst);
+        } else {
+            self.first_ended.store(true, SeqCst);
+        }
+    }
+
+    /// Whether both clients have ended.
+    pub fn have_ended(&self) -> bool {
+        self.first_ended.load(SeqCst) && self.second_ended.load(SeqCst)
+    }
+}
