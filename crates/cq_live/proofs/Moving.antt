@@ -16,7 +16,7 @@ use Rattle.cq_live.proofs.DeedRuns.{does-after, server-put, server-drawn, server
 use Rattle.cq_world.proofs.Parties.{same-true, same-refl}
 
 -- what was handed back stays so
-back_same : (back : Party → Option rust.Message) (to : Party) (o : Option rust.Message) → back to ≡ o → (p : Party) → back p ≡ with_back back to o p
+pub back_same : (back : Party → Option rust.Message) (to : Party) (o : Option rust.Message) → back to ≡ o → (p : Party) → back p ≡ with_back back to o p
 back_same back to o is p = go (same p to) refl where
   go : (t : Bool) → same p to ≡ t → back p ≡ cond t o (back p)
   go true e = ap back (same-true p to e) ∙ is

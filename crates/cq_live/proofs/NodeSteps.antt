@@ -1,6 +1,7 @@
 -- What a server's node did, after one more step.
-use Rattle.std.proofs.Common.{◌≡◌, ◌==◌, ℕ, ◌∙◌, ap, sym, refl, subst, cond, List, [], ◌∷◌, ◌++◌, map, Bool, true, false, Option, Result, Ok, Err}
+use Rattle.std.proofs.Common.{◌≡◌, ◌==◌, ℕ, ◌∙◌, ap, sym, refl, subst, cond, List, [], ◌∷◌, ◌++◌, append_assoc, map, ◌<◌, Bool, true, false, Option, Some, None, Result, Ok, Err}
 use Rattle.std.proofs.lemmas.Bool.{eqb-true}
+use Rattle.cq_base.specs.declared.ask.Request.{Request}
 use Rattle.cq_base.specs.declared.party.Party.{Party}
 use Rattle.cq_base.specs.declared.party.Party.TheVariants as parties
 use Rattle.cq_chain.specs.declared.message.Message as rust
@@ -10,17 +11,18 @@ use Rattle.cq_chain.specs.Stands as chain
 use Rattle.cq_live.specs.declared.ends.In.{In}
 use Rattle.cq_live.specs.declared.ends.Out.{Out}
 use Rattle.cq_live.specs.declared.ends.ToClients.{ToClients}
-use Rattle.cq_live.specs.Ends.{party_at, back_of, listed}
-use Rattle.cq_live.specs.Moves.{ArePut, PutsAt, AreTaken, TakesAt}
-use Rattle.cq_live.specs.Nodes.{ServerDid, ServerRan, of_client}
+use Rattle.cq_live.specs.Ends.{party_at, back_of, listed, if_for, of_client}
+use Rattle.cq_live.specs.Moves.{ArePut, PutsAt, AreTaken, TakesAt, PutsToOne, Part, Arrives}
+use Rattle.cq_live.specs.Nodes.{ServerDid, ServerRan, IsBound, MayDo, HasRoom, request_in, requests_in}
+use Rattle.cq_live.proofs.Bounds.{bound_more, bound_starved, part_both}
 use Rattle.cq_live.proofs.DeedRuns.{server-more, run-kept, put-more, taken-more}
 use Rattle.cq_live.proofs.Places.{both_no, itself, apart_of, is_apart, empty_end}
 use Rattle.cq_live.proofs.Standings.{as-kept}
-use Rattle.cq_trace.specs.Deeds.{Deed, Put, Took, StandsAs, Keeps, Does, event_of, put_to, taken_from}
+use Rattle.cq_trace.specs.Deeds.{Deed, Put, Took, Arrived, Crashed, StandsAs, Keeps, Does, event_of, put_in, put_to, taken_in, taken_from}
 use Rattle.cq_world.specs.declared.event.Event.{Event}
 use Rattle.cq_world.specs.declared.event.Event.TheVariants as events
 
-events_more : (f : Deed → Event) (deeds : List Deed) (d : Deed) → map f (deeds ++ d ∷ []) ≡ map f deeds ++ f d ∷ []
+pub events_more : (f : Deed → Event) (deeds : List Deed) (d : Deed) → map f (deeds ++ d ∷ []) ≡ map f deeds ++ f d ∷ []
 events_more f [] d = refl
 events_more f (e ∷ es) d = ap (λ us. f e ∷ us) (events_more f es d)
 
@@ -53,6 +55,23 @@ not_taken r fault is h = both_no true refl (ap is_taken (sym h ∙ is))
 pub none_taken : {E : Type 0} (r : Result Bool E) (taken : Bool) → r ≡ Ok taken → taken ≡ false → r ≡ Ok true → ⊥
 none_taken r taken is isnt h = both_no true refl (ap is_taken (sym h ∙ is) ∙ isnt)
 
+-- what a call answers to which no request came
+abbrev is_some_ok : {A E : Type 0} → Result (Option A) E → Bool
+is_some_ok (Ok (Some x)) = true
+is_some_ok (Ok None) = false
+is_some_ok (Err fault) = false
+
+pub refused_came : {A E : Type 0} (r : Result (Option A) E) (fault : E) → r ≡ Err fault → (x : A) → r ≡ Ok (Some x) → ⊥
+refused_came r fault is x h = both_no true refl (ap is_some_ok (sym h ∙ is))
+
+pub none_came : {A E : Type 0} (r : Result (Option A) E) → r ≡ Ok None → (x : A) → r ≡ Ok (Some x) → ⊥
+none_came r is x h = both_no true refl (ap is_some_ok (sym h ∙ is))
+
+-- a node with room has it, ended or not
+pub room_if : (ended : Bool) (len capacity : ℕ) → len < capacity → HasRoom ended len capacity
+room_if true len capacity h = tt
+room_if false len capacity h = h
+
 -- ---- what was done
 
 pub did_more : (size id : ℕ) (old new : rust_server.Server) (back now : Party → Option rust.Message) (trace longer : List Event) (deeds : List Deed) (d : Deed) → ServerDid size id old back trace deeds
@@ -75,56 +94,148 @@ did_kept size id old new back now trace longer deeds h keeps is = record {
 
 -- ---- a node
 
-module _ {P T : Type 0} (put : P → List rust.Message) (taken : T → List rust.Message) (size id : ℕ) (old new : rust_server.Server) (outs : List (Out P)) (clients : ToClients P) (ins : List (In T)) (trace longer : List Event)
-    (h : ServerRan put taken size id old outs clients ins trace) where
+-- what goes to one client, with one message more
+client_more : (second : Bool) (xs : List rust.Message) (x : rust.Message) → of_client second (xs ++ x ∷ []) ≡ of_client second xs ++ if_for second x
+client_more second [] x = empty_end (if_for second x)
+client_more second (y ∷ ys) x = ap (λ us. if_for second y ++ us) (client_more second ys x) ∙ sym (append_assoc (if_for second y) (of_client second ys) (if_for second x))
+
+module _ {P T I : Type 0} (put : P → List rust.Message) (taken : T → List rust.Message) (got : I → List Request) (size id : ℕ) (old new : rust_server.Server) (outs : List (Out P)) (clients : ToClients P) (ins : List (In T)) (inbox : I) (trace longer : List Event) (due : Option ℕ) (starved : Bool)
+    (h : ServerRan put taken got size id old outs clients ins inbox trace due starved) where
+  -- what was put and taken before
+  abbrev pub sent : ℕ → List rust.Message
+  sent at = put_to (party_at at) h.deeds
+
+  abbrev pub seen : ℕ → List rust.Message
+  seen at = taken_from (party_at at) h.deeds
+
+  abbrev pub answers : List rust.Message
+  answers = put_to parties.Clients h.deeds
+
+  -- it did one thing more
+  ran_more : (d : Deed) (outs_now : List (Out P)) (clients_now : ToClients P) (ins_now : List (In T)) (inbox_now : I) (starved_now : Bool)
+      → Does d (record { core = old; back = back_of outs clients.kept }) (record { core = new; back = back_of outs_now clients_now.kept }) → longer ≡ trace ++ event_of (parties.Server id) d ∷ []
+      → ArePut put outs_now (λ at. sent at ++ put_in (party_at at) d) → AreTaken taken ins_now (λ at. seen at ++ taken_in (party_at at) d)
+      → put clients_now.first ≡ of_client false (answers ++ put_in parties.Clients d) → put clients_now.second ≡ of_client true (answers ++ put_in parties.Clients d)
+      → IsBound due starved_now (got inbox_now) (h.deeds ++ d ∷ []) → ServerRan put taken got size id new outs_now clients_now ins_now inbox_now longer due starved_now
+  ran_more d outs_now clients_now ins_now inbox_now starved_now does is puts takes firsts seconds bound = record {
+    deeds = h.deeds ++ d ∷ [];
+    did = did_more size id old new (back_of outs clients.kept) (back_of outs_now clients_now.kept) trace longer h.deeds d h.did does is;
+    puts = λ at out here. puts at out here ∙ sym (put-more (party_at at) h.deeds d);
+    takes = λ at end here. takes at end here ∙ ap (λ us. us ++ listed end.unread) (sym (taken-more (party_at at) h.deeds d));
+    firsts = firsts ∙ ap (of_client false) (sym (put-more parties.Clients h.deeds d));
+    seconds = seconds ∙ ap (of_client true) (sym (put-more parties.Clients h.deeds d));
+    bound = bound;
+  }
+
+  -- it did nothing
+  ran_kept : (outs_now : List (Out P)) (clients_now : ToClients P) (ins_now : List (In T)) (inbox_now : I)
+      → Keeps StandsAs (record { core = old; back = back_of outs clients.kept }) (record { core = new; back = back_of outs_now clients_now.kept }) → longer ≡ trace
+      → ArePut put outs_now sent → AreTaken taken ins_now seen → put clients_now.first ≡ put clients.first → put clients_now.second ≡ put clients.second → Part (requests_in h.deeds) (got inbox_now)
+      → ServerRan put taken got size id new outs_now clients_now ins_now inbox_now longer due starved
+  ran_kept outs_now clients_now ins_now inbox_now keeps is puts takes firsts seconds arrived = record {
+    deeds = h.deeds;
+    did = did_kept size id old new (back_of outs clients.kept) (back_of outs_now clients_now.kept) trace longer h.deeds h.did keeps is;
+    puts = puts;
+    takes = takes;
+    firsts = firsts ∙ h.firsts;
+    seconds = seconds ∙ h.seconds;
+    bound = record { may = h.bound.may; arrived = arrived };
+  }
+
+  -- what was put and taken stays, where a deed puts and takes nothing there
+  sent_still : (at : ℕ) → sent at ≡ sent at ++ []
+  sent_still at = sym (empty_end (sent at))
+
+  seen_still : AreTaken taken ins (λ at. seen at ++ [])
+  seen_still at end here = h.takes at end here ∙ ap (λ us. us ++ listed end.unread) (sym (empty_end (seen at)))
+
+  -- a deed is what the server may do, and no request arrives
+  still_bound : (d : Deed) → MayDo due starved d → request_in d ≡ [] → IsBound due starved (got inbox) (h.deeds ++ d ∷ [])
+  still_bound d may none = bound_more due starved (got inbox) (got inbox) h.deeds d h.bound may (subst (λ us. Part us (got inbox)) (sym (empty_end (requests_in h.deeds)) ∙ ap (λ us. requests_in h.deeds ++ us) (sym none)) h.bound.arrived)
+
   -- it put a message
-  pub ran_put : (after : List (Out P)) (place : ℕ) → PutsAt put old new outs after clients.kept (λ at. put_to (party_at at) h.deeds) place → longer ≡ trace ++ events.Put (parties.Server id) (party_at place) ∷ [] → ServerRan put taken size id new after clients ins longer
+  pub ran_put : (after : List (Out P)) (place : ℕ) → PutsAt put old new outs after clients.kept sent place → longer ≡ trace ++ events.Put (parties.Server id) (party_at place) ∷ []
+      → ServerRan put taken got size id new after clients ins inbox longer due starved
   ran_put after place one is =
       let d : Deed = Put (party_at place) one.message in
-      record {
-        deeds = h.deeds ++ d ∷ [];
-        did = did_more size id old new (back_of outs clients.kept) (back_of after clients.kept) trace longer h.deeds d h.did one.done is;
-        puts = λ at out here. one.lists at out here ∙ ap (λ t. put_to (party_at at) h.deeds ++ cond t (one.message ∷ []) []) (sym (same_at at place)) ∙ sym (put-more (party_at at) h.deeds d);
-        takes = λ at end here. h.takes at end here ∙ ap (λ us. us ++ listed end.unread) (sym (taken-more (party_at at) h.deeds d ∙ empty_end (taken_from (party_at at) h.deeds)));
-        firsts = h.firsts ∙ ap (of_client false) (sym (to_clients d));
-        seconds = h.seconds ∙ ap (of_client true) (sym (to_clients d));
-      }
+      ran_more d after clients ins inbox starved one.done is
+      (λ at out here. one.lists at out here ∙ ap (λ t. sent at ++ cond t (one.message ∷ []) []) (sym (same_at at place)))
+      seen_still (h.firsts ∙ ap (of_client false) none) (h.seconds ∙ ap (of_client true) none) (still_bound d tt refl)
     where
-      to_clients : (d : Deed) → put_to parties.Clients (h.deeds ++ Put (party_at place) one.message ∷ []) ≡ put_to parties.Clients h.deeds
-      to_clients d = put-more parties.Clients h.deeds (Put (party_at place) one.message) ∙ ap (λ t. put_to parties.Clients h.deeds ++ cond t (one.message ∷ []) []) (not_clients place) ∙ empty_end (put_to parties.Clients h.deeds)
+      none : answers ≡ answers ++ cond (same parties.Clients (party_at place)) (one.message ∷ []) []
+      none = sym (empty_end answers) ∙ ap (λ t. answers ++ cond t (one.message ∷ []) []) (sym (not_clients place))
+
+  -- it put one to a client
+  pub ran_answered : (after : ToClients P) → PutsToOne put old new outs clients after → longer ≡ trace ++ events.Put (parties.Server id) parties.Clients ∷ []
+      → ServerRan put taken got size id new outs after ins inbox longer due starved
+  ran_answered after one is =
+      let d : Deed = Put parties.Clients one.message in
+      ran_more d outs after ins inbox starved one.done is
+      (λ at out here. h.puts at out here ∙ sent_still at ∙ ap (λ t. sent at ++ cond t (one.message ∷ []) []) (sym (not_at at)))
+      seen_still (one.firsts ∙ ap (λ us. us ++ if_for false one.message) h.firsts ∙ sym (client_more false answers one.message)) (one.seconds ∙ ap (λ us. us ++ if_for true one.message) h.seconds ∙ sym (client_more true answers one.message)) (still_bound d tt refl)
+    where
+      not_at : (at : ℕ) → same (party_at at) parties.Clients ≡ false
+      not_at at = go (at == 0) where
+        go : (t : Bool) → same (cond t parties.Master (parties.Server at)) parties.Clients ≡ false
+        go true = refl
+        go false = refl
 
   -- it took one
-  pub ran_taken : (after : List (In T)) (place : ℕ) → TakesAt taken old new (back_of outs clients.kept) after (λ at. taken_from (party_at at) h.deeds) place → longer ≡ trace ++ events.Take (party_at place) (parties.Server id) ∷ [] → ServerRan put taken size id new outs clients after longer
+  pub ran_taken : (after : List (In T)) (place : ℕ) → TakesAt taken old new (back_of outs clients.kept) after seen place → longer ≡ trace ++ events.Take (party_at place) (parties.Server id) ∷ []
+      → ServerRan put taken got size id new outs clients after inbox longer due starved
   ran_taken after place one is =
       let d : Deed = Took (party_at place) one.message in
-      record {
-        deeds = h.deeds ++ d ∷ [];
-        did = did_more size id old new (back_of outs clients.kept) (back_of outs clients.kept) trace longer h.deeds d h.did one.done is;
-        puts = λ at out here. h.puts at out here ∙ sym (put-more (party_at at) h.deeds d ∙ empty_end (put_to (party_at at) h.deeds));
-        takes = λ at end here. one.lists at end here ∙ ap (λ us. us ++ listed end.unread) (ap (λ t. taken_from (party_at at) h.deeds ++ cond t (one.message ∷ []) []) (sym (same_at at place)) ∙ sym (taken-more (party_at at) h.deeds d));
-        firsts = h.firsts ∙ ap (of_client false) (sym (put-more parties.Clients h.deeds d ∙ empty_end (put_to parties.Clients h.deeds)));
-        seconds = h.seconds ∙ ap (of_client true) (sym (put-more parties.Clients h.deeds d ∙ empty_end (put_to parties.Clients h.deeds)));
-      }
+      ran_more d outs clients after inbox starved one.done is
+      (λ at out here. h.puts at out here ∙ sent_still at)
+      (λ at end here. one.lists at end here ∙ ap (λ us. us ++ listed end.unread) (ap (λ t. seen at ++ cond t (one.message ∷ []) []) (sym (same_at at place))))
+      (h.firsts ∙ ap (of_client false) (sym (empty_end answers))) (h.seconds ∙ ap (of_client true) (sym (empty_end answers))) (still_bound d tt refl)
+
+  -- a request arrived
+  pub ran_arrived : (after : I) (clock : ℕ) (request : Request) → Arrives old new (back_of outs clients.kept) clock request (got inbox) (got after) → longer ≡ trace ++ events.Arrive id clock request ∷ []
+      → ServerRan put taken got size id new outs clients ins after longer due starved
+  ran_arrived after clock request one is =
+      let d : Deed = Arrived clock request in
+      ran_more d outs clients ins after starved one.done is (λ at out here. h.puts at out here ∙ sent_still at) seen_still
+      (h.firsts ∙ ap (of_client false) (sym (empty_end answers))) (h.seconds ∙ ap (of_client true) (sym (empty_end answers)))
+      (bound_more due starved (got inbox) (got after) h.deeds d h.bound tt (subst (λ us. Part (requests_in h.deeds ++ request ∷ []) us) (sym one.list) (part_both (requests_in h.deeds) (got inbox) request h.bound.arrived)))
+
+  -- it crashed
+  pub ran_crashed : (count : ℕ) → Does (Crashed count) (record { core = old; back = back_of outs clients.kept }) (record { core = new; back = back_of outs clients.kept }) → MayDo due starved (Crashed count)
+      → longer ≡ trace ++ events.Crash id ∷ [] → ServerRan put taken got size id new outs clients ins inbox longer due starved
+  ran_crashed count does may is =
+      let d : Deed = Crashed count in
+      ran_more d outs clients ins inbox starved does is (λ at out here. h.puts at out here ∙ sent_still at) seen_still
+      (h.firsts ∙ ap (of_client false) (sym (empty_end answers))) (h.seconds ∙ ap (of_client true) (sym (empty_end answers))) (still_bound d may refl)
 
   -- it put none
   pub ran_idle : (after : List (Out P)) → Keeps StandsAs (record { core = old; back = back_of outs clients.kept }) (record { core = new; back = back_of after clients.kept })
-      → ((sent : ℕ → List rust.Message) → ArePut put outs sent → ArePut put after sent) → longer ≡ trace → ServerRan put taken size id new after clients ins longer
-  ran_idle after keeps lists is = record {
-    deeds = h.deeds;
-    did = did_kept size id old new (back_of outs clients.kept) (back_of after clients.kept) trace longer h.deeds h.did keeps is;
-    puts = lists (λ at. put_to (party_at at) h.deeds) h.puts;
-    takes = h.takes;
-    firsts = h.firsts;
-    seconds = h.seconds;
-  }
+      → ((sent : ℕ → List rust.Message) → ArePut put outs sent → ArePut put after sent) → longer ≡ trace → ServerRan put taken got size id new after clients ins inbox longer due starved
+  ran_idle after keeps lists is = ran_kept after clients ins inbox keeps is (lists sent h.puts) h.takes refl refl h.bound.arrived
+
+  -- it put none to the clients
+  pub ran_silent : (after : ToClients P) → Keeps StandsAs (record { core = old; back = back_of outs clients.kept }) (record { core = new; back = back_of outs after.kept })
+      → put after.first ≡ put clients.first → put after.second ≡ put clients.second → longer ≡ trace → ServerRan put taken got size id new outs after ins inbox longer due starved
+  ran_silent after keeps first second is = ran_kept outs after ins inbox keeps is h.puts h.takes first second h.bound.arrived
 
   -- it took none
-  pub ran_waiting : (after : List (In T)) → chain.Keeps old new → ((seen : ℕ → List rust.Message) → AreTaken taken ins seen → AreTaken taken after seen) → longer ≡ trace → ServerRan put taken size id new outs clients after longer
-  ran_waiting after keeps lists is = record {
-    deeds = h.deeds;
-    did = did_kept size id old new (back_of outs clients.kept) (back_of outs clients.kept) trace longer h.deeds h.did (as-kept chain.StandsFor old new (back_of outs clients.kept) keeps) is;
-    puts = h.puts;
-    takes = lists (λ at. taken_from (party_at at) h.deeds) h.takes;
-    firsts = h.firsts;
-    seconds = h.seconds;
-  }
+  pub ran_waiting : (after : List (In T)) → chain.Keeps old new → ((seen : ℕ → List rust.Message) → AreTaken taken ins seen → AreTaken taken after seen) → longer ≡ trace
+      → ServerRan put taken got size id new outs clients after inbox longer due starved
+  ran_waiting after keeps lists is = ran_kept outs clients after inbox (as-kept chain.StandsFor old new (back_of outs clients.kept) keeps) is h.puts (lists seen h.takes) refl refl h.bound.arrived
+
+  -- no request arrived
+  pub ran_unasked : (after : I) → chain.Keeps old new → ((xs : List Request) → Part xs (got inbox) → Part xs (got after)) → longer ≡ trace
+      → ServerRan put taken got size id new outs clients ins after longer due starved
+  ran_unasked after keeps lists is = ran_kept outs clients ins after (as-kept chain.StandsFor old new (back_of outs clients.kept) keeps) is h.puts h.takes refl refl (lists (requests_in h.deeds) h.bound.arrived)
+
+-- what it did, it may have done without memory
+pub ran_starved : {P T I : Type 0} (put : P → List rust.Message) (taken : T → List rust.Message) (got : I → List Request) (size id : ℕ) (core : rust_server.Server) (outs : List (Out P)) (clients : ToClients P) (ins : List (In T)) (inbox : I) (trace : List Event) (due : Option ℕ) (starved : Bool)
+    → ServerRan put taken got size id core outs clients ins inbox trace due starved → ServerRan put taken got size id core outs clients ins inbox trace due true
+ran_starved put taken got size id core outs clients ins inbox trace due starved h = record {
+  deeds = h.deeds;
+  did = h.did;
+  puts = h.puts;
+  takes = h.takes;
+  firsts = h.firsts;
+  seconds = h.seconds;
+  bound = bound_starved due starved (got inbox) h.deeds h.bound;
+}

@@ -32,12 +32,12 @@ is_apart a b apart = go (a == b) refl where
 
 -- ---- one place
 
-get_same : {X : Type 0} (xs : List X) (i : ℕ) (x now : X) → slice_get xs i ≡ Some x → slice_get (slice_set xs i now) i ≡ Some now
+pub get_same : {X : Type 0} (xs : List X) (i : ℕ) (x now : X) → slice_get xs i ≡ Some x → slice_get (slice_set xs i now) i ≡ Some now
 get_same [] i x now is = absurd (none-some x is)
 get_same (y ∷ ys) zero x now is = refl
 get_same (y ∷ ys) (suc i) x now is = get_same ys i x now is
 
-get_other : {X : Type 0} (xs : List X) (i : ℕ) (now : X) (at : ℕ) → (at ≡ i → ⊥) → slice_get (slice_set xs i now) at ≡ slice_get xs at
+pub get_other : {X : Type 0} (xs : List X) (i : ℕ) (now : X) (at : ℕ) → (at ≡ i → ⊥) → slice_get (slice_set xs i now) at ≡ slice_get xs at
 get_other [] i now at apart = refl
 get_other (y ∷ ys) zero now zero apart = absurd (apart refl)
 get_other (y ∷ ys) zero now (suc at) apart = refl
@@ -134,3 +134,9 @@ pub links_set : {X L : Type 0} (link : X → L) (xs : List X) (i : ℕ) (x now :
 links_set link [] i x now is same_link = refl
 links_set link (y ∷ ys) zero x now is same_link = ap (λ l. l ∷ map link ys) (same_link ∙ ap link (sym (same_Some y x is)))
 links_set link (y ∷ ys) (suc i) x now is same_link = ap (λ us. link y ∷ us) (links_set link ys i x now is same_link)
+
+-- so it does with a message that waits at it
+pub ends_set : {X E L : Type 0} (end : X → E) (link : E → L) (xs : List X) (i : ℕ) (x now : X) → slice_get xs i ≡ Some x → link (end now) ≡ link (end x) → map link (map end (slice_set xs i now)) ≡ map link (map end xs)
+ends_set end link [] i x now is same_link = refl
+ends_set end link (y ∷ ys) zero x now is same_link = ap (λ l. l ∷ map link (map end ys)) (same_link ∙ ap (λ z. link (end z)) (sym (same_Some y x is)))
+ends_set end link (y ∷ ys) (suc i) x now is same_link = ap (λ us. link (end y) ∷ us) (ends_set end link ys i x now is same_link)

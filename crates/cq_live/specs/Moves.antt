@@ -1,12 +1,15 @@
 -- What one step of a server's node does to what its core stands for, and to the list of one end.
-use Rattle.std.specs.Prelude.{◌≡◌, ◌==◌, ℕ, List, [], ◌∷◌, ◌++◌, slice_get, if◌then◌else◌, Option, Some}
+use Rattle.std.specs.Prelude.{◌≡◌, ◌==◌, ℕ, List, [], ◌∷◌, ◌++◌, slice_get, if◌then◌else◌, Option, Some, true, false, ⊤, ◌⊎◌}
+use Rattle.cq_base.specs.declared.ask.Request.{Request}
 use Rattle.cq_base.specs.declared.party.Party.{Party}
+use Rattle.cq_base.specs.declared.party.Party.TheVariants as parties
 use Rattle.cq_chain.specs.declared.message.Message.{Message}
 use Rattle.cq_chain.specs.declared.server.Server.{Server}
 use Rattle.cq_live.specs.declared.ends.In.{In}
 use Rattle.cq_live.specs.declared.ends.Out.{Out}
-use Rattle.cq_live.specs.Ends.{party_at, listed, with_back, back_of}
-use Rattle.cq_trace.specs.Deeds.{Put, Took, StandsAs, Keeps, Does}
+use Rattle.cq_live.specs.declared.ends.ToClients.{ToClients}
+use Rattle.cq_live.specs.Ends.{party_at, listed, with_back, back_of, if_for}
+use Rattle.cq_trace.specs.Deeds.{Put, Took, Arrived, StandsAs, Keeps, Does}
 
 -- nothing is done, but the first message for that party may have left the core's outbox and be kept
 abbrev pub Passes : Server → Server → (Party → Option Message) → Party → Option Message → Type 0
@@ -51,3 +54,24 @@ module _ {T : Type 0} (list : T → List Message) where
     pub message : Message
     pub done : TakesOne old new back (party_at place) message
     pub lists : AreTaken after (λ at. seen at ++ (if at == place then message ∷ [] else []))
+
+-- ---- the clients
+
+module _ {P : Type 0} (list : P → List Message) where
+  -- The first message for the clients is put on the link to the one that it is for.
+  pub record PutsToOne (old new : Server) (outs : List (Out P)) (before after : ToClients P) : Type 0 where
+    pub message : Message
+    pub done : Does (Put parties.Clients message) (record { core = old; back = back_of outs before.kept }) (record { core = new; back = back_of outs after.kept })
+    pub firsts : list after.first ≡ list before.first ++ if_for false message
+    pub seconds : list after.second ≡ list before.second ++ if_for true message
+
+-- a list with some of it left out, and nothing else changed
+abbrev pub Part : {X : Type 0} → List X → List X → Type 0
+Part [] ys = ⊤
+Part (x ∷ xs) [] = ⊥
+Part (x ∷ xs) (y ∷ ys) = ((x ≡ y) × Part xs ys) ⊎ Part (x ∷ xs) ys
+
+-- The next request of an inbox arrives at the core at that moment.
+pub record Arrives (old new : Server) (back : Party → Option Message) (clock : ℕ) (request : Request) (before after : List Request) : Type 0 where
+  pub done : Does (Arrived clock request) (record { core = old; back = back }) (record { core = new; back = back })
+  pub list : after ≡ before ++ request ∷ []

@@ -1,30 +1,47 @@
 -- What a node did since the first world, and what it holds.
-use Rattle.std.specs.Prelude.{◌≡◌, ◌==◌, ℕ, List, [], ◌∷◌, map, Bool, true, false, if◌then◌else◌, Option}
+use Rattle.std.specs.Prelude.{◌≡◌, ◌≤◌, ◌<◌, ℕ, List, [], ◌∷◌, ◌++◌, map, Bool, true, false, Option, None, Some, ⊤, ◌⊎◌}
+use Rattle.cq_base.specs.declared.ask.Request.{Request}
 use Rattle.cq_base.specs.declared.party.Party.{Party}
 use Rattle.cq_base.specs.declared.party.Party.TheVariants as parties
+use Rattle.cq_base.specs.Relations.{Among}
 use Rattle.cq_chain.specs.declared.message.Message as rust
-use Rattle.cq_chain.specs.declared.message.Message.TheVariants as kept
 use Rattle.cq_chain.specs.declared.server.Server as rust_server
 use Rattle.cq_live.specs.declared.ends.In.{In}
 use Rattle.cq_live.specs.declared.ends.Out.{Out}
 use Rattle.cq_live.specs.declared.ends.ToClients.{ToClients}
-use Rattle.cq_live.specs.Ends.{party_at, back_of}
-use Rattle.cq_live.specs.Moves.{ArePut, AreTaken}
-use Rattle.cq_trace.specs.Deeds.{Deed, Standing, StandsAs, ServerRun, event_of, put_to, taken_from}
+use Rattle.cq_live.specs.declared.server_ends.ServerEnds.{ServerEnds}
+use Rattle.cq_live.specs.declared.server_ends.ServerParts.{ServerParts}
+use Rattle.cq_live.specs.Ends.{party_at, back_of, of_client, ends_of, in_ends_of}
+use Rattle.cq_live.specs.Moves.{ArePut, AreTaken, Part}
+use Rattle.cq_trace.specs.Deeds.{Deed, Arrived, Asked, Crashed, Standing, StandsAs, ServerRun, event_of, put_to, taken_from}
 use Rattle.cq_world.specs.Worlds.{first_world}
 use Rattle.cq_world.specs.declared.event.Event.{Event}
 
--- the second of the two clients is that of id 2
-abbrev pub is_for_second : rust.Message → Bool
-is_for_second (kept.Answer answer) = answer.client == 2
-is_for_second message = false
+-- the request that arrived, if one did
+abbrev pub request_in : Deed → List Request
+request_in (Arrived clock request) = request ∷ []
+request_in deed = []
 
--- what goes to the second client, or what goes to the first
-abbrev pub of_client : Bool → List rust.Message → List rust.Message
-of_client true [] = []
-of_client true (x ∷ xs) = if is_for_second x then x ∷ of_client true xs else of_client true xs
-of_client false [] = []
-of_client false (x ∷ xs) = if is_for_second x then of_client false xs else x ∷ of_client false xs
+-- the requests that arrived, in order
+abbrev pub requests_in : List Deed → List Request
+requests_in [] = []
+requests_in (deed ∷ deeds) = request_in deed ++ requests_in deeds
+
+-- the server is to crash, and has so many entries
+abbrev pub IsDue : Option ℕ → ℕ → Type 0
+IsDue None count = ⊥
+IsDue (Some least) count = least ≤ count
+
+-- A node's server may do that: it answers no query, and crashes where it is due or has no memory.
+abbrev pub MayDo : Option ℕ → Bool → Deed → Type 0
+MayDo after starved (Asked query) = ⊥
+MayDo after starved (Crashed count) = IsDue after count ⊎ (starved ≡ true)
+MayDo after starved deed = ⊤
+
+-- What a node's server does is what it may do, and what arrives at it was taken from its inbox.
+pub record IsBound (after : Option ℕ) (starved : Bool) (taken : List Request) (deeds : List Deed) : Type 0 where
+  pub may : (d : Deed) → Among d deeds → MayDo after starved d
+  pub arrived : Part (requests_in deeds) taken
 
 -- From the first world of that size on a server did this by its core, which stands there now with what was handed back.
 -- Its trace is the events of these deeds.
@@ -34,24 +51,53 @@ pub record ServerDid (size id : ℕ) (core : rust_server.Server) (back : Party �
   pub run : ServerRun first deeds (record { core = core; back = back })
   pub events : trace ≡ map (event_of (parties.Server id)) deeds
 
-module _ {P T : Type 0} (put : P → List rust.Message) (taken : T → List rust.Message) where
-  -- What a server's node did: its deeds, and what they put and took on each of its links.
-  pub record ServerRan (size id : ℕ) (core : rust_server.Server) (outs : List (Out P)) (clients : ToClients P) (ins : List (In T)) (trace : List Event) : Type 0 where
+module _ {P T I : Type 0} (put : P → List rust.Message) (taken : T → List rust.Message) (got : I → List Request) where
+  -- What a server's node did: its deeds, and what they put and took on each of its links and of its inbox.
+  pub record ServerRan (size id : ℕ) (core : rust_server.Server) (outs : List (Out P)) (clients : ToClients P) (ins : List (In T)) (inbox : I) (trace : List Event) (after : Option ℕ) (starved : Bool) : Type 0 where
     pub deeds : List Deed
     pub did : ServerDid size id core (back_of outs clients.kept) trace deeds
     pub puts : ArePut put outs (λ place. put_to (party_at place) deeds)
     pub takes : AreTaken taken ins (λ place. taken_from (party_at place) deeds)
     pub firsts : put clients.first ≡ of_client false (put_to parties.Clients deeds)
     pub seconds : put clients.second ≡ of_client true (put_to parties.Clients deeds)
+    pub bound : IsBound after starved (got inbox) deeds
 
--- What callers see of a node: its trace, and the ends of its links.
-pub record Held (P T : Type 0) : Type 0 where
+-- a node that hasn't ended has room for one event more
+abbrev pub HasRoom : Bool → ℕ → ℕ → Type 0
+HasRoom true length capacity = ⊤
+HasRoom false length capacity = length < capacity
+
+-- What callers see of a node: its trace, the ends of its links, that of its inbox, and whether it found no memory.
+pub record Held (P T I : Type 0) : Type 0 where
   pub trace : List Event
   pub outs : List P
   pub first : P
   pub second : P
   pub ins : List T
+  pub inbox : I
+  pub starved : Bool
 
-module _ {P T : Type 0} where
-  abbrev pub held : List (Out P) → ToClients P → List (In T) → List Event → Held P T
-  held outs clients ins trace = record { trace = trace; outs = map (λ out. out.end) outs; first = clients.first; second = clients.second; ins = map (λ end. end.end) ins }
+module _ {P T I : Type 0} where
+  abbrev pub held : List (Out P) → ToClients P → List (In T) → I → List Event → Bool → Held P T I
+  held outs clients ins inbox trace starved = record { trace = trace; outs = ends_of outs; first = clients.first; second = clients.second; ins = in_ends_of ins; inbox = inbox; starved = starved }
+
+-- what callers see of a node that has done nothing
+abbrev pub begun : {P T I : Type 0} → ServerEnds P T I → Held P T I
+begun ends = record { trace = []; outs = ends.links.outs; first = ends.first; second = ends.second; ins = ends.links.ins; inbox = ends.inbox; starved = false }
+
+-- what they see of it still, by its parts
+abbrev pub held_in : {P T I : Type 0} → ServerParts P T I → Held P T I
+held_in parts = held parts.outs.items parts.clients parts.ins.items parts.inbox parts.trace.items parts.starved
+
+-- The parts of a server's node tell what it did.
+pub record Tells {P T I : Type 0} (put : P → List rust.Message) (taken : T → List rust.Message) (got : I → List Request) (parts : ServerParts P T I) : Type 0 where
+  pub core : rust_server.Server
+  pub ran : ServerRan put taken got parts.size parts.id core parts.outs.items parts.clients parts.ins.items parts.inbox parts.trace.items parts.crash_after parts.starved
+
+-- each end is still one of the same link
+pub record SameLinks {P T I L M N : Type 0} (put : P → L) (taken : T → M) (got : I → N) (old new : Held P T I) : Type 0 where
+  pub outs : map put new.outs ≡ map put old.outs
+  pub first : put new.first ≡ put old.first
+  pub second : put new.second ≡ put old.second
+  pub ins : map taken new.ins ≡ map taken old.ins
+  pub inbox : got new.inbox ≡ got old.inbox

@@ -3,7 +3,7 @@ ghost use Rattle.std.specs.Prelude.{◌≡◌, ℕ, ◌++◌, map, None, true, f
 ghost use Rattle.cq_base.specs.declared.party.Party as rust_party;
 ghost use Rattle.cq_chain.specs.declared.message.Message as rust_message;
 ghost use Rattle.cq_chain.specs.Stands.{Keeps};
-ghost use Rattle.cq_live.specs.Ends.{listed, back_of};
+ghost use Rattle.cq_live.specs.Ends.{listed, back_of, ends_of, in_ends_of};
 ghost use Rattle.cq_trace.specs.Deeds.{StandsAs, Keeps as StandingKept};
 ghost use Rattle.cq_live.specs.Moves.{Passes, PutsOne, TakesOne, Reads, ArePut, PutsAt, AreTaken, TakesAt};
 
@@ -14,7 +14,7 @@ use cq_link::{PutEnd, TakeEnd};
 use std::sync::Wait;
 
 /// The message that was handed back, or else the first that waits in the core's outbox.
-fn first_message(core: &mut Server, to: Party, kept: Option<Message>) -> Option<Message>
+pub fn first_message(core: &mut Server, to: Party, kept: Option<Message>) -> Option<Message>
     ensures { (back : rust_party.Party → Option rust_message.Message) → back to ≡ kept
         → Passes core.old core.new back to result }
 {
@@ -60,7 +60,7 @@ fn read(core: &mut Server, from: Party, message: &Message) -> Result<(), WorldFa
 }
 
 /// The message that was taken but not read, or else the next one of the link.
-fn next_message<R: Wait, T: TakeEnd<Message> + Drop>(rt: &R, end: &mut In<T>) -> Option<Message>
+pub fn next_message<R: Wait, T: TakeEnd<Message> + Drop>(rt: &R, end: &mut In<T>) -> Option<Message>
     ensures link { T.link end.new.end ≡ T.link end.old.end }
     ensures unread { end.new.unread ≡ None }
     ensures list { (seen : List rust_message.Message) → T.list end.old.end ≡ seen ++ listed end.old.unread
@@ -108,7 +108,7 @@ pub fn put_at<R: Wait, P: PutEnd<Message> + Drop>(
     outs: &mut Vec<Out<P>>,
     place: u32,
 ) -> bool
-    ensures links { map (λ out. P.link out.end) outs.new.items ≡ map (λ out. P.link out.end) outs.old.items }
+    ensures links { map P.link (ends_of outs.new.items) ≡ map P.link (ends_of outs.old.items) }
     ensures put { (kept : Option rust_message.Message) (sent : ℕ → List rust_message.Message)
         → ArePut P.list outs.old.items sent → result ≡ true
         → PutsAt P.list core.old core.new outs.old.items outs.new.items kept sent place }
@@ -131,7 +131,7 @@ pub fn take_at<R: Wait, T: TakeEnd<Message> + Drop>(
     ins: &mut Vec<In<T>>,
     place: u32,
 ) -> Result<bool, WorldFault>
-    ensures links { map (λ end. T.link end.end) ins.new.items ≡ map (λ end. T.link end.end) ins.old.items }
+    ensures links { map T.link (in_ends_of ins.new.items) ≡ map T.link (in_ends_of ins.old.items) }
     ensures taken { (back : rust_party.Party → Option rust_message.Message) (seen : ℕ → List rust_message.Message)
         → AreTaken T.list ins.old.items seen → result ≡ Ok true
         → TakesAt T.list core.old core.new back ins.new.items seen place }

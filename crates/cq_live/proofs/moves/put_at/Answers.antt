@@ -1,14 +1,14 @@
 -- The end at the place is changed, and no other.
 use Rattle.std.proofs.Common.{refl, length}
 use Rattle.std.proofs.lemmas.Option.{slice_get_read}
-use Rattle.cq_live.proofs.Places.{puts_at, passes_at, puts_kept, links_set}
+use Rattle.cq_live.proofs.Places.{puts_at, passes_at, puts_kept, ends_set}
 use Rattle.cq_live.proofs.moves.put_at.Goals as goal
 
 pub returns-in-Some-clause-links : goal.returns-in-Some-clause-links
 returns-in-Some-clause-links g c =
     let outs = c.args.outs.now.items in
     let item = c.in-Some.ensures.item in
-    links_set _ outs c.args.place c.in-Some.out.now c.put_one.new.out (slice_get_read outs (length outs) c.args.place c.in-Some.out.now refl item.3.0 item.1) c.put_one.ensures.link
+    ends_set (λ out. out.end) _ outs c.args.place c.in-Some.out.now c.put_one.new.out (slice_get_read outs (length outs) c.args.place c.in-Some.out.now refl item.3.0 item.1) c.put_one.ensures.link
 
 pub returns-in-Some-clause-put : goal.returns-in-Some-clause-put
 returns-in-Some-clause-put g c = λ kept sent put is.

@@ -1,0 +1,173 @@
+-- What the master's node did, after one more step.
+use Rattle.std.proofs.Common.{◌≡◌, ◌+◌, ℕ, zero, suc, ◌∙◌, ap, sym, refl, subst, List, [], ◌∷◌, ◌++◌, map, slice_get, Option, Some, None, ◌⊎◌, inl, inr}
+use Rattle.std.proofs.lemmas.Option.{same_Some, none-some, get_or_from_slice_get, slice_get_within}
+use Rattle.std.specs.List.{All}
+use Rattle.cq_base.specs.declared.party.Party.{Party}
+use Rattle.cq_base.specs.declared.party.Party.TheVariants as parties
+use Rattle.cq_base.specs.Relations.{Among}
+use Rattle.cq_chain.specs.declared.master.Master as rust_master
+use Rattle.cq_chain.specs.declared.message.Message as rust
+use Rattle.cq_chain.specs.Masters.{first_master}
+use Rattle.cq_chain.specs.Stands as chain
+use Rattle.cq_live.specs.declared.ends.In.{In}
+use Rattle.cq_live.specs.declared.ends.Out.{Out}
+use Rattle.cq_live.specs.declared.master_node.Join.{Join}
+use Rattle.cq_live.specs.Ends.{listed, kept_at}
+use Rattle.cq_live.specs.FreshLinks.{AreUnput, AreUntaken}
+use Rattle.cq_live.specs.MasterMoves.{back_for, back_of_servers, PutsFor, TakesOf}
+use Rattle.cq_live.specs.MasterNodes.{MasterDid, AreAsked, MasterRan}
+use Rattle.cq_live.specs.Moves.{ArePut, AreTaken}
+use Rattle.cq_live.proofs.DeedRuns.{master-more, run-kept, put-more, taken-more, first-of-all}
+use Rattle.cq_live.proofs.NodeSteps.{events_more}
+use Rattle.cq_live.proofs.Places.{empty_end}
+use Rattle.cq_live.proofs.Standings.{as-kept}
+use Rattle.cq_trace.specs.Deeds.{Deed, Put, Took, Detected, Joined, IsMasterAs, Keeps, DoesMaster, event_of, put_to, put_in, taken_from, taken_in}
+use Rattle.cq_world.specs.declared.event.Event.{Event}
+use Rattle.cq_world.specs.declared.event.Event.TheVariants as events
+
+-- ---- what was done
+
+master_did_more : (size : ℕ) (old new : rust_master.Master) (back now : Party → Option rust.Message) (trace longer : List Event) (deeds : List Deed) (d : Deed) → MasterDid size old back trace deeds
+    → DoesMaster d (record { core = old; back = back }) (record { core = new; back = now }) → longer ≡ trace ++ event_of parties.Master d ∷ [] → MasterDid size new now longer (deeds ++ d ∷ [])
+master_did_more size old new back now trace longer deeds d h does is = record {
+  first = h.first;
+  stood = h.stood;
+  run = master-more deeds d h.first (record { core = old; back = back }) (record { core = new; back = now }) h.run does;
+  events = is ∙ ap (λ us. us ++ event_of parties.Master d ∷ []) h.events ∙ sym (events_more (event_of parties.Master) deeds d);
+}
+
+master_did_kept : (size : ℕ) (old new : rust_master.Master) (back now : Party → Option rust.Message) (trace longer : List Event) (deeds : List Deed) → MasterDid size old back trace deeds
+    → Keeps IsMasterAs (record { core = old; back = back }) (record { core = new; back = now }) → longer ≡ trace → MasterDid size new now longer deeds
+master_did_kept size old new back now trace longer deeds h keeps is = record {
+  first = h.first;
+  stood = h.stood;
+  run = run-kept DoesMaster IsMasterAs deeds h.first (record { core = old; back = back }) (record { core = new; back = now }) h.run keeps;
+  events = is ∙ h.events;
+}
+
+among_more : {X : Type 0} (x : X) (xs : List X) (y : X) → Among x (xs ++ y ∷ []) → Among x xs ⊎ (x ≡ y)
+among_more x [] y (inl is) = inr is
+among_more x [] y (inr none) = absurd none
+among_more x (z ∷ xs) y (inl is) = inl (inl is)
+among_more x (z ∷ xs) y (inr later) = go (among_more x xs y later) where
+  go : Among x xs ⊎ (x ≡ y) → ((x ≡ z) ⊎ Among x xs) ⊎ (x ≡ y)
+  go (inl here) = inl (inr here)
+  go (inr is) = inr is
+
+-- one more deed, where its server was asked for if it is a join
+asked_more : (joins : List Join) (deeds : List Deed) (d : Deed) → ((id : ℕ) → Joined id ≡ d → Among id (map (λ join. join.server) joins)) → AreAsked joins deeds → AreAsked joins (deeds ++ d ∷ [])
+asked_more joins deeds d own asked id here = go (among_more (Joined id) deeds d here) where
+  go : Among (Joined id) deeds ⊎ (Joined id ≡ d) → Among id (map (λ join. join.server) joins)
+  go (inl before) = asked id before
+  go (inr is) = own id is
+
+-- the trace with one event more, in room that was made for it
+pub noted : (trace with_room longer : List Event) (event : Event) → longer ≡ with_room ++ event ∷ [] → with_room ≡ trace → longer ≡ trace ++ event ∷ []
+noted trace with_room longer event is same = is ∙ ap (λ us. us ++ event ∷ []) same
+
+-- ---- a node
+
+module _ {P T : Type 0} (put : P → List rust.Message) (taken : T → List rust.Message) (size : ℕ) (joins : List Join) (old new : rust_master.Master) (outs : List (Out P)) (ins : List (In T)) (trace longer : List Event)
+    (h : MasterRan put taken size joins old outs ins trace) where
+  -- it put a message
+  pub master_put : (after : List (Out P)) (to : ℕ) → PutsFor put old new outs after (λ at. put_to (parties.Server (at + 1)) h.deeds) to → longer ≡ trace ++ events.Put parties.Master (parties.Server to) ∷ [] → MasterRan put taken size joins new after ins longer
+  master_put after to one is =
+      let d : Deed = Put (parties.Server to) one.message in
+      record {
+        deeds = h.deeds ++ d ∷ [];
+        did = master_did_more size old new (back_of_servers outs) (back_of_servers after) trace longer h.deeds d h.did one.done is;
+        puts = λ at out here. one.lists at out here ∙ sym (put-more (parties.Server (at + 1)) h.deeds d);
+        takes = λ at end here. h.takes at end here ∙ ap (λ us. us ++ listed end.unread) (sym (taken-more (parties.Server (at + 1)) h.deeds d ∙ empty_end (taken_from (parties.Server (at + 1)) h.deeds)));
+        asked = asked_more joins h.deeds d (λ id same. absurd (cc)) h.asked;
+      }
+
+  -- it took one
+  pub master_took : (after : List (In T)) (from : ℕ) → TakesOf taken old new (back_of_servers outs) after (λ at. taken_from (parties.Server (at + 1)) h.deeds) from → longer ≡ trace ++ events.Take (parties.Server from) parties.Master ∷ [] → MasterRan put taken size joins new outs after longer
+  master_took after from one is =
+      let d : Deed = Took (parties.Server from) one.message in
+      record {
+        deeds = h.deeds ++ d ∷ [];
+        did = master_did_more size old new (back_of_servers outs) (back_of_servers outs) trace longer h.deeds d h.did one.done is;
+        puts = λ at out here. h.puts at out here ∙ sym (put-more (parties.Server (at + 1)) h.deeds d ∙ empty_end (put_to (parties.Server (at + 1)) h.deeds));
+        takes = λ at end here. one.lists at end here ∙ ap (λ us. us ++ listed end.unread) (sym (taken-more (parties.Server (at + 1)) h.deeds d));
+        asked = asked_more joins h.deeds d (λ id same. absurd (cc)) h.asked;
+      }
+
+  -- it put and took none, but did this
+  alone : (d : Deed) → DoesMaster d (record { core = old; back = back_of_servers outs }) (record { core = new; back = back_of_servers outs }) → longer ≡ trace ++ event_of parties.Master d ∷ []
+      → ((to : Party) → put_in to d ≡ []) → ((from : Party) → taken_in from d ≡ []) → ((id : ℕ) → Joined id ≡ d → Among id (map (λ join. join.server) joins)) → MasterRan put taken size joins new outs ins longer
+  alone d done is puts_none takes_none own = record {
+    deeds = h.deeds ++ d ∷ [];
+    did = master_did_more size old new (back_of_servers outs) (back_of_servers outs) trace longer h.deeds d h.did done is;
+    puts = λ at out here. h.puts at out here ∙ sym (put-more (parties.Server (at + 1)) h.deeds d ∙ ap (λ us. put_to (parties.Server (at + 1)) h.deeds ++ us) (puts_none (parties.Server (at + 1))) ∙ empty_end (put_to (parties.Server (at + 1)) h.deeds));
+    takes = λ at end here. h.takes at end here ∙ ap (λ us. us ++ listed end.unread) (sym (taken-more (parties.Server (at + 1)) h.deeds d ∙ ap (λ us. taken_from (parties.Server (at + 1)) h.deeds ++ us) (takes_none (parties.Server (at + 1))) ∙ empty_end (taken_from (parties.Server (at + 1)) h.deeds)));
+    asked = asked_more joins h.deeds d own h.asked;
+  }
+
+  -- it detected a crash
+  pub master_detected : (id : ℕ) → DoesMaster (Detected id) (record { core = old; back = back_of_servers outs }) (record { core = new; back = back_of_servers outs }) → longer ≡ trace ++ events.Detect id ∷ [] → MasterRan put taken size joins new outs ins longer
+  master_detected id done is = alone (Detected id) done is (λ to. refl) (λ from. refl) (λ other same. absurd (cc))
+
+  -- a server joined that was asked for
+  pub master_joined : (id : ℕ) → Among id (map (λ join. join.server) joins) → DoesMaster (Joined id) (record { core = old; back = back_of_servers outs }) (record { core = new; back = back_of_servers outs }) → longer ≡ trace ++ events.Join id ∷ [] → MasterRan put taken size joins new outs ins longer
+  master_joined id named done is = alone (Joined id) done is (λ to. refl) (λ from. refl) (λ other same. subst (λ n. Among n (map (λ join. join.server) joins)) (cc) named)
+
+  -- it put none
+  pub master_idle : (after : List (Out P)) → Keeps IsMasterAs (record { core = old; back = back_of_servers outs }) (record { core = new; back = back_of_servers after })
+      → ((sent : ℕ → List rust.Message) → ArePut put outs sent → ArePut put after sent) → longer ≡ trace → MasterRan put taken size joins new after ins longer
+  master_idle after keeps lists is = record {
+    deeds = h.deeds;
+    did = master_did_kept size old new (back_of_servers outs) (back_of_servers after) trace longer h.deeds h.did keeps is;
+    puts = lists (λ at. put_to (parties.Server (at + 1)) h.deeds) h.puts;
+    takes = h.takes;
+    asked = h.asked;
+  }
+
+  -- it took none, or the core refused
+  pub master_waiting : (after : List (In T)) → chain.KeepsMaster old new → ((seen : ℕ → List rust.Message) → AreTaken taken ins seen → AreTaken taken after seen) → longer ≡ trace → MasterRan put taken size joins new outs after longer
+  master_waiting after keeps lists is = record {
+    deeds = h.deeds;
+    did = master_did_kept size old new (back_of_servers outs) (back_of_servers outs) trace longer h.deeds h.did (as-kept chain.MasterStandsFor old new (back_of_servers outs) keeps) is;
+    puts = h.puts;
+    takes = lists (λ at. taken_from (parties.Server (at + 1)) h.deeds) h.takes;
+    asked = h.asked;
+  }
+
+-- ---- before the first turn
+
+at_place : {X : Type 0} (Q : X → Type 0) (xs : List X) (i : ℕ) (x : X) → All Q xs → slice_get xs i ≡ Some x → Q x
+at_place Q xs i x all here = subst Q (get_or_from_slice_get xs i x x here) (all i x (slice_get_within xs i x here))
+
+none_back : {P : Type 0} (put : P → List rust.Message) (outs : List (Out P)) → AreUnput put outs → (p : Party) → None ≡ back_of_servers outs p
+none_back put outs unput parties.Master = refl
+none_back put outs unput parties.Clients = refl
+none_back {P} put outs unput (parties.Server id) = go id where
+  kept : (o : Option (Out P)) (place : ℕ) → slice_get outs place ≡ o → None ≡ kept_at o
+  kept None place is = refl
+  kept (Some out) place is = sym (at_place (λ out. (put out.end ≡ []) × (out.kept ≡ None)) outs place out unput is).1
+
+  go : (id : ℕ) → None ≡ back_for outs id
+  go zero = refl
+  go (suc place) = kept (slice_get outs place) place refl
+
+pub master_begun : {P T : Type 0} (put : P → List rust.Message) (taken : T → List rust.Message) (size : ℕ) (joins : List Join) (core : rust_master.Master) (outs : List (Out P)) (ins : List (In T))
+    → chain.MasterStandsFor core (first_master size) (λ _. []) → AreUnput put outs → AreUntaken taken ins → MasterRan put taken size joins core outs ins []
+master_begun put taken size joins core outs ins stands unput untaken = record {
+  deeds = [];
+  did = record {
+    first = record { core = core; back = λ _. None };
+    stood = first-of-all size core stands;
+    run = subst (λ back. Keeps IsMasterAs (record { core = core; back = λ _. None }) (record { core = core; back = back })) (λ i p. none_back put outs unput p i) (λ m outbox h. h);
+    events = refl;
+  };
+  puts = λ at out here. (at_place (λ out. (put out.end ≡ []) × (out.kept ≡ None)) outs at out unput here).0;
+  takes = λ at end here. let fresh = at_place (λ end. (taken end.end ≡ []) × (end.unread ≡ None)) ins at end untaken here in fresh.0 ∙ ap listed (sym fresh.1);
+  asked = λ id none. absurd none;
+}
+
+-- ---- joins
+
+pub among_joins : (joins : List Join) (place : ℕ) (join : Join) → slice_get joins place ≡ Some join → Among join.server (map (λ other. other.server) joins)
+among_joins [] place join is = absurd (none-some join is)
+among_joins (first ∷ rest) zero join is = inl (ap (λ other. other.server) (sym (same_Some first join is)))
+among_joins (first ∷ rest) (suc place) join is = inr (among_joins rest place join is)
