@@ -12,3 +12,4 @@ pub mod ClientAsks
 pub mod ClientSteps
 pub mod MasterMoving
 pub mod MasterSteps
+pub mod Living

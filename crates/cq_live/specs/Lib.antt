@@ -6,3 +6,4 @@ pub mod Moves
 pub mod Nodes
 pub mod ClientMoves
 pub mod ClientNodes
+pub mod Lives

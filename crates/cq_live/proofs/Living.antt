@@ -1,0 +1,131 @@
+-- What nodes show together is what a live run promises.
+use Rattle.std.proofs.Common.{◌≡◌, ℕ, zero, suc, ◌∙◌, ap, sym, refl, subst, cond, List, [], ◌∷◌, map, length, slice_get, Bool, true, false, Option, Some, None, inl, inr, arith}
+use Rattle.std.proofs.lemmas.Option.{same_Some, none-some}
+use Rattle.cq_base.proofs.Among.{among-map}
+use Rattle.cq_base.specs.declared.ask.Query.{Query}
+use Rattle.cq_base.specs.declared.ask.Request.{Request}
+use Rattle.cq_base.specs.declared.party.Party.{Party}
+use Rattle.cq_base.specs.declared.party.Party.TheVariants as parties
+use Rattle.cq_base.specs.Relations.{Among}
+use Rattle.cq_chain.specs.Parties.{same}
+use Rattle.cq_live.specs.Lives.{Life, deeds_of, AreTraces, AuditsOrder, NodesLive}
+use Rattle.cq_trace.specs.Audits.{trace_of}
+use Rattle.cq_trace.specs.Deeds.{Deed, Arrived, Asked, Put, Took, Crashed, Detected, Joined, event_of, IsOrder, IsWhatTheyDid}
+use Rattle.cq_trace.specs.Orders.{of_party}
+use Rattle.cq_trace.specs.declared.trace.Trace.{Trace}
+use Rattle.cq_trace.proofs.OfLaws.Agreeing.{orders_agree}
+use Rattle.cq_world.specs.Owners.{party_of}
+use Rattle.cq_world.specs.declared.event.Event.{Event}
+use Rattle.cq_world.specs.declared.event.Event.TheVariants as events
+use Rattle.cq_world.proofs.Parties.{same-true, same-refl}
+
+-- ---- the deed of an event
+
+-- an event of an order is one of its party's
+own_among : (event : Event) (order : List Event) → Among event order → Among event (of_party (party_of event) order)
+own_among event [] h = absurd h
+own_among event (e ∷ es) (inl is) = subst (λ t. Among event (cond t (e ∷ of_party (party_of event) es) (of_party (party_of event) es))) (sym (ap (λ x. same (party_of event) (party_of x)) (sym is) ∙ same-refl (party_of event))) (inl is)
+own_among event (e ∷ es) (inr h) = go (same (party_of event) (party_of e)) (own_among event es h) where
+  go : (t : Bool) → Among event (of_party (party_of event) es) → Among event (cond t (e ∷ of_party (party_of event) es) (of_party (party_of event) es))
+  go true there = inr there
+  go false there = there
+
+-- so its party did it
+deed_of : (size : ℕ) (deeds : Party → List Deed) (order : List Event) (event : Event) → IsOrder size deeds order → Among event order → (d : Deed) × Among d (deeds (party_of event)) × (event ≡ event_of (party_of event) d)
+deed_of size deeds order event o h = among-map (event_of (party_of event)) event (deeds (party_of event)) (subst (Among event) (o.each (party_of event)) (own_among event order h))
+
+-- what arrives, is asked or joins by an event
+arrival_in : Event → Option (ℕ × Request)
+arrival_in (events.Arrive at clock request) = Some (clock, request)
+arrival_in event = None
+
+query_in : Event → Option Query
+query_in (events.Ask at query) = Some query
+query_in event = None
+
+join_in : Event → Option ℕ
+join_in (events.Join id) = Some id
+join_in event = None
+
+-- the deed is that arrival
+arrival_deed : (p : Party) (clock : ℕ) (request : Request) (d : Deed) → Some (clock, request) ≡ arrival_in (event_of p d) → d ≡ Arrived clock request
+unfolding arrival_in
+arrival_deed p clock request (Arrived c r) h = sym (ap (λ pair. Arrived pair.0 pair.1) (same_Some (clock, request) (c, r) h))
+arrival_deed p clock request (Asked query) h = absurd (none-some (clock, request) (sym h))
+arrival_deed p clock request (Put to x) h = absurd (none-some (clock, request) (sym h))
+arrival_deed p clock request (Took from x) h = absurd (none-some (clock, request) (sym h))
+arrival_deed p clock request (Crashed count) h = absurd (none-some (clock, request) (sym h))
+arrival_deed p clock request (Detected id) h = absurd (none-some (clock, request) (sym h))
+arrival_deed p clock request (Joined id) h = absurd (none-some (clock, request) (sym h))
+
+-- or that query
+query_deed : (p : Party) (query : Query) (d : Deed) → Some query ≡ query_in (event_of p d) → d ≡ Asked query
+unfolding query_in
+query_deed p query (Asked q) h = sym (ap Asked (same_Some query q h))
+query_deed p query (Arrived clock request) h = absurd (none-some query (sym h))
+query_deed p query (Put to x) h = absurd (none-some query (sym h))
+query_deed p query (Took from x) h = absurd (none-some query (sym h))
+query_deed p query (Crashed count) h = absurd (none-some query (sym h))
+query_deed p query (Detected id) h = absurd (none-some query (sym h))
+query_deed p query (Joined id) h = absurd (none-some query (sym h))
+
+-- or that join
+join_deed : (p : Party) (id : ℕ) (d : Deed) → Some id ≡ join_in (event_of p d) → d ≡ Joined id
+unfolding join_in
+join_deed p id (Joined other) h = sym (ap Joined (same_Some id other h))
+join_deed p id (Arrived clock request) h = absurd (none-some id (sym h))
+join_deed p id (Asked query) h = absurd (none-some id (sym h))
+join_deed p id (Put to x) h = absurd (none-some id (sym h))
+join_deed p id (Took from x) h = absurd (none-some id (sym h))
+join_deed p id (Crashed count) h = absurd (none-some id (sym h))
+join_deed p id (Detected other) h = absurd (none-some id (sym h))
+
+-- lists that are as long have elements at the same places
+at_same : {A B : Type 0} (xs : List A) (ys : List B) (place : ℕ) (x : A) → length ys ≡ length xs → slice_get xs place ≡ Some x → (y : B) × (slice_get ys place ≡ Some y)
+at_same [] ys place x long here = absurd (none-some x here)
+at_same (z ∷ zs) [] place x long here = absurd (omega (arith, long))
+at_same (z ∷ zs) (y ∷ ys) zero x long here = (y, refl)
+at_same (z ∷ zs) (y ∷ ys) (suc place) x long here = at_same zs ys place x (omega (arith, long)) here
+
+-- ---- nodes
+
+pub nodes_live : NodesLive
+unfolding arrival_in query_in join_in
+nodes_live plan size deeds put taken closed starved order accepted nodes o all count = record {
+  enabled = o.enabled;
+  no_query = λ at query h.
+      let d = deed_of size deeds order (events.Ask at query) o h in
+      nodes.silent (parties.Server at) query (subst (λ x. Among x (deeds (parties.Server at))) (query_deed (parties.Server at) query d.0 (ap query_in d.2)) d.1);
+  arrivals = λ at clock request h.
+      let d = deed_of size deeds order (events.Arrive at clock request) o h in
+      let came = nodes.arrivals (parties.Server at) clock request (subst (λ x. Among x (deeds (parties.Server at))) (arrival_deed (parties.Server at) clock request d.0 (ap arrival_in d.2)) d.1) in
+      (came.0, came.1, (nodes.clients came.0 came.1).asked request came.2);
+  closed_asks = λ c place ask is here.
+      let a = at_same (plan.asks c) (closed c) place ask (all c is) here in
+      let by = (nodes.clients c is).closed_by place a.0 a.1 in
+      let from = nodes.links c _ is by.took in
+      let given = did.heard from.0 a.0 from.1 in
+      (a.0, a.1, record { event = given.0; given = given.1; its_client = by.client; its_number = by.number; no_query = by.no_query });
+  rising = λ c is. (nodes.clients c is).rising;
+  sends = count;
+  crashes = λ before rest id split. nodes.crashes id _ (did.crashes before rest id split);
+  joins = λ id h.
+      let d = deed_of size deeds order (events.Join id) o h in
+      nodes.joins id (subst (λ x. Among x (deeds parties.Master)) (join_deed parties.Master id d.0 (ap join_in d.2)) d.1);
+} where
+  did : IsWhatTheyDid size deeds order
+  did = orders_agree size deeds order nodes.done o
+
+-- ---- traces
+
+traces_of : (p : Party) (traces : List Trace) (lives : List Life) → AreTraces traces lives → trace_of p traces ≡ map (event_of p) (deeds_of lives p)
+traces_of p [] [] h = refl
+traces_of p [] (life ∷ lives) h = absurd h
+traces_of p (trace ∷ traces) [] h = absurd h
+traces_of p (trace ∷ traces) (life ∷ lives) h = ap (λ q. cond (same p q) trace.events.items (trace_of p traces)) h.0 ∙ go (same p life.party) refl (traces_of p traces lives h.2) where
+  go : (t : Bool) → same p life.party ≡ t → trace_of p traces ≡ map (event_of p) (deeds_of lives p) → cond t trace.events.items (trace_of p traces) ≡ map (event_of p) (cond t life.deeds (deeds_of lives p))
+  go true is rest = h.1 ∙ ap (λ q. map (event_of q) life.deeds) (sym (same-true p life.party is))
+  go false is rest = rest
+
+pub audits_order : AuditsOrder
+audits_order size traces lives order h merge = record { enabled = merge.enabled; each = λ p. merge.each p ∙ traces_of p traces lives h }
