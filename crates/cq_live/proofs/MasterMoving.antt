@@ -1,7 +1,8 @@
 -- Moves of the master's node, by the calls of its core, and the ends at the places of servers.
-use Rattle.std.proofs.Common.{arith, add-one, ◌≡◌, ◌==◌, ◌+◌, ℕ, zero, suc, ◌∙◌, ap, sym, refl, subst, cond, List, [], ◌∷◌, ◌++◌, drop, map, slice_get, slice_set, Bool, true, false, Option, Some, None, Result, Ok, Err, OnOk}
+use Rattle.std.proofs.Common.{arith, add-one, ◌≡◌, ◌==◌, ◌+◌, ◌≤◌, ℕ, zero, suc, ◌∙◌, ap, sym, refl, subst, cond, List, [], ◌∷◌, ◌++◌, drop, map, slice_get, slice_set, Bool, true, false, Option, Some, None, Result, Ok, Err, OnOk}
 use Rattle.std.proofs.lemmas.Bool.{eqb-true}
-use Rattle.std.proofs.lemmas.Option.{same_Some}
+use Rattle.std.proofs.lemmas.Option.{same_Some, slice_get_within}
+use Rattle.std.proofs.lemmas.List.{length-set}
 use Rattle.cq_base.specs.declared.party.Party.{Party}
 use Rattle.cq_base.specs.declared.party.Party.TheVariants as parties
 use Rattle.cq_chain.specs.declared.master.Master as rust_master
@@ -134,6 +135,7 @@ module _ {T : Type 0} (list : T → List rust.Message) (old new : rust_master.Ma
       let one = h (taken place end is) in
       record {
         message = one.message;
+        linked = (omega (arith, there), subst (λ n. from ≤ n) (sym (length-set ins place now)) (omega (arith, there, slice_get_within ins place end is)));
         done = one.done;
         lists = at_each (λ at x. list x.end ≡ seen at ++ listed x.unread) (λ at x. list x.end ≡ (seen at ++ cond (at + 1 == from) (one.message ∷ []) []) ++ listed x.unread) ins place end now is taken
             (one.list ∙ ap (λ t. (seen place ++ cond t (one.message ∷ []) []) ++ listed now.unread) (sym (here_for place from there)))

@@ -1,6 +1,7 @@
 -- What the master's node did, after one more step.
-use Rattle.std.proofs.Common.{◌≡◌, ◌+◌, ℕ, zero, suc, ◌∙◌, ap, sym, refl, subst, List, [], ◌∷◌, ◌++◌, map, slice_get, Option, Some, None, ◌⊎◌, inl, inr}
+use Rattle.std.proofs.Common.{arith, ◌≡◌, ◌+◌, ◌≤◌, ℕ, length, false, cond, zero, suc, ◌∙◌, ap, sym, refl, subst, List, [], ◌∷◌, ◌++◌, map, slice_get, Option, Some, None, ◌⊎◌, inl, inr}
 use Rattle.std.proofs.lemmas.Option.{same_Some, none-some, get_or_from_slice_get, slice_get_within}
+use Rattle.std.proofs.lemmas.List.{length-map}
 use Rattle.std.specs.List.{All}
 use Rattle.cq_base.specs.declared.party.Party.{Party}
 use Rattle.cq_base.specs.declared.party.Party.TheVariants as parties
@@ -8,6 +9,7 @@ use Rattle.cq_base.specs.Relations.{Among}
 use Rattle.cq_chain.specs.declared.master.Master as rust_master
 use Rattle.cq_chain.specs.declared.message.Message as rust
 use Rattle.cq_chain.specs.Masters.{first_master}
+use Rattle.cq_chain.specs.Parties.{same}
 use Rattle.cq_chain.specs.Stands as chain
 use Rattle.cq_live.specs.declared.ends.In.{In}
 use Rattle.cq_live.specs.declared.ends.Out.{Out}
@@ -15,11 +17,11 @@ use Rattle.cq_live.specs.declared.master_node.Join.{Join}
 use Rattle.cq_live.specs.Ends.{listed, kept_at}
 use Rattle.cq_live.specs.FreshLinks.{AreUnput, AreUntaken}
 use Rattle.cq_live.specs.MasterMoves.{back_for, back_of_servers, PutsFor, TakesOf}
-use Rattle.cq_live.specs.MasterNodes.{MasterDid, AreAsked, MasterRan}
+use Rattle.cq_live.specs.MasterNodes.{MasterDid, AreAsked, HasNoPlace, MasterRan, MasterLived}
 use Rattle.cq_live.specs.Moves.{ArePut, AreTaken}
 use Rattle.cq_live.proofs.DeedRuns.{master-more, run-kept, put-more, taken-more, first-of-all}
 use Rattle.cq_live.proofs.NodeSteps.{events_more}
-use Rattle.cq_live.proofs.Places.{empty_end}
+use Rattle.cq_live.proofs.Places.{empty_end, is_apart}
 use Rattle.cq_live.proofs.Standings.{as-kept}
 use Rattle.cq_trace.specs.Deeds.{Deed, Put, Took, Detected, Joined, IsMasterAs, Keeps, DoesMaster, event_of, put_to, put_in, taken_from, taken_in}
 use Rattle.cq_world.specs.declared.event.Event.{Event}
@@ -61,6 +63,17 @@ asked_more joins deeds d own asked id here = go (among_more (Joined id) deeds d 
   go (inl before) = asked id before
   go (inr is) = own id is
 
+-- a party with no place is none of the servers that have one
+no_server : (places id : ℕ) → (1 ≤ id) × (id ≤ places) → (p : Party) → HasNoPlace places p → same p (parties.Server id) ≡ false
+no_server places id placed parties.Master apart = refl
+no_server places id placed parties.Clients apart = refl
+no_server places id placed (parties.Server other) (inl none) = is_apart other id (λ e. absurd (omega (arith, e, none, placed)))
+no_server places id placed (parties.Server other) (inr past) = is_apart other id (λ e. absurd (omega (arith, e, past, placed)))
+
+-- ends of the same links are as many
+pub same_count : {X E L : Type 0} (end : X → E) (link : E → L) (xs ys : List X) → map link (map end xs) ≡ map link (map end ys) → length xs ≡ length ys
+same_count end link xs ys same_links = sym (length-map xs end) ∙ sym (length-map (map end xs) link) ∙ ap length same_links ∙ length-map (map end ys) link ∙ length-map ys end
+
 -- the trace with one event more, in room that was made for it
 pub noted : (trace with_room longer : List Event) (event : Event) → longer ≡ with_room ++ event ∷ [] → with_room ≡ trace → longer ≡ trace ++ event ∷ []
 noted trace with_room longer event is same = is ∙ ap (λ us. us ++ event ∷ []) same
@@ -78,18 +91,21 @@ module _ {P T : Type 0} (put : P → List rust.Message) (taken : T → List rust
         did = master_did_more size old new (back_of_servers outs) (back_of_servers after) trace longer h.deeds d h.did one.done is;
         puts = λ at out here. one.lists at out here ∙ sym (put-more (parties.Server (at + 1)) h.deeds d);
         takes = λ at end here. h.takes at end here ∙ ap (λ us. us ++ listed end.unread) (sym (taken-more (parties.Server (at + 1)) h.deeds d ∙ empty_end (taken_from (parties.Server (at + 1)) h.deeds)));
+        others = λ p apart. taken-more p h.deeds d ∙ empty_end (taken_from p h.deeds) ∙ h.others p apart;
         asked = asked_more joins h.deeds d (λ id same. absurd (cc)) h.asked;
       }
 
   -- it took one
-  pub master_took : (after : List (In T)) (from : ℕ) → TakesOf taken old new (back_of_servers outs) after (λ at. taken_from (parties.Server (at + 1)) h.deeds) from → longer ≡ trace ++ events.Take (parties.Server from) parties.Master ∷ [] → MasterRan put taken size joins new outs after longer
-  master_took after from one is =
+  pub master_took : (after : List (In T)) (from : ℕ) → length after ≡ length ins → TakesOf taken old new (back_of_servers outs) after (λ at. taken_from (parties.Server (at + 1)) h.deeds) from → longer ≡ trace ++ events.Take (parties.Server from) parties.Master ∷ [] → MasterRan put taken size joins new outs after longer
+  master_took after from count one is =
       let d : Deed = Took (parties.Server from) one.message in
       record {
         deeds = h.deeds ++ d ∷ [];
         did = master_did_more size old new (back_of_servers outs) (back_of_servers outs) trace longer h.deeds d h.did one.done is;
         puts = λ at out here. h.puts at out here ∙ sym (put-more (parties.Server (at + 1)) h.deeds d ∙ empty_end (put_to (parties.Server (at + 1)) h.deeds));
         takes = λ at end here. one.lists at end here ∙ ap (λ us. us ++ listed end.unread) (sym (taken-more (parties.Server (at + 1)) h.deeds d));
+        others = λ p apart. taken-more p h.deeds d ∙ ap (λ t. taken_from p h.deeds ++ cond t (one.message ∷ []) []) (no_server (length after) from one.linked p apart)
+            ∙ empty_end (taken_from p h.deeds) ∙ h.others p (subst (λ n. HasNoPlace n p) count apart);
         asked = asked_more joins h.deeds d (λ id same. absurd (cc)) h.asked;
       }
 
@@ -101,6 +117,7 @@ module _ {P T : Type 0} (put : P → List rust.Message) (taken : T → List rust
     did = master_did_more size old new (back_of_servers outs) (back_of_servers outs) trace longer h.deeds d h.did done is;
     puts = λ at out here. h.puts at out here ∙ sym (put-more (parties.Server (at + 1)) h.deeds d ∙ ap (λ us. put_to (parties.Server (at + 1)) h.deeds ++ us) (puts_none (parties.Server (at + 1))) ∙ empty_end (put_to (parties.Server (at + 1)) h.deeds));
     takes = λ at end here. h.takes at end here ∙ ap (λ us. us ++ listed end.unread) (sym (taken-more (parties.Server (at + 1)) h.deeds d ∙ ap (λ us. taken_from (parties.Server (at + 1)) h.deeds ++ us) (takes_none (parties.Server (at + 1))) ∙ empty_end (taken_from (parties.Server (at + 1)) h.deeds)));
+    others = λ p apart. taken-more p h.deeds d ∙ ap (λ us. taken_from p h.deeds ++ us) (takes_none p) ∙ empty_end (taken_from p h.deeds) ∙ h.others p apart;
     asked = asked_more joins h.deeds d own h.asked;
   }
 
@@ -120,18 +137,34 @@ module _ {P T : Type 0} (put : P → List rust.Message) (taken : T → List rust
     did = master_did_kept size old new (back_of_servers outs) (back_of_servers after) trace longer h.deeds h.did keeps is;
     puts = lists (λ at. put_to (parties.Server (at + 1)) h.deeds) h.puts;
     takes = h.takes;
+    others = h.others;
     asked = h.asked;
   }
 
   -- it took none, or the core refused
-  pub master_waiting : (after : List (In T)) → chain.KeepsMaster old new → ((seen : ℕ → List rust.Message) → AreTaken taken ins seen → AreTaken taken after seen) → longer ≡ trace → MasterRan put taken size joins new outs after longer
-  master_waiting after keeps lists is = record {
+  pub master_waiting : (after : List (In T)) → length after ≡ length ins → chain.KeepsMaster old new → ((seen : ℕ → List rust.Message) → AreTaken taken ins seen → AreTaken taken after seen) → longer ≡ trace → MasterRan put taken size joins new outs after longer
+  master_waiting after count keeps lists is = record {
     deeds = h.deeds;
     did = master_did_kept size old new (back_of_servers outs) (back_of_servers outs) trace longer h.deeds h.did (as-kept chain.MasterStandsFor old new (back_of_servers outs) keeps) is;
     puts = h.puts;
     takes = lists (λ at. taken_from (parties.Server (at + 1)) h.deeds) h.takes;
+    others = λ p apart. h.others p (subst (λ n. HasNoPlace n p) count apart);
     asked = h.asked;
   }
+
+-- ---- after the last turn
+
+pub master_lived : {P T : Type 0} (put : P → List rust.Message) (taken : T → List rust.Message) (size : ℕ) (joins : List Join) (core : rust_master.Master) (outs : List (Out P)) (ins : List (In T)) (trace : List Event)
+    → MasterRan put taken size joins core outs ins trace → MasterLived put taken size joins outs ins trace
+master_lived put taken size joins core outs ins trace h = record {
+  deeds = h.deeds;
+  lived = inr (h.did.first, record { core = core; back = back_of_servers outs }, h.did.stood, h.did.run);
+  events = h.did.events;
+  puts = h.puts;
+  takes = h.takes;
+  others = h.others;
+  asked = h.asked;
+}
 
 -- ---- before the first turn
 
@@ -162,6 +195,7 @@ master_begun put taken size joins core outs ins stands unput untaken = record {
   };
   puts = λ at out here. (at_place (λ out. (put out.end ≡ []) × (out.kept ≡ None)) outs at out unput here).0;
   takes = λ at end here. let fresh = at_place (λ end. (taken end.end ≡ []) × (end.unread ≡ None)) ins at end untaken here in fresh.0 ∙ ap listed (sym fresh.1);
+  others = λ p apart. refl;
   asked = λ id none. absurd none;
 }
 

@@ -1,5 +1,5 @@
 -- What one step of the master's node does to what its core stands for, and to the list of one end.
-use Rattle.std.specs.Prelude.{◌≡◌, ◌==◌, ◌+◌, ℕ, zero, suc, List, [], ◌∷◌, ◌++◌, slice_get, if◌then◌else◌, Option, None}
+use Rattle.std.specs.Prelude.{◌≡◌, ◌==◌, ◌+◌, ◌≤◌, ℕ, zero, suc, length, List, [], ◌∷◌, ◌++◌, slice_get, if◌then◌else◌, Option, None}
 use Rattle.cq_base.specs.declared.party.Party.{Party}
 use Rattle.cq_base.specs.declared.party.Party.TheVariants as parties
 use Rattle.cq_chain.specs.declared.message.Message.{Message}
@@ -55,5 +55,6 @@ module _ {T : Type 0} (list : T → List Message) where
   -- The core takes the next message of that server, after what was taken from each link before.
   pub record TakesOf (old new : Master) (back : Party → Option Message) (after : List (In T)) (seen : ℕ → List Message) (from : ℕ) : Type 0 where
     pub message : Message
+    pub linked : (1 ≤ from) × (from ≤ length after)
     pub done : TakesOneOf old new back from message
     pub lists : AreTaken list after (λ at. seen at ++ (if at + 1 == from then message ∷ [] else []))

@@ -1,5 +1,5 @@
 -- What the master's node did since the first world, and what it holds.
-use Rattle.std.specs.Prelude.{◌≡◌, ◌+◌, ℕ, List, map, Option}
+use Rattle.std.specs.Prelude.{◌≡◌, ◌+◌, ◌<◌, ◌⊎◌, ℕ, List, [], length, map, Option}
 use Rattle.cq_base.specs.declared.party.Party.{Party}
 use Rattle.cq_base.specs.declared.party.Party.TheVariants as parties
 use Rattle.cq_base.specs.Relations.{Among}
@@ -10,7 +10,7 @@ use Rattle.cq_live.specs.declared.ends.Out.{Out}
 use Rattle.cq_live.specs.declared.master_node.Join.{Join}
 use Rattle.cq_live.specs.MasterMoves.{back_of_servers}
 use Rattle.cq_live.specs.Moves.{ArePut, AreTaken}
-use Rattle.cq_trace.specs.Deeds.{Deed, Joined, Standing, IsMasterAs, MasterRun, event_of, put_to, taken_from}
+use Rattle.cq_trace.specs.Deeds.{Deed, Joined, Standing, IsMasterAs, Lived, MasterRun, event_of, put_to, taken_from}
 use Rattle.cq_world.specs.Worlds.{first_world}
 use Rattle.cq_world.specs.declared.event.Event.{Event}
 
@@ -21,6 +21,12 @@ pub record MasterDid (size : ℕ) (core : rust_master.Master) (back : Party → 
   pub stood : IsMasterAs first (first_world size).master ((first_world size).outbox parties.Master)
   pub run : MasterRun first deeds (record { core = core; back = back })
   pub events : trace ≡ map (event_of parties.Master) deeds
+
+-- no server at one of so many places is that party: the server of number place + 1 stands at each
+abbrev pub HasNoPlace : ℕ → Party → Type 0
+HasNoPlace places parties.Master = Unit
+HasNoPlace places parties.Clients = Unit
+HasNoPlace places (parties.Server id) = (id ≡ 0) ⊎ (places < id)
 
 -- only servers of these joins joined
 abbrev pub AreAsked : List Join → List Deed → Type 0
@@ -33,6 +39,17 @@ module _ {P T : Type 0} (put : P → List rust.Message) (taken : T → List rust
     pub did : MasterDid size core (back_of_servers outs) trace deeds
     pub puts : ArePut put outs (λ place. put_to (parties.Server (place + 1)) deeds)
     pub takes : AreTaken taken ins (λ place. taken_from (parties.Server (place + 1)) deeds)
+    pub others : (p : Party) → HasNoPlace (length ins) p → taken_from p deeds ≡ []
+    pub asked : AreAsked joins deeds
+
+  -- The same of one that is finished, as a party that lived from the first world on.
+  pub record MasterLived (size : ℕ) (joins : List Join) (outs : List (Out P)) (ins : List (In T)) (trace : List Event) : Type 0 where
+    pub deeds : List Deed
+    pub lived : Lived (first_world size) parties.Master deeds
+    pub events : trace ≡ map (event_of parties.Master) deeds
+    pub puts : ArePut put outs (λ place. put_to (parties.Server (place + 1)) deeds)
+    pub takes : AreTaken taken ins (λ place. taken_from (parties.Server (place + 1)) deeds)
+    pub others : (p : Party) → HasNoPlace (length ins) p → taken_from p deeds ≡ []
     pub asked : AreAsked joins deeds
 
 -- What callers see of the master's node: what it was made with, its trace, and the ends of its links.

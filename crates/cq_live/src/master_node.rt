@@ -1,7 +1,7 @@
 //! The master that runs between the ends of its links.
 ghost use Rattle.std.specs.Prelude.{◌≡◌, [], IfOk, IfSome, map};
 ghost use Rattle.cq_base.specs.Relations.{Among};
-ghost use Rattle.cq_live.specs.MasterNodes.{IsSameNode};
+ghost use Rattle.cq_live.specs.MasterNodes.{IsSameNode, MasterLived};
 
 use crate::ends::{In, Out};
 use crate::flags::Flags;
@@ -38,6 +38,14 @@ pub struct MasterNode<'a, P: PutEnd<Message> + Drop, T: TakeEnd<Message> + Drop>
     turns: u64,
     starved: bool,
     flags: &'a Flags,
+}
+
+/// What is left of the master's node after its last turn: the ends at their places, and what it did, in order.
+#[derive(Drop)]
+pub struct MasterEnds<P: Drop, T: Drop> {
+    pub outs: Vec<Out<P>>,
+    pub ins: Vec<In<T>>,
+    pub trace: Vec<Event>,
 }
 
 impl<'a, P: PutEnd<Message> + Drop, T: TakeEnd<Message> + Drop> Model for MasterNode<'a, P, T> {
@@ -288,5 +296,19 @@ impl<'a, P: PutEnd<Message> + Drop, T: TakeEnd<Message> + Drop> MasterNode<'a, P
             }
         }
         Stop::Limit
+    }
+
+    /// Ends its turns. What its core has not put on a link is dropped.
+    pub fn finish(self) -> MasterEnds<P, T>
+        ensures trace { result.trace.items ≡ self.entry.trace }
+        ensures outs { map (λ out. out.end) result.outs.items ≡ self.entry.outs }
+        ensures ins { map (λ end. end.end) result.ins.items ≡ self.entry.ins }
+        ensures lived { MasterLived P.list T.list self.entry.size self.entry.joins result.outs.items result.ins.items self.entry.trace }
+    {
+        MasterEnds {
+            outs: self.outs,
+            ins: self.ins,
+            trace: self.trace,
+        }
     }
 }

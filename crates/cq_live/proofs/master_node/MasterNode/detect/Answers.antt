@@ -1,5 +1,5 @@
 -- A crash was detected, or the core refused.
-use Rattle.std.proofs.Common.{◌∙◌, ap, Ok}
+use Rattle.std.proofs.Common.{◌∙◌, ap, refl, Ok}
 use Rattle.cq_live.specs.MasterMoves.{back_of_servers}
 use Rattle.cq_live.proofs.MasterSteps.{noted, master_detected, master_waiting}
 use Rattle.cq_live.proofs.NodeSteps.{not_taken, none_taken}
@@ -9,7 +9,7 @@ use Rattle.cq_live.proofs.master_node.MasterNode.detect.Goals as goal
 pub invariant_of-self-in_err-detected : goal.invariant_of-self-in_err-detected
 invariant_of-self-in_err-detected g c =
     let old = c.self.inside in
-    master_waiting g.P.PutEnd.list g.T.TakeEnd.list old.size old.joins.items old.core c.detect_one.new.core old.outs.items old.ins.items old.trace.items c.reserve.new.self.items c.self.invariant old.ins.items
+    master_waiting g.P.PutEnd.list g.T.TakeEnd.list old.size old.joins.items old.core c.detect_one.new.core old.outs.items old.ins.items old.trace.items c.reserve.new.self.items c.self.invariant old.ins.items refl
     (c.detect_one.ensures.idle (not_taken c.detect_one.result _ c.in_err-detected.was)) (λ seen taken. taken) c.in_ok-reserve.ensures.items
 
 pub invariant_of-self-then-detected : goal.invariant_of-self-then-detected
@@ -22,5 +22,5 @@ invariant_of-self-then-detected g c =
 pub invariant_of-self-else-detected : goal.invariant_of-self-else-detected
 invariant_of-self-else-detected g c =
     let old = c.self.inside in
-    master_waiting g.P.PutEnd.list g.T.TakeEnd.list old.size old.joins.items old.core c.detect_one.new.core old.outs.items old.ins.items old.trace.items c.reserve.new.self.items c.self.invariant old.ins.items
+    master_waiting g.P.PutEnd.list g.T.TakeEnd.list old.size old.joins.items old.core c.detect_one.new.core old.outs.items old.ins.items old.trace.items c.reserve.new.self.items c.self.invariant old.ins.items refl
     (c.detect_one.ensures.idle (none_taken c.detect_one.result _ c.in_ok-detected.was c.if-detected.false)) (λ seen taken. taken) c.in_ok-reserve.ensures.items

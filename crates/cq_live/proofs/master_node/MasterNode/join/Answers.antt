@@ -1,5 +1,5 @@
 -- A server joined that was asked for, or the core refused.
-use Rattle.std.proofs.Common.{◌∙◌, List, ap, subst, map, Ok}
+use Rattle.std.proofs.Common.{◌∙◌, List, ap, refl, subst, map, Ok}
 use Rattle.cq_base.specs.Relations.{Among}
 use Rattle.cq_live.specs.declared.master_node.Join.{Join}
 use Rattle.cq_live.specs.MasterMoves.{back_of_servers}
@@ -11,7 +11,7 @@ use Rattle.cq_live.proofs.master_node.MasterNode.join.Goals as goal
 pub invariant_of-self-in_err-joined-in-Some : goal.invariant_of-self-in_err-joined-in-Some
 invariant_of-self-in_err-joined-in-Some g c =
     let old = c.self.inside in
-    master_waiting g.P.PutEnd.list g.T.TakeEnd.list old.size old.joins.items old.core c.join_one.new.core old.outs.items old.ins.items old.trace.items c.reserve.new.self.items c.self.invariant old.ins.items
+    master_waiting g.P.PutEnd.list g.T.TakeEnd.list old.size old.joins.items old.core c.join_one.new.core old.outs.items old.ins.items old.trace.items c.reserve.new.self.items c.self.invariant old.ins.items refl
     (c.join_one.ensures.idle (not_taken c.join_one.result _ c.in_err-joined-in-Some.was)) (λ seen taken. taken) c.in_ok-reserve.ensures.items
 
 pub invariant_of-self-then-joined : goal.invariant_of-self-then-joined
@@ -25,5 +25,5 @@ invariant_of-self-then-joined g c =
 pub invariant_of-self-else-joined : goal.invariant_of-self-else-joined
 invariant_of-self-else-joined g c =
     let old = c.self.inside in
-    master_waiting g.P.PutEnd.list g.T.TakeEnd.list old.size old.joins.items old.core c.join_one.new.core old.outs.items old.ins.items old.trace.items c.reserve.new.self.items c.self.invariant old.ins.items
+    master_waiting g.P.PutEnd.list g.T.TakeEnd.list old.size old.joins.items old.core c.join_one.new.core old.outs.items old.ins.items old.trace.items c.reserve.new.self.items c.self.invariant old.ins.items refl
     (c.join_one.ensures.idle (none_taken c.join_one.result _ c.in_ok-joined-in-Some.was c.if-joined.false)) (λ seen taken. taken) c.in_ok-reserve.ensures.items
