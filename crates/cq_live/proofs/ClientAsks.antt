@@ -43,9 +43,6 @@ module _ (id : ℕ) (asks : List Ask) (old new : rust_client.Client) (closed : L
     longest = h.longest;
   }
 
-  pub along_same : StandsFor new h.client → IsAlong id asks new closed
-  along_same stands = record { client = h.client; stands = stands; own = h.own; pending = h.pending; longest = h.longest }
-
 -- ---- the open request again
 
 open_is : (id : ℕ) (asks : List Ask) (client : Client) (closed : ℕ) (pending : Option Ask) → client.id ≡ id → IsOpen asks client.used closed pending → IfSome (option_map (request_of client client.used) pending) (IsAskOf id asks)
@@ -95,6 +92,3 @@ module _ (id : ℕ) (asks : List Ask) (old new : rust_client.Client) (closed : L
 
       same_length : {a b : Answer} → a ≡ b → a.length ≤ b.length
       same_length e = let n = ap (λ (x : Answer). x.length) e in omega arith
-
-  pub answer_passes : closes h.client answer.number answer.length ≡ false → IsAlong id asks new closed
-  answer_passes does = along_same id asks old new closed h (subst (λ b. StandsFor new (cond b (with_closed h.client answer.length) h.client)) does stands)

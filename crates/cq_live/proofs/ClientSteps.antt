@@ -1,6 +1,5 @@
 -- What a client's node did, after one more step.
 use Rattle.std.proofs.Common.{arith, ◌≡◌, ◌<◌, ◌≤◌, ℕ, zero, suc, ◌+◌, ◌∙◌, ◌⊎◌, ap, sym, refl, subst, length, List, [], ◌∷◌, ◌++◌, slice_get, inl, inr, Option, Some, None}
-use Rattle.std.specs.Option.{IfSome}
 use Rattle.std.proofs.lemmas.Option.{same_Some, none-some}
 use Rattle.cq_base.specs.declared.ask.Ask.{Ask}
 use Rattle.cq_base.specs.declared.ask.Request.{Request}
@@ -10,8 +9,8 @@ use Rattle.cq_chain.specs.Clients.{StandsFor, first_client}
 use Rattle.cq_chain.specs.declared.client.Client as rust_client
 use Rattle.cq_chain.specs.declared.message.Answer.{Answer}
 use Rattle.cq_chain.specs.declared.message.Message.{Message}
-use Rattle.cq_live.specs.ClientMoves.{IsAskOf, AreAsked, IsTaken, IsAlong, ClosesBy}
-use Rattle.cq_live.specs.ClientNodes.{AreFresh, IsClosedBy, ClientRan, ClientHeld, IsSameClient, client_held}
+use Rattle.cq_live.specs.ClientMoves.{IsTaken, IsAlong, ClosesBy}
+use Rattle.cq_live.specs.ClientNodes.{AreFresh, IsClosedBy, ClientRan, client_held}
 use Rattle.cq_live.proofs.ClientAsks.{one_more}
 
 -- ---- lists
@@ -27,30 +26,21 @@ at_push (z ∷ zs) x y (suc i) is = elim (at_push zs x y i is) [ inl l ↦ inl l
 pub each_push : {X : Type 0} (Q : ℕ → X → Type 0) (xs : List X) (x : X) → ((i : ℕ) (y : X) → slice_get xs i ≡ Some y → Q i y) → Q (length xs) x → (i : ℕ) (y : X) → slice_get (xs ++ x ∷ []) i ≡ Some y → Q i y
 each_push Q xs x all last i y is = elim (at_push xs x y i is) [ inl l ↦ all i y l | inr r ↦ subst (λ j. Q j y) (sym r.0) (subst (Q (length xs)) (sym r.1) last) ]
 
--- ---- links
-
-module _ {P T L M : Type 0} (put_link : P → L) (take_link : T → M) where
-  pub same_client : (a : ClientHeld P T) → IsSameClient put_link take_link a a
-  same_client a = record { id = refl; asks = refl; outs = refl; ins = refl }
-
-  pub still_same : (a b c : ClientHeld P T) → IsSameClient put_link take_link a b → IsSameClient put_link take_link b c → IsSameClient put_link take_link a c
-  still_same a b c g h = record { id = h.id ∙ g.id; asks = h.asks ∙ g.asks; outs = h.outs ∙ g.outs; ins = h.ins ∙ g.ins }
-
 -- ---- a node
 
 module _ {P T : Type 0} (put : P → List Request) (taken : T → List Message) where
   -- it did nothing yet
-  pub ran_first : (id : ℕ) (asks : List Ask) (core : rust_client.Client) (outs : List P) (ins : List T) → StandsFor core (first_client id) → AreFresh put taken outs ins → ClientRan put taken core None (client_held id asks outs ins [])
-  ran_first id asks core outs ins stands fresh = record {
+  pub ran_first : (id : ℕ) (asks : List Ask) (core : rust_client.Client) (outs : List P) (ins : List T) (closed : List Answer) → StandsFor core (first_client id) → AreFresh put taken outs ins → closed ≡ [] → ClientRan put taken core None (client_held id asks outs ins closed)
+  ran_first id asks core outs ins closed stands fresh none = subst (λ xs. ClientRan put taken core None (client_held id asks outs ins xs)) (sym none) (record {
     did = record {
       asked = λ place out here request among. absurd (subst (λ xs. Among request xs) (fresh.nothing_put place out here) among);
-      closed_by = λ place answer none. absurd (none-some answer none);
+      closed_by = λ place answer nobody. absurd (none-some answer nobody);
       rising = tt;
       few = omega arith;
     };
-    along = record { client = first_client id; stands = stands; own = refl; pending = refl; longest = λ answer none. absurd none };
+    along = record { client = first_client id; stands = stands; own = refl; pending = refl; longest = λ answer nobody. absurd nobody };
     back = tt;
-  }
+  })
 
   module _ (id : ℕ) (asks : List Ask) (old new : rust_client.Client) (back : Option Request) (outs : List P) (ins : List T) (closed longer : List Answer) (h : ClientRan put taken old back (client_held id asks outs ins closed)) where
     -- what was taken before is taken still
@@ -87,23 +77,3 @@ module _ {P T : Type 0} (put : P → List Request) (taken : T → List Message) 
     }) where
       few : {n k m : ℕ} → n ≡ k + 1 → k < m → n ≤ m
       few e f = omega arith
-
-    -- it made a request
-    pub ran_asked : IsAlong id asks new closed → ClientRan put taken new back (client_held id asks outs ins closed)
-    ran_asked along = record { did = h.did; along = along; back = h.back }
-
-    -- it put a request that was handed back, or drops it
-    pub ran_empty : ClientRan put taken old None (client_held id asks outs ins closed)
-    ran_empty = record { did = h.did; along = h.along; back = tt }
-
-    -- it put a request, or kept it
-    pub ran_put : (after : List P) (request : Request) (now : Option Request) → IsAskOf id asks request → (IsAskOf id asks request → AreAsked put id asks outs → AreAsked put id asks after) → IfSome now (λ r. r ≡ request)
-        → ClientRan put taken old now (client_held id asks after ins closed)
-    ran_put after request now ask all is = record {
-      did = record { asked = all ask h.did.asked; closed_by = h.did.closed_by; rising = h.did.rising; few = h.did.few };
-      along = h.along;
-      back = kept now is;
-    } where
-      kept : (o : Option Request) → IfSome o (λ r. r ≡ request) → IfSome o (IsAskOf id asks)
-      kept None is = tt
-      kept (Some r) is = subst (IsAskOf id asks) (sym is) ask

@@ -90,6 +90,14 @@ pub fn ask_again(core: &Client) -> Result<Option<Request>, NoMemory>
     core.again()
 }
 
+/// Whether the answer is one to a request of the client of that id, and not to a query.
+fn is_own(id: u32, answer: &Answer) -> bool
+    ensures client { result ≡ true → answer.now.client ≡ id }
+    ensures no_query { result ≡ true → answer.now.is_query ≡ false }
+{
+    answer.client == id && !answer.is_query
+}
+
 /// Whether the answer closes the open request of the client of that id. If so, no request is open any more.
 fn is_closed_by(core: &mut Client, id: u32, answer: &Answer) -> bool
     ensures closes { (asks : List rust_ask.Ask) (closed : List rust_answer.Answer) → IsAlong id asks core.old closed
@@ -97,7 +105,7 @@ fn is_closed_by(core: &mut Client, id: u32, answer: &Answer) -> bool
     ensures along { (asks : List rust_ask.Ask) (closed : List rust_answer.Answer) → IsAlong id asks core.old closed
         → result ≡ false → IsAlong id asks core.new closed }
 {
-    if answer.client == id && !answer.is_query {
+    if is_own(id, answer) {
         core.take(answer.number, answer.length, &answer.reply)
     } else {
         false

@@ -66,7 +66,7 @@ impl<P: PutEnd<Request> + Drop, T: TakeEnd<Message> + Drop> ClientLinks<P, T> {
     fn into_parts(self) -> (Vec<P>, Vec<T>)
         ensures outs { result.0.items ≡ self.outs }
         ensures ins { result.1.items ≡ self.ins }
-        ensures fresh { AreFresh P.list T.list self.outs self.ins }
+        ensures fresh { AreFresh P.list T.list result.0.items result.1.items }
     {
         (self.outs, self.ins)
     }
