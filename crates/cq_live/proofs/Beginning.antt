@@ -1,5 +1,5 @@
 -- A server's node that has done nothing.
-use Rattle.std.proofs.Common.{arith, ◌≡◌, ◌==◌, ◌<◌, ℕ, zero, suc, length, ap, refl, subst, sym, ◌∙◌, cond, List, [], ◌∷◌, slice_get, Bool, true, false, Option, Some, None}
+use Rattle.std.proofs.Common.{arith, ◌≡◌, ◌==◌, ℕ, zero, suc, ap, refl, subst, sym, ◌∙◌, cond, List, [], ◌∷◌, slice_get, Bool, true, false, Option, Some, None}
 use Rattle.std.proofs.lemmas.Option.{same_Some, none-some}
 use Rattle.std.specs.List.{All}
 use Rattle.cq_base.specs.declared.ask.Request.{Request}

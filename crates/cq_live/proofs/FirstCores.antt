@@ -1,5 +1,5 @@
 -- Which servers are members of the first chain.
-use Rattle.std.proofs.Common.{arith, ◌≡◌, ◌==◌, ◌≤◌, ◌+◌, ◌||◌, ℕ, zero, suc, ◌∙◌, ap, refl, Bool, true, false, Result, Ok, Err, IfOk}
+use Rattle.std.proofs.Common.{arith, ◌≡◌, ◌≤◌, ◌+◌, ◌||◌, ℕ, zero, suc, ◌∙◌, ap, refl, false, Result, Ok, Err, IfOk}
 use Rattle.cq_chain.specs.Masters.{is_in, numbers_from}
 use Rattle.cq_live.proofs.Places.{is_apart}
 

@@ -67,8 +67,12 @@ abbrev pub HasRoom : Bool → ℕ → ℕ → Type 0
 HasRoom true length capacity = ⊤
 HasRoom false length capacity = length < capacity
 
--- What callers see of a node: its trace, the ends of its links, that of its inbox, and whether it found no memory.
+-- What callers see of a server's node: what it was made with, its trace, the ends of its links, that of its inbox, and
+-- whether it found no memory.
 pub record Held (P T I : Type 0) : Type 0 where
+  pub size : ℕ
+  pub id : ℕ
+  pub crash_after : Option ℕ
   pub trace : List Event
   pub outs : List P
   pub first : P
@@ -78,24 +82,27 @@ pub record Held (P T I : Type 0) : Type 0 where
   pub starved : Bool
 
 module _ {P T I : Type 0} where
-  abbrev pub held : List (Out P) → ToClients P → List (In T) → I → List Event → Bool → Held P T I
-  held outs clients ins inbox trace starved = record { trace = trace; outs = ends_of outs; first = clients.first; second = clients.second; ins = in_ends_of ins; inbox = inbox; starved = starved }
+  abbrev pub held : ℕ → ℕ → Option ℕ → List (Out P) → ToClients P → List (In T) → I → List Event → Bool → Held P T I
+  held size id crash_after outs clients ins inbox trace starved = record { size = size; id = id; crash_after = crash_after; trace = trace; outs = ends_of outs; first = clients.first; second = clients.second; ins = in_ends_of ins; inbox = inbox; starved = starved }
 
 -- what callers see of a node that has done nothing
-abbrev pub begun : {P T I : Type 0} → ServerEnds P T I → Held P T I
-begun ends = record { trace = []; outs = ends.links.outs; first = ends.first; second = ends.second; ins = ends.links.ins; inbox = ends.inbox; starved = false }
+abbrev pub begun : {P T I : Type 0} → ℕ → ℕ → Option ℕ → ServerEnds P T I → Held P T I
+begun size id crash_after ends = record { size = size; id = id; crash_after = crash_after; trace = []; outs = ends.links.outs; first = ends.first; second = ends.second; ins = ends.links.ins; inbox = ends.inbox; starved = false }
 
 -- what they see of it still, by its parts
 abbrev pub held_in : {P T I : Type 0} → ServerParts P T I → Held P T I
-held_in parts = held parts.outs.items parts.clients parts.ins.items parts.inbox parts.trace.items parts.starved
+held_in parts = held parts.size parts.id parts.crash_after parts.outs.items parts.clients parts.ins.items parts.inbox parts.trace.items parts.starved
 
 -- The parts of a server's node tell what it did.
 pub record Tells {P T I : Type 0} (put : P → List rust.Message) (taken : T → List rust.Message) (got : I → List Request) (parts : ServerParts P T I) : Type 0 where
   pub core : rust_server.Server
   pub ran : ServerRan put taken got parts.size parts.id core parts.outs.items parts.clients parts.ins.items parts.inbox parts.trace.items parts.crash_after parts.starved
 
--- each end is still one of the same link
-pub record SameLinks {P T I L M N : Type 0} (put : P → L) (taken : T → M) (got : I → N) (old new : Held P T I) : Type 0 where
+-- The node of the same server, made with the same: each end is still one of the same link.
+pub record IsSameServer {P T I L M N : Type 0} (put : P → L) (taken : T → M) (got : I → N) (old new : Held P T I) : Type 0 where
+  pub size : new.size ≡ old.size
+  pub id : new.id ≡ old.id
+  pub crash_after : new.crash_after ≡ old.crash_after
   pub outs : map put new.outs ≡ map put old.outs
   pub first : put new.first ≡ put old.first
   pub second : put new.second ≡ put old.second

@@ -23,7 +23,7 @@ pub use client_node::{ClientLeft, ClientLinks, ClientNode};
 pub use ends::{In, Out, ToClients};
 pub use flags::Flags;
 pub use links::Links;
-pub use server_ends::{ServerEnds, ServerParts};
 pub use master_node::{Join, MasterEnds, MasterNode};
+pub use server_ends::{ServerEnds, ServerParts};
 pub use server_node::ServerNode;
 pub use turns::{Always, Gate, Stop, Turn};

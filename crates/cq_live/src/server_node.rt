@@ -52,7 +52,7 @@ impl<'a, P: PutEnd<Message> + Drop, T: TakeEnd<Message> + Drop, I: TakeEnd<Reque
 
     ghost Value = { Held P T I };
 
-    ghost view = { λ n. held n.outs.items n.clients n.ins.items n.inbox n.trace.items n.starved };
+    ghost view = { λ n. held n.size n.id n.crash_after n.outs.items n.clients n.ins.items n.inbox n.trace.items n.starved };
 
     ghost invariant = { λ n. ServerRan P.list T.list I.list n.size n.id n.core n.outs.items n.clients n.ins.items n.inbox n.trace.items n.crash_after n.starved
         × HasRoom n.ended (vec_len n.trace) (vec_capacity n.trace) };
@@ -65,7 +65,7 @@ impl<
     I: TakeEnd<Request> + Drop,
 > ServerNode<'a, P, T, I> {
     ghost use Rattle.std.specs.Prelude.{[], IfOk};
-    ghost use Rattle.cq_live.specs.Nodes.{SameLinks, begun, held_in, Tells};
+    ghost use Rattle.cq_live.specs.Nodes.{IsSameServer, begun, held_in, Tells};
 
     /// The node of that server in a chain that begins with so many, over ends that nobody used. It is a member of the
     /// chain, or may join later. It is to crash at its first turn with so many entries, if that is said. It keeps the
@@ -80,7 +80,7 @@ impl<
     ) -> Result<ServerNode<'a, P, T, I>, NoMemory>
         requires first { P.list ends.first ≡ [] }
         requires second { P.list ends.second ≡ [] }
-        ensures { IfOk result (λ node. node ≡ begun ends) }
+        ensures { IfOk result (λ node. node ≡ begun size id crash_after ends) }
     {
         let core = first_core(alloc, size, id)?;
         let mut trace = Vec::new(alloc);
@@ -110,7 +110,7 @@ impl<
     /// Puts the first message for the party at that place on its link. It answers false where there is no message and
     /// no such place, and where the link is full.
     fn put_on<R: Wait>(&mut self, rt: &R, place: u32) -> Result<bool, NoMemory>
-        ensures links { SameLinks P.link T.link I.link self.old self.new }
+        ensures same { IsSameServer P.link T.link I.link self.old self.new }
     {
         self.trace.reserve(2)?;
         let put = put_at(rt, &mut self.core, &mut self.outs, place);
@@ -126,7 +126,7 @@ impl<
     /// The core takes the next message of the party at that place. It answers false where there is no message and no
     /// such place. After a fault the message stays unread.
     fn take_from<R: Wait>(&mut self, rt: &R, place: u32) -> Result<bool, WorldFault>
-        ensures links { SameLinks P.link T.link I.link self.old self.new }
+        ensures same { IsSameServer P.link T.link I.link self.old self.new }
     {
         self.trace.reserve(2)?;
         let taken = take_at(rt, &mut self.core, &mut self.ins, place)?;
@@ -142,7 +142,7 @@ impl<
     /// Puts the first message for the clients on the link to the one that it is for. It answers false where there is no
     /// message, and where the link is full.
     fn put_to_clients<R: Wait>(&mut self, rt: &R) -> Result<bool, NoMemory>
-        ensures links { SameLinks P.link T.link I.link self.old self.new }
+        ensures same { IsSameServer P.link T.link I.link self.old self.new }
     {
         self.trace.reserve(2)?;
         let put = put_to_one(rt, &mut self.core, &mut self.clients);
@@ -158,7 +158,7 @@ impl<
     /// The next request of the inbox arrives at the core, if that is the head; any other core drops it. It answers
     /// whether one arrived.
     fn take_request<R: Wait>(&mut self, rt: &R) -> Result<bool, WorldFault>
-        ensures links { SameLinks P.link T.link I.link self.old self.new }
+        ensures same { IsSameServer P.link T.link I.link self.old self.new }
     {
         self.trace.reserve(2)?;
         let clock = moment_of(self.turns);
@@ -177,7 +177,7 @@ impl<
 
     /// The server crashes if it is to crash at so many entries. It answers whether it did. It takes no memory.
     fn crash_if_due(&mut self) -> bool
-        ensures links { SameLinks P.link T.link I.link self.old self.new }
+        ensures same { IsSameServer P.link T.link I.link self.old self.new }
     {
         if self.ended {
             return false;
@@ -194,7 +194,7 @@ impl<
 
     /// The server crashes since it found no memory. It takes none.
     fn starve(&mut self)
-        ensures links { SameLinks P.link T.link I.link self.old self.new }
+        ensures same { IsSameServer P.link T.link I.link self.old self.new }
     {
         let count = self.core.count();
         if !self.ended {
@@ -207,7 +207,7 @@ impl<
 
     /// One take from each link. It answers whether anything was taken.
     fn take_all<R: Wait>(&mut self, rt: &R) -> Result<bool, WorldFault>
-        ensures links { SameLinks P.link T.link I.link self.old self.new }
+        ensures same { IsSameServer P.link T.link I.link self.old self.new }
     {
         let mut any = false;
         for place in 0..u32::try_from(self.ins.len()).unwrap_or(u32::MAX) {
@@ -219,7 +219,7 @@ impl<
 
     /// One put on each link to a server or to the master. It answers whether anything was put.
     fn put_all<R: Wait>(&mut self, rt: &R) -> Result<bool, NoMemory>
-        ensures links { SameLinks P.link T.link I.link self.old self.new }
+        ensures same { IsSameServer P.link T.link I.link self.old self.new }
     {
         let mut any = false;
         for place in 0..u32::try_from(self.outs.len()).unwrap_or(u32::MAX) {
@@ -231,7 +231,7 @@ impl<
 
     /// One take from each link and from the inbox, then one put on each link. It answers whether anything was done.
     fn work<R: Wait>(&mut self, rt: &R) -> Result<bool, WorldFault>
-        ensures links { SameLinks P.link T.link I.link self.old self.new }
+        ensures same { IsSameServer P.link T.link I.link self.old self.new }
     {
         let taken = self.take_all(rt)?;
         let arrived = self.take_request(rt)?;
@@ -242,7 +242,7 @@ impl<
 
     /// A turn is counted, up to 2^62.
     fn count_turn(&mut self)
-        ensures links { SameLinks P.link T.link I.link self.old self.new }
+        ensures same { IsSameServer P.link T.link I.link self.old self.new }
     {
         if self.turns < TURNS_LIMIT {
             self.turns += 1;
@@ -253,7 +253,7 @@ impl<
     /// inbox, and then puts at most one message on each link. Where it finds no memory it crashes, and has ended. It has
     /// ended, too, once both clients have. It takes what the core takes for each step.
     pub fn turn<R: Wait>(&mut self, rt: &R) -> Turn
-        ensures links { SameLinks P.link T.link I.link self.old self.new }
+        ensures same { IsSameServer P.link T.link I.link self.old self.new }
     {
         self.count_turn();
         if self.ended || self.flags.have_ended() || self.crash_if_due() {
@@ -271,7 +271,7 @@ impl<
 
     /// So many turns, each once the gate lets it begin, until the node has ended.
     pub fn run<R: Wait, G: Gate>(&mut self, rt: &R, turns: u64, gate: &G) -> Stop
-        ensures links { SameLinks P.link T.link I.link self.old self.new }
+        ensures same { IsSameServer P.link T.link I.link self.old self.new }
     {
         for _ in 0..turns {
             if !gate.enter(Party::Server(self.id), self.turns.saturating_add(1)) {

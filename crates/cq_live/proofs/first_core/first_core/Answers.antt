@@ -1,5 +1,5 @@
 -- It is a member of the first chain, or isn't.
-use Rattle.std.proofs.Common.{arith, ◌+◌, ◌<◌, ◌≤◌, None, []}
+use Rattle.std.proofs.Common.{arith, None, []}
 use Rattle.cq_base.specs.declared.party.Party.TheVariants as parties
 use Rattle.cq_chain.specs.Servers.{first_member, joining}
 use Rattle.cq_chain.specs.Stands.{StandsFor}

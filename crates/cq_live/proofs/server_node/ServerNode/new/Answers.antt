@@ -1,5 +1,5 @@
 -- Its ends are fresh.
-use Rattle.std.proofs.Common.{arith, ◌+◌, ◌<◌, ◌≤◌, refl, None, subst, sym, ◌∙◌, []}
+use Rattle.std.proofs.Common.{arith, refl, None, subst, sym, ◌∙◌}
 use Rattle.cq_live.specs.Nodes.{ServerRan}
 use Rattle.cq_live.proofs.Beginning.{ran_begun}
 use Rattle.cq_live.proofs.server_node.ServerNode.new.Goals as goal

@@ -1,5 +1,5 @@
 -- A message was put, or none.
-use Rattle.std.proofs.Common.{arith, ◌+◌, ◌<◌, ◌≤◌, ◌∙◌, ◌++◌, ◌∷◌, [], ap}
+use Rattle.std.proofs.Common.{arith, ◌∙◌, ◌++◌, ◌∷◌, [], ap}
 use Rattle.cq_base.specs.declared.party.Party.TheVariants as parties
 use Rattle.cq_live.specs.Ends.{party_at}
 use Rattle.cq_live.proofs.NodeSteps.{ran_put, ran_idle, room_if}

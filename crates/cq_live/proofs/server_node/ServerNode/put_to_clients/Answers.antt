@@ -1,5 +1,5 @@
 -- An answer was put, or none.
-use Rattle.std.proofs.Common.{arith, ◌+◌, ◌<◌, ◌≤◌, ◌∙◌, ◌++◌, ◌∷◌, [], ap}
+use Rattle.std.proofs.Common.{arith, ◌∙◌, ◌++◌, ◌∷◌, [], ap}
 use Rattle.cq_base.specs.declared.party.Party.TheVariants as parties
 use Rattle.cq_live.proofs.NodeSteps.{ran_answered, ran_silent, room_if}
 use Rattle.cq_world.specs.declared.event.Event.TheVariants as events

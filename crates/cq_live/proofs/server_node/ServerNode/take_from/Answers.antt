@@ -1,5 +1,5 @@
 -- A message was taken, or none.
-use Rattle.std.proofs.Common.{arith, ◌+◌, ◌<◌, ◌≤◌, ◌∙◌, ◌++◌, ◌∷◌, [], ap, Ok}
+use Rattle.std.proofs.Common.{arith, ◌∙◌, ◌++◌, ◌∷◌, [], ap, Ok}
 use Rattle.cq_base.specs.declared.party.Party.TheVariants as parties
 use Rattle.cq_live.specs.Ends.{party_at, back_of}
 use Rattle.cq_live.proofs.NodeSteps.{ran_taken, ran_waiting, not_taken, none_taken, room_if}

@@ -1,5 +1,5 @@
 -- A request arrived, or none.
-use Rattle.std.proofs.Common.{arith, ◌+◌, ◌<◌, ◌≤◌, ◌∙◌, ◌++◌, ◌∷◌, [], ap, Ok}
+use Rattle.std.proofs.Common.{arith, ◌∙◌, ◌++◌, ◌∷◌, [], ap, Ok}
 use Rattle.cq_live.specs.Ends.{back_of}
 use Rattle.cq_live.proofs.NodeSteps.{ran_arrived, ran_unasked, refused_came, none_came, room_if}
 use Rattle.cq_world.specs.declared.event.Event.TheVariants as events
