@@ -1,0 +1,11 @@
+//! The tests of nodes, by their public calls. They stand here since a crate that has tests is proved twice.
+#![tactic(auto)]
+
+#[cfg(test)]
+mod chains;
+#[cfg(test)]
+mod common;
+#[cfg(test)]
+mod one_server;
+#[cfg(test)]
+mod wires;

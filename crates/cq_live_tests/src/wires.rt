@@ -1,0 +1,134 @@
+//! Ends of rings between the parties of a chain.
+ghost use Rattle.std.specs.Prelude.{◌≡◌};
+
+use cq_chain::Message;
+use cq_link::{Full, Link, PutEnd, Putter, Taker};
+use cq_live::Links;
+use std::alloc::Global;
+use std::marker::Model;
+use std::sync::Wait;
+use std::test::Fail;
+
+/// The end of a ring that hands each message back once before it takes it.
+#[derive(Drop)]
+pub struct Reluctant {
+    end: Putter<Message>,
+    refused: bool,
+}
+
+impl PutEnd<Message> for Reluctant {
+    ghost use Rattle.cq_link.specs.Links.{LinkId, putter_link, put_on};
+
+    ghost Id = { LinkId };
+
+    ghost list = { λ r. put_on r.end };
+
+    ghost link = { λ r. putter_link r.end };
+
+    fn put<R: Wait>(&mut self, _rt: &R, item: Message) -> Result<(), Full<Message>> {
+        self.refused = !self.refused;
+        if self.refused {
+            return Err(Full(item));
+        }
+        self.end.put(item)
+    }
+}
+
+impl Reluctant {
+    pub fn of(end: Putter<Message>) -> Reluctant
+        ensures { result.end ≡ end }
+    {
+        Reluctant {
+            end,
+            refused: false,
+        }
+    }
+}
+
+/// An end on which nothing was put.
+#[derive(Drop)]
+pub struct FreshPutter {
+    end: Reluctant,
+}
+
+impl Model for FreshPutter {
+    ghost use Rattle.std.specs.Prelude.{◌≡◌, []};
+    ghost use Rattle.cq_link.specs.Links.{put_on};
+
+    ghost Value = { Unit {0} };
+
+    ghost view = { λ _. tt };
+
+    ghost invariant = { λ f. put_on f.end.end ≡ [] };
+}
+
+/// An end from which nothing was taken.
+#[derive(Drop)]
+pub struct FreshTaker {
+    end: Taker<Message>,
+}
+
+impl Model for FreshTaker {
+    ghost use Rattle.std.specs.Prelude.{◌≡◌, []};
+    ghost use Rattle.cq_link.specs.Links.{taken_from};
+
+    ghost Value = { Unit {0} };
+
+    ghost view = { λ _. tt };
+
+    ghost invariant = { λ f. taken_from f.end ≡ [] };
+}
+
+/// The two ends of a new ring.
+fn ring(alloc: Global, capacity: usize) -> Result<(FreshPutter, FreshTaker), Fail> {
+    let (putter, taker) = Link::make(alloc, capacity)?;
+    Ok((
+        FreshPutter {
+            end: Reluctant::of(putter),
+        },
+        FreshTaker { end: taker },
+    ))
+}
+
+/// The links of the master and of so many servers to each other, in order, over rings: the master's are to the servers alone,
+/// those of a server are to the master and to all servers.
+pub fn between(
+    alloc: Global,
+    servers: usize,
+    capacity: usize,
+) -> Result<Vec<Links<Reluctant, Taker<Message>>>, Fail> {
+    let parties = servers.saturating_add(1);
+    let mut rows = Vec::new(alloc);
+    let mut columns = Vec::new(alloc);
+    for _ in 0..parties {
+        rows.push(Vec::new(alloc))?;
+        columns.push(Vec::new(alloc))?;
+    }
+    for from in 0..parties {
+        for to in 0..parties {
+            let (putter, taker) = ring(alloc, capacity)?;
+            rows.get_mut(from).ok_or("no row")?.push(putter)?;
+            columns.get_mut(to).ok_or("no column")?.push(taker)?;
+        }
+    }
+    let mut all = Vec::new(alloc);
+    for (row, column) in rows.into_iter().zip(columns) {
+        let skipped = usize::from(all.is_empty());
+        all.push(joined(alloc, row, column, skipped)?)?;
+    }
+    Ok(all)
+}
+
+/// The links with these ends, but for so many at the front.
+fn joined(
+    alloc: Global,
+    row: Vec<FreshPutter>,
+    column: Vec<FreshTaker>,
+    skipped: usize,
+) -> Result<Links<Reluctant, Taker<Message>>, Fail> {
+    let mut links = Links::new(alloc);
+    for (put, take) in row.into_iter().zip(column).skip(skipped) {
+        links.add(put.end, take.end)?;
+    }
+    Ok(links)
+}
