@@ -1,0 +1,4 @@
+pub mod Ranges
+pub mod Firsts
+pub mod Asks
+pub mod Rows

@@ -1,0 +1,10 @@
+//! What a live run is to do: what its clients ask, which servers crash, and which join. `specs/` holds the rules.
+#![tactic(auto)]
+
+mod asked;
+mod bad_steps;
+mod step;
+
+pub use asked::{asks_of, crash_of};
+pub use bad_steps::first_bad_step;
+pub use step::LiveStep;
