@@ -62,13 +62,14 @@ impl<T: Drop> InLeft<T> {
 }
 
 impl<T: Drop> PutEnd<T> for InPut<T> {
-    ghost use Rattle.cq_link.specs.Inboxes.{InboxId, put_inbox, put_in};
+    ghost use Rattle.std.specs.Prelude.{Bool};
+    ghost use Rattle.cq_link.specs.Inboxes.{InboxId, put_inbox, is_second, put_in};
 
-    ghost Id = { InboxId T };
+    ghost Id = { InboxId T × Bool };
 
     ghost list = { put_in };
 
-    ghost link = { put_inbox };
+    ghost link = { λ p. (put_inbox p, is_second p) };
 
     fn put<R: Wait>(&mut self, rt: &R, item: T) -> Result<(), Full<T>> {
         InPut::put(self, rt, item)
