@@ -1,5 +1,5 @@
 -- What a server's node did, after one more step.
-use Rattle.std.proofs.Common.{◌≡◌, ◌==◌, ℕ, ◌∙◌, ap, sym, refl, subst, cond, List, [], ◌∷◌, ◌++◌, append_assoc, map, ◌<◌, Bool, true, false, Option, Some, None, Result, Ok, Err}
+use Rattle.std.proofs.Common.{arith, ◌⊎◌, ◌≤◌, inl, inr, length, ◌≡◌, ◌==◌, ℕ, ◌∙◌, ap, sym, refl, subst, cond, List, [], ◌∷◌, ◌++◌, append_assoc, map, ◌<◌, Bool, true, false, Option, Some, None, Result, Ok, Err}
 use Rattle.std.proofs.lemmas.Bool.{eqb-true}
 use Rattle.cq_base.specs.declared.ask.Request.{Request}
 use Rattle.cq_base.specs.declared.party.Party.{Party}
@@ -13,7 +13,7 @@ use Rattle.cq_live.specs.declared.ends.Out.{Out}
 use Rattle.cq_live.specs.declared.ends.ToClients.{ToClients}
 use Rattle.cq_live.specs.Ends.{party_at, back_of, listed, if_for, of_client}
 use Rattle.cq_live.specs.Moves.{ArePut, PutsAt, AreTaken, TakesAt, PutsToOne, Part, Arrives}
-use Rattle.cq_live.specs.Nodes.{ServerDid, ServerRan, IsBound, MayDo, HasRoom, request_in, requests_in}
+use Rattle.cq_live.specs.Nodes.{ServerDid, ServerRan, IsBound, MayDo, HasRoom, HasNoLink, request_in, requests_in}
 use Rattle.cq_live.proofs.Bounds.{bound_more, bound_starved, part_both}
 use Rattle.cq_live.proofs.DeedRuns.{server-more, run-kept, put-more, taken-more}
 use Rattle.cq_live.proofs.Places.{both_no, itself, apart_of, is_apart, empty_end}
@@ -43,6 +43,18 @@ not_clients place = go (place == 0) where
   go : (t : Bool) → same parties.Clients (cond t parties.Master (parties.Server place)) ≡ false
   go true = refl
   go false = refl
+
+-- the party at a place is none that has no link
+no_link : (places place : ℕ) → place < places → (p : Party) → HasNoLink places p → same p (party_at place) ≡ false
+no_link places place linked parties.Clients apart = not_clients place
+no_link places place linked parties.Master apart = absurd (omega (arith, linked, apart))
+no_link places place linked (parties.Server id) apart = go (place == 0) refl where
+  go : (t : Bool) → (place == 0) ≡ t → same (parties.Server id) (cond t parties.Master (parties.Server place)) ≡ false
+  go true at_zero = refl
+  go false past = past_it apart where
+    past_it : (id ≡ 0) ⊎ (places ≤ id) → (id == place) ≡ false
+    past_it (inl none) = is_apart id place (λ e. apart_of place 0 past (sym e ∙ none))
+    past_it (inr over) = is_apart id place (λ e. absurd (omega (arith, e, over, linked)))
 
 -- what a call answers that took nothing
 abbrev is_taken : {E : Type 0} → Result Bool E → Bool
@@ -115,13 +127,15 @@ module _ {P T I : Type 0} (put : P → List rust.Message) (taken : T → List ru
   ran_more : (d : Deed) (outs_now : List (Out P)) (clients_now : ToClients P) (ins_now : List (In T)) (inbox_now : I) (starved_now : Bool)
       → Does d (record { core = old; back = back_of outs clients.kept }) (record { core = new; back = back_of outs_now clients_now.kept }) → longer ≡ trace ++ event_of (parties.Server id) d ∷ []
       → ArePut put outs_now (λ at. sent at ++ put_in (party_at at) d) → AreTaken taken ins_now (λ at. seen at ++ taken_in (party_at at) d)
+      → ((p : Party) → HasNoLink (length ins_now) p → taken_from p h.deeds ++ taken_in p d ≡ [])
       → put clients_now.first ≡ of_client false (answers ++ put_in parties.Clients d) → put clients_now.second ≡ of_client true (answers ++ put_in parties.Clients d)
       → IsBound due starved_now (got inbox_now) (h.deeds ++ d ∷ []) → ServerRan put taken got size id new outs_now clients_now ins_now inbox_now longer due starved_now
-  ran_more d outs_now clients_now ins_now inbox_now starved_now does is puts takes firsts seconds bound = record {
+  ran_more d outs_now clients_now ins_now inbox_now starved_now does is puts takes others firsts seconds bound = record {
     deeds = h.deeds ++ d ∷ [];
     did = did_more size id old new (back_of outs clients.kept) (back_of outs_now clients_now.kept) trace longer h.deeds d h.did does is;
     puts = λ at out here. puts at out here ∙ sym (put-more (party_at at) h.deeds d);
     takes = λ at end here. takes at end here ∙ ap (λ us. us ++ listed end.unread) (sym (taken-more (party_at at) h.deeds d));
+    others = λ p apart. taken-more p h.deeds d ∙ others p apart;
     firsts = firsts ∙ ap (of_client false) (sym (put-more parties.Clients h.deeds d));
     seconds = seconds ∙ ap (of_client true) (sym (put-more parties.Clients h.deeds d));
     bound = bound;
@@ -130,13 +144,14 @@ module _ {P T I : Type 0} (put : P → List rust.Message) (taken : T → List ru
   -- it did nothing
   ran_kept : (outs_now : List (Out P)) (clients_now : ToClients P) (ins_now : List (In T)) (inbox_now : I)
       → Keeps StandsAs (record { core = old; back = back_of outs clients.kept }) (record { core = new; back = back_of outs_now clients_now.kept }) → longer ≡ trace
-      → ArePut put outs_now sent → AreTaken taken ins_now seen → put clients_now.first ≡ put clients.first → put clients_now.second ≡ put clients.second → Part (requests_in h.deeds) (got inbox_now)
+      → ArePut put outs_now sent → AreTaken taken ins_now seen → length ins_now ≡ length ins → put clients_now.first ≡ put clients.first → put clients_now.second ≡ put clients.second → Part (requests_in h.deeds) (got inbox_now)
       → ServerRan put taken got size id new outs_now clients_now ins_now inbox_now longer due starved
-  ran_kept outs_now clients_now ins_now inbox_now keeps is puts takes firsts seconds arrived = record {
+  ran_kept outs_now clients_now ins_now inbox_now keeps is puts takes count firsts seconds arrived = record {
     deeds = h.deeds;
     did = did_kept size id old new (back_of outs clients.kept) (back_of outs_now clients_now.kept) trace longer h.deeds h.did keeps is;
     puts = puts;
     takes = takes;
+    others = λ p apart. h.others p (subst (λ n. HasNoLink n p) count apart);
     firsts = firsts ∙ h.firsts;
     seconds = seconds ∙ h.seconds;
     bound = record { may = h.bound.may; arrived = arrived };
@@ -149,6 +164,9 @@ module _ {P T I : Type 0} (put : P → List rust.Message) (taken : T → List ru
   seen_still : AreTaken taken ins (λ at. seen at ++ [])
   seen_still at end here = h.takes at end here ∙ ap (λ us. us ++ listed end.unread) (sym (empty_end (seen at)))
 
+  others_still : (p : Party) → HasNoLink (length ins) p → taken_from p h.deeds ++ [] ≡ []
+  others_still p apart = empty_end (taken_from p h.deeds) ∙ h.others p apart
+
   -- a deed is what the server may do, and no request arrives
   still_bound : (d : Deed) → MayDo due starved d → request_in d ≡ [] → IsBound due starved (got inbox) (h.deeds ++ d ∷ [])
   still_bound d may none = bound_more due starved (got inbox) (got inbox) h.deeds d h.bound may (subst (λ us. Part us (got inbox)) (sym (empty_end (requests_in h.deeds)) ∙ ap (λ us. requests_in h.deeds ++ us) (sym none)) h.bound.arrived)
@@ -160,7 +178,7 @@ module _ {P T I : Type 0} (put : P → List rust.Message) (taken : T → List ru
       let d : Deed = Put (party_at place) one.message in
       ran_more d after clients ins inbox starved one.done is
       (λ at out here. one.lists at out here ∙ ap (λ t. sent at ++ cond t (one.message ∷ []) []) (sym (same_at at place)))
-      seen_still (h.firsts ∙ ap (of_client false) none) (h.seconds ∙ ap (of_client true) none) (still_bound d tt refl)
+      seen_still others_still (h.firsts ∙ ap (of_client false) none) (h.seconds ∙ ap (of_client true) none) (still_bound d tt refl)
     where
       none : answers ≡ answers ++ cond (same parties.Clients (party_at place)) (one.message ∷ []) []
       none = sym (empty_end answers) ∙ ap (λ t. answers ++ cond t (one.message ∷ []) []) (sym (not_clients place))
@@ -172,7 +190,7 @@ module _ {P T I : Type 0} (put : P → List rust.Message) (taken : T → List ru
       let d : Deed = Put parties.Clients one.message in
       ran_more d outs after ins inbox starved one.done is
       (λ at out here. h.puts at out here ∙ sent_still at ∙ ap (λ t. sent at ++ cond t (one.message ∷ []) []) (sym (not_at at)))
-      seen_still (one.firsts ∙ ap (λ us. us ++ if_for false one.message) h.firsts ∙ sym (client_more false answers one.message)) (one.seconds ∙ ap (λ us. us ++ if_for true one.message) h.seconds ∙ sym (client_more true answers one.message)) (still_bound d tt refl)
+      seen_still others_still (one.firsts ∙ ap (λ us. us ++ if_for false one.message) h.firsts ∙ sym (client_more false answers one.message)) (one.seconds ∙ ap (λ us. us ++ if_for true one.message) h.seconds ∙ sym (client_more true answers one.message)) (still_bound d tt refl)
     where
       not_at : (at : ℕ) → same (party_at at) parties.Clients ≡ false
       not_at at = go (at == 0) where
@@ -181,13 +199,14 @@ module _ {P T I : Type 0} (put : P → List rust.Message) (taken : T → List ru
         go false = refl
 
   -- it took one
-  pub ran_taken : (after : List (In T)) (place : ℕ) → TakesAt taken old new (back_of outs clients.kept) after seen place → longer ≡ trace ++ events.Take (party_at place) (parties.Server id) ∷ []
+  pub ran_taken : (after : List (In T)) (place : ℕ) → length after ≡ length ins → TakesAt taken old new (back_of outs clients.kept) after seen place → longer ≡ trace ++ events.Take (party_at place) (parties.Server id) ∷ []
       → ServerRan put taken got size id new outs clients after inbox longer due starved
-  ran_taken after place one is =
+  ran_taken after place count one is =
       let d : Deed = Took (party_at place) one.message in
       ran_more d outs clients after inbox starved one.done is
       (λ at out here. h.puts at out here ∙ sent_still at)
       (λ at end here. one.lists at end here ∙ ap (λ us. us ++ listed end.unread) (ap (λ t. seen at ++ cond t (one.message ∷ []) []) (sym (same_at at place))))
+      (λ p apart. ap (λ t. taken_from p h.deeds ++ cond t (one.message ∷ []) []) (no_link (length after) place one.linked p apart) ∙ others_still p (subst (λ n. HasNoLink n p) count apart))
       (h.firsts ∙ ap (of_client false) (sym (empty_end answers))) (h.seconds ∙ ap (of_client true) (sym (empty_end answers))) (still_bound d tt refl)
 
   -- a request arrived
@@ -195,7 +214,7 @@ module _ {P T I : Type 0} (put : P → List rust.Message) (taken : T → List ru
       → ServerRan put taken got size id new outs clients ins after longer due starved
   ran_arrived after clock request one is =
       let d : Deed = Arrived clock request in
-      ran_more d outs clients ins after starved one.done is (λ at out here. h.puts at out here ∙ sent_still at) seen_still
+      ran_more d outs clients ins after starved one.done is (λ at out here. h.puts at out here ∙ sent_still at) seen_still others_still
       (h.firsts ∙ ap (of_client false) (sym (empty_end answers))) (h.seconds ∙ ap (of_client true) (sym (empty_end answers)))
       (bound_more due starved (got inbox) (got after) h.deeds d h.bound tt (subst (λ us. Part (requests_in h.deeds ++ request ∷ []) us) (sym one.list) (part_both (requests_in h.deeds) (got inbox) request h.bound.arrived)))
 
@@ -204,28 +223,28 @@ module _ {P T I : Type 0} (put : P → List rust.Message) (taken : T → List ru
       → longer ≡ trace ++ events.Crash id ∷ [] → ServerRan put taken got size id new outs clients ins inbox longer due starved
   ran_crashed count does may is =
       let d : Deed = Crashed count in
-      ran_more d outs clients ins inbox starved does is (λ at out here. h.puts at out here ∙ sent_still at) seen_still
+      ran_more d outs clients ins inbox starved does is (λ at out here. h.puts at out here ∙ sent_still at) seen_still others_still
       (h.firsts ∙ ap (of_client false) (sym (empty_end answers))) (h.seconds ∙ ap (of_client true) (sym (empty_end answers))) (still_bound d may refl)
 
   -- it put none
   pub ran_idle : (after : List (Out P)) → Keeps StandsAs (record { core = old; back = back_of outs clients.kept }) (record { core = new; back = back_of after clients.kept })
       → ((sent : ℕ → List rust.Message) → ArePut put outs sent → ArePut put after sent) → longer ≡ trace → ServerRan put taken got size id new after clients ins inbox longer due starved
-  ran_idle after keeps lists is = ran_kept after clients ins inbox keeps is (lists sent h.puts) h.takes refl refl h.bound.arrived
+  ran_idle after keeps lists is = ran_kept after clients ins inbox keeps is (lists sent h.puts) h.takes refl refl refl h.bound.arrived
 
   -- it put none to the clients
   pub ran_silent : (after : ToClients P) → Keeps StandsAs (record { core = old; back = back_of outs clients.kept }) (record { core = new; back = back_of outs after.kept })
       → put after.first ≡ put clients.first → put after.second ≡ put clients.second → longer ≡ trace → ServerRan put taken got size id new outs after ins inbox longer due starved
-  ran_silent after keeps first second is = ran_kept outs after ins inbox keeps is h.puts h.takes first second h.bound.arrived
+  ran_silent after keeps first second is = ran_kept outs after ins inbox keeps is h.puts h.takes refl first second h.bound.arrived
 
   -- it took none
-  pub ran_waiting : (after : List (In T)) → chain.Keeps old new → ((seen : ℕ → List rust.Message) → AreTaken taken ins seen → AreTaken taken after seen) → longer ≡ trace
+  pub ran_waiting : (after : List (In T)) → length after ≡ length ins → chain.Keeps old new → ((seen : ℕ → List rust.Message) → AreTaken taken ins seen → AreTaken taken after seen) → longer ≡ trace
       → ServerRan put taken got size id new outs clients after inbox longer due starved
-  ran_waiting after keeps lists is = ran_kept outs clients after inbox (as-kept chain.StandsFor old new (back_of outs clients.kept) keeps) is h.puts (lists seen h.takes) refl refl h.bound.arrived
+  ran_waiting after count keeps lists is = ran_kept outs clients after inbox (as-kept chain.StandsFor old new (back_of outs clients.kept) keeps) is h.puts (lists seen h.takes) count refl refl h.bound.arrived
 
   -- no request arrived
   pub ran_unasked : (after : I) → chain.Keeps old new → ((xs : List Request) → Part xs (got inbox) → Part xs (got after)) → longer ≡ trace
       → ServerRan put taken got size id new outs clients ins after longer due starved
-  ran_unasked after keeps lists is = ran_kept outs clients ins after (as-kept chain.StandsFor old new (back_of outs clients.kept) keeps) is h.puts h.takes refl refl (lists (requests_in h.deeds) h.bound.arrived)
+  ran_unasked after keeps lists is = ran_kept outs clients ins after (as-kept chain.StandsFor old new (back_of outs clients.kept) keeps) is h.puts h.takes refl refl refl (lists (requests_in h.deeds) h.bound.arrived)
 
 -- what it did, it may have done without memory
 pub ran_starved : {P T I : Type 0} (put : P → List rust.Message) (taken : T → List rust.Message) (got : I → List Request) (size id : ℕ) (core : rust_server.Server) (outs : List (Out P)) (clients : ToClients P) (ins : List (In T)) (inbox : I) (trace : List Event) (due : Option ℕ) (starved : Bool)
@@ -235,6 +254,7 @@ ran_starved put taken got size id core outs clients ins inbox trace due starved 
   did = h.did;
   puts = h.puts;
   takes = h.takes;
+  others = h.others;
   firsts = h.firsts;
   seconds = h.seconds;
   bound = bound_starved due starved (got inbox) h.deeds h.bound;

@@ -1,7 +1,8 @@
 -- The ends at their places, after the one at one place was changed.
-use Rattle.std.proofs.Common.{◌≡◌, ◌==◌, ℕ, zero, suc, ◌∙◌, ap, sym, refl, subst, cond, List, [], ◌∷◌, ◌++◌, map, slice_get, slice_set, Bool, true, false, Option, Some, None}
+use Rattle.std.proofs.Common.{◌≡◌, ◌==◌, ◌<◌, ℕ, zero, suc, ◌∙◌, ap, sym, refl, subst, cond, List, [], ◌∷◌, ◌++◌, map, slice_get, slice_set, Bool, true, false, Option, Some, None}
 use Rattle.std.proofs.lemmas.Bool.{eqb-true}
-use Rattle.std.proofs.lemmas.Option.{same_Some, none-some}
+use Rattle.std.proofs.lemmas.List.{length-set}
+use Rattle.std.proofs.lemmas.Option.{same_Some, none-some, slice_get_within}
 use Rattle.cq_base.specs.declared.party.Party.{Party}
 use Rattle.cq_base.specs.declared.party.Party.TheVariants as parties
 use Rattle.cq_chain.specs.declared.message.Message as rust
@@ -120,6 +121,7 @@ module _ {T : Type 0} (list : T → List rust.Message) (old new : rust_server.Se
       let one = subst (λ p. Reads old new back p (seen place) now.unread (list now.end)) there (h (taken place end is)) in
       record {
         message = one.message;
+        linked = subst (λ n. place < n) (sym (length-set ins place now)) (slice_get_within ins place end is);
         done = one.done;
         lists = at_each (λ at x. list x.end ≡ seen at ++ listed x.unread) (λ at x. list x.end ≡ (seen at ++ cond (at == place) (one.message ∷ []) []) ++ listed x.unread) ins place end now is taken
             (one.list ∙ ap (λ t. (seen place ++ cond t (one.message ∷ []) []) ++ listed now.unread) (sym (itself place)))

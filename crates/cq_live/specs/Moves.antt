@@ -1,5 +1,5 @@
 -- What one step of a server's node does to what its core stands for, and to the list of one end.
-use Rattle.std.specs.Prelude.{◌≡◌, ◌==◌, ℕ, List, [], ◌∷◌, ◌++◌, slice_get, if◌then◌else◌, Option, Some, true, false, ⊤, ◌⊎◌}
+use Rattle.std.specs.Prelude.{◌≡◌, ◌==◌, ◌<◌, ℕ, length, List, [], ◌∷◌, ◌++◌, slice_get, if◌then◌else◌, Option, Some, true, false, ⊤, ◌⊎◌}
 use Rattle.cq_base.specs.declared.ask.Request.{Request}
 use Rattle.cq_base.specs.declared.party.Party.{Party}
 use Rattle.cq_base.specs.declared.party.Party.TheVariants as parties
@@ -52,6 +52,7 @@ module _ {T : Type 0} (list : T → List Message) where
   -- The core takes the next message of the party at that place, after what was taken from each link before.
   pub record TakesAt (old new : Server) (back : Party → Option Message) (after : List (In T)) (seen : ℕ → List Message) (place : ℕ) : Type 0 where
     pub message : Message
+    pub linked : place < length after
     pub done : TakesOne old new back (party_at place) message
     pub lists : AreTaken after (λ at. seen at ++ (if at == place then message ∷ [] else []))
 

@@ -1,5 +1,5 @@
 -- What a node did since the first world, and what it holds.
-use Rattle.std.specs.Prelude.{◌≡◌, ◌≤◌, ◌<◌, ℕ, List, [], ◌∷◌, ◌++◌, map, Bool, true, false, Option, None, Some, ⊤, ◌⊎◌}
+use Rattle.std.specs.Prelude.{◌≡◌, ◌≤◌, ◌<◌, ℕ, length, List, [], ◌∷◌, ◌++◌, map, Bool, true, false, Option, None, Some, ⊤, ◌⊎◌}
 use Rattle.cq_base.specs.declared.ask.Request.{Request}
 use Rattle.cq_base.specs.declared.party.Party.{Party}
 use Rattle.cq_base.specs.declared.party.Party.TheVariants as parties
@@ -43,6 +43,12 @@ pub record IsBound (after : Option ℕ) (starved : Bool) (taken : List Request) 
   pub may : (d : Deed) → Among d deeds → MayDo after starved d
   pub arrived : Part (requests_in deeds) taken
 
+-- no link at one of so many places is to and from that party: the master at 0, and each server at its number
+abbrev pub HasNoLink : ℕ → Party → Type 0
+HasNoLink places parties.Master = places ≡ 0
+HasNoLink places parties.Clients = ⊤
+HasNoLink places (parties.Server id) = (id ≡ 0) ⊎ (places ≤ id)
+
 -- From the first world of that size on a server did this by its core, which stands there now with what was handed back.
 -- Its trace is the events of these deeds.
 pub record ServerDid (size id : ℕ) (core : rust_server.Server) (back : Party → Option rust.Message) (trace : List Event) (deeds : List Deed) : Type 0 where
@@ -58,6 +64,7 @@ module _ {P T I : Type 0} (put : P → List rust.Message) (taken : T → List ru
     pub did : ServerDid size id core (back_of outs clients.kept) trace deeds
     pub puts : ArePut put outs (λ place. put_to (party_at place) deeds)
     pub takes : AreTaken taken ins (λ place. taken_from (party_at place) deeds)
+    pub others : (p : Party) → HasNoLink (length ins) p → taken_from p deeds ≡ []
     pub firsts : put clients.first ≡ of_client false (put_to parties.Clients deeds)
     pub seconds : put clients.second ≡ of_client true (put_to parties.Clients deeds)
     pub bound : IsBound after starved (got inbox) deeds
