@@ -6,7 +6,7 @@ ghost use Rattle.cq_live.specs.ClientNodes.{AreFresh, ClientDid, IsSameClient, c
 
 use crate::client_moves::{ask_again, ask_next, closing, put_at, take_at};
 use crate::flags::Flags;
-use crate::turns::{Stop, Turn};
+use crate::turns::{Rest, Stop, Turn};
 use cq_base::{Ask, NoMemory, Request};
 use cq_chain::{Answer, Client, ClientFault, Message};
 use cq_link::{PutEnd, TakeEnd};
@@ -246,9 +246,9 @@ impl<'a, P: PutEnd<Request> + Drop, T: TakeEnd<Message> + Drop> ClientNode<'a, P
         Ok(taken | put)
     }
 
-    /// Whether it is at its end: each ask is closed, or memory was wanting.
+    /// Whether it is at its end: each ask is closed, memory was wanting, or all nodes are to stop.
     fn is_done(&self) -> bool {
-        self.starved || self.asks.len() <= self.closed.len()
+        self.starved || self.asks.len() <= self.closed.len() || self.flags.is_stopped()
     }
 
     /// Tells the other nodes that it has ended.
@@ -257,7 +257,7 @@ impl<'a, P: PutEnd<Request> + Drop, T: TakeEnd<Message> + Drop> ClientNode<'a, P
     }
 
     /// A turn: it takes at most one message from each link, and then puts at most one request. It ends once all its asks
-    /// are closed, and where memory is wanting.
+    /// are closed, once all nodes are to stop, and where memory is wanting.
     pub fn turn<R: Wait>(&mut self, rt: &R) -> Turn
         ensures { IsSameClient P.link T.link self.old self.new }
     {
@@ -276,14 +276,18 @@ impl<'a, P: PutEnd<Request> + Drop, T: TakeEnd<Message> + Drop> ClientNode<'a, P
         }
     }
 
-    /// So many turns, or fewer if it ends before. It tells the other nodes that it has ended in both cases.
+    /// So many turns, or fewer if it ends before. It tells the other nodes that it has ended in both cases. After many
+    /// turns without work it lets other threads run.
     pub fn run<R: Wait>(&mut self, rt: &R, turns: u64) -> Stop
         ensures { IsSameClient P.link T.link self.old self.new }
     {
-        for _turn in 0..turns {
-            if self.turn(rt) == Turn::Ended {
+        let mut rest = Rest::new();
+        for _ in 0..turns {
+            let turn = self.turn(rt);
+            if turn == Turn::Ended {
                 return Stop::Ended;
             }
+            rest.after(turn);
         }
         self.end();
         Stop::Limit

@@ -4,17 +4,19 @@ use std::alloc::Global;
 use std::sync::atomic::AtomicBool;
 use std::sync::atomic::Ordering::SeqCst;
 
-/// Which servers have crashed, and which of the two clients have ended. All nodes of a run share it. No contract says
-/// anything of it: a server that is told to be down too early, or too late, changes only what the nodes do next.
+/// Which servers have crashed, which of the two clients have ended, and whether all nodes are to stop. All nodes of a run
+/// share it. No contract says anything of it: a server that is told to be down too early, or too late, changes only what
+/// the nodes do next.
 #[derive(Drop)]
 pub struct Flags {
     crashed: Vec<AtomicBool>,
     first_ended: AtomicBool,
     second_ended: AtomicBool,
+    stopped: AtomicBool,
 }
 
 impl Flags {
-    /// No server of so many has crashed, and no client has ended.
+    /// No server of so many has crashed, no client has ended, and no node is to stop.
     pub fn new(alloc: Global, servers: u32) -> Result<Flags, NoMemory> {
         let mut crashed = Vec::new(alloc);
         for _ in 0..servers {
@@ -24,6 +26,7 @@ impl Flags {
             crashed,
             first_ended: AtomicBool::new(false),
             second_ended: AtomicBool::new(false),
+            stopped: AtomicBool::new(false),
         })
     }
 
@@ -56,8 +59,18 @@ impl Flags {
         }
     }
 
-    /// Whether both clients have ended.
+    /// Whether the servers and the master have nothing to wait for: both clients have ended, or all nodes are to stop.
     pub fn have_ended(&self) -> bool {
-        self.first_ended.load(SeqCst) && self.second_ended.load(SeqCst)
+        self.is_stopped() || self.first_ended.load(SeqCst) && self.second_ended.load(SeqCst)
+    }
+
+    /// All nodes are to stop at their next turn.
+    pub fn stop(&self) {
+        self.stopped.store(true, SeqCst);
+    }
+
+    /// Whether all nodes are to stop.
+    pub fn is_stopped(&self) -> bool {
+        self.stopped.load(SeqCst)
     }
 }

@@ -7,7 +7,7 @@ use crate::ends::{In, Out};
 use crate::flags::Flags;
 use crate::links::Links;
 use crate::master_moves::{detect_one, join_one, put_at, take_at};
-use crate::turns::{Gate, Stop, Turn};
+use crate::turns::{Gate, Rest, Stop, Turn};
 use cq_base::{ChainSize, NoMemory, Party, ServerId};
 use cq_chain::{Master, Message};
 use cq_link::{PutEnd, TakeEnd};
@@ -283,17 +283,21 @@ impl<'a, P: PutEnd<Message> + Drop, T: TakeEnd<Message> + Drop> MasterNode<'a, P
         }
     }
 
-    /// So many turns, each once the gate lets it begin, unless it ends before.
+    /// So many turns, each once the gate lets it begin, unless it ends before. After many turns without work it lets other
+    /// threads run.
     pub fn run<R: Wait, G: Gate>(&mut self, rt: &R, turns: u64, gate: &G) -> Stop
         ensures { IsSameNode P.link T.link self.old self.new }
     {
-        for turn in 0..turns {
-            if !gate.enter(Party::Master, turn + 1) {
+        let mut rest = Rest::new();
+        for _ in 0..turns {
+            if !gate.enter(Party::Master, self.turns.saturating_add(1)) {
                 return Stop::Shut;
             }
-            if self.turn(rt) == Turn::Ended {
+            let turn = self.turn(rt);
+            if turn == Turn::Ended {
                 return Stop::Ended;
             }
+            rest.after(turn);
         }
         Stop::Limit
     }

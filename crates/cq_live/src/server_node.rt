@@ -9,7 +9,7 @@ use crate::flags::Flags;
 use crate::moves::{put_at, take_at};
 use crate::server_ends::{ServerEnds, ServerParts};
 use crate::to_clients::put_to_one;
-use crate::turns::{Gate, Stop, Turn};
+use crate::turns::{Gate, Rest, Stop, Turn};
 use cq_base::{ChainSize, NoMemory, Party, Request, ServerId};
 use cq_chain::{Message, Server, WorldFault};
 use cq_link::{PutEnd, TakeEnd};
@@ -269,17 +269,21 @@ impl<
         }
     }
 
-    /// So many turns, each once the gate lets it begin, until the node has ended.
+    /// So many turns, each once the gate lets it begin, until the node has ended. After many turns without work it lets
+    /// other threads run.
     pub fn run<R: Wait, G: Gate>(&mut self, rt: &R, turns: u64, gate: &G) -> Stop
         ensures same { IsSameServer P.link T.link I.link self.old self.new }
     {
+        let mut rest = Rest::new();
         for _ in 0..turns {
             if !gate.enter(Party::Server(self.id), self.turns.saturating_add(1)) {
                 return Stop::Shut;
             }
-            if self.turn(rt) == Turn::Ended {
+            let turn = self.turn(rt);
+            if turn == Turn::Ended {
                 return Stop::Ended;
             }
+            rest.after(turn);
         }
         Stop::Limit
     }

@@ -1,5 +1,9 @@
 //! Turns of nodes, and the gate before them.
 use cq_base::Party;
+use std::thread::yield_now;
+
+/// After so many turns in a row without work a node lets other threads run, each time.
+const IDLE_LIMIT: u32 = 64;
 
 /// What a node did in a turn.
 #[derive(Clone, Copy, Debug, PartialEq, Eq)]
@@ -21,6 +25,30 @@ pub enum Stop {
     Limit,
     /// The gate let no further turn begin.
     Shut,
+}
+
+/// How long a node has found nothing to do.
+#[derive(Clone, Copy, Debug)]
+pub(crate) struct Rest {
+    idle: u32,
+}
+
+impl Rest {
+    /// Before the first turn.
+    pub(crate) fn new() -> Rest {
+        Rest { idle: 0 }
+    }
+
+    /// After a turn. Where the last turns found no work, another thread may run.
+    pub(crate) fn after(&mut self, turn: Turn) {
+        if turn == Turn::Worked {
+            self.idle = 0;
+        } else if self.idle < IDLE_LIMIT {
+            self.idle += 1;
+        } else {
+            yield_now();
+        }
+    }
 }
 
 /// What is asked before each turn of a server or of the master. It may wait.

@@ -2,5 +2,5 @@
 use Rattle.cq_live.specs.MasterNodes.{IsSameNode}
 use Rattle.cq_live.proofs.master_node.MasterNode.run.Given as goal
 
-abbrev pub invariant-loop-turn : goal.invariant-loop-turn
-invariant-loop-turn g l = IsSameNode g.P.PutEnd.link g.T.TakeEnd.link l.fn.self l.self
+abbrev pub invariant-loop : goal.invariant-loop
+invariant-loop g l = IsSameNode g.P.PutEnd.link g.T.TakeEnd.link l.fn.self l.self
