@@ -1,0 +1,5 @@
+pub mod Cells
+pub mod Linking
+pub mod Settling
+pub mod Wiring
+pub mod PortTables

@@ -1,0 +1,3 @@
+pub mod Wirings
+pub mod Clients
+pub mod within

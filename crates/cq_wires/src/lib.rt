@@ -1,0 +1,12 @@
+//! The links and inboxes of a live run: all are made before it begins, and settled when it has ended.
+#![tactic(auto)]
+
+mod clients;
+mod columns;
+mod ports;
+mod rows;
+#[cfg(test)]
+mod tests;
+
+
+
