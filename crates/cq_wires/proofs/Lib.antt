@@ -3,3 +3,5 @@ pub mod Linking
 pub mod Settling
 pub mod Wiring
 pub mod PortTables
+pub mod ClientWiring
+pub mod ClientSettling

@@ -26,12 +26,12 @@ module _ {T : Type 0} where
       → putter_link out ≡ taker_link end → put_on out ≡ [] → taken_from end ≡ []
       → IsNewRow (outs ++ out ∷ []) old (set new k (column ++ end ∷ []))
   link_more outs old new k column out end row count is link unput untaken = record {
-      ends = row.ends ++ end ∷ [];
-      links = map-append putter_link outs (out ∷ []) ∙ ap (λ xs. xs ++ putter_link out ∷ []) row.links ∙ ap (λ x. map taker_link row.ends ++ x ∷ []) link ∙ sym (map-append taker_link row.ends (end ∷ []));
-      unput = All-push (λ (o : Putter T). put_on o ≡ []) outs out row.unput unput;
-      untaken = All-push (λ (t : Taker T). taken_from t ≡ []) row.ends end row.untaken untaken;
-      columns = ap (λ (c : List (List (Taker T))). set c k (column ++ end ∷ [])) row.columns ∙ ap (λ n. set (with_column old row.ends) n (column ++ end ∷ [])) (sym long) ∙ one_more_item old row.ends column end here;
-    } where
+    ends = row.ends ++ end ∷ [];
+    links = map-append putter_link outs (out ∷ []) ∙ ap (λ xs. xs ++ putter_link out ∷ []) row.links ∙ ap (λ x. map taker_link row.ends ++ x ∷ []) link ∙ sym (map-append taker_link row.ends (end ∷ []));
+    unput = All-push (λ (o : Putter T). put_on o ≡ []) outs out row.unput unput;
+    untaken = All-push (λ (t : Taker T). taken_from t ≡ []) row.ends end row.untaken untaken;
+    columns = ap (λ (c : List (List (Taker T))). set c k (column ++ end ∷ [])) row.columns ∙ ap (λ n. set (with_column old row.ends) n (column ++ end ∷ [])) (sym long) ∙ one_more_item old row.ends column end here;
+  } where
     long : length row.ends ≡ k
     long = sym (length-map row.ends taker_link) ∙ sym (ap length row.links) ∙ length-map outs putter_link ∙ count
 
@@ -45,10 +45,10 @@ module _ {T : Type 0} where
       → IsNewRow outs' old (map (λ c. c.items) (set columns k now))
   link_pushed outs outs' old columns k column now out end row count within link unused put is =
       subst (λ (xs : List (Putter T)). IsNewRow xs old (map (λ c. c.items) (set columns k now))) (sym put)
-        (subst (λ (xs : List (List (Taker T))). IsNewRow (outs ++ out ∷ []) old xs) (sym changed)
-          (link_more outs old (map (λ c. c.items) columns) k (get_or columns k column).items out end row count here link unused.0 unused.1)) where
-    changed : map (λ (c : Vec (Taker T) Global). c.items) (set columns k now) ≡ set (map (λ c. c.items) columns) k ((get_or columns k column).items ++ end ∷ [])
-    changed = map-set (λ (c : Vec (Taker T) Global). c.items) columns k now ∙ ap (λ (xs : List (Taker T)). set (map (λ (c : Vec (Taker T) Global). c.items) columns) k xs) is
+      (subst (λ (xs : List (List (Taker T))). IsNewRow (outs ++ out ∷ []) old xs) (sym changed)
+      (link_more outs old (map (λ c. c.items) columns) k (get_or columns k column).items out end row count here link unused.0 unused.1)) where
+        changed : map (λ (c : Vec (Taker T) Global). c.items) (set columns k now) ≡ set (map (λ c. c.items) columns) k ((get_or columns k column).items ++ end ∷ [])
+        changed = map-set (λ (c : Vec (Taker T) Global). c.items) columns k now ∙ ap (λ (xs : List (Taker T)). set (map (λ (c : Vec (Taker T) Global). c.items) columns) k xs) is
 
-    here : slice_get (map (λ (c : Vec (Taker T) Global). c.items) columns) k ≡ Some (get_or columns k column).items
-    here = slice_get-map (λ (c : Vec (Taker T) Global). c.items) columns k ∙ ap (option_map (λ (c : Vec (Taker T) Global). c.items)) (slice_get-get_or columns k column within)
+        here : slice_get (map (λ (c : Vec (Taker T) Global). c.items) columns) k ≡ Some (get_or columns k column).items
+        here = slice_get-map (λ (c : Vec (Taker T) Global). c.items) columns k ∙ ap (option_map (λ (c : Vec (Taker T) Global). c.items)) (slice_get-get_or columns k column within)

@@ -41,8 +41,10 @@ module _ {T : Type 0} where
   unused_ports n ports wired k d below = (All-unmap (AreUnput {T = T}) (λ (p : Ports T). p.outs.items) ports wired.unput k d below, All-unmap (AreUntaken {T = T}) (λ (p : Ports T). p.ins.items) ports wired.untaken k d below)
 
   pub square_ports : (n : ℕ) (ports : List (Ports T)) → AreWired n n (outs_of ports) (ins_of ports) → IsSquare n ports
-  square_ports n ports wired = (sym (length-map ports (λ (p : Ports T). p.outs.items)) ∙ wired.rows.0,
-      λ k d below. (All-unmap (λ (r : List (Putter T)). length r ≡ n) (λ (p : Ports T). p.outs.items) ports wired.rows.1 k d below, All-unmap (λ (r : List (Taker T)). length r ≡ n) (λ (p : Ports T). p.ins.items) ports wired.columns.1 k d below))
+  square_ports n ports wired = (
+    sym (length-map ports (λ (p : Ports T). p.outs.items)) ∙ wired.rows.0,
+    λ k d below. (All-unmap (λ (r : List (Putter T)). length r ≡ n) (λ (p : Ports T). p.outs.items) ports wired.rows.1 k d below, All-unmap (λ (r : List (Taker T)). length r ≡ n) (λ (p : Ports T). p.ins.items) ports wired.columns.1 k d below),
+  )
 
   pub delivered_ports : (ports : List (Ports T)) → HaveAllDelivered (outs_of ports) (ins_of ports) → HaveDelivered ports
   delivered_ports ports all i j a b out end is-a is-b is-out is-end = all i j out end

@@ -8,5 +8,5 @@ mod rows;
 #[cfg(test)]
 mod tests;
 
-
-
+pub use clients::{ClientPorts, ClientWires, ServerPorts, settle_clients, wire_clients};
+pub use ports::{Ports, settle_all, wire};

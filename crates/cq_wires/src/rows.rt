@@ -42,7 +42,7 @@ pub(crate) fn settle_row<T: Drop>(row: Vec<Putter<T>>, columns: &mut [IntoIter<T
 }
 
 /// Settles the two ends of a link, if both are there, and drops what is left on it.
-fn settle_pair<T: Drop>(putter: Option<Putter<T>>, taker: Option<Taker<T>>)
+pub(crate) fn settle_pair<T: Drop>(putter: Option<Putter<T>>, taker: Option<Taker<T>>)
     requires { (out : Putter T) (end : Taker T) → putter ≡ Some out → taker ≡ Some end → putter_link out ≡ taker_link end }
     ensures { (out : Putter T) (end : Taker T) → putter ≡ Some out → taker ≡ Some end → HasDelivered out end }
 {

@@ -9,4 +9,4 @@ pub loop-preserved : goal.loop-preserved
 loop-preserved g c =
     let at = c.loop in
     table_more at.counter c.args.parties at.columns.len at.rows.items c.push_reserved.new.self.items at.columns.items c.deref_mut.result.now c.add_row.new.columns c.in_ok-row.row
-      at.invariant c.deref_mut.ensures.value c.in_ok-row.ensures.row c.in_ok-row.ensures.length c.add_row.auto.columns at.columns.ok.0 (c.push_reserved.ensures.items ∙ ap (λ xs. xs ++ c.in_ok-row.row ∷ []) c.reserve.ensures.items)
+    at.invariant c.deref_mut.ensures.value c.in_ok-row.ensures.row c.in_ok-row.ensures.length c.add_row.auto.columns at.columns.ok.0 (c.push_reserved.ensures.items ∙ ap (λ xs. xs ++ c.in_ok-row.row ∷ []) c.reserve.ensures.items)

@@ -16,6 +16,6 @@ loop-column-preserved g c =
     let put = c.push_reserved.ensures.items ∙ ap (λ xs. xs ++ made.putter ∷ []) c.reserve.ensures.items in
     record {
       row = link_pushed at.row.items _ _ at.columns at.column-index _ _ made.putter made.taker at.invariant.row at.invariant.count (omega arith)
-        made.ensures.pair made.ensures.nothing put (c.push_reserved-in-loop-column.ensures.items ∙ ap (λ xs. xs ++ made.taker ∷ []) c.reserve-in-loop-column.ensures.items);
+          made.ensures.pair made.ensures.nothing put (c.push_reserved-in-loop-column.ensures.items ∙ ap (λ xs. xs ++ made.taker ∷ []) c.reserve-in-loop-column.ensures.items);
       count = ap length put ∙ length_push at.row.items made.putter ∙ ap (λ n. n + 1) at.invariant.count;
     }
