@@ -5,3 +5,4 @@ pub mod Wiring
 pub mod PortTables
 pub mod ClientWiring
 pub mod ClientSettling
+pub mod Kept

@@ -1,5 +1,5 @@
 -- Ports, as tables of their ends.
-use Rattle.std.proofs.Common.{◌≡◌, ℕ, ◌<◌, ◌∙◌, ap, sym, refl, subst, arith, List, [], ◌∷◌, map, length, get_or, slice_get, Some}
+use Rattle.std.proofs.Common.{◌≡◌, ℕ, ◌∙◌, ap, sym, refl, subst, arith, List, [], ◌∷◌, map, length}
 use Rattle.std.proofs.lemmas.List.{length-map, get_or-map}
 use Rattle.std.proofs.lemmas.Option.{slice_get-map}
 use Rattle.std.specs.List.{All}

@@ -1,7 +1,7 @@
 -- What the next of an iterator is, and the ends of a row with the firsts of columns.
-use Rattle.std.proofs.Common.{◌≡◌, ℕ, zero, suc, ◌+◌, ◌<◌, ◌≤◌, ◌∙◌, ap, sym, refl, subst, arith, inl, inr, ⊎_elim, ◌⊎◌, List, [], ◌∷◌, ◌++◌, map, length, set, get_or, take, drop, slice_get, Option, Some, None, Global}
-use Rattle.std.proofs.lemmas.List.{length-map, map-set, drop-drop, nil_from_length}
-use Rattle.std.proofs.lemmas.Option.{slice_get-map, slice_get-get_or, slice_get_within, same_Some, none-some}
+use Rattle.std.proofs.Common.{◌≡◌, ℕ, zero, suc, ◌+◌, ◌<◌, ◌≤◌, ◌∙◌, ap, sym, subst, arith, ⊎_elim, ◌⊎◌, List, [], ◌∷◌, ◌++◌, map, length, set, get_or, take, drop, slice_get, Option, Some, None, Global}
+use Rattle.std.proofs.lemmas.List.{map-set, drop-drop, nil_from_length}
+use Rattle.std.proofs.lemmas.Option.{slice_get-map, slice_get-get_or, same_Some, none-some}
 use Rattle.std.specs.Option.{option_map}
 use Rattle.std.specs.declared.vec.IntoIter.{IntoIter}
 use Rattle.std.specs.Vec.Iter.{into_iter_items, into_iter_len, into_iter_steps}
@@ -10,7 +10,7 @@ use Rattle.cq_link.specs.declared.link.Taker.{Taker}
 use Rattle.cq_link.specs.Links.{LinkId, putter_link, taker_link}
 use Rattle.cq_wires.specs.Wirings.{cell}
 use Rattle.cq_wires.specs.within.Tables.{AreHeaded, HasDelivered, FirstsHaveDelivered, AreJoined, HaveAllDelivered, without_firsts}
-use Rattle.cq_wires.proofs.Cells.{next_is_same, one_more_first, all_firsts, cell_at, cell_within, cell_map, cell_drop, map_map_drop, first_of_rest, written}
+use Rattle.cq_wires.proofs.Cells.{next_is_same, one_more_first, cell_at, cell_within, cell_map, cell_drop, map_map_drop, first_of_rest, written}
 
 -- ---- the next of an iterator
 

@@ -1,17 +1,14 @@
 -- A row more of a table of links, and ports as tables.
-use Rattle.std.proofs.Common.{◌≡◌, ℕ, zero, suc, ◌+◌, ◌<◌, ◌∙◌, ap, sym, refl, subst, arith, List, [], ◌∷◌, ◌++◌, map, length, take, drop, replicate, get_or, slice_get, Option, Some, Vec, Global}
-use Rattle.std.proofs.lemmas.List.{length-map, length-replicate, length_push, map-append, get_or-map, map_push}
+use Rattle.std.proofs.Common.{◌≡◌, ℕ, ◌+◌, ◌∙◌, ap, sym, refl, subst, List, [], ◌∷◌, ◌++◌, map, length, take, drop, replicate, get_or, Vec, Global}
+use Rattle.std.proofs.lemmas.List.{length-map, length-replicate, length_push, map-append, map_push}
 use Rattle.std.proofs.lemmas.List.Elements.{All-nil, All-cons, All-head, All-tail, All-push, All-map, All-replicate}
-use Rattle.std.proofs.lemmas.Option.{slice_get-map}
 use Rattle.std.specs.List.{All}
-use Rattle.std.specs.Option.{option_map}
 use Rattle.cq_link.specs.declared.link.Putter.{Putter}
 use Rattle.cq_link.specs.declared.link.Taker.{Taker}
-use Rattle.cq_link.specs.Links.{LinkId, putter_link, taker_link, put_on, taken_from}
-use Rattle.cq_wires.specs.declared.ports.Ports.{Ports}
-use Rattle.cq_wires.specs.Wirings.{Wiring, cell, wiring, AreCrossed, IsUnused, AreUnused, IsSquare, HaveDelivered}
-use Rattle.cq_wires.specs.within.Tables.{AreUnput, AreUntaken, AreJoined, AreWired, IsNewRow, HaveAllDelivered, with_column}
-use Rattle.cq_wires.proofs.Cells.{AreLong, column_long, length_column, crossed_more, no_cells, map_column, cell_at, written}
+use Rattle.cq_link.specs.Links.{LinkId, putter_link, taker_link, taken_from}
+use Rattle.cq_wires.specs.Wirings.{cell}
+use Rattle.cq_wires.specs.within.Tables.{AreUnput, AreUntaken, AreJoined, AreWired, IsNewRow, with_column}
+use Rattle.cq_wires.proofs.Cells.{AreLong, column_long, length_column, crossed_more, no_cells, map_column, written}
 
 module _ {T : Type 0} where
   -- ---- rows

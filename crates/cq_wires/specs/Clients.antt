@@ -9,7 +9,6 @@ use Rattle.cq_link.specs.declared.link.Taker.{Taker}
 use Rattle.cq_link.specs.Links.{putter_link, taker_link, put_on, taken_from}
 use Rattle.cq_link.specs.Inboxes.{InboxId, put_inbox, take_inbox, is_second, put_in, taken_in}
 use Rattle.cq_wires.specs.declared.clients.ServerPorts.{ServerPorts}
-use Rattle.cq_wires.specs.declared.clients.ClientPorts.{ClientPorts}
 use Rattle.cq_wires.specs.declared.clients.ClientWires.{ClientWires}
 
 -- the inbox that an end is of, and whether it is the second of the two on which requests are put

@@ -1,5 +1,5 @@
 -- The ends at one server, and those of the two clients towards it.
-use Rattle.std.specs.Prelude.{◌≡◌, List, [], ◌∷◌, ◌++◌, true, false}
+use Rattle.std.specs.Prelude.{◌≡◌, [], true, false}
 use Rattle.cq_link.specs.Links.{putter_link, taker_link, put_on, taken_from}
 use Rattle.cq_link.specs.Inboxes.{take_inbox, put_in, taken_in}
 use Rattle.cq_wires.specs.declared.clients.ServerPorts.{ServerPorts}

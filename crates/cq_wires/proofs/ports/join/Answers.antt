@@ -1,14 +1,10 @@
-use Rattle.std.proofs.Common.{◌≡◌, ◌≤◌, ◌<◌, ◌+◌, ◌∙◌, ap, sym, refl, arith, List, map, length, take, drop, slice_get, Some, None, [], ◌∷◌, ◌++◌, Vec, Global}
-use Rattle.cq_wires.specs.declared.ports.Ports.{Ports}
+use Rattle.std.proofs.Common.{◌∙◌, ap, sym, refl, arith, map, length, drop, [], ◌∷◌, ◌++◌, Vec, Global}
 use Rattle.std.proofs.lemmas.List.{length_push}
 use Rattle.std.proofs.lemmas.Option.{slice_get_within}
 use Rattle.cq_wires.proofs.Cells.{gone_more, gone_all, past_end}
 use Rattle.cq_wires.proofs.Settling.{next_of}
-use Rattle.std.specs.Vec.Iter.{into_iter_items}
 use Rattle.cq_link.specs.declared.link.Putter.{Putter}
 use Rattle.cq_link.specs.declared.link.Taker.{Taker}
-use Rattle.cq_wires.specs.Wirings.{AreCrossed, wiring, AreUnused, IsSquare, HaveDelivered}
-use Rattle.cq_wires.specs.within.Tables.{AreWired, AreJoined, HaveAllDelivered}
 use Rattle.cq_wires.proofs.ports.join.Goals as goal
 
 pub loop-outs-init : goal.loop-outs-init

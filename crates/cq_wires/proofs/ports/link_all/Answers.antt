@@ -1,4 +1,4 @@
-use Rattle.std.proofs.Common.{◌++◌, ◌∷◌, [], ap, sym, ◌∙◌}
+use Rattle.std.proofs.Common.{◌++◌, ◌∷◌, [], ap, ◌∙◌}
 use Rattle.cq_wires.proofs.Wiring.{nothing_wired, table_more}
 use Rattle.cq_wires.proofs.ports.link_all.Goals as goal
 

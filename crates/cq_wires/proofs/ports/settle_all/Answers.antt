@@ -1,4 +1,4 @@
-use Rattle.std.proofs.Common.{◌≡◌, ◌∙◌, ap, sym, subst, List, map, drop}
+use Rattle.std.proofs.Common.{◌∙◌, ap, sym, subst, map}
 use Rattle.std.specs.Vec.Iter.{into_iter_items}
 use Rattle.cq_wires.specs.within.Tables.{AreJoined, AreHeaded, FirstsHaveDelivered, HaveAllDelivered}
 use Rattle.cq_wires.proofs.PortTables.{joined_ports, delivered_ports}

@@ -1,4 +1,4 @@
-use Rattle.std.proofs.Common.{◌≡◌, map, length, take, drop}
+use Rattle.std.proofs.Common.{map}
 use Rattle.std.specs.Vec.Iter.{into_iter_items}
 use Rattle.cq_wires.specs.within.Tables.{AreJoined, HaveAllDelivered}
 use Rattle.cq_wires.proofs.ports.settle_all.Given as goal

@@ -1,4 +1,4 @@
-use Rattle.std.proofs.Common.{◌≡◌, ◌≤◌, ◌∙◌, ap, sym, arith, List, map, drop, length}
+use Rattle.std.proofs.Common.{◌≡◌, ◌∙◌, ap, arith, map, length}
 use Rattle.std.proofs.lemmas.List.{length-map}
 use Rattle.std.specs.Vec.Iter.{into_iter_items}
 use Rattle.cq_wires.specs.within.Tables.{without_firsts}
