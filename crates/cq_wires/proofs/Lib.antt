@@ -6,3 +6,4 @@ pub mod PortTables
 pub mod ClientWiring
 pub mod ClientSettling
 pub mod Kept
+pub mod Rows

@@ -1,11 +1,13 @@
 //! The links and inboxes between servers and the two clients.
-ghost use Rattle.std.specs.Prelude.{◌≡◌, ◌++◌, ◌∷◌, [], List, map, Some, IfOk, OnOk, true, false};
+ghost use Rattle.std.specs.Prelude.{◌≡◌, ◌++◌, ◌∷◌, [], List, map, Some, IfOk, IsErrOf, OnOk, true, false};
 ghost use Rattle.cq_base.specs.declared.ask.Request.{Request};
+ghost use Rattle.cq_link.specs.Faults.{IsBadCapacity};
+ghost use Rattle.cq_link.specs.declared.fault.LinkFault.TheVariants as faults;
 ghost use Rattle.cq_link.specs.Inboxes.{take_inbox};
 ghost use Rattle.cq_wires.specs.Clients.{AreTied, AreFresh, AreOf, HaveServed, ArePut, seat_of};
 ghost use Rattle.cq_wires.specs.within.Ends.{IsTied, IsFresh};
 
-use crate::rows::settle_pair;
+use crate::row::settle_pair;
 use cq_link::{InPut, InTake, Inbox, Link, LinkFault, Putter, Taker};
 use std::alloc::{AllocError, Global};
 
@@ -50,6 +52,7 @@ pub fn wire_clients<T: Drop>(
     ensures tied { IfOk result AreTied }
     ensures unused { IfOk result AreFresh }
     ensures length { IfOk result (AreOf servers) }
+    ensures bad { IsErrOf result faults.BadCapacity → IsBadCapacity capacity }
 {
     let mut wires = ClientWires {
         servers: Vec::new(alloc),
@@ -73,6 +76,7 @@ fn wire_server<T: Drop>(
 ) -> Result<(ServerPorts<T>, ClientEnds<T>, ClientEnds<T>), LinkFault>
     ensures tied { IfOk result (λ ends. IsTied ends.0 ends.1 ends.2) }
     ensures fresh { IfOk result (λ ends. IsFresh ends.0 ends.1 ends.2) }
+    ensures bad { IsErrOf result faults.BadCapacity → IsBadCapacity capacity }
 {
     let (first, first_end) = Link::make(alloc, capacity)?;
     let (second, second_end) = Link::make(alloc, capacity)?;

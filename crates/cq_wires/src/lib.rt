@@ -4,7 +4,7 @@
 mod clients;
 mod columns;
 mod ports;
-mod rows;
+mod row;
 #[cfg(test)]
 mod tests;
 

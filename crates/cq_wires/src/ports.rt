@@ -1,11 +1,13 @@
 //! The links between parties.
-ghost use Rattle.std.specs.Prelude.{◌≡◌, List, map, length, IfOk};
+ghost use Rattle.std.specs.Prelude.{◌≡◌, List, map, length, IfOk, IsErrOf};
 ghost use Rattle.std.specs.Vec.Iter.{into_iter_items};
+ghost use Rattle.cq_link.specs.Faults.{IsBadCapacity};
+ghost use Rattle.cq_link.specs.declared.fault.LinkFault.TheVariants as faults;
 ghost use Rattle.cq_wires.specs.Wirings.{AreCrossed, wiring, AreUnused, IsSquare, HaveDelivered};
 ghost use Rattle.cq_wires.specs.within.Tables.{AreWired};
 
 use crate::columns::empty_columns;
-use crate::rows::{add_row, settle_row};
+use crate::row::{add_row, settle_row};
 use cq_base::NoMemory;
 use cq_link::{LinkFault, Putter, Taker};
 use std::alloc::{AllocError, Global};
@@ -29,6 +31,7 @@ pub fn wire<T: Drop>(
     ensures crossed { IfOk result (λ ports. AreCrossed (wiring ports.items)) }
     ensures unused { IfOk result (λ ports. AreUnused ports.items) }
     ensures square { IfOk result (λ ports. IsSquare parties ports.items) }
+    ensures bad { IsErrOf result faults.BadCapacity → IsBadCapacity capacity }
 {
     let (rows, columns) = link_all(alloc, parties, capacity)?;
     Ok(join(alloc, rows, columns)?)
@@ -40,7 +43,8 @@ fn link_all<T: Drop>(
     parties: usize,
     capacity: usize,
 ) -> Result<(Vec<Vec<Putter<T>>>, Vec<Vec<Taker<T>>>), LinkFault>
-    ensures { IfOk result (λ tables. AreWired parties parties (map (λ row. row.items) tables.0.items) (map (λ column. column.items) tables.1.items)) }
+    ensures wired { IfOk result (λ tables. AreWired parties parties (map (λ row. row.items) tables.0.items) (map (λ column. column.items) tables.1.items)) }
+    ensures bad { IsErrOf result faults.BadCapacity → IsBadCapacity capacity }
 {
     let mut rows = Vec::new(alloc);
     let mut columns = empty_columns(alloc, parties)?;
@@ -52,7 +56,7 @@ fn link_all<T: Drop>(
     Ok((rows, columns))
 }
 
-/// The row and the column at each place, together. If there are more of the one than of the other, these are dropped.
+/// The row and the column at each place, together.
 fn join<T: Drop>(
     alloc: Global,
     rows: Vec<Vec<Putter<T>>>,
@@ -73,8 +77,8 @@ fn join<T: Drop>(
     Ok(ports)
 }
 
-/// Settles each link, once no thread uses any of them, and drops what is left on it. Takes memory for a number for each
-/// party; where there is none, all ends are dropped.
+/// Settles each link, once no thread uses any of them, and drops what is left on it. It takes memory for a list of the
+/// parties; where there is none, all ends are dropped.
 pub fn settle_all<T: Drop>(alloc: Global, ports: Vec<Ports<T>>) -> Result<(), NoMemory>
     requires { AreCrossed (wiring ports.items) }
     ensures { IfOk result (λ _. HaveDelivered ports.items) }

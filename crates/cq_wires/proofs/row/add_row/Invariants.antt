@@ -1,6 +1,6 @@
 use Rattle.std.proofs.Common.{◌≡◌, map, length}
 use Rattle.cq_wires.specs.within.Tables.{IsNewRow}
-use Rattle.cq_wires.proofs.rows.add_row.Given as goal
+use Rattle.cq_wires.proofs.row.add_row.Given as goal
 
 abbrev pub invariant-loop-column : goal.invariant-loop-column
 invariant-loop-column g l = record {

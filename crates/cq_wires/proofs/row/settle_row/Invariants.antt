@@ -4,7 +4,7 @@ use Rattle.cq_link.specs.declared.link.Putter.{Putter}
 use Rattle.cq_link.specs.declared.link.Taker.{Taker}
 use Rattle.cq_wires.specs.Wirings.{cell}
 use Rattle.cq_wires.specs.within.Tables.{HasDelivered, without_firsts}
-use Rattle.cq_wires.proofs.rows.settle_row.Given as goal
+use Rattle.cq_wires.proofs.row.settle_row.Given as goal
 
 abbrev pub invariant-loop-column : goal.invariant-loop-column
 invariant-loop-column g l = record {

@@ -1,5 +1,7 @@
 //! The links of one party to all: how they are made, and how they are settled.
-ghost use Rattle.std.specs.Prelude.{◌≡◌, List, length, map, drop, IfOk, Some};
+ghost use Rattle.std.specs.Prelude.{◌≡◌, List, length, map, drop, IfOk, IsErrOf, Some};
+ghost use Rattle.cq_link.specs.Faults.{IsBadCapacity};
+ghost use Rattle.cq_link.specs.declared.fault.LinkFault.TheVariants as faults;
 ghost use Rattle.std.specs.Vec.Iter.{into_iter_items};
 ghost use Rattle.cq_link.specs.Links.{putter_link, taker_link};
 ghost use Rattle.cq_wires.specs.within.Tables.{AreHeaded, FirstsHaveDelivered, HasDelivered, IsNewRow};
@@ -16,6 +18,7 @@ pub(crate) fn add_row<T: Drop>(
 ) -> Result<Vec<Putter<T>>, LinkFault>
     ensures row { IfOk result (λ row. IsNewRow row.items (map (λ c. c.items) columns.old) (map (λ c. c.items) columns.new)) }
     ensures length { IfOk result (λ row. length row.items ≡ length columns.old) }
+    ensures bad { IsErrOf result faults.BadCapacity → IsBadCapacity capacity }
 {
     let mut row = Vec::new(alloc);
     for column in columns.iter_mut() {
@@ -28,8 +31,7 @@ pub(crate) fn add_row<T: Drop>(
     Ok(row)
 }
 
-/// Settles a row of ends, each with the first end that is left in the column at its place. Where the row is no longer
-/// than there are columns, and the row's ends are those of the first ends of columns, each column loses its first.
+/// Settles a row of ends, each with the first end that is left in the column at its place.
 pub(crate) fn settle_row<T: Drop>(row: Vec<Putter<T>>, columns: &mut [IntoIter<Taker<T>>])
     requires { AreHeaded row.items (map into_iter_items columns.old) }
     ensures settled { FirstsHaveDelivered row.items (map into_iter_items columns.old) }

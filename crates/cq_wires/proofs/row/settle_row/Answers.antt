@@ -4,7 +4,7 @@ use Rattle.std.specs.Vec.Iter.{into_iter_items}
 use Rattle.cq_wires.specs.within.Tables.{without_firsts}
 use Rattle.cq_wires.proofs.Cells.{all_firsts}
 use Rattle.cq_wires.proofs.Settling.{next_of, next_of_column, headed, delivered_more, all_delivered}
-use Rattle.cq_wires.proofs.rows.settle_row.Goals as goal
+use Rattle.cq_wires.proofs.row.settle_row.Goals as goal
 
 pub settle_pair-requires : goal.settle_pair-requires
 settle_pair-requires g c =

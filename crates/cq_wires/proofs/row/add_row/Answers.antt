@@ -1,7 +1,7 @@
 use Rattle.std.proofs.Common.{ap, length, arith, ◌∙◌, ◌+◌, ◌++◌, ◌∷◌, []}
 use Rattle.std.proofs.lemmas.List.{length_push}
 use Rattle.cq_wires.proofs.Linking.{no_row, link_pushed}
-use Rattle.cq_wires.proofs.rows.add_row.Goals as goal
+use Rattle.cq_wires.proofs.row.add_row.Goals as goal
 
 pub loop-column-init : goal.loop-column-init
 loop-column-init g c = record {
