@@ -1,5 +1,5 @@
 -- The script that bytes stand for.
-use Rattle.std.specs.Prelude.{ℕ, ◌+◌, ◌==◌, Bool, nat_lt, if◌then◌else◌, List, [], ◌∷◌, ◌++◌, length, Option, None, Some, Ok, Err}
+use Rattle.std.specs.Prelude.{◌≡◌, ℕ, ◌+◌, ◌==◌, Bool, false, nat_lt, if◌then◌else◌, List, [], ◌∷◌, ◌++◌, length, Option, None, Some, Ok, Err}
 use Rattle.std.specs.List.{list_any}
 use Rattle.cq_script.specs.declared.lines.TheConstants.{LINE_LIMIT, LINES_LIMIT}
 use Rattle.cq_script.specs.declared.fault.LineRefusal.TheVariants.{Text}
@@ -59,6 +59,11 @@ script_of bytes = script_from 1 (lines_of bytes)
 -- a line ends among these bytes
 abbrev pub has_line_feed : List ℕ → Bool
 has_line_feed bytes = list_any (λ b. b == 10) bytes
+
+-- the cut of bytes behind their first line: before it no line ends, and after it what is left; none: no line ends in them
+abbrev pub IsCut : List ℕ → Option (List ℕ × List ℕ) → Type 0
+IsCut bytes None = has_line_feed bytes ≡ false
+IsCut bytes (Some cut) = (has_line_feed cut.0 ≡ false) × (bytes ≡ cut.0 ++ 10 ∷ cut.1)
 
 -- the bytes through the last line feed, which are the lines that have ended
 unfoldable pub ended_part : List ℕ → List ℕ

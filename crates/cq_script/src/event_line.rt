@@ -34,7 +34,8 @@ pub enum LineFault {
     NoMemory,
 }
 
-fn is_blank(bytes: &[u8]) -> bool
+/// Whether the line has nothing but spaces, tabs and carriage returns: O(bytes).
+pub fn is_blank(bytes: &[u8]) -> bool
     ensures { result ≡ list_all is_blank_byte bytes.now }
 {
     bytes

@@ -19,10 +19,10 @@ mod writing;
 
 pub use checked::Checked;
 pub use cq_answers::{answer_line, refused_line};
-pub use event_line::{Line, LineFault, event_of};
+pub use event_line::{Line, LineFault, event_of, is_blank};
 pub use fault::{LineRefusal, ScriptFault};
-pub use lines::{LINE_LIMIT, LINES_LIMIT};
-pub use run::replay;
+pub use lines::{LINE_LIMIT, LINES_LIMIT, cut_line};
+pub use run::{PIECE_SIZE, replay};
 pub use sessions::session;
 pub use sink::Sink;
-pub use source::Source;
+pub use source::{Source, read_fault};

@@ -1,8 +1,8 @@
 //! A script's bytes, cut into lines, and the items that its lines make.
 ghost use Rattle.std.specs.Prelude.{◌≡◌, ◌+◌, ◌<◌, ◌≤◌, ◌++◌, ℕ, List, length, option_map, OnOk, OnErr};
-ghost use Rattle.cq_script.specs.Lines.{items_of_line};
+ghost use Rattle.cq_script.specs.Lines.{items_of_line, IsCut};
 ghost use Rattle.cq_script.specs.Line.{line_of, Reads};
-ghost use Rattle.cq_script.specs.within.Readings.{nothing_read, forgotten, judged, bytes_of, end_of, Follows, IsCut, room_for, part_of, line_end};
+ghost use Rattle.cq_script.specs.within.Readings.{nothing_read, forgotten, judged, bytes_of, end_of, Follows, room_for, part_of, line_end};
 
 use crate::event_line::{Line, LineFault, event_of};
 use crate::fault::{LineRefusal, ScriptFault};
@@ -161,8 +161,9 @@ impl Reading {
     }
 }
 
-/// The first line of these bytes, without its line feed, and the bytes after it, if a line ends in them.
-pub(crate) fn cut_line(bytes: &[u8]) -> Option<(&[u8], &[u8])>
+/// The first line of these bytes, without its line feed, and the bytes after it, if a line ends in them: O(bytes of the
+/// line).
+pub fn cut_line(bytes: &[u8]) -> Option<(&[u8], &[u8])>
     ensures { IsCut bytes.now (option_map (λ cut. (cut.0.now, cut.1.now)) result) }
 {
     let place = memchr(b'\n', bytes)?;

@@ -17,7 +17,7 @@ use cq_world::Sim;
 use std::alloc::Global;
 
 /// How many bytes are asked of the reader at a time.
-pub(crate) const PIECE_SIZE: usize = 65_536;
+pub const PIECE_SIZE: usize = 65_536;
 
 /// Reads a script, to its end or to its first fault, runs its events on so many servers, and writes what comes of each
 /// line, in order of the lines. What one read brings is run and written, and passed on, before more is read: at a

@@ -17,7 +17,7 @@ pub trait Source: Read {
 
 /// What to answer after a read gave an error. A reader that says that it has not failed ran out of
 /// memory.
-pub(crate) fn read_fault<R: Source>(reader: &R) -> ScriptFault
+pub fn read_fault<R: Source>(reader: &R) -> ScriptFault
     ensures { result ≡ (if R.has_failed reader.now then ReadFailed else NoMemory) }
 {
     if reader.failed() {

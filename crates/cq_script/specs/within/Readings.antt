@@ -1,5 +1,5 @@
 -- A script that is being read, byte by byte.
-use Rattle.std.specs.Prelude.{◌≡◌, ℕ, ◌+◌, ◌==◌, nat_le, nat_lt, false, if◌then◌else◌, List, [], ◌∷◌, ◌++◌, length, Option, None, Some, IfSome, Result, Ok, Err}
+use Rattle.std.specs.Prelude.{◌≡◌, ℕ, ◌+◌, ◌==◌, nat_le, nat_lt, if◌then◌else◌, List, [], ◌∷◌, ◌++◌, length, Option, None, Some, IfSome, Result, Ok, Err}
 use Rattle.std.specs.Io.KnownBytes.{IsAtEnd}
 use Rattle.cq_script.specs.declared.lines.TheConstants.{LINE_LIMIT, LINES_LIMIT}
 use Rattle.cq_script.specs.declared.fault.ScriptFault.{ScriptFault}
@@ -7,7 +7,7 @@ use Rattle.cq_script.specs.declared.fault.ScriptFault.TheVariants.{BadLine, Line
 use Rattle.cq_script.specs.declared.event_line.Line.{Line}
 use Rattle.cq_script.specs.declared.lines.Item.{Item}
 use Rattle.cq_script.specs.Line.{line_of}
-use Rattle.cq_script.specs.Lines.{Script, items_of_line, IsOpen, script_of, has_line_feed, ended_part}
+use Rattle.cq_script.specs.Lines.{Script, items_of_line, IsOpen, script_of, ended_part}
 
 -- what has been read: the items of the lines that have ended, how many those lines are, and the line that has begun
 pub record SoFar : Type 0 where
@@ -51,11 +51,6 @@ byte_of s b =
     else goes (record { items = s.items; lines = s.lines; begun = s.begun ++ b ∷ [] })))
 
 -- ---- whole parts of lines, without a line feed
-
--- the cut of bytes behind their first line: before it no line ends, and after it what is left; none: no line ends in them
-abbrev pub IsCut : List ℕ → Option (List ℕ × List ℕ) → Type 0
-IsCut bytes None = has_line_feed bytes ≡ false
-IsCut bytes (Some cut) = (has_line_feed cut.0 ≡ false) × (bytes ≡ cut.0 ++ 10 ∷ cut.1)
 
 -- whether these bytes, or the line feed behind them, may come in the line that has begun
 unfoldable pub room_for : SoFar → List ℕ → Result (Unit {0}) ScriptFault
