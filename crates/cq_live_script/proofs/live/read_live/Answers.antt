@@ -1,0 +1,31 @@
+-- The bytes that were read so far, and the piece that came, are what was read.
+use Rattle.std.proofs.Common.{◌++◌, take, arith}
+use Rattle.std.proofs.KnownBytes.{Consumes-trans}
+use Rattle.std.proofs.lemmas.Result.{err_from_is_err_and}
+use Rattle.cq_script.proofs.Ends.{Consumes-none}
+use Rattle.cq_live_script.proofs.Ending.{leads_more, reads_fault, reads_end}
+use Rattle.cq_live_script.proofs.live.read_live.Goals as goal
+
+pub loop-count-preserved : goal.loop-count-preserved
+loop-count-preserved g c =
+    let read = c.loop-count.invariant in
+    let piece = take c.in-Ok.count c.read.new.buf in
+    (read.0 ++ piece, Consumes-trans _ _ _ read.0 piece read.1 c.in-Ok.ensures.bytes.0, leads_more c.loop-count.reading c.feed.new.self read.0 piece read.2 c.in_ok-feed-in-Ok.ensures)
+
+pub returns-in_err-feed-in-Ok-clause-reads : goal.returns-in_err-feed-in-Ok-clause-reads
+returns-in_err-feed-in-Ok-clause-reads g c =
+    let read = c.loop-count.invariant in
+    let piece = take c.in-Ok.count c.read.new.buf in
+    let fault = err_from_is_err_and c.from_residual.result c.from_residual.ensures.1 in
+    rw (fault.1, fault.2) (
+      read.0 ++ piece,
+      Consumes-trans _ _ _ read.0 piece read.1 c.in-Ok.ensures.bytes.0,
+      reads_fault c.in_err-feed-in-Ok.field-0.0 c.loop-count.reading c.feed.new.self read.0 piece _ read.2 c.in_err-feed-in-Ok.ensures,
+    )
+
+pub returns-clause-reads : goal.returns-clause-reads
+returns-clause-reads g c =
+    let read = c.loop-count.invariant in
+    let input = Consumes-none _ _ _ read.0 c.read.new.buf _ c.in-Ok-eq0.field-0-test read.1 c.in-Ok-eq0.ensures.bytes.0 in
+    let end = c.in-Ok-eq0.ensures.bytes.1 c.in-Ok-eq0.field-0-test (omega arith) in
+    (read.0, input, reads_end c.finish.result c.loop-count.reading read.0 _ end read.2 c.finish.ensures)
