@@ -5,6 +5,8 @@ mod live;
 mod reading;
 mod step;
 mod step_line;
+#[cfg(test)]
+mod tests;
 
 pub use live::read_live;
 pub use step::AFTER_LIMIT;
