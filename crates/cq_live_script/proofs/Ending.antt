@@ -1,14 +1,14 @@
 -- Where reading ends, what was read is the live script.
-use Rattle.std.proofs.Common.{◌≡◌, ℕ, ◌+◌, ◌*◌, ◌<◌, ◌≤◌, List, [], ◌∷◌, ◌++◌, length, Option, None, Some, IfSome, Result, Ok, Err, refl, sym, ap, ◌∙◌, append_assoc, append-nil, length-append, arith}
+use Rattle.std.proofs.Common.{◌≡◌, ℕ, ◌+◌, ◌*◌, ◌<◌, ◌≤◌, min, Bool, true, false, cond, List, [], ◌∷◌, ◌++◌, length, Option, None, Some, IfSome, Result, Ok, Err, refl, sym, ap, ◌∙◌, append_assoc, append-nil, arith}
 use Rattle.std.specs.Global.{Vec}
 use Rattle.std.specs.Io.KnownBytes.{IsAtEnd}
 use Rattle.cq_plan.specs.declared.step.LiveStep.{LiveStep}
-use Rattle.cq_script.specs.Lines.{lines_of}
+use Rattle.cq_script.specs.Lines.{lines_of, IsOpen, ended_part}
 use Rattle.cq_script.specs.declared.lines.TheConstants.{LINE_LIMIT, LINES_LIMIT}
 use Rattle.cq_script.specs.declared.fault.ScriptFault.{ScriptFault}
 use Rattle.cq_script.specs.declared.fault.ScriptFault.TheVariants.{BadLine, LineTooLong, TooManyLines, ReadFailed, WriteFailed, NoMemory}
 use Rattle.cq_live_script.specs.Line.{step_line}
-use Rattle.cq_live_script.specs.Lines.{LiveScript, steps_of_line, with_front, judged_before, live_of, EndsAt, ReadsLive}
+use Rattle.cq_live_script.specs.Lines.{LiveScript, steps_of_line, with_front, judged_before, live_of, EndsAt, HasNoFaultYet, ReadsLive}
 use Rattle.cq_live_script.specs.within.Readings.{SoFar, nothing_read, goes, judged, Follows, begun_before, live_after, LeadsTo, StopsAt, Feeds, Finishes}
 use Rattle.cq_live_script.proofs.Cutting.{live_from-judged, live_from-nil}
 
@@ -78,17 +78,6 @@ pub starts : (bytes : List ℕ) → live_after nothing_read bytes ≡ live_of by
 unfolding live_after live_of
 starts bytes = refl
 
--- nothing is read
-pub nothing_leads : LeadsTo nothing_read [] nothing_read []
-nothing_leads = record { same = λ more. refl; farther = omega arith }
-
--- more bytes, after those that were read
-pub leads_more : (s new : SoFar) (input piece : List ℕ) → LeadsTo nothing_read input s [] → LeadsTo s piece new [] → LeadsTo nothing_read (input ++ piece) new []
-leads_more s new input piece read more = record {
-  same = λ rest. ap (live_after nothing_read) (append_assoc input piece rest) ∙ read.same (piece ++ rest) ∙ more.same rest;
-  farther = omega (arith, read.farther, more.farther, length-append input piece);
-}
-
 -- a fault on the way
 stopped : (f : ScriptFault) (s : SoFar) (input piece : List ℕ) (left : Option (List ℕ)) → LeadsTo nothing_read input s [] → StopsAt f s piece
     → EndsAt f (input ++ piece) left
@@ -133,3 +122,30 @@ reads_end (Err TooManyLines) s input left end read is = absurd is
 reads_end (Err ReadFailed) s input left end read is = absurd is
 reads_end (Err WriteFailed) s input left end read is = absurd is
 reads_end (Err NoMemory) s input left end read is = tt
+
+-- ---- where a read failed
+
+judged_open : (s : SoFar) (says : Option (Option LiveStep)) → IsOpen (with_front s.steps (judged_before (s.lines + 1) says no_more)).fault
+judged_open s None = tt
+judged_open s (Some said) = tt
+
+-- a line has begun, or none has
+open_at : (s : SoFar) (begun : List ℕ) → s.begun ≡ begun → s.lines + min 1 (length s.begun) ≤ LINES_LIMIT → length s.begun ≤ LINE_LIMIT
+    → IsOpen (live_after s []).fault
+open_at s [] is few short = rw (ends_between s is) tt
+open_at s (b ∷ bs) is few short =
+    let longer = ap length is in
+    rw (ends_begun s (omega (arith, longer)) (omega (arith, few, longer)) short) (judged_open s (step_line s.begun))
+
+pub no_fault_yet : (s : SoFar) (input : List ℕ) → LeadsTo nothing_read input s [] → (live_of (ended_part input)).fault ≡ None
+    → s.lines + min 1 (length s.begun) ≤ LINES_LIMIT → length s.begun ≤ LINE_LIMIT → HasNoFaultYet input
+no_fault_yet s input read ended few short = record {
+  ended = ended;
+  goes_on = rw (at_end s input read) (open_at s s.begun refl few short);
+}
+
+-- a read that failed, or memory that ran out
+pub reads_failed : (failed : Bool) (f : ScriptFault) (input : List ℕ) (left : Option (List ℕ)) → f ≡ cond failed ReadFailed NoMemory → HasNoFaultYet input
+    → ReadsLive (Err f) input left
+reads_failed true f input left is yet = rw is yet
+reads_failed false f input left is yet = rw is tt

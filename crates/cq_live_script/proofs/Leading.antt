@@ -1,5 +1,5 @@
 -- What a part of a line makes of the live script.
-use Rattle.std.proofs.Common.{◌≡◌, ℕ, ◌+◌, ◌<◌, ◌≤◌, Bool, true, false, List, [], ◌∷◌, ◌++◌, length, Option, None, Some, Result, Ok, Err, nat_eq, nat_le, nat_lt, refl, sym, ap, ◌∙◌, subst, append_assoc, length-append, arith}
+use Rattle.std.proofs.Common.{◌≡◌, ℕ, ◌+◌, ◌<◌, ◌≤◌, Bool, true, false, List, [], ◌∷◌, ◌++◌, length, Option, None, Some, Ok, Err, nat_eq, nat_le, nat_lt, refl, sym, ap, ◌∙◌, subst, append_assoc, length-append, arith}
 use Rattle.std.proofs.lemmas.Bool.{leb-true, leb-false, ltb-true, ltb-false}
 use Rattle.cq_plan.specs.declared.step.LiveStep.{LiveStep}
 use Rattle.cq_script.specs.Lines.{lines_of, has_line_feed}
@@ -139,7 +139,13 @@ part_of-leads s (b ∷ bs) none = part_at s b bs _ _ refl refl none
 pub LeadsTo-trans : (a b c : SoFar) (xs ys zs : List ℕ) → LeadsTo a xs b ys → LeadsTo b ys c zs → LeadsTo a xs c zs
 LeadsTo-trans a b c xs ys zs p q = record { same = λ more. p.same more ∙ q.same more; farther = omega (arith, p.farther, q.farther) }
 
-pub StopsAt-after : (f : ScriptFault) (a b : SoFar) (xs ys : List ℕ) → LeadsTo a xs b ys → StopsAt f b ys → StopsAt f a xs
+pub LeadsTo-append : (a b c : SoFar) (xs ys : List ℕ) → LeadsTo a xs b [] → LeadsTo b ys c [] → LeadsTo a (xs ++ ys) c []
+LeadsTo-append a b c xs ys p q = record {
+  same = λ more. ap (live_after a) (append_assoc xs ys more) ∙ p.same (ys ++ more) ∙ q.same more;
+  farther = omega (arith, p.farther, q.farther, length-append xs ys);
+}
+
+StopsAt-after : (f : ScriptFault) (a b : SoFar) (xs ys : List ℕ) → LeadsTo a xs b ys → StopsAt f b ys → StopsAt f a xs
 StopsAt-after f a b xs ys p q = λ more. ap (λ (x : LiveScript). x.fault) (p.same more) ∙ q more
 
 -- the answer of a step, by the next state
@@ -152,25 +158,27 @@ next_fault ReadFailed a s new xs ys left next p q is = absurd is
 next_fault WriteFailed a s new xs ys left next p q is = absurd is
 next_fault NoMemory a s new xs ys left next p q is = tt
 
--- a fault at the end of a line
-pub feeds_fault : (f : ScriptFault) (a s new : SoFar) (xs line later : List ℕ) → LeadsTo a xs s (line ++ 10 ∷ later) → has_line_feed line ≡ false
+-- a line that has a fault
+pub line_fault_stops : (f : ScriptFault) (a s new : SoFar) (xs line later : List ℕ) → LeadsTo a xs s (line ++ 10 ∷ later) → has_line_feed line ≡ false
     → Follows (Err f) new (line_end s line) → Feeds (Err f) a xs new
-feeds_fault f a s new xs line later p none is = next_fault f a s new xs (line ++ 10 ∷ later) later (line_end s line) p (line_end-leads s line later none) is
+line_fault_stops f a s new xs line later p none is = next_fault f a s new xs (line ++ 10 ∷ later) later (line_end s line) p (line_end-leads s line later none) is
+
+-- a part that has a fault
+pub part_fault_stops : (f : ScriptFault) (a s new : SoFar) (xs part : List ℕ) → LeadsTo a xs s part → has_line_feed part ≡ false
+    → Follows (Err f) new (part_of s part) → Feeds (Err f) a xs new
+part_fault_stops f a s new xs part p none is = next_fault f a s new xs part [] (part_of s part) p (part_of-leads s part none) is
 
 -- a line more
-pub leads_line : (a s new : SoFar) (xs line later : List ℕ) → LeadsTo a xs s (line ++ 10 ∷ later) → has_line_feed line ≡ false
-    → line_end s line ≡ goes new → LeadsTo a xs new later
-leads_line a s new xs line later p none is =
+pub leads_line : (s new : SoFar) (line later : List ℕ) → has_line_feed line ≡ false → line_end s line ≡ goes new → LeadsTo s (line ++ 10 ∷ later) new later
+leads_line s new line later none is =
     let next : LeadsNext s (line ++ 10 ∷ later) later (goes new) = rw is at (line_end-leads s line later none) in
-    LeadsTo-trans a s new xs (line ++ 10 ∷ later) later p next
+    next
 
--- the part behind the last line feed
-pub feeds_part : (r : Result (Unit {0}) ScriptFault) (a s new : SoFar) (xs part : List ℕ) → LeadsTo a xs s part → has_line_feed part ≡ false
-    → Follows r new (part_of s part) → Feeds r a xs new
-feeds_part (Err f) a s new xs part p none is = next_fault f a s new xs part [] (part_of s part) p (part_of-leads s part none) is
-feeds_part (Ok _) a s new xs part p none is =
+-- a part more
+pub leads_part : (s new : SoFar) (part : List ℕ) → has_line_feed part ≡ false → part_of s part ≡ goes new → LeadsTo s part new []
+leads_part s new part none is =
     let next : LeadsNext s part [] (goes new) = rw is at (part_of-leads s part none) in
-    LeadsTo-trans a s new xs part [] p next
+    next
 
 -- ---- where there is no room
 
@@ -197,7 +205,3 @@ pub part_fault : (s new : SoFar) (part : List ℕ) (f : ScriptFault) → nat_eq 
 unfolding part_of
 part_fault s new [] f some is = cc
 part_fault s new (b ∷ bs) f some is = rw is (room_fault_at s new (b ∷ bs) f _ _ refl refl is)
-
--- before a piece is read
-pub leads_nothing : (s : SoFar) (piece : List ℕ) → LeadsTo s piece s piece
-leads_nothing s piece = record { same = λ more. refl; farther = omega arith }

@@ -3,7 +3,7 @@ use Rattle.std.specs.Prelude.{◌≡◌, ℕ, ◌+◌, nat_lt, if◌then◌else�
 use Rattle.std.specs.Global.{Vec}
 use Rattle.std.specs.Io.KnownBytes.{IsAtEnd}
 use Rattle.cq_plan.specs.declared.step.LiveStep.{LiveStep}
-use Rattle.cq_script.specs.Lines.{lines_of}
+use Rattle.cq_script.specs.Lines.{lines_of, IsOpen, ended_part}
 use Rattle.cq_script.specs.declared.lines.TheConstants.{LINE_LIMIT, LINES_LIMIT}
 use Rattle.cq_script.specs.declared.fault.ScriptFault.{ScriptFault}
 use Rattle.cq_script.specs.declared.fault.ScriptFault.TheVariants.{BadLine, LineTooLong, TooManyLines, ReadFailed, WriteFailed, NoMemory}
@@ -49,12 +49,18 @@ pub record EndsAt (f : ScriptFault) (input : List ℕ) (left : Option (List ℕ)
   pub here : (live_of input).fault ≡ Some f
   pub whole : IfSome left (λ more. (live_of (input ++ more)).fault ≡ Some f)
 
+-- The lines that have ended in the bytes that were read have no fault, and no limit has been passed: the last line alone may be
+-- bad, and it may go on.
+pub record HasNoFaultYet (input : List ℕ) : Type 0 where
+  pub ended : (live_of (ended_part input)).fault ≡ None
+  pub goes_on : IsOpen (live_of input).fault
+
 -- `input` was read, and `left` is what the reader has left, if that is known.
 abbrev pub ReadsLive : Result (Vec LiveStep) ScriptFault → List ℕ → Option (List ℕ) → Type 0
 ReadsLive (Ok steps) input left = IsAtEnd left × (live_of input ≡ record { steps = steps.items; fault = None })
 ReadsLive (Err (BadLine n)) input left = EndsAt (BadLine n) input left
 ReadsLive (Err (LineTooLong n)) input left = EndsAt (LineTooLong n) input left
 ReadsLive (Err TooManyLines) input left = EndsAt TooManyLines input left
-ReadsLive (Err ReadFailed) input left = Unit {0}
+ReadsLive (Err ReadFailed) input left = HasNoFaultYet input
 ReadsLive (Err WriteFailed) input left = ⊥
 ReadsLive (Err NoMemory) input left = Unit {0}

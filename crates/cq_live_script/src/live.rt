@@ -9,8 +9,9 @@ use cq_plan::LiveStep;
 use cq_script::{PIECE_SIZE, ScriptFault, Source, read_fault};
 use std::alloc::Global;
 
-/// Reads a live script, to its end or to its first fault: the steps that its lines say, in order. It is read in pieces,
-/// and beside the steps and one piece no more is held than a line may have. WriteFailed is never answered. O(bytes).
+/// Reads a live script, to its end or to its first fault: the steps that its lines say, in order. ReadFailed is told only
+/// where no fault stood before it, NoMemory at any place, and WriteFailed never. Beside the steps it holds one piece of
+/// what it reads, and the line that has begun. O(bytes).
 pub fn read_live<R: Source>(alloc: Global, reader: &mut R) -> Result<Vec<LiveStep>, ScriptFault>
     requires { R.has_failed reader.old ≡ false }
     ensures reads { (input : List ℕ)

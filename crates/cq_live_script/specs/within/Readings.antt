@@ -1,8 +1,8 @@
 -- A live script that is being read, part by part.
-use Rattle.std.specs.Prelude.{◌≡◌, ℕ, ◌+◌, ◌*◌, ◌≤◌, nat_le, nat_lt, if◌then◌else◌, List, [], ◌∷◌, ◌++◌, length, Option, None, Some, Result, Ok, Err}
+use Rattle.std.specs.Prelude.{◌≡◌, ℕ, ◌+◌, ◌*◌, ◌≤◌, nat_le, nat_lt, true, if◌then◌else◌, List, [], ◌∷◌, ◌++◌, length, Option, None, Some, Result, Ok, Err}
 use Rattle.std.specs.Global.{Vec}
 use Rattle.cq_plan.specs.declared.step.LiveStep.{LiveStep}
-use Rattle.cq_script.specs.Lines.{lines_of}
+use Rattle.cq_script.specs.Lines.{lines_of, has_line_feed, ended_part}
 use Rattle.cq_script.specs.declared.lines.TheConstants.{LINE_LIMIT, LINES_LIMIT}
 use Rattle.cq_script.specs.declared.fault.ScriptFault.{ScriptFault}
 use Rattle.cq_script.specs.declared.fault.ScriptFault.TheVariants.{BadLine, LineTooLong, TooManyLines, ReadFailed, WriteFailed, NoMemory}
@@ -82,13 +82,18 @@ pub record LeadsTo (old : SoFar) (bytes : List ℕ) (new : SoFar) (left : List �
   pub same : (more : List ℕ) → live_after old (bytes ++ more) ≡ live_after new (left ++ more)
   pub farther : bytes_so_far old + length bytes ≤ bytes_so_far new + length left
 
+-- These bytes have no fault: what was read goes on by them to the new state, and no line that ended in them has one.
+pub record GoesOn (old : SoFar) (bytes : List ℕ) (new : SoFar) : Type 0 where
+  pub leads : LeadsTo old bytes new []
+  pub ended : has_line_feed bytes ≡ true → (live_after old (ended_part bytes)).fault ≡ None
+
 -- in these bytes there is this fault, whatever comes
 abbrev pub StopsAt : ScriptFault → SoFar → List ℕ → Type 0
 StopsAt f old bytes = (more : List ℕ) → (live_after old (bytes ++ more)).fault ≡ Some f
 
 -- what was read after these bytes, by the answer
 abbrev pub Feeds : Result (Unit {0}) ScriptFault → SoFar → List ℕ → SoFar → Type 0
-Feeds (Ok _) old bytes new = LeadsTo old bytes new []
+Feeds (Ok _) old bytes new = GoesOn old bytes new
 Feeds (Err (BadLine n)) old bytes new = StopsAt (BadLine n) old bytes
 Feeds (Err (LineTooLong n)) old bytes new = StopsAt (LineTooLong n) old bytes
 Feeds (Err TooManyLines) old bytes new = StopsAt TooManyLines old bytes
