@@ -1,0 +1,46 @@
+-- What comes back from threads that kept what they promised.
+use Rattle.std.proofs.Common.{◌≡◌, ◌<◌, ℕ, ◌∙◌, ap, sym, refl, subst, List, length, map, slice_get, Option, Some, None, Result, Ok, Err, IfOk}
+use Rattle.std.proofs.lemmas.List.{length-map}
+use Rattle.std.proofs.lemmas.Option.{same_Some, none-some, slice_get_within, slice_get-map, get_or_from_slice_get}
+use Rattle.std.specs.declared.thread.Promise as Promise
+use Rattle.std.specs.declared.thread.PromisedHandle.{PromisedHandle}
+use Rattle.std.specs.Option.{option_map}
+use Rattle.std.specs.PromisedHandle.{KeepsEach}
+use Rattle.cq_live.specs.Nodes.{Held, IsSameServer}
+use Rattle.cq_threads.specs.SameNodes.{AreSame}
+
+-- the result at a place keeps the promise of the thread there
+pub kept_at : {T P : Type 0} (g : Promise.Ghosts P T) (n : ℕ) (threads : List (PromisedHandle T P)) (results : List T) → n ≡ length threads → KeepsEach g n threads results
+    → (place : ℕ) (thread : PromisedHandle T P) (result : T) → slice_get threads place ≡ Some thread → slice_get results place ≡ Some result → g.kept_by thread.promise result
+kept_at g n threads results count each place thread result here there =
+    let one = (each place result (subst (λ m. place < m) (sym count) (slice_get_within threads place thread here))).1 in
+    subst (λ t. g.kept_by t.promise result) (one.handle_is ∙ get_or_from_slice_get threads place thread one.handle here)
+    (subst (λ r. g.kept_by one.handle.promise r) (get_or_from_slice_get results place result result there) one.kept)
+
+-- so the nodes are the same at each place
+pub same_each : {H P T I L M N : Type 0} (put : P → L) (taken : T → M) (got : I → N) (was : H → Held P T I) (threads : List H) (nodes : List (Held P T I)) → length nodes ≡ length threads
+    → ((place : ℕ) (thread : H) (node : Held P T I) → slice_get threads place ≡ Some thread → slice_get nodes place ≡ Some node → IsSameServer put taken got (was thread) node)
+    → AreSame put taken got (map was threads) nodes
+same_each {H} {P} {T} {I} put taken got was threads nodes count each = record {
+  all = count ∙ sym (length-map threads was);
+  each = λ place a b here there. go place a b (slice_get threads place) refl (sym (slice_get-map was threads place) ∙ here) there;
+} where
+  go : (place : ℕ) (a b : Held P T I) (o : Option H) → slice_get threads place ≡ o → option_map was o ≡ Some a → slice_get nodes place ≡ Some b → IsSameServer put taken got a b
+  go place a b None none here there = absurd (none-some a here)
+  go place a b (Some thread) is here there = subst (λ x. IsSameServer put taken got x b) (same_Some (was thread) a here) (each place thread b is there)
+
+-- ---- results
+
+-- what holds of a result that is there
+pub known : {A E : Type 0} (r : Result A E) (x : A) (Q : A → Type 0) → r ≡ Ok x → IfOk r Q → Q x
+known r x Q is h = subst (λ o. IfOk o Q) is h
+
+-- what holds of the first of two holds of the first of a pair of both
+pub of_first : {A B E : Type 0} (r : Result (A × B) E) (one : Result A E) (Q : A → Type 0) → IfOk r (λ pair. one ≡ Ok pair.0) → IfOk one Q → IfOk r (λ pair. Q pair.0)
+of_first (Ok pair) one Q is h = known one pair.0 Q is h
+of_first (Err fault) one Q is h = tt
+
+-- and what holds of the second, of the second
+pub of_second : {A B E : Type 0} (r : Result (A × B) E) (other : Result B E) (Q : B → Type 0) → IfOk r (λ pair. other ≡ Ok pair.1) → IfOk other Q → IfOk r (λ pair. Q pair.1)
+of_second (Ok pair) other Q is h = known other pair.1 Q is h
+of_second (Err fault) other Q is h = tt

@@ -1,0 +1,27 @@
+//! What can keep nodes from running.
+
+use std::alloc::{AllocError, AllocFailed};
+use thiserror::Error;
+
+/// Why nodes didn't run on threads.
+#[derive(Clone, Copy, Debug, PartialEq, Eq, Error)]
+pub enum ThreadFault {
+    /// A thread couldn't be started.
+    #[error("a thread could not be started")]
+    SpawnFailed,
+    /// There was no memory.
+    #[error("no memory")]
+    NoMemory,
+}
+
+impl From<AllocError> for ThreadFault {
+    fn from(_fault: AllocError) -> ThreadFault {
+        ThreadFault::NoMemory
+    }
+}
+
+impl<T: Drop> From<AllocFailed<T>> for ThreadFault {
+    fn from(_fault: AllocFailed<T>) -> ThreadFault {
+        ThreadFault::NoMemory
+    }
+}
