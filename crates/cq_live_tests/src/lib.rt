@@ -2,9 +2,13 @@
 #![tactic(auto)]
 
 #[cfg(test)]
+mod cast;
+#[cfg(test)]
 mod chains;
 #[cfg(test)]
 mod common;
+#[cfg(test)]
+mod on_threads;
 #[cfg(test)]
 mod one_server;
 #[cfg(test)]
