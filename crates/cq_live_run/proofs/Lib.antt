@@ -1,0 +1,10 @@
+pub mod Elements
+pub mod Known
+pub mod Doing
+pub mod Delivering
+pub mod Serving
+pub mod Planned
+pub mod Telling
+pub mod Lives
+pub mod Showing
+pub mod Wired

@@ -1,0 +1,4 @@
+//! What a live run shows once it has ended. `specs/` holds the rules.
+#![tactic(auto)]
+
+pub mod laws;
