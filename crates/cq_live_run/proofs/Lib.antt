@@ -8,3 +8,5 @@ pub mod Telling
 pub mod Lives
 pub mod Showing
 pub mod Wired
+pub mod Joining
+pub mod Counting

@@ -1,0 +1,42 @@
+//! What the steps of a live run ask of its nodes, beside what each client asks.
+ghost use Rattle.std.specs.Prelude.{◌≡◌, ◌++◌, ◌∷◌, [], IfOk, OnOk, MatchOption, map};
+ghost use Rattle.cq_live_run.specs.Plans.{joins_of};
+
+use cq_base::NoMemory;
+use cq_live::Join;
+use cq_plan::LiveStep;
+use std::alloc::Global;
+
+/// The join that the step asks for, if it does.
+fn join_in(step: &LiveStep) -> Option<Join>
+    ensures { MatchOption result (joins_of (step.now ∷ []) ≡ []) (λ join. joins_of (step.now ∷ []) ≡ join.server ∷ []) }
+{
+    match step {
+        LiveStep::Join { server, after } => Some(Join {
+            server: *server,
+            after: *after,
+        }),
+        _ => None,
+    }
+}
+
+/// Adds the join that the step asks for, if it does.
+fn add_join(joins: &mut Vec<Join>, step: &LiveStep) -> Result<(), NoMemory>
+    ensures { OnOk result (map (λ join. join.server) joins.new.items ≡ map (λ join. join.server) joins.old.items ++ joins_of (step.now ∷ [])) }
+{
+    if let Some(join) = join_in(step) {
+        joins.push(join)?;
+    }
+    Ok(())
+}
+
+/// The joins that the steps ask for, in order: O(steps). It keeps the allocator.
+pub fn joins_of(alloc: Global, steps: &[LiveStep]) -> Result<Vec<Join>, NoMemory>
+    ensures { IfOk result (λ joins. map (λ join. join.server) joins.items ≡ joins_of steps.now) }
+{
+    let mut joins = Vec::new(alloc);
+    for step in steps {
+        add_join(&mut joins, step)?;
+    }
+    Ok(joins)
+}
