@@ -1,0 +1,2 @@
+pub mod Aparts
+pub mod within
