@@ -4,6 +4,7 @@
 mod apart;
 mod bare_ends;
 mod casting;
+mod fresh;
 
 pub use apart::{Apart, take_apart};
 pub use casting::{Client, Master, Server};
