@@ -11,7 +11,7 @@ use cq_live::{ClientLinks, Links};
 use std::alloc::Global;
 
 /// The links of a server or of the master, at the places of the ends.
-pub(crate) fn links_of(
+pub fn links_of(
     alloc: Global,
     outs: Vec<Putter<Message>>,
     ins: Vec<Taker<Message>>,
@@ -32,7 +32,7 @@ pub(crate) fn links_of(
 }
 
 /// The links of a client, at the places of the ends.
-pub(crate) fn client_links_of(
+pub fn client_links_of(
     alloc: Global,
     outs: Vec<InPut>,
     ins: Vec<Taker<Message>>,

@@ -8,3 +8,4 @@ mod fresh;
 
 pub use apart::{Apart, take_apart};
 pub use casting::{Client, Master, Server};
+pub use fresh::{client_links_of, links_of};
