@@ -1,6 +1,6 @@
 //! A whole chain on threads: its first and its last server wait for each other in their second turns.
 use crate::cast::{Story, changes, nodes, order_of};
-use cq_base::Party;
+use cq_base::{Party, ServerId};
 use cq_live::{Flags, Gate};
 use cq_threads::Nodes;
 use std::sync::atomic::AtomicBool;
@@ -11,8 +11,10 @@ use std::thread::yield_now;
 /// The gate of two servers of which neither goes on before the other has come.
 #[derive(Drop)]
 struct Meeting {
-    head: AtomicBool,
-    tail: AtomicBool,
+    head: Party,
+    tail: Party,
+    head_came: AtomicBool,
+    tail_came: AtomicBool,
 }
 
 /// Tells that one has come, and waits for the other, but not for ever.
@@ -29,10 +31,15 @@ fn meet(own: &AtomicBool, other: &AtomicBool) -> bool {
 
 impl Gate for Meeting {
     fn enter(&self, party: Party, turn: u64) -> bool {
-        match party {
-            Party::Server(id) if turn == 2 && id.get() == 1 => meet(&self.head, &self.tail),
-            Party::Server(id) if turn == 2 && id.get() == 5 => meet(&self.tail, &self.head),
-            _ => true,
+        if turn != 2 {
+            return true;
+        }
+        if party == self.head {
+            meet(&self.head_came, &self.tail_came)
+        } else if party == self.tail {
+            meet(&self.tail_came, &self.head_came)
+        } else {
+            true
         }
     }
 }
@@ -62,8 +69,10 @@ fn nodes_run_side_by_side(rt: HostRuntime) -> Result<(), Fail> {
     let alloc = rt.alloc();
     let flags = Flags::new(alloc, 6)?;
     let meeting = Meeting {
-        head: AtomicBool::new(false),
-        tail: AtomicBool::new(false),
+        head: Party::Server(ServerId::new(1).ok_or("no server")?),
+        tail: Party::Server(ServerId::new(5).ok_or("no server")?),
+        head_came: AtomicBool::new(false),
+        tail_came: AtomicBool::new(false),
     };
     let Ok(ran) = nodes(alloc, STORY, &flags)?.run(&rt, alloc, 1_000_000_000, &meeting, &flags)
     else {
