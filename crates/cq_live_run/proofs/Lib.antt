@@ -10,3 +10,4 @@ pub mod Showing
 pub mod Wired
 pub mod Joining
 pub mod Counting
+pub mod Mapped
