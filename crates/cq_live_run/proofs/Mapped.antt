@@ -1,5 +1,5 @@
 -- Lists that are mapped to the same.
-use Rattle.std.proofs.Common.{◌≡◌, ℕ, zero, suc, arith, ◌∙◌, ap, refl, sym, subst, List, [], ◌∷◌, length, map, slice_get, Some}
+use Rattle.std.proofs.Common.{◌≡◌, ℕ, zero, suc, arith, ◌∙◌, ap, refl, sym, List, [], ◌∷◌, length, map, slice_get, Some}
 use Rattle.std.proofs.lemmas.List.{length-map}
 use Rattle.std.proofs.lemmas.Option.{same_Some, none-some}
 
