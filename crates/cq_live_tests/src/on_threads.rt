@@ -1,12 +1,13 @@
 //! A whole chain on threads: its first and its last server wait for each other in their second turns.
-use crate::cast::{Story, changes, nodes, order_of};
+use crate::cast::{Chain, Story, changes, nodes, order_of};
 use cq_base::{Party, ServerId};
 use cq_live::{Flags, Gate};
-use cq_threads::Nodes;
+use std::alloc::Global;
+use std::sync::Wait;
 use std::sync::atomic::AtomicBool;
 use std::sync::atomic::Ordering::SeqCst;
 use std::test::Fail;
-use std::thread::yield_now;
+use std::thread::{Threads, yield_now};
 
 /// The gate of two servers of which neither goes on before the other has come.
 #[derive(Drop)]
@@ -64,6 +65,27 @@ const STORY: Story = Story {
     capacity: 64,
 };
 
+/// How many answers each client got, and how many changes of the chain are in the order of what was done.
+fn told(alloc: Global, ran: Chain<'_>) -> Result<(usize, usize, usize), Fail> {
+    let first = ran.first.closed().len();
+    let second = ran.second.closed().len();
+    let order = order_of(alloc, STORY.size, ran.master, ran.servers)?;
+    Ok((first, second, changes(&order)))
+}
+
+/// The story on threads, behind that gate.
+fn run<'a, R: Threads + Wait + Sync, G: Gate + Sync>(
+    rt: &R,
+    alloc: Global,
+    gate: &G,
+    flags: &'a Flags,
+) -> Result<Chain<'a>, Fail> {
+    match nodes(alloc, STORY, flags)?.run(rt, alloc, 1_000_000_000, gate, flags) {
+        Ok(ran) => Ok(ran),
+        Err(_fault) => Err(Fail::from("not run")),
+    }
+}
+
 #[test]
 fn nodes_run_side_by_side(rt: HostRuntime) -> Result<(), Fail> {
     let alloc = rt.alloc();
@@ -74,21 +96,11 @@ fn nodes_run_side_by_side(rt: HostRuntime) -> Result<(), Fail> {
         head_came: AtomicBool::new(false),
         tail_came: AtomicBool::new(false),
     };
-    let Ok(ran) = nodes(alloc, STORY, &flags)?.run(&rt, alloc, 1_000_000_000, &meeting, &flags)
-    else {
-        return Err(Fail::from("not run"));
-    };
-    let Nodes {
-        master,
-        servers,
-        first,
-        second,
-    } = ran;
+    let (first, second, changes) = told(alloc, run(&rt, alloc, &meeting, &flags)?)?;
     assert!(rt; !flags.is_stopped());
-    assert_eq!(rt; first.closed().len(), 21);
-    assert_eq!(rt; second.closed().len(), 21);
-    let order = order_of(alloc, STORY.size, master, servers)?;
-    assert_eq!(rt; changes(&order), 3);
+    assert_eq!(rt; first, 21);
+    assert_eq!(rt; second, 21);
+    assert_eq!(rt; changes, 3);
     Ok(())
 }
 
@@ -96,10 +108,10 @@ fn nodes_run_side_by_side(rt: HostRuntime) -> Result<(), Fail> {
 fn a_shut_gate_stops_all_nodes(rt: HostRuntime) -> Result<(), Fail> {
     let alloc = rt.alloc();
     let flags = Flags::new(alloc, 6)?;
-    let Ok(ran) = nodes(alloc, STORY, &flags)?.run(&rt, alloc, 1_000_000_000, &Shut, &flags) else {
-        return Err(Fail::from("not run"));
-    };
+    let ran = run(&rt, alloc, &Shut, &flags)?;
+    let answers = ran.first.closed().len();
+    drop(ran);
     assert!(rt; flags.is_stopped());
-    assert_eq!(rt; ran.first.closed().len(), 0);
+    assert_eq!(rt; answers, 0);
     Ok(())
 }
