@@ -1,2 +1,4 @@
 pub mod Asked
+pub mod Good
+pub mod Live
 mod Rows

@@ -1,11 +1,12 @@
 //! What the words of the command line ask for.
-ghost use Rattle.std.specs.Prelude.{◌≡◌, ◌≢◌, ℕ, ◌<◌, ◌≤◌, ◌+◌, [], ◌∷◌, IfOk, IfSome, IsErrAnd, MatchResult, Some, false, map};
-ghost use Rattle.clap.specs.Words.{HasKind, app_of, fault_of, kind_of, subcommand_of, subcommand_rows_of};
+ghost use Rattle.std.specs.Prelude.{◌≡◌, ◌≢◌, ℕ, ◌<◌, ◌≤◌, ◌+◌, ◌^◌, [], ◌∷◌, IfOk, IfSome, IsErrAnd, MatchResult, Some, false, map};
+ghost use Rattle.std.specs.Str.Parse.{IsNumeral, digits_value, without_leading_plus};
+ghost use Rattle.clap.specs.Words.{HasKind, Text, app_of, fault_of, kind_of, rule_of, subcommand_of, subcommand_rows_of};
 ghost use Rattle.clap.specs.declared.builder.command.Command.TheViews.{out-Command};
 ghost use Rattle.clap.specs.declared.error.kind.ErrorKind.TheVariants.{OutOfMemory};
 ghost use Rattle.cq_words.specs.declared.choice.TheConstants.{ZERO_DIGIT};
 ghost use Rattle.cq_words.specs.declared.choice.Choice.{Choice};
-ghost use Rattle.cq_words.specs.CommandLine.{IsAsked, IsSized, asked_choice, command_app, name_in, name_of, program_app, size_of, text_in};
+ghost use Rattle.cq_words.specs.CommandLine.{IsAsked, IsNumber, IsSized, ReadsTurns, asked_choice, command_app, live_app, name_in, name_of, program_app, size_of, text_in, turns_rule, turns_text};
 
 use clap::error::ErrorKind;
 use clap::{Arg, ArgMatches, Command, Error, value_parser};
@@ -23,26 +24,77 @@ pub enum Choice {
     Replay { size: ChainSize },
     /// The lines of a session, run in such a world; a bad line doesn't end it.
     Session { size: ChainSize },
+    /// The live script on standard input, run by so many servers, a master and two clients on threads of their own, each
+    /// of them for at most so many turns.
+    Live { size: ChainSize, turns: u64 },
 }
 
 const REPLAY: &str = "replay";
 
 const SESSION: &str = "session";
 
+const LIVE: &str = "live";
+
 const SERVERS: &str = "servers";
 
-/// The subcommand of that name, with the number of servers as its option.
-fn command<'a>(alloc: Global, name: &'a str, about: &'a str) -> Result<Command<'a>, AllocError>
-    ensures app { IfOk result (λ command. app_of command ≡ command_app name.now) }
+const TURNS: &str = "turns";
+
+/// The number of servers that a replay and a session have if none is given.
+const SERVERS_DEFAULT: &str = "1";
+
+/// The number of servers that a live run has if none is given.
+const LIVE_SERVERS_DEFAULT: &str = "3";
+
+/// The most turns that may be asked for.
+const TURNS_LIMIT: u32 = 1_000_000_000;
+
+/// The number of turns of a live run if none is given: the most.
+const TURNS_DEFAULT: &str = "1000000000";
+
+/// The subcommand of that name, with the number of servers as its option, and what this number is if it isn't given.
+fn command<'a>(
+    alloc: Global,
+    name: &'a str,
+    about: &'a str,
+    servers_default: &'a str,
+) -> Result<Command<'a>, AllocError>
+    ensures app { IfOk result (λ command. app_of command ≡ command_app name.now servers_default.now) }
     ensures local { IfOk result (λ command. (out-Command command).has_globals ≡ false) }
 {
     let servers = Arg::new(alloc, SERVERS)
         .long(SERVERS)
         .value_name("N")
         .value_parser(value_parser!(u8).range(1..=i64::from(CHAIN_LIMIT)))
-        .default_value("1")
+        .default_value(servers_default)
         .help("How many servers the chain begins with, from 1 to 8");
     Command::new(alloc, name).about(about).arg(servers)
+}
+
+/// The number of turns, as an option.
+fn turns_option<'a>(alloc: Global) -> Arg<'a>
+    ensures rule { rule_of result ≡ turns_rule }
+    ensures local { result.global ≡ false }
+{
+    Arg::new(alloc, TURNS)
+        .long(TURNS)
+        .value_name("T")
+        .value_parser(value_parser!(u64).range(1..=i64::from(TURNS_LIMIT)))
+        .default_value(TURNS_DEFAULT)
+        .help("How many turns each thread takes at most, from 1 to 1000000000")
+}
+
+/// The subcommand for live runs, with the numbers of servers and of turns as its options.
+fn live<'a>(alloc: Global) -> Result<Command<'a>, AllocError>
+    ensures app { IfOk result (λ command. app_of command ≡ live_app) }
+    ensures local { IfOk result (λ command. (out-Command command).has_globals ≡ false) }
+{
+    let command = command(
+        alloc,
+        LIVE,
+        "Runs the live script on standard input by servers, a master and two clients on threads of their own, and audits what they did",
+        LIVE_SERVERS_DEFAULT,
+    )?;
+    command.arg(turns_option(alloc))
 }
 
 /// The program's command line.
@@ -53,12 +105,15 @@ fn program<'a>(alloc: Global) -> Result<Command<'a>, AllocError>
         alloc,
         REPLAY,
         "Runs the script on standard input and writes its answers to standard output",
+        SERVERS_DEFAULT,
     )?;
     let session = command(
         alloc,
         SESSION,
         "Runs the lines that come on standard input, until it ends, and goes on behind bad ones",
+        SERVERS_DEFAULT,
     )?;
+    let live = live(alloc)?;
     Command::new(alloc, "cq")
         .no_binary_name(true)
         .bin_name("cq")?
@@ -66,7 +121,8 @@ fn program<'a>(alloc: Global) -> Result<Command<'a>, AllocError>
             "Runs scripts of what happens to a FIFO message queue that a chain of servers keeps.\nWithout a command it does what 'cq replay' does.",
         )
         .subcommand(replay)?
-        .subcommand(session)
+        .subcommand(session)?
+        .subcommand(live)
 }
 
 /// How many servers are asked for; one where no subcommand stands.
@@ -81,17 +137,32 @@ fn servers_in(matches: &ArgMatches<'_>) -> Option<u8>
     }
 }
 
+/// How many turns are asked for; no number where no subcommand stands.
+fn turns_in(matches: &ArgMatches<'_>) -> Option<u64>
+    ensures asked { IfSome result (IsNumber (turns_text (subcommand_rows_of matches.now))) }
+    ensures numeral { (text : Text) → turns_text (subcommand_rows_of matches.now) ≡ Some text
+        → IsNumeral 10 (without_leading_plus text) → digits_value 10 (without_leading_plus text) < 2 ^ 64
+        → result ≡ Some (digits_value 10 (without_leading_plus text)) }
+{
+    let (_, options) = matches.subcommand()?;
+    options.get_one::<u64>(TURNS)
+}
+
 /// What is asked for; a replay where no subcommand stands.
 fn choice_in(matches: &ArgMatches<'_>) -> Option<Choice>
     ensures asked { IfSome result (IsAsked (subcommand_rows_of matches.now)) }
     ensures good { (choice : Choice) → text_in (subcommand_rows_of matches.now) ≡ Some ((ZERO_DIGIT + size_of choice) ∷ [])
         → 1 ≤ size_of choice → size_of choice ≤ CHAIN_LIMIT → name_in (subcommand_rows_of matches.now) ≡ name_of choice
-        → result ≡ Some choice }
+        → ReadsTurns (turns_text (subcommand_rows_of matches.now)) choice → result ≡ Some choice }
 {
     let size = ChainSize::new(servers_in(matches)?)?;
     match matches.subcommand_name() {
         None | Some(REPLAY) => Some(Choice::Replay { size }),
         Some(SESSION) => Some(Choice::Session { size }),
+        Some(LIVE) => Some(Choice::Live {
+            size,
+            turns: turns_in(matches)?,
+        }),
         Some(_) => None,
     }
 }
@@ -112,7 +183,7 @@ pub fn choice_of<'a, S: AsStr>(alloc: Global, words: &'a [S]) -> Result<Choice, 
     }
     Err(program.error(
         ErrorKind::InvalidValue,
-        "a chain begins with 1 to 8 servers",
+        "a number is missing, or out of its range",
     )?)
 }
 

@@ -2,7 +2,8 @@
 use Rattle.std.proofs.Common.{◌≡◌, ◌∙◌, Some, ap, map, sym}
 use Rattle.std.proofs.lemmas.Result.{err_from_is_err_and}
 use Rattle.clap.specs.Words.{fault_of, is_simple, is_simple_and_free, subcommand_of, takes}
-use Rattle.cq_words.proofs.Asked.{is_found, is_good, kinds_at, program_is_free, program_is_simple}
+use Rattle.cq_words.proofs.Asked.{kinds_at, program_is_free, program_is_simple}
+use Rattle.cq_words.proofs.Good.{is_found, is_good}
 use Rattle.cq_words.proofs.choice.choice_of.Goals as goal
 
 pub returns-in_err-matches-clause-good : goal.returns-in_err-matches-clause-good
