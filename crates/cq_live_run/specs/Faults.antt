@@ -1,5 +1,5 @@
 -- The number and the name of each fault of a live run.
-use Rattle.std.specs.Prelude.{ℕ, List, codes}
+use Rattle.std.specs.Prelude.{ℕ, List, codes, Bool, true, false}
 use Rattle.cq_live_run.specs.declared.fault.LiveFault.{LiveFault}
 use Rattle.cq_live_run.specs.declared.fault.LiveFault.TheVariants.{TurnLimit, AuditRefused, SpawnFailed, BadScript, NoMemory}
 
@@ -18,3 +18,8 @@ name_of (AuditRefused fault) = codes "AuditRefused"
 name_of SpawnFailed = codes "SpawnFailed"
 name_of (BadScript step) = codes "BadScript"
 name_of NoMemory = codes "NoMemory"
+
+-- it says that a step can't be done
+abbrev pub is_of_steps : LiveFault → Bool
+is_of_steps (BadScript step) = true
+is_of_steps fault = false

@@ -1,6 +1,7 @@
 //! The faults of a live run.
-ghost use Rattle.std.specs.Prelude.{◌≡◌};
-ghost use Rattle.cq_live_run.specs.Faults.{code_of, name_of};
+ghost use Rattle.std.specs.Prelude.{◌≡◌, false};
+ghost use Rattle.cq_live_run.specs.Faults.{code_of, name_of, is_of_steps};
+ghost use Rattle.cq_live_run.specs.declared.fault.LiveFault.TheVariants as faults;
 
 use cq_base::NoMemory as OutOfMemory;
 use cq_link::LinkFault;
@@ -62,24 +63,32 @@ impl fmt::Display for LiveFault {
 }
 
 impl From<OutOfMemory> for LiveFault {
+    ghost from_gives = { λ _ fault. fault ≡ faults.NoMemory };
+
     fn from(_fault: OutOfMemory) -> LiveFault {
         LiveFault::NoMemory
     }
 }
 
 impl From<AllocError> for LiveFault {
+    ghost from_gives = { λ _ fault. fault ≡ faults.NoMemory };
+
     fn from(_fault: AllocError) -> LiveFault {
         LiveFault::NoMemory
     }
 }
 
 impl<T: Drop> From<AllocFailed<T>> for LiveFault {
+    ghost from_gives = { λ _ fault. fault ≡ faults.NoMemory };
+
     fn from(_fault: AllocFailed<T>) -> LiveFault {
         LiveFault::NoMemory
     }
 }
 
 impl From<LinkFault> for LiveFault {
+    ghost from_gives = { λ _ fault. fault ≡ faults.NoMemory };
+
     /// All links of a run have a capacity that is good.
     fn from(_fault: LinkFault) -> LiveFault {
         LiveFault::NoMemory
@@ -87,6 +96,8 @@ impl From<LinkFault> for LiveFault {
 }
 
 impl From<ThreadFault> for LiveFault {
+    ghost from_gives = { λ _ fault. is_of_steps fault ≡ false };
+
     fn from(fault: ThreadFault) -> LiveFault {
         match fault {
             ThreadFault::SpawnFailed => LiveFault::SpawnFailed,
@@ -96,6 +107,8 @@ impl From<ThreadFault> for LiveFault {
 }
 
 impl From<AuditFault> for LiveFault {
+    ghost from_gives = { λ _ fault. is_of_steps fault ≡ false };
+
     /// An audit that found no memory is told as that.
     fn from(fault: AuditFault) -> LiveFault {
         match fault {
