@@ -1,0 +1,4 @@
+-- What the clauses of private functions cite. Nobody who calls this crate has to read it.
+pub mod Casts
+pub mod Chains
+pub mod Runs
