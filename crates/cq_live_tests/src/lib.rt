@@ -8,6 +8,10 @@ mod chains;
 #[cfg(test)]
 mod common;
 #[cfg(test)]
+mod gates;
+#[cfg(test)]
+mod live_runs;
+#[cfg(test)]
 mod on_threads;
 #[cfg(test)]
 mod one_server;

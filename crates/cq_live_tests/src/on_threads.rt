@@ -1,49 +1,14 @@
 //! A whole chain on threads: its first and its last server wait for each other in their second turns.
 use crate::cast::{Chain, Story, changes, nodes, order_of};
-use cq_base::{Party, ServerId};
-use cq_live::{Flags, Gate};
+use crate::gates::Meeting;
+use cq_base::Party;
+use cq_live::{Flags, Gate, Stop};
+use cq_live_run::LiveFault;
+use cq_threads::Nodes;
 use std::alloc::Global;
 use std::sync::Wait;
-use std::sync::atomic::AtomicBool;
-use std::sync::atomic::Ordering::SeqCst;
 use std::test::Fail;
-use std::thread::{Threads, yield_now};
-
-/// The gate of two servers of which neither goes on before the other has come.
-#[derive(Drop)]
-struct Meeting {
-    head: Party,
-    tail: Party,
-    head_came: AtomicBool,
-    tail_came: AtomicBool,
-}
-
-/// Tells that one has come, and waits for the other, but not for ever.
-fn meet(own: &AtomicBool, other: &AtomicBool) -> bool {
-    own.store(true, SeqCst);
-    for _ in 0..100_000_000_u32 {
-        if other.load(SeqCst) {
-            return true;
-        }
-        yield_now();
-    }
-    false
-}
-
-impl Gate for Meeting {
-    fn enter(&self, party: Party, turn: u64) -> bool {
-        if turn != 2 {
-            return true;
-        }
-        if party == self.head {
-            meet(&self.head_came, &self.tail_came)
-        } else if party == self.tail {
-            meet(&self.tail_came, &self.head_came)
-        } else {
-            true
-        }
-    }
-}
+use std::thread::Threads;
 
 /// The gate that never lets a turn begin.
 #[derive(Drop)]
@@ -90,12 +55,7 @@ fn run<'a, R: Threads + Wait + Sync, G: Gate + Sync>(
 fn nodes_run_side_by_side(rt: HostRuntime) -> Result<(), Fail> {
     let alloc = rt.alloc();
     let flags = Flags::new(alloc, 6)?;
-    let meeting = Meeting {
-        head: Party::Server(ServerId::new(1).ok_or("no server")?),
-        tail: Party::Server(ServerId::new(5).ok_or("no server")?),
-        head_came: AtomicBool::new(false),
-        tail_came: AtomicBool::new(false),
-    };
+    let meeting = Meeting::new(1, 5)?;
     let (first, second, changes) = told(alloc, run(&rt, alloc, &meeting, &flags)?)?;
     assert!(rt; !flags.is_stopped());
     assert_eq!(rt; first, 21);
@@ -113,5 +73,49 @@ fn a_shut_gate_stops_all_nodes(rt: HostRuntime) -> Result<(), Fail> {
     drop(ran);
     assert!(rt; flags.is_stopped());
     assert_eq!(rt; answers, 0);
+    Ok(())
+}
+
+/// The story with its nodes one after the other, as a live run that had one thread would answer.
+fn run_in_turn<R: Wait, G: Gate>(
+    rt: &R,
+    chain: Chain<'_>,
+    gate: &G,
+    flags: &Flags,
+) -> Result<(), LiveFault> {
+    let Nodes {
+        mut master,
+        mut servers,
+        mut first,
+        mut second,
+    } = chain;
+    for server in servers.iter_mut() {
+        if server.run(rt, 10, gate) == Stop::Shut {
+            flags.stop();
+        }
+    }
+    let _stop = master.run(rt, 10, gate);
+    let _stop = first.run(rt, 10);
+    let _stop = second.run(rt, 10);
+    if flags.is_stopped() {
+        return Err(LiveFault::TurnLimit);
+    }
+    Ok(())
+}
+
+/// Whether that answer is a `TurnLimit`.
+fn is_stopped_in_turn<R: Wait, G: Gate>(rt: &R, alloc: Global, gate: &G) -> Result<bool, Fail> {
+    let flags = Flags::new(alloc, 6)?;
+    let chain = nodes(alloc, STORY, &flags)?;
+    Ok(matches!(
+        run_in_turn(rt, chain, gate, &flags),
+        Err(LiveFault::TurnLimit)
+    ))
+}
+
+#[test]
+fn one_thread_does_not_pass_the_gate(rt: HostRuntime) -> Result<(), Fail> {
+    let is_stopped = is_stopped_in_turn(&rt, rt.alloc(), &Meeting::new(1, 5)?.hasty())?;
+    assert!(rt; is_stopped);
     Ok(())
 }
