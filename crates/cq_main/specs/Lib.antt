@@ -1,2 +1,5 @@
 pub mod Statuses
 pub mod Outcomes
+pub mod LiveStatuses
+pub mod LiveOutcomes
+pub mod Choices

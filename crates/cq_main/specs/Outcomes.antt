@@ -2,12 +2,8 @@
 -- after.
 use Rattle.std.specs.Prelude.{◌≡◌, ◌⊎◌, ℕ, Bool, true, false, List, [], ◌∷◌, ◌++◌, codes, Option, Result, Ok, Err}
 use Rattle.std.specs.Io.KnownBytes.{Appends, Consumes}
-use Rattle.cq_script.specs.Replays.{Replays}
 use Rattle.cq_script.specs.declared.fault.ScriptFault.{ScriptFault}
 use Rattle.cq_script.specs.declared.fault.ScriptFault.TheVariants.{WriteFailed}
-use Rattle.cq_script.specs.Sessions.{Sessions}
-use Rattle.cq_words.specs.declared.choice.Choice.{Choice}
-use Rattle.cq_words.specs.declared.choice.Choice.TheVariants.{Replay, Session}
 use Rattle.cq_main.specs.Statuses.{fault_text, status_of}
 
 -- the line of a fault was written, unless the writer failed
@@ -23,18 +19,12 @@ abbrev pub Ends : Result (Unit {0}) ScriptFault → ℕ → Bool → Option (Lis
 Ends (Ok _) status failed old new = (status ≡ 0) × (new ≡ old)
 Ends (Err fault) status failed old new = EndsAt fault status failed old new
 
--- On so many servers, a script was replayed, or the lines of a session were run: with this answer, `input` was read,
--- `left` is what the reader has left, if that is known, and `output` was written.
-abbrev pub CarriesOut : Choice → Result (Unit {0}) ScriptFault → List ℕ → Option (List ℕ) → List ℕ → Type 0
-CarriesOut (Replay size) answer input left output = Replays size answer input left output
-CarriesOut (Session size) answer input left output = Sessions size answer input left output
-
--- what was asked for was run, to the end of the program
-abbrev pub Runs : Choice → ℕ → Option (List ℕ) → Option (List ℕ) → Option (List ℕ) → Option (List ℕ) → Bool → Option (List ℕ) → Option (List ℕ) → Type 0
-Runs choice status unread left written output failed old new =
+-- Lines were run, to the end of the program: `carries` says what that has read and written, by its answer.
+abbrev pub RunsBy : (Result (Unit {0}) ScriptFault → List ℕ → Option (List ℕ) → List ℕ → Type 0) → ℕ → Option (List ℕ) → Option (List ℕ) → Option (List ℕ) → Option (List ℕ) → Bool → Option (List ℕ) → Option (List ℕ) → Type 0
+RunsBy carries status unread left written output failed old new =
     (answer : Result (Unit {0}) ScriptFault) × (input : List ℕ) × (text : List ℕ)
     × Consumes unread left input × Appends written output text
-    × CarriesOut choice answer input left text × Ends answer status failed old new
+    × carries answer input left text × Ends answer status failed old new
 
 -- help was written, with the guide at its end; or the writer failed, which is a fault
 abbrev pub Helps : List ℕ → ℕ → Bool → Option (List ℕ) → Option (List ℕ) → Bool → Option (List ℕ) → Option (List ℕ) → Type 0

@@ -1,7 +1,9 @@
-//! The program `cq`: it reads a script of JSON lines on standard input, runs it in a world of servers, and
-//! writes the answers on standard output.
+//! The program `cq`: it reads a script of JSON lines on standard input, runs it in a world of servers, or live by servers
+//! on threads of their own, and writes what comes of it on standard output.
 #![tactic(auto)]
 
+mod live;
+mod live_fault;
 mod report;
 mod run;
 
@@ -21,6 +23,7 @@ fn main(rt: HostRuntime) -> ExitCode {
     let mut errors = Checked::new(rt.stderr());
     let status = match words_of(&rt) {
         Ok(words) => run(
+            &rt,
             rt.alloc(),
             words.as_slice(),
             &mut reader,

@@ -1,16 +1,18 @@
 //! All that the program decides, over its words, a reader and two writers.
 ghost use Rattle.std.specs.Prelude.{◌≡◌, ◌≢◌, ◌⊎◌, ℕ, List, ◌++◌, ◌∷◌, [], map, true, false, codes, string_bytes, Some};
-ghost use Rattle.std.specs.Io.KnownBytes.{Appends, Consumes, Keeps};
+ghost use Rattle.std.specs.Io.KnownBytes.{Appends};
 ghost use Rattle.std.specs.IoError.{error_kind};
 ghost use Rattle.clap.specs.Words.{fault_of, kind_of};
 ghost use Rattle.cq_script.specs.Checks.{inner_of, is_failed, is_flushed};
 ghost use Rattle.cq_words.specs.CommandLine.{asked_choice, program_app};
-ghost use Rattle.cq_main.specs.Outcomes.{CarriesOut, EndsAt, Helps, Refuses, Runs, unread_text};
+ghost use Rattle.cq_main.specs.Choices.{Runs};
+ghost use Rattle.cq_main.specs.Outcomes.{Ends, EndsAt, Helps, Refuses, unread_text};
 ghost use Rattle.cq_words.specs.WordFaults.{all_are, is_help, is_usage};
 ghost use Rattle.cq_words.specs.declared.choice.Choice.{Choice};
 ghost use Rattle.cq_script.specs.declared.fault.ScriptFault.TheVariants.{NoMemory};
 ghost use Rattle.std.specs.declared.io.ErrorKind.TheVariants.{OutOfMemory as NoRoom};
 
+use crate::live::run_live;
 use crate::report::report;
 use clap::Error;
 use clap::error::ErrorKind;
@@ -19,6 +21,8 @@ use cq_words::{Choice, choice_of};
 use std::alloc::Global;
 use std::io;
 use std::io::{Read, Write};
+use std::sync::Wait;
+use std::thread::Threads;
 
 /// What stands at the end of each help text.
 const GUIDE: &str =
@@ -55,28 +59,46 @@ Kinds of "ask" in an arrive, with the keys that stand beside "kind"; those in br
 An event that can't happen changes nothing, and is told by a line such as
 {"line":5,"name":"ServerDown","refused":32}.
 
+A live script, for "cq live", has one step a line, such as
+
+  {"op":"client","client":1,"ask":{"kind":"create","queue":"q.fifo"}}
+
+Steps, with the keys that stand beside "op":
+  client  client, ask    the next ask of client 1 or 2, of one of the kinds above
+  crash   server, after  the server crashes once it holds "after" requests
+  join    server, after  a new server joins, up to number 8, from the master's turn "after" on
+
 Commands, and when to use which:
   replay   for a script: it ends at its first fault, as at a line that says no event
   session  for a program at the other end of a pipe, or a person at a terminal: there is no limit to
            the lines, and a bad one is told by a line such as {"line":3,"name":"BadLine","refused":61},
            and the session goes on
+  live     to see a chain at work: servers, a master and two clients run side by side, each on a thread
+           of its own; once the clients have their answers, all that the servers and the master did is
+           put into one order and checked. It tells how many sends were accepted, and that the audit
+           is fine
 
 Examples:
   cq replay --servers 3 < SCRIPT
   cq session
+  cq live --servers 5 --turns 1000000 < LIVE_SCRIPT
 
 Exit statuses:
-  0  the script, or the session, ran to its end
-  2  a usage fault, or a fault of the script: 61 BadLine, 62 LineTooLong, 63 TooManyLines
-  3  the reader or the writer failed, or memory ran out: 64 ReadFailed, 65 WriteFailed, 20 NoMemory
+  0  the script, the session or the live run came to its end
+  1  the audit of a live run found no order of what was done: 72 AuditRefused
+  2  a usage fault, or a fault of the script: 61 BadLine, 62 LineTooLong, 63 TooManyLines, 74 BadScript
+  3  the reader or the writer failed, or memory ran out: 64 ReadFailed, 65 WriteFailed, 20 NoMemory;
+     a live run had no turns left, or no thread: 71 TurnLimit, 73 SpawnFailed
 A fault is told by one line on standard error, such as "cq: 61 BadLine line 3"."#;
 
 /// The status after a command line that is not understood.
 const USAGE: u8 = 2;
 
-/// Does what the words ask for. It replays the script of the reader, runs a session with it, or writes help, on
-/// `output`; a fault, or what is wrong with the words, goes to `errors`. Gives the status with which the program ends.
-pub fn run<R: Read, W: Write, E: Write>(
+/// Does what the words ask for. It replays the script of the reader, runs a session with it, runs it live, or writes help, on
+/// `output`; a fault, or what is wrong with the words, goes to `errors`. Gives the status with which the program ends. A live
+/// run waits for its threads.
+pub fn run<H: Threads + Wait + Sync, R: Read, W: Write, E: Write>(
+    rt: &H,
     alloc: Global,
     words: &[String],
     reader: &mut Checked<R>,
@@ -87,7 +109,7 @@ pub fn run<R: Read, W: Write, E: Write>(
     requires output { is_failed output.old ≡ false }
     ensures good { (choice : Choice) → asked_choice (map string_bytes words.now) ≡ Some choice
         → Runs choice result (R.remaining (inner_of reader.old)) (R.remaining (inner_of reader.new))
-        (W.contents (inner_of output.old)) (W.contents (inner_of output.new)) (is_failed errors.new)
+        (is_failed output.new) (W.contents (inner_of output.old)) (W.contents (inner_of output.new)) (is_failed errors.new)
         (E.contents (inner_of errors.old)) (E.contents (inner_of errors.new))
         ⊎ EndsAt NoMemory result (is_failed errors.new) (E.contents (inner_of errors.old))
         (E.contents (inner_of errors.new)) }
@@ -107,13 +129,14 @@ pub fn run<R: Read, W: Write, E: Write>(
         → output.new ≡ output.old }
 {
     match choice_of(alloc, words) {
-        Ok(choice) => carry_out(alloc, choice, reader, output, errors),
+        Ok(choice) => carry_out(rt, alloc, choice, reader, output, errors),
         Err(error) => tell_error(alloc, &error, output, errors),
     }
 }
 
 /// Runs what was asked for, and tells its fault.
-fn carry_out<R: Read, W: Write, E: Write>(
+fn carry_out<H: Threads + Wait + Sync, R: Read, W: Write, E: Write>(
+    rt: &H,
     alloc: Global,
     choice: Choice,
     reader: &mut Checked<R>,
@@ -123,32 +146,24 @@ fn carry_out<R: Read, W: Write, E: Write>(
     requires reader { is_failed reader.old ≡ false }
     requires output { is_failed output.old ≡ false }
     ensures { Runs choice result (R.remaining (inner_of reader.old)) (R.remaining (inner_of reader.new))
-        (W.contents (inner_of output.old)) (W.contents (inner_of output.new)) (is_failed errors.new)
+        (is_failed output.new) (W.contents (inner_of output.old)) (W.contents (inner_of output.new)) (is_failed errors.new)
         (E.contents (inner_of errors.old)) (E.contents (inner_of errors.new)) }
 {
-    match answer_of(alloc, choice, reader, output) {
-        Ok(()) => 0,
-        Err(fault) => report(&fault, errors),
+    match choice {
+        Choice::Replay { size } => end(&replay(alloc, size, reader, output), errors),
+        Choice::Session { size } => end(&session(alloc, size, reader, output), errors),
+        Choice::Live { size, turns } => run_live(rt, alloc, size, turns, reader, output, errors),
     }
 }
 
-/// Runs what was asked for.
-fn answer_of<R: Read, W: Write>(
-    alloc: Global,
-    choice: Choice,
-    reader: &mut Checked<R>,
-    output: &mut Checked<W>,
-) -> Result<(), ScriptFault>
-    requires reader { is_failed reader.old ≡ false }
-    requires output { is_failed output.old ≡ false }
-    ensures { (input : List ℕ) × (text : List ℕ)
-        × Consumes (R.remaining (inner_of reader.old)) (R.remaining (inner_of reader.new)) input
-        × Appends (W.contents (inner_of output.old)) (W.contents (inner_of output.new)) text
-        × CarriesOut choice result input (R.remaining (inner_of reader.new)) text }
+/// Tells the fault of a script, if there is one.
+fn end<E: Write>(answer: &Result<(), ScriptFault>, errors: &mut Checked<E>) -> u8
+    ensures { Ends answer.now result (is_failed errors.new) (E.contents (inner_of errors.old))
+        (E.contents (inner_of errors.new)) }
 {
-    match choice {
-        Choice::Replay { size } => replay(alloc, size, reader, output),
-        Choice::Session { size } => session(alloc, size, reader, output),
+    match answer {
+        Ok(()) => 0,
+        Err(fault) => report(fault, errors),
     }
 }
 

@@ -1,0 +1,14 @@
+-- What the program has done when it has carried out what was asked for.
+use Rattle.std.specs.Prelude.{ℕ, Bool, List, Option}
+use Rattle.cq_main.specs.LiveOutcomes.{RunsLive}
+use Rattle.cq_main.specs.Outcomes.{RunsBy}
+use Rattle.cq_script.specs.Replays.{Replays}
+use Rattle.cq_script.specs.Sessions.{Sessions}
+use Rattle.cq_words.specs.declared.choice.Choice.{Choice}
+use Rattle.cq_words.specs.declared.choice.Choice.TheVariants.{Replay, Session, Live}
+
+-- On so many servers a script was replayed, the lines of a session were run, or a live script was.
+abbrev pub Runs : Choice → ℕ → Option (List ℕ) → Option (List ℕ) → Bool → Option (List ℕ) → Option (List ℕ) → Bool → Option (List ℕ) → Option (List ℕ) → Type 0
+Runs (Replay size) status unread left output_failed written output failed old new = RunsBy (Replays size) status unread left written output failed old new
+Runs (Session size) status unread left output_failed written output failed old new = RunsBy (Sessions size) status unread left written output failed old new
+Runs (Live size turns) status unread left output_failed written output failed old new = RunsLive size status unread left output_failed written output failed old new
