@@ -1,18 +1,19 @@
 -- What the master stands for after a part of a call.
-use Rattle.std.proofs.Common.{◌≡◌, ℕ, ◌∙◌, ap, sym, List, [], ◌∷◌, ◌++◌, length, Some, None, true, false, append-nil, subst, refl, not, ◌&&◌, ◌||◌, ◌<◌, ◌≤◌}
-use Rattle.std.proofs.lemmas.Bool.{lt-ltb, le-ltb}
+use Rattle.std.proofs.Common.{◌≡◌, ℕ, ◌∙◌, ap, sym, List, [], ◌∷◌, ◌++◌, length, Some, None, Bool, true, false, append-nil, subst, refl, not, ◌&&◌, ◌||◌, ◌<◌, ◌≤◌, is_none, if◌then◌else◌, inl, inr, Result, Ok, Err, OnOk}
+use Rattle.std.proofs.lemmas.Bool.{lt-ltb, le-ltb, cases_Bool}
 use Rattle.cq_base.specs.declared.party.Party.{Party}
 use Rattle.cq_base.specs.declared.party.Party.TheVariants as parties
+use Rattle.cq_chain.specs.declared.fault.WorldFault.{WorldFault}
 use Rattle.cq_chain.specs.declared.fault.WorldFault.TheVariants.{NoSuchServer, LastFull, JoinPending, IdUsed, ChainFull}
 use Rattle.cq_chain.specs.declared.master.Master as kept
 use Rattle.cq_chain.specs.declared.message.Message as rust
 use Rattle.cq_chain.specs.declared.message.Message.TheVariants as sent
 use Rattle.cq_chain.specs.Lanes.{Lane}
 use Rattle.cq_chain.specs.within.Boxes.{messages_for}
-use Rattle.cq_chain.specs.Masters.{Master, Order, no_order, is_in, is_last, stands_before, without, detected, joined, hears, said_of_loss, said_of_join, refusal_of_detection, refusal_of_join}
-use Rattle.cq_chain.specs.Messages.{Message, Have, Adopted, Ready, Adopt, BeTail}
-use Rattle.cq_chain.specs.Parties.{addressed}
-use Rattle.cq_chain.specs.Stands.{Means, AllMean, MasterHolds, MasterStandsFor, posted}
+use Rattle.cq_chain.specs.Masters.{Master, Order, no_order, is_in, is_last, stands_before, without, dropped, closed_up, detected, joined, joins_behind, admitted, hears, said_of_join, refusal_of_detection, refusal_of_join}
+use Rattle.cq_chain.specs.Messages.{Message, Feed, Have, Adopted, Caught, Ready, Adopt, BeTail}
+use Rattle.cq_chain.specs.Parties.{addressed, is_that}
+use Rattle.cq_chain.specs.Stands.{Means, AllMean, MasterHolds, MasterStandsFor, Orders, posted}
 use Rattle.cq_chain.specs.within.Waiting.{Waits, Posts, KeepsAll, AllFor}
 use Rattle.cq_chain.proofs.Mailing.{waits-kept}
 
@@ -31,6 +32,7 @@ with_master_boxes kept m outbox next boxes h waits master clients = let p = mast
   chain = p.chain;
   told = p.told;
   ready = p.ready;
+  joiner = p.joiner;
   used = p.used;
   waiting = waits;
   master = master;
@@ -71,17 +73,21 @@ one-for to y (a ∷ b ∷ rest) boxes new h posts = absurd h.1.1
 
 -- ---- refusals
 
-pub stranger-refused : (id : ℕ) (m : Master) → is_in m.chain id ≡ false → refusal_of_detection id m ≡ Some NoSuchServer
+pub joiner-not-refused : (id : ℕ) (m : Master) → is_that m.joiner id ≡ true → refusal_of_detection id m ≡ None
 unfolding refusal_of_detection
-stranger-refused id m h = rw h
+joiner-not-refused id m joins = rw joins
 
-pub last-refused : (id : ℕ) (m : Master) → is_in m.chain id ≡ true → length m.chain ≤ 1 → refusal_of_detection id m ≡ Some LastFull
+pub stranger-refused : (id : ℕ) (m : Master) → is_that m.joiner id ≡ false → is_in m.chain id ≡ false → refusal_of_detection id m ≡ Some NoSuchServer
 unfolding refusal_of_detection
-last-refused id m h few = rw (h, le-ltb 1 (length m.chain) few)
+stranger-refused id m joins h = rw (joins, h)
 
-pub detection-not-refused : (id : ℕ) (m : Master) → is_in m.chain id ≡ true → 1 < length m.chain → refusal_of_detection id m ≡ None
+pub last-refused : (id : ℕ) (m : Master) → is_that m.joiner id ≡ false → is_in m.chain id ≡ true → length m.chain ≤ 1 → refusal_of_detection id m ≡ Some LastFull
 unfolding refusal_of_detection
-detection-not-refused id m h more = rw (h, lt-ltb 1 (length m.chain) more)
+last-refused id m joins h few = rw (joins, h, le-ltb 1 (length m.chain) few)
+
+pub detection-not-refused : (id : ℕ) (m : Master) → is_that m.joiner id ≡ false → is_in m.chain id ≡ true → 1 < length m.chain → refusal_of_detection id m ≡ None
+unfolding refusal_of_detection
+detection-not-refused id m joins h more = rw (joins, h, lt-ltb 1 (length m.chain) more)
 
 pub used-refused : (id : ℕ) (m : Master) → is_in m.used id ≡ true → refusal_of_join id m ≡ Some IdUsed
 unfolding refusal_of_join
@@ -91,15 +97,32 @@ pub full-refused : (id : ℕ) (m : Master) → is_in m.used id ≡ false → 8 �
 unfolding refusal_of_join
 full-refused id m h many = rw (h, le-ltb (length m.chain) 8 many)
 
-pub pending-refused : (id : ℕ) (m : Master) → is_in m.used id ≡ false → length m.chain < 8 → m.ready ≡ false → refusal_of_join id m ≡ Some JoinPending
+pub pending-refused : (id : ℕ) (m : Master) → is_in m.used id ≡ false → length m.chain < 8 → (m.ready && is_none m.joiner) ≡ false → refusal_of_join id m ≡ Some JoinPending
 unfolding refusal_of_join
 pending-refused id m h room pending = rw (h, lt-ltb (length m.chain) 8 room, pending)
 
-pub join-not-refused : (id : ℕ) (m : Master) → is_in m.used id ≡ false → length m.chain < 8 → m.ready ≡ true → refusal_of_join id m ≡ None
+pub join-not-refused : (id : ℕ) (m : Master) → is_in m.used id ≡ false → length m.chain < 8 → (m.ready && is_none m.joiner) ≡ true → refusal_of_join id m ≡ None
 unfolding refusal_of_join
-join-not-refused id m h room ready = rw (h, lt-ltb (length m.chain) 8 room, ready)
+join-not-refused id m h room open_now = rw (h, lt-ltb (length m.chain) 8 room, open_now)
+
+some_none : (fault : WorldFault) → Some fault ≡ None → ⊥
+some_none fault h = cc
+
+-- a join that isn't refused is of a number that wasn't used
+pub unused-number : (id : ℕ) (m : Master) → refusal_of_join id m ≡ None → is_in m.used id ≡ false
+unused-number id m h = elim (cases_Bool (is_in m.used id)) [
+  | inl e ↦ absurd (some_none IdUsed (sym (used-refused id m e) ∙ h))
+  | inr e ↦ e
+]
 
 -- ---- what the master hears
+
+-- who joins behind whom
+pub joins-by_last : (p from : ℕ) (m : Master) (last : Bool) → is_that m.joiner from ≡ true → last ≡ is_last m.chain p → last ≡ joins_behind p from m
+joins-by_last p from m last joins is = rw joins is
+
+pub joins-no : (p from : ℕ) (m : Master) → is_that m.joiner from ≡ false → false ≡ joins_behind p from m
+joins-no p from m joins = rw joins
 
 -- an order, by what it is
 pub orders-by : (kept : kept.Master) (outbox : Party → List Message) (order other : Order) → order ≡ other → MasterStandsFor kept other.master (posted outbox other.said) → MasterStandsFor kept order.master (posted outbox order.said)
@@ -113,13 +136,25 @@ pub hears-ready_of_other : (from : ℕ) (m : Master) → is_last m.chain from �
 unfolding hears
 hears-ready_of_other from m h = rw h
 
+pub hears-caught : (from p n : ℕ) (m : Master) → joins_behind p from m ≡ true → hears from (Caught p n) m ≡ admitted p from n m
+unfolding hears
+hears-caught from p n m h = rw h
+
+pub hears-stale_caught : (from p n : ℕ) (m : Master) → joins_behind p from m ≡ false → hears from (Caught p n) m ≡ no_order m
+unfolding hears
+hears-stale_caught from p n m h = rw h
+
 pub hears-have : (from p n : ℕ) (m : Master) → stands_before p from m.chain ≡ true → hears from (Have p n) m ≡ record { master = m; said = (parties.Server p, Adopt from n) ∷ [] }
 unfolding hears
 hears-have from p n m h = rw h
 
-pub hears-stale_have : (from p n : ℕ) (m : Master) → stands_before p from m.chain ≡ false → hears from (Have p n) m ≡ no_order m
+pub hears-have_of_joiner : (from p n : ℕ) (m : Master) → stands_before p from m.chain ≡ false → joins_behind p from m ≡ true → hears from (Have p n) m ≡ record { master = m; said = (parties.Server p, Feed (Some from)) ∷ [] }
 unfolding hears
-hears-stale_have from p n m h = rw h
+hears-have_of_joiner from p n m h joins = rw (h, joins)
+
+pub hears-stale_have : (from p n : ℕ) (m : Master) → stands_before p from m.chain ≡ false → joins_behind p from m ≡ false → hears from (Have p n) m ≡ no_order m
+unfolding hears
+hears-stale_have from p n m h joins = rw (h, joins)
 
 pub hears-adopted : (from s n : ℕ) (m : Master) → is_last m.chain s ≡ true → m.told ≡ false → hears from (Adopted s n) m ≡ record { master = record m { told = true }; said = (parties.Server s, BeTail n) ∷ [] }
 unfolding hears
@@ -140,6 +175,7 @@ with_ready kept m outbox h = let p = master-parts kept m outbox h in master-stan
   chain = p.chain;
   told = p.told;
   ready = refl;
+  joiner = p.joiner;
   used = p.used;
   waiting = p.waiting;
   master = p.master;
@@ -151,6 +187,7 @@ with_told kept m outbox h = let p = master-parts kept m outbox h in master-stand
   chain = p.chain;
   told = refl;
   ready = p.ready;
+  joiner = p.joiner;
   used = p.used;
   waiting = p.waiting;
   master = p.master;
@@ -159,30 +196,49 @@ with_told kept m outbox h = let p = master-parts kept m outbox h in master-stand
 
 -- without a member
 pub without-stands : (old new : kept.Master) (m : Master) (outbox : Party → List Message) (id : ℕ) → MasterStandsFor old m outbox → new.chain.items ≡ without id old.chain.items → new.told ≡ (is_last old.chain.items id || old.told)
-    → new.ready ≡ (not (is_last old.chain.items id) && old.ready) → new.used ≡ old.used → new.outboxes ≡ old.outboxes → MasterStandsFor new (detected id m).master outbox
-unfolding detected
-without-stands old new m outbox id h chain told ready used boxes = let p = master-parts old m outbox h in master-stands new (detected id m).master outbox (record {
+    → new.ready ≡ (not (is_last old.chain.items id) && old.ready) → new.joiner ≡ (if is_last old.chain.items id then None else old.joiner) → new.used ≡ old.used → new.outboxes ≡ old.outboxes
+    → MasterStandsFor new (closed_up id m).master outbox
+without-stands old new m outbox id h chain told ready joins used boxes = let p = master-parts old m outbox h in master-stands new (closed_up id m).master outbox (record {
   chain = chain ∙ ap (λ xs. without id xs) p.chain;
   told = told ∙ ap (λ xs. is_last xs id || old.told) p.chain ∙ ap (λ t. is_last m.chain id || t) p.told;
   ready = ready ∙ ap (λ xs. not (is_last xs id) && old.ready) p.chain ∙ ap (λ r. not (is_last m.chain id) && r) p.ready;
+  joiner = joins ∙ ap (λ xs. if is_last xs id then None else old.joiner) p.chain ∙ ap (λ j. if is_last m.chain id then None else j) p.joiner;
   used = ap (λ u. u.keys) used ∙ p.used;
   waiting = subst (λ b. (to : Party) → AllMean (messages_for b to) (outbox to)) (sym boxes) p.waiting;
   master = p.master;
   clients = p.clients;
 })
 
-pub detected-said : (id : ℕ) (m : Master) → said_of_loss id m.chain ≡ (detected id m).said
+pub detected-joiner : (id : ℕ) (m : Master) → is_that m.joiner id ≡ true → detected id m ≡ dropped m
 unfolding detected
-detected-said id m = refl
+detected-joiner id m joins = rw joins
 
--- with a member more
-pub joined-stands : (old new : kept.Master) (m : Master) (outbox : Party → List Message) (id : ℕ) → MasterStandsFor old m outbox → new.chain.items ≡ old.chain.items ++ id ∷ [] → new.used.keys ≡ old.used.keys ++ id ∷ []
-    → new.told ≡ false → new.ready ≡ false → new.outboxes ≡ old.outboxes → MasterStandsFor new (joined id m).master outbox
+pub detected-member : (id : ℕ) (m : Master) → is_that m.joiner id ≡ false → detected id m ≡ closed_up id m
+unfolding detected
+detected-member id m joins = rw joins
+
+-- with no server that joins
+pub with_no_joiner : (kept : kept.Master) (m : Master) (outbox : Party → List Message) → MasterStandsFor kept m outbox → MasterStandsFor (record kept { joiner = None }) (dropped m).master outbox
+with_no_joiner kept m outbox h = let p = master-parts kept m outbox h in master-stands (record kept { joiner = None }) (dropped m).master outbox (record {
+  chain = p.chain;
+  told = p.told;
+  ready = p.ready;
+  joiner = refl;
+  used = p.used;
+  waiting = p.waiting;
+  master = p.master;
+  clients = p.clients;
+})
+
+-- with a server that joins
+pub joined-stands : (old new : kept.Master) (m : Master) (outbox : Party → List Message) (id : ℕ) → MasterStandsFor old m outbox → new.chain ≡ old.chain → new.used.keys ≡ old.used.keys ++ id ∷ []
+    → new.told ≡ old.told → new.ready ≡ old.ready → new.joiner ≡ Some id → new.outboxes ≡ old.outboxes → MasterStandsFor new (joined id m).master outbox
 unfolding joined
-joined-stands old new m outbox id h chain used told ready boxes = let p = master-parts old m outbox h in master-stands new (joined id m).master outbox (record {
-  chain = chain ∙ ap (λ xs. xs ++ id ∷ []) p.chain;
-  told = told;
-  ready = ready;
+joined-stands old new m outbox id h chain used told ready joins boxes = let p = master-parts old m outbox h in master-stands new (joined id m).master outbox (record {
+  chain = ap (λ xs. xs.items) chain ∙ p.chain;
+  told = told ∙ p.told;
+  ready = ready ∙ p.ready;
+  joiner = joins;
   used = used ∙ ap (λ xs. xs ++ id ∷ []) p.used;
   waiting = subst (λ b. (to : Party) → AllMean (messages_for b to) (outbox to)) (sym boxes) p.waiting;
   master = p.master;
@@ -193,13 +249,28 @@ pub joined-said : (id : ℕ) (m : Master) → said_of_join id m.chain ≡ (joine
 unfolding joined
 joined-said id m = refl
 
+-- with a member more, which joined behind p
+pub admitted-stands : (old new : kept.Master) (m : Master) (outbox : Party → List Message) (p id n : ℕ) → MasterStandsFor old m outbox → new.chain.items ≡ old.chain.items ++ id ∷ [] → new.used ≡ old.used → new.told ≡ false → new.ready ≡ false
+    → new.joiner ≡ None → new.outboxes ≡ old.outboxes → MasterStandsFor new (admitted p id n m).master outbox
+admitted-stands old new m outbox pred id n h chain used told ready joins boxes = let p = master-parts old m outbox h in master-stands new (admitted pred id n m).master outbox (record {
+  chain = chain ∙ ap (λ xs. xs ++ id ∷ []) p.chain;
+  told = told;
+  ready = ready;
+  joiner = joins;
+  used = ap (λ u. u.keys) used ∙ p.used;
+  waiting = subst (λ b. (to : Party) → AllMean (messages_for b to) (outbox to)) (sym boxes) p.waiting;
+  master = p.master;
+  clients = p.clients;
+})
+
 -- the same members and numbers
-pub same-stands : (old new : kept.Master) (m : Master) (outbox : Party → List Message) → MasterStandsFor old m outbox → new.chain.items ≡ old.chain.items → new.used.keys ≡ old.used.keys → new.told ≡ old.told → new.ready ≡ old.ready → new.outboxes ≡ old.outboxes
-    → MasterStandsFor new m outbox
-same-stands old new m outbox h chain used told ready boxes = let p = master-parts old m outbox h in master-stands new m outbox (record {
+pub same-stands : (old new : kept.Master) (m : Master) (outbox : Party → List Message) → MasterStandsFor old m outbox → new.chain.items ≡ old.chain.items → new.used.keys ≡ old.used.keys → new.told ≡ old.told → new.ready ≡ old.ready
+    → new.joiner ≡ old.joiner → new.outboxes ≡ old.outboxes → MasterStandsFor new m outbox
+same-stands old new m outbox h chain used told ready joins boxes = let p = master-parts old m outbox h in master-stands new m outbox (record {
   chain = chain ∙ p.chain;
   told = told ∙ p.told;
   ready = ready ∙ p.ready;
+  joiner = joins ∙ p.joiner;
   used = used ∙ p.used;
   waiting = subst (λ b. (to : Party) → AllMean (messages_for b to) (outbox to)) (sym boxes) p.waiting;
   master = p.master;
@@ -207,17 +278,24 @@ same-stands old new m outbox h chain used told ready boxes = let p = master-part
 })
 
 -- what it doesn't hear
-pub hears-others : (from : ℕ) (message : rust.Message) (x : Message) (m : Master) → ((pred count : ℕ) → message ≡ sent.Have pred count → ⊥) → ((succ count : ℕ) → message ≡ sent.Adopted succ count → ⊥) → (message ≡ sent.Ready → ⊥)
-    → Means message x → hears from x m ≡ no_order m
+pub hears-others : (from : ℕ) (message : rust.Message) (x : Message) (m : Master) → ((pred count : ℕ) → message ≡ sent.Have pred count → ⊥) → ((pred count : ℕ) → message ≡ sent.Caught pred count → ⊥)
+    → ((succ count : ℕ) → message ≡ sent.Adopted succ count → ⊥) → (message ≡ sent.Ready → ⊥) → Means message x → hears from x m ≡ no_order m
 unfolding hears
-hears-others from (sent.Fwd place e) x m have adopted ready h = ap (λ y. hears from y m) h
-hears-others from (sent.Snap state) x m have adopted ready h = ap (λ y. hears from y m) h.is
-hears-others from (sent.Ack place) x m have adopted ready h = ap (λ y. hears from y m) h
-hears-others from sent.BeHead x m have adopted ready h = ap (λ y. hears from y m) h
-hears-others from (sent.Report pred) x m have adopted ready h = ap (λ y. hears from y m) h
-hears-others from (sent.Adopt succ n) x m have adopted ready h = ap (λ y. hears from y m) h
-hears-others from (sent.BeTail least) x m have adopted ready h = ap (λ y. hears from y m) h
-hears-others from (sent.Have pred count) x m have adopted ready h = absurd (have pred count refl)
-hears-others from (sent.Adopted succ count) x m have adopted ready h = absurd (adopted succ count refl)
-hears-others from sent.Ready x m have adopted ready h = absurd (ready refl)
-hears-others from (sent.Answer answer) x m have adopted ready h = ap (λ y. hears from y m) h
+hears-others from (sent.Fwd place e) x m have caught adopted ready h = ap (λ y. hears from y m) h
+hears-others from (sent.Snap state) x m have caught adopted ready h = ap (λ y. hears from y m) h.is
+hears-others from (sent.Ack place) x m have caught adopted ready h = ap (λ y. hears from y m) h
+hears-others from sent.BeHead x m have caught adopted ready h = ap (λ y. hears from y m) h
+hears-others from (sent.Report pred) x m have caught adopted ready h = ap (λ y. hears from y m) h
+hears-others from (sent.Adopt succ n) x m have caught adopted ready h = ap (λ y. hears from y m) h
+hears-others from (sent.BeTail least) x m have caught adopted ready h = ap (λ y. hears from y m) h
+hears-others from (sent.Feed succ) x m have caught adopted ready h = ap (λ y. hears from y m) h
+hears-others from (sent.Have pred count) x m have caught adopted ready h = absurd (have pred count refl)
+hears-others from (sent.Adopted succ count) x m have caught adopted ready h = absurd (adopted succ count refl)
+hears-others from (sent.Caught pred count) x m have caught adopted ready h = absurd (caught pred count refl)
+hears-others from sent.Ready x m have caught adopted ready h = absurd (ready refl)
+hears-others from (sent.Answer answer) x m have caught adopted ready h = ap (λ y. hears from y m) h
+
+-- an order that succeeded, by what it is
+pub orders-as : {E : Type 0} (old new : kept.Master) (order other : Master → Order) (r : Result (Unit {0}) E) → ((m : Master) (outbox : Party → List Message) → MasterStandsFor old m outbox → other m ≡ order m) → OnOk r (Orders old new order) → OnOk r (Orders old new other)
+orders-as old new order other (Ok x) same does = λ m outbox h. orders-by new outbox (other m) (order m) (same m outbox h) (does m outbox h)
+orders-as old new order other (Err e) same does = tt

@@ -4,9 +4,10 @@ use Rattle.std.specs.Prelude.{slice_get}
 use Rattle.std.specs.List.{list_any}
 use Rattle.std.proofs.lemmas.Bool.{ne_eqb}
 use Rattle.std.proofs.lemmas.List.{drop_more}
+use Rattle.cq_base.specs.declared.party.Party.TheVariants as parties
 use Rattle.cq_chain.specs.declared.message.Message.TheVariants as kept
-use Rattle.cq_chain.specs.Masters.{numbers_from, is_in, is_last, stands_before, closing, said_of_loss, said_of_join}
-use Rattle.cq_chain.specs.Messages.{Report}
+use Rattle.cq_chain.specs.Masters.{numbers_from, is_in, is_last, stands_before, closing, said_of_loss, said_of_join, to_last}
+use Rattle.cq_chain.specs.Messages.{Report, Feed}
 use Rattle.cq_chain.specs.within.Waiting.{IsSaid}
 use Rattle.cq_chain.proofs.Mailing.{eqb-turned}
 
@@ -83,6 +84,20 @@ join-silent (a ∷ []) id h = absurd (none_some a (sym h))
 join-silent (a ∷ b ∷ rest) id h =
     let e : length (a ∷ b ∷ rest) - 1 ≡ suc (length (b ∷ rest) - 1) = omega arith in
     join-silent (b ∷ rest) id (h ∙ ap (λ n. slice_get (a ∷ b ∷ rest) n) e)
+
+pub drop-said : (xs : List ℕ) (x : ℕ) → Some x ≡ slice_get xs (length xs - 1) → IsSaid (Some (x, kept.Feed None)) (to_last (Feed None) xs)
+drop-said [] x h = absurd (none_some x h)
+drop-said (a ∷ []) x h = (ap (λ y. parties.Server y) (sym (some_same x a h)), (refl, tt))
+drop-said (a ∷ b ∷ rest) x h =
+    let e : length (a ∷ b ∷ rest) - 1 ≡ suc (length (b ∷ rest) - 1) = omega arith in
+    drop-said (b ∷ rest) x (h ∙ ap (λ n. slice_get (a ∷ b ∷ rest) n) e)
+
+pub drop-silent : (xs : List ℕ) → None ≡ slice_get xs (length xs - 1) → to_last (Feed None) xs ≡ []
+drop-silent [] h = refl
+drop-silent (a ∷ []) h = absurd (none_some a (sym h))
+drop-silent (a ∷ b ∷ rest) h =
+    let e : length (a ∷ b ∷ rest) - 1 ≡ suc (length (b ∷ rest) - 1) = omega arith in
+    drop-silent (b ∷ rest) (h ∙ ap (λ n. slice_get (a ∷ b ∷ rest) n) e)
 
 -- ---- neighbours
 

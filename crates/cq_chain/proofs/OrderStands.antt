@@ -1,14 +1,14 @@
 -- What a server stands for after it took an order of the master, a snapshot, or a crash.
-use Rattle.std.proofs.Common.{◌≡◌, ℕ, ◌∙◌, List, [], ◌∷◌, ◌++◌, length, Some, None, Bool, true, false, not, ◌&&◌, subst, refl, nat_le, arith, is_none, Result, Ok, Err, OnOk}
+use Rattle.std.proofs.Common.{◌≡◌, ℕ, ◌∙◌, List, [], ◌∷◌, ◌++◌, length, Option, Some, None, Bool, true, false, not, ◌&&◌, subst, refl, nat_le, arith, is_none, if◌then◌else◌, Result, Ok, Err, OnOk}
 use Rattle.cq_base.specs.declared.ask.Entry.{Entry}
 use Rattle.cq_base.specs.declared.party.Party.{Party}
 use Rattle.cq_base.specs.declared.party.Party.TheVariants as parties
 use Rattle.cq_chain.specs.declared.server.Server as kept
 use Rattle.cq_chain.specs.Lanes.{Lane}
-use Rattle.cq_chain.specs.Messages.{Message, Snap, Ack, Have, Adopted, Ready}
+use Rattle.cq_chain.specs.Messages.{Message, Snap, Ack, Have, Adopted, Caught, Ready}
 use Rattle.cq_chain.specs.Servers.{Server, acts, is_that}
 use Rattle.cq_chain.specs.Stands.{StandsFor, Does, posted}
-use Rattle.cq_chain.specs.Steps.{Step, silent, when, to_server, tail_news, with_history, restored, reported, repair, adopting, as_tail, tailed, is_restoring, takes}
+use Rattle.cq_chain.specs.Steps.{Step, silent, when, to_server, tail_news, with_history, restored, reported, repair, adopting, feeding, as_tail, tailed, is_restoring, takes}
 use Rattle.cq_chain.specs.within.Replicas.{Replica, Recalls}
 use Rattle.cq_chain.specs.within.Waiting.{Posts, KeepsAll, Waits}
 use Rattle.cq_store.specs.Stands as stores
@@ -73,7 +73,7 @@ reported-stands kept s outbox boxes pred n k h posts is_n is_k = let p = parts k
 
 -- a new successor
 pub adopting-stands : (kept : kept.Server) (s : Server) (outbox : Party → List Message) (boxes : List (Party × Lane)) (succ have n : ℕ) → StandsFor kept s outbox
-    → Posts kept.outboxes boxes (repair succ have s ++ (parties.Master, Adopted succ n) ∷ []) → n ≡ count_of kept.replica.store
+    → Posts kept.outboxes boxes (when (not (is_that s.succ succ)) (repair succ have s) ++ (parties.Master, Adopted succ n) ∷ []) → n ≡ count_of kept.replica.store
     → StandsFor (record kept { at_least = None; succ = Some succ; outboxes = boxes }) (adopting succ have s).server (posted outbox (adopting succ have s).sent)
 adopting-stands kept s outbox boxes succ have n h posts is_n = let p = parts kept s outbox h in
     let is : n ≡ length s.entries = is_n ∙ p.entries.store.count in
@@ -86,8 +86,56 @@ adopting-stands kept s outbox boxes succ have n h posts is_n = let p = parts kep
       at_least = refl;
       full = p.full;
       down = p.down;
-      waiting = subst (λ i. Waits boxes (posted outbox (repair succ have s ++ (parties.Master, Adopted succ i) ∷ []))) is (posts outbox p.waiting);
+      waiting = subst (λ i. Waits boxes (posted outbox (when (not (is_that s.succ succ)) (repair succ have s) ++ (parties.Master, Adopted succ i) ∷ []))) is (posts outbox p.waiting);
     })
+
+-- a successor that is fed
+pub feeding-stands : (kept : kept.Server) (s : Server) (outbox : Party → List Message) (boxes : List (Party × Lane)) (succ : ℕ) → StandsFor kept s outbox → Posts kept.outboxes boxes ((parties.Server succ, Snap s.entries) ∷ [])
+    → StandsFor (record kept { succ = Some succ; outboxes = boxes }) (feeding (Some succ) s).server (posted outbox (feeding (Some succ) s).sent)
+feeding-stands kept s outbox boxes succ h posts = let p = parts kept s outbox h in
+    stands (record kept { succ = Some succ; outboxes = boxes }) (feeding (Some succ) s).server (posted outbox (feeding (Some succ) s).sent) (record {
+      entries = p.entries;
+      acked = p.acked;
+      pred = p.pred;
+      succ = refl;
+      head = p.head;
+      at_least = p.at_least;
+      full = p.full;
+      down = p.down;
+      waiting = posts outbox p.waiting;
+    })
+
+-- no successor any more
+alone-stands : (kept : kept.Server) (s : Server) (outbox : Party → List Message) → StandsFor kept s outbox → StandsFor (record kept { succ = None }) (record s { succ = None }) outbox
+alone-stands kept s outbox h = let p = parts kept s outbox h in stands (record kept { succ = None }) (record s { succ = None }) outbox (record {
+  entries = p.entries;
+  acked = p.acked;
+  pred = p.pred;
+  succ = refl;
+  head = p.head;
+  at_least = p.at_least;
+  full = p.full;
+  down = p.down;
+  waiting = p.waiting;
+})
+
+pub feeding_none-stands : (kept : kept.Server) (s : Server) (outbox : Party → List Message) → StandsFor kept s outbox → StandsFor (record kept { succ = None }) (feeding None s).server (posted outbox (feeding None s).sent)
+feeding_none-stands kept s outbox h = nothing-sent (record kept { succ = None }) (record s { succ = None }) outbox (alone-stands kept s outbox h)
+
+-- by whether the server acts
+pub feeds-acting : (succ : Option ℕ) (s : Server) → acts s ≡ true → (if acts s then feeding succ s else silent s) ≡ feeding succ s
+feeds-acting succ s h = rw h
+
+pub feeds-silent : (succ : Option ℕ) (s : Server) → acts s ≡ false → (if acts s then feeding succ s else silent s) ≡ silent s
+feeds-silent succ s h = rw h
+
+-- what a snapshot makes a server tell: a tail, or one that is to be it
+pub restored-tail : (old now : Server) (from least : ℕ) → now.at_least ≡ Some least → tail_news old now ++ [] ≡ tail_news old now ++ when (is_none now.at_least) ((parties.Master, Caught from (length now.entries)) ∷ [])
+restored-tail old now from least h = rw h
+
+-- and another one
+pub restored-caught : (old now : Server) (from : ℕ) → now.at_least ≡ None → (parties.Master, Caught from (length now.entries)) ∷ [] ≡ tail_news old now ++ when (is_none now.at_least) ((parties.Master, Caught from (length now.entries)) ∷ [])
+restored-caught old now from h = rw h
 
 -- the tail
 pub tail-stands : (kept : kept.Server) (s : Server) (outbox : Party → List Message) (least : ℕ) → StandsFor kept s outbox → StandsFor (record kept { at_least = Some least; succ = None }) (as_tail least s) outbox
@@ -131,7 +179,7 @@ pub restoring-of : (s : Server) (kept : kept.Server) (outbox : Party → List Me
     → (is_that kept.pred from && is_none kept.succ && nat_le (count_of kept.replica.store) (count_of state)) ≡ is_restoring s from es
 restoring-of s kept outbox from state es h is = let p = parts kept s outbox h in rw (p.pred, p.succ, p.entries.store.count, is.count)
 
-pub takes-restoring : (s : Server) (from : ℕ) (es : List Entry) → is_restoring s from es ≡ true → takes (parties.Server from) (Snap es) s ≡ restored es s
+pub takes-restoring : (s : Server) (from : ℕ) (es : List Entry) → is_restoring s from es ≡ true → takes (parties.Server from) (Snap es) s ≡ restored from es s
 unfolding takes
 takes-restoring s from es h = rw h
 

@@ -1,5 +1,5 @@
 -- What a new successor is sent.
-use Rattle.std.proofs.Common.{◌≡◌, ℕ, ◌+◌, ◌-◌, ◌≤◌, ◌∙◌, ap, sym, subst, refl, List, [], ◌∷◌, ◌++◌, length, drop, nat_le, true, false, arith, take, get_or, ◌<◌, Result, Ok, Err, IfOk}
+use Rattle.std.proofs.Common.{◌≡◌, ℕ, ◌+◌, ◌-◌, ◌≤◌, ◌∙◌, ap, sym, subst, refl, List, [], ◌∷◌, ◌++◌, length, drop, nat_le, true, false, not, arith, take, get_or, ◌<◌, Result, Ok, Err, IfOk}
 use Rattle.std.proofs.lemmas.List.{length-take-le, take_more, take_all, length-drop, get_or-drop}
 use Rattle.cq_base.specs.declared.ask.Entry.{Entry}
 use Rattle.cq_base.specs.declared.party.Party.{Party}
@@ -8,9 +8,9 @@ use Rattle.cq_chain.specs.declared.message.Message as rust
 use Rattle.cq_chain.specs.declared.message.Message.TheVariants as kept
 use Rattle.cq_chain.specs.Lanes.{Lane}
 use Rattle.cq_chain.specs.Messages.{Message, Fwd, Snap}
-use Rattle.cq_chain.specs.Servers.{Server}
+use Rattle.cq_chain.specs.Servers.{Server, is_that}
 use Rattle.cq_chain.specs.Stands.{Means}
-use Rattle.cq_chain.specs.Steps.{forwards, repair}
+use Rattle.cq_chain.specs.Steps.{forwards, repair, when}
 use Rattle.cq_chain.specs.within.Waiting.{AllFor}
 
 -- one more message
@@ -37,6 +37,13 @@ repair-by_entries to have s h = rw h
 
 pub repair-whole : (to have : ℕ) (s : Server) → nat_le s.floor have ≡ false → repair to have s ≡ (parties.Server to, Snap s.entries) ∷ []
 repair-whole to have s h = rw h
+
+-- none to a successor that is fed already
+pub handed-none : (to have : ℕ) (s : Server) (lane : List rust.Message) → lane ≡ [] → is_that s.succ to ≡ true → AllFor (parties.Server to) lane (when (not (is_that s.succ to)) (repair to have s))
+handed-none to have s lane none h = rw (none, h) tt
+
+pub handed-repair : (to have : ℕ) (s : Server) → is_that s.succ to ≡ false → repair to have s ≡ when (not (is_that s.succ to)) (repair to have s)
+handed-repair to have s h = rw h
 
 -- one more entry is sent
 pub sent-more : (to have i place : ℕ) (es : List Entry) (e : Entry) (lane new : List rust.Message) → i < length es → e ≡ get_or es i e → AllFor (parties.Server to) lane (forwards to (have + 1) (take i es)) → place ≡ have + 1 + i
@@ -83,3 +90,9 @@ sent-all to have before history lane end h =
 pub made-by : {E : Type 0} (r : Result Lane E) (all other : ℕ → List (Party × Message)) → ((to : ℕ) → all to ≡ other to) → IfOk r (λ lane. (to : ℕ) → AllFor (parties.Server to) lane.messages (all to)) → IfOk r (λ lane. (to : ℕ) → AllFor (parties.Server to) lane.messages (other to))
 made-by (Ok lane) all other same h = λ to. subst (λ xs. AllFor (parties.Server to) lane.messages xs) (same to) (h to)
 made-by (Err e) all other same h = tt
+
+-- what is made for one is what is sent to it
+pub handed-by : {E : Type 0} (r : Result Lane E) (to : ℕ) (all : ℕ → List (Party × Message)) (other : List (Party × Message)) → all to ≡ other → IfOk r (λ lane. (x : ℕ) → AllFor (parties.Server x) lane.messages (all x))
+    → IfOk r (λ lane. AllFor (parties.Server to) lane.messages other)
+handed-by (Ok lane) to all other same h = subst (λ xs. AllFor (parties.Server to) lane.messages xs) same (h to)
+handed-by (Err e) to all other same h = tt

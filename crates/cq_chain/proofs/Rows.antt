@@ -21,7 +21,7 @@ use Rattle.cq_chain.specs.declared.fault.WorldFault.TheVariants.{NoSuchServer, S
 use Rattle.cq_chain.specs.declared.fault.ClientFault.TheVariants as client
 use Rattle.cq_chain.specs.Faults.{code_of, client_code_of, client_name_of}
 use Rattle.cq_chain.specs.Masters.{Master, numbers_from, first_master, no_order, detected, refusal_of_detection, joined, refusal_of_join, hears, hears_from}
-use Rattle.cq_chain.specs.Messages.{Message, Fwd, Snap, Ack, BeHead, Report, Adopt, BeTail, Have, Adopted, Ready, Answers}
+use Rattle.cq_chain.specs.Messages.{Message, Fwd, Snap, Ack, BeHead, Report, Adopt, BeTail, Feed, Have, Adopted, Caught, Ready, Answers}
 use Rattle.cq_chain.specs.Refusals.{refusal_of_arrival, refusal_of_query}
 use Rattle.cq_chain.specs.Servers.{Server, first_member, joining}
 use Rattle.cq_chain.specs.Steps.{Step, silent, answer_to, arrived, asked as queried, crashed, forwards, takes}
@@ -69,6 +69,10 @@ head = record middle { pred = None; head = true }
 -- a tail with the same two
 abbrev tail : Server
 tail = record middle { succ = None; at_least = Some 0; acked = 2; floor = 2 }
+
+-- the same tail while it feeds server 4
+abbrev feeder : Server
+feeder = record tail { succ = Some 4 }
 
 -- an entry has the head's clock, or the moment before it where that is larger
 arrival : arrived 9 request head ≡ record { server = record head { entries = entry 1 ∷ entry 2 ∷ record { moment = 9; request = request } ∷ [] }; sent = (parties.Server 3, Fwd 3 (record { moment = 9; request = request })) ∷ [] }
@@ -162,6 +166,20 @@ adopt_of_one_ahead : (told (Adopt 4 3) middle).sent ≡ (parties.Master, Adopted
 unfolding takes forwards
 adopt_of_one_ahead = refl
 
+-- one that is its successor already is sent nothing, whatever it has
+adopt_of_the_successor : told (Adopt 3 0) middle ≡ record { server = middle; sent = (parties.Master, Adopted 3 2) ∷ [] }
+unfolding takes
+adopt_of_the_successor = refl
+
+adopt_of_one_that_is_fed : told (Adopt 4 0) feeder ≡ record { server = record feeder { at_least = None }; sent = (parties.Master, Adopted 4 2) ∷ [] }
+unfolding takes
+adopt_of_one_that_is_fed = refl
+
+-- a server that feeds one and adopts another sends that one what it lacks
+adopt_of_another : told (Adopt 5 0) feeder ≡ record { server = record feeder { at_least = None; succ = Some 5 }; sent = (parties.Server 5, Snap (entry 1 ∷ entry 2 ∷ [])) ∷ (parties.Master, Adopted 5 2) ∷ [] }
+unfolding takes forwards
+adopt_of_another = refl
+
 -- a tail that adopts a successor acts no more
 adopt_of_a_tail : (told (Adopt 4 2) tail).server ≡ record tail { succ = Some 4; at_least = None }
 unfolding takes forwards
@@ -191,6 +209,53 @@ begins : from 1 (Fwd 3 (entry 3)) waiting ≡ record {
 }
 unfolding takes last_moment
 begins = refl
+
+-- a server that acts feeds one, which gets its whole history, and goes on acting
+feed : told (Feed (Some 4)) tail ≡ record { server = feeder; sent = (parties.Server 4, Snap (entry 1 ∷ entry 2 ∷ [])) ∷ [] }
+unfolding takes
+feed = refl
+
+feed_of_nothing : (told (Feed (Some 2)) (first_member 1 1)).sent ≡ (parties.Server 2, Snap []) ∷ []
+unfolding takes
+feed_of_nothing = refl
+
+feed_of_another : told (Feed (Some 5)) feeder ≡ record { server = record tail { succ = Some 5 }; sent = (parties.Server 5, Snap (entry 1 ∷ entry 2 ∷ [])) ∷ [] }
+unfolding takes
+feed_of_another = refl
+
+-- or nobody any more
+feed_nobody : told (Feed None) feeder ≡ silent tail
+unfolding takes
+feed_nobody = refl
+
+feed_nobody_again : told (Feed None) tail ≡ silent tail
+unfolding takes
+feed_nobody_again = refl
+
+-- one that doesn't act ignores it
+feed_elsewhere : told (Feed (Some 4)) middle ≡ silent middle
+unfolding takes
+feed_elsewhere = refl
+
+feed_nobody_elsewhere : told (Feed None) middle ≡ silent middle
+unfolding takes
+feed_nobody_elsewhere = refl
+
+feed_too_early : told (Feed (Some 4)) waiting ≡ silent waiting
+unfolding takes
+feed_too_early = refl
+
+feed_by_a_server : from 1 (Feed (Some 4)) tail ≡ silent tail
+unfolding takes
+feed_by_a_server = refl
+
+-- a tail that feeds sends on each entry, and answers it
+forward_while_feeding : from 1 (Fwd 3 (entry 3)) feeder ≡ record {
+  server = record feeder { entries = entry 1 ∷ entry 2 ∷ entry 3 ∷ []; acked = 3; floor = 3 };
+  sent = (parties.Server 4, Fwd 3 (entry 3)) ∷ (parties.Clients, Answers (answer_to (entry 1 ∷ entry 2 ∷ []) (entry 3))) ∷ (parties.Server 1, Ack 3) ∷ [];
+}
+unfolding takes last_moment
+forward_while_feeding = refl
 
 -- a middle server forwards, and says nothing else
 forward : from 1 (Fwd 3 (entry 3)) middle ≡ record { server = record middle { entries = entry 1 ∷ entry 2 ∷ entry 3 ∷ [] }; sent = (parties.Server 3, Fwd 3 (entry 3)) ∷ [] }
@@ -230,12 +295,23 @@ forward_to_the_head : from 1 (Fwd 3 (entry 3)) head ≡ silent head
 unfolding takes last_moment
 forward_to_the_head = refl
 
--- a joining server takes a snapshot, and does not act
-snapshot : from 1 (Snap (entry 1 ∷ entry 2 ∷ [])) (record joining { pred = Some 1 }) ≡ silent (record joining { pred = Some 1; entries = entry 1 ∷ entry 2 ∷ []; floor = 2 })
+-- a joining server takes a snapshot, does not act, and tells the master
+abbrev caught_up : Server
+caught_up = record joining { pred = Some 1; entries = entry 1 ∷ entry 2 ∷ []; floor = 2 }
+
+snapshot : from 1 (Snap (entry 1 ∷ entry 2 ∷ [])) (record joining { pred = Some 1 }) ≡ record { server = caught_up; sent = (parties.Master, Caught 1 2) ∷ [] }
 unfolding takes
 snapshot = refl
 
--- one that waits for so many entries begins to act by it, and answers none of them
+snapshot_of_nothing : from 1 (Snap []) (record joining { pred = Some 1 }) ≡ record { server = record joining { pred = Some 1 }; sent = (parties.Master, Caught 1 0) ∷ [] }
+unfolding takes
+snapshot_of_nothing = refl
+
+snapshot_again : (from 1 (Snap (entry 1 ∷ entry 2 ∷ entry 3 ∷ [])) caught_up).sent ≡ (parties.Master, Caught 1 3) ∷ []
+unfolding takes
+snapshot_again = refl
+
+-- one that waits for so many entries begins to act by it, answers none of them, and doesn't tell that it took it
 snapshot_of_a_tail : from 1 (Snap (entry 1 ∷ entry 2 ∷ entry 3 ∷ [])) waiting ≡ record {
   server = record waiting { entries = entry 1 ∷ entry 2 ∷ entry 3 ∷ []; acked = 3; floor = 3; full = true };
   sent = (parties.Server 1, Ack 3) ∷ (parties.Master, Ready) ∷ [];
@@ -252,7 +328,7 @@ snapshot_of_another : from 4 (Snap (entry 1 ∷ entry 2 ∷ entry 3 ∷ [])) wai
 unfolding takes
 snapshot_of_another = refl
 
--- as many entries are no loss
+-- as many entries are no loss; one that is to be the tail, and isn't there yet, tells nobody
 snapshot_of_as_many : from 1 (Snap (entry 1 ∷ entry 2 ∷ [])) waiting ≡ silent (record waiting { floor = 2 })
 unfolding takes
 snapshot_of_as_many = refl
@@ -302,6 +378,10 @@ master_forwards_nothing : told (Fwd 3 (entry 3)) middle ≡ silent middle
 unfolding takes
 master_forwards_nothing = refl
 
+nobody_else_hears_caught : from 1 (Caught 1 2) middle ≡ silent middle
+unfolding takes
+nobody_else_hears_caught = refl
+
 clients_say_nothing : takes parties.Clients (Ack 1) middle ≡ silent middle
 unfolding takes
 clients_say_nothing = refl
@@ -315,9 +395,16 @@ crash = refl
 abbrev of_three : Master
 of_three = first_master 3
 
-at_first : of_three ≡ record { chain = 1 ∷ 2 ∷ 3 ∷ []; told = true; ready = true; used = 1 ∷ 2 ∷ 3 ∷ [] }
+at_first : of_three ≡ record { chain = 1 ∷ 2 ∷ 3 ∷ []; told = true; ready = true; joiner = None; used = 1 ∷ 2 ∷ 3 ∷ [] }
 unfolding numbers_from
 at_first = refl
+
+-- while server 4 joins, and once it is a member
+abbrev joining_behind : Master
+joining_behind = record { chain = 1 ∷ 2 ∷ 3 ∷ []; told = true; ready = true; joiner = Some 4; used = 1 ∷ 2 ∷ 3 ∷ 4 ∷ [] }
+
+abbrev of_four : Master
+of_four = record { chain = 1 ∷ 2 ∷ 3 ∷ 4 ∷ []; told = false; ready = false; joiner = None; used = 1 ∷ 2 ∷ 3 ∷ 4 ∷ [] }
 
 head_lost : detected 1 of_three ≡ record { master = record of_three { chain = 2 ∷ 3 ∷ [] }; said = (parties.Server 2, BeHead) ∷ [] }
 unfolding numbers_from detected
@@ -331,16 +418,38 @@ tail_lost : detected 3 of_three ≡ record { master = record of_three { chain = 
 unfolding numbers_from detected
 tail_lost = refl
 
-tail_lost_while_joining : detected 4 (joined 4 of_three).master ≡ record { master = record { chain = 1 ∷ 2 ∷ 3 ∷ []; told = true; ready = false; used = 1 ∷ 2 ∷ 3 ∷ 4 ∷ [] }; said = (parties.Server 3, BeTail 0) ∷ [] }
-unfolding numbers_from detected joined
-tail_lost_while_joining = refl
+new_member_lost : detected 4 of_four ≡ record { master = record of_four { chain = 1 ∷ 2 ∷ 3 ∷ []; told = true }; said = (parties.Server 3, BeTail 0) ∷ [] }
+unfolding detected
+new_member_lost = refl
 
 -- what the master knows of the last member stays where another is lost
-middle_lost_while_joining : detected 3 (joined 4 of_three).master ≡ record { master = record { chain = 1 ∷ 2 ∷ 4 ∷ []; told = false; ready = false; used = 1 ∷ 2 ∷ 3 ∷ 4 ∷ [] }; said = (parties.Server 4, Report 2) ∷ [] }
+predecessor_of_a_new_member_lost : detected 3 of_four ≡ record { master = record of_four { chain = 1 ∷ 2 ∷ 4 ∷ [] }; said = (parties.Server 4, Report 2) ∷ [] }
+unfolding detected
+predecessor_of_a_new_member_lost = refl
+
+-- the last member is to feed nobody any more where the server that joins is lost
+joiner_lost : detected 4 joining_behind ≡ record { master = record joining_behind { joiner = None }; said = (parties.Server 3, Feed None) ∷ [] }
+unfolding detected
+joiner_lost = refl
+
+joiner_of_one_lost : (detected 2 (joined 2 (first_master 1)).master).said ≡ (parties.Server 1, Feed None) ∷ []
 unfolding numbers_from detected joined
+joiner_of_one_lost = refl
+
+-- it is dropped with the last member, and stays where another is lost
+tail_lost_while_joining : detected 3 joining_behind ≡ record { master = record joining_behind { chain = 1 ∷ 2 ∷ []; ready = false; joiner = None }; said = (parties.Server 2, BeTail 0) ∷ [] }
+unfolding detected
+tail_lost_while_joining = refl
+
+middle_lost_while_joining : detected 2 joining_behind ≡ record { master = record joining_behind { chain = 1 ∷ 3 ∷ [] }; said = (parties.Server 3, Report 1) ∷ [] }
+unfolding detected
 middle_lost_while_joining = refl
 
-head_lost_before_ready : (detected 1 (detected 3 of_three).master).master ≡ record { chain = 2 ∷ []; told = true; ready = false; used = 1 ∷ 2 ∷ 3 ∷ [] }
+head_lost_while_joining : detected 1 joining_behind ≡ record { master = record joining_behind { chain = 2 ∷ 3 ∷ [] }; said = (parties.Server 2, BeHead) ∷ [] }
+unfolding detected
+head_lost_while_joining = refl
+
+head_lost_before_ready : (detected 1 (detected 3 of_three).master).master ≡ record { chain = 2 ∷ []; told = true; ready = false; joiner = None; used = 1 ∷ 2 ∷ 3 ∷ [] }
 unfolding numbers_from detected
 head_lost_before_ready = refl
 
@@ -360,7 +469,29 @@ one_of_two : refusal_of_detection 2 (first_master 2) ≡ None
 unfolding numbers_from refusal_of_detection
 one_of_two = refl
 
-join : joined 4 of_three ≡ record { master = record { chain = 1 ∷ 2 ∷ 3 ∷ 4 ∷ []; told = false; ready = false; used = 1 ∷ 2 ∷ 3 ∷ 4 ∷ [] }; said = (parties.Server 4, Report 3) ∷ [] }
+-- the server that joins is no stranger, until it is dropped; nor does it count as one that remains
+joiner_is_known : refusal_of_detection 4 joining_behind ≡ None
+unfolding refusal_of_detection
+joiner_is_known = refl
+
+joiner_of_one_is_known : refusal_of_detection 2 (joined 2 (first_master 1)).master ≡ None
+unfolding numbers_from refusal_of_detection joined
+joiner_of_one_is_known = refl
+
+joiner_lost_already : refusal_of_detection 4 (detected 4 joining_behind).master ≡ Some NoSuchServer
+unfolding refusal_of_detection detected
+joiner_lost_already = refl
+
+joiner_dropped_already : refusal_of_detection 4 (detected 3 joining_behind).master ≡ Some NoSuchServer
+unfolding refusal_of_detection detected
+joiner_dropped_already = refl
+
+only_member_while_joining : refusal_of_detection 1 (joined 2 (first_master 1)).master ≡ Some LastFull
+unfolding numbers_from refusal_of_detection joined
+only_member_while_joining = refl
+
+-- a server that joins is no member yet, and the last one goes on
+join : joined 4 of_three ≡ record { master = joining_behind; said = (parties.Server 4, Report 3) ∷ [] }
 unfolding numbers_from joined
 join = refl
 
@@ -371,6 +502,18 @@ used_number = refl
 join_while_joining : refusal_of_join 3 (joined 2 (first_master 1)).master ≡ Some JoinPending
 unfolding numbers_from refusal_of_join joined
 join_while_joining = refl
+
+join_before_ready : refusal_of_join 4 (detected 3 of_three).master ≡ Some JoinPending
+unfolding numbers_from refusal_of_join detected
+join_before_ready = refl
+
+join_after_the_joiner_is_lost : refusal_of_join 5 (detected 4 joining_behind).master ≡ None
+unfolding refusal_of_join detected
+join_after_the_joiner_is_lost = refl
+
+number_of_a_lost_joiner : refusal_of_join 4 (detected 4 joining_behind).master ≡ Some IdUsed
+unfolding refusal_of_join detected
+number_of_a_lost_joiner = refl
 
 nine_members : refusal_of_join 9 (first_master 8) ≡ Some ChainFull
 unfolding numbers_from refusal_of_join
@@ -410,17 +553,71 @@ have_too_late : hears 3 (Have 2 5) (detected 2 of_three).master ≡ no_order (de
 unfolding numbers_from hears detected
 have_too_late = refl
 
+-- it asks the last member to feed the server that joins behind it, and no other one
+have_of_the_joiner : hears 4 (Have 3 0) joining_behind ≡ record { master = joining_behind; said = (parties.Server 3, Feed (Some 4)) ∷ [] }
+unfolding hears
+have_of_the_joiner = refl
+
+have_of_the_joiner_further_on : hears 4 (Have 2 0) joining_behind ≡ no_order joining_behind
+unfolding hears
+have_of_the_joiner_further_on = refl
+
+have_of_a_stranger : hears 4 (Have 3 0) of_three ≡ no_order of_three
+unfolding numbers_from hears
+have_of_a_stranger = refl
+
+have_of_a_lost_joiner : hears 4 (Have 3 0) (detected 4 joining_behind).master ≡ no_order (detected 4 joining_behind).master
+unfolding hears detected
+have_of_a_lost_joiner = refl
+
+have_of_a_dropped_joiner : hears 4 (Have 2 0) (detected 3 joining_behind).master ≡ no_order (detected 3 joining_behind).master
+unfolding hears detected
+have_of_a_dropped_joiner = refl
+
+have_while_another_joins : hears 3 (Have 2 5) joining_behind ≡ record { master = joining_behind; said = (parties.Server 2, Adopt 3 5) ∷ [] }
+unfolding hears
+have_while_another_joins = refl
+
+-- the server that joins becomes a member once it took a snapshot of the last one, which is to adopt it
+caught : hears 4 (Caught 3 2) joining_behind ≡ record { master = of_four; said = (parties.Server 3, Adopt 4 2) ∷ [] }
+unfolding hears
+caught = refl
+
+caught_from_another : hears 4 (Caught 2 2) joining_behind ≡ no_order joining_behind
+unfolding hears
+caught_from_another = refl
+
+caught_of_another : hears 5 (Caught 3 2) joining_behind ≡ no_order joining_behind
+unfolding hears
+caught_of_another = refl
+
+caught_of_a_member : hears 3 (Caught 2 2) of_three ≡ no_order of_three
+unfolding numbers_from hears
+caught_of_a_member = refl
+
+caught_again : hears 4 (Caught 3 2) of_four ≡ no_order of_four
+unfolding hears
+caught_again = refl
+
+caught_of_a_lost_joiner : hears 4 (Caught 3 2) (detected 4 joining_behind).master ≡ no_order (detected 4 joining_behind).master
+unfolding hears detected
+caught_of_a_lost_joiner = refl
+
+caught_of_a_dropped_joiner : hears 4 (Caught 2 2) (detected 3 joining_behind).master ≡ no_order (detected 3 joining_behind).master
+unfolding hears detected
+caught_of_a_dropped_joiner = refl
+
 -- it tells a tail only where the last member wasn't told
-adopted : hears 3 (Adopted 4 5) (joined 4 of_three).master ≡ record { master = record (joined 4 of_three).master { told = true }; said = (parties.Server 4, BeTail 5) ∷ [] }
-unfolding numbers_from hears joined
+adopted : hears 3 (Adopted 4 5) of_four ≡ record { master = record of_four { told = true }; said = (parties.Server 4, BeTail 5) ∷ [] }
+unfolding hears
 adopted = refl
 
 adopted_again : hears 2 (Adopted 3 5) of_three ≡ no_order of_three
 unfolding numbers_from hears
 adopted_again = refl
 
-adopted_too_late : hears 1 (Adopted 2 5) (joined 4 of_three).master ≡ no_order (joined 4 of_three).master
-unfolding numbers_from hears joined
+adopted_too_late : hears 1 (Adopted 2 5) of_four ≡ no_order of_four
+unfolding hears
 adopted_too_late = refl
 
 ready : (hears 2 Ready (detected 3 of_three).master).master.ready ≡ true

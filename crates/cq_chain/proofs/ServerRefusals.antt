@@ -1,5 +1,5 @@
 -- When a server refuses what comes to it, and when a message is no news.
-use Rattle.std.proofs.Common.{◌≡◌, ℕ, ◌≤◌, ◌<◌, ◌∙◌, ap, sym, List, length, Option, Some, None, true, false, nat_lt, nat_le, subst, refl, min, ◌&&◌, ◌==◌, ◌+◌, Result, Ok, Err}
+use Rattle.std.proofs.Common.{◌≡◌, ℕ, ◌≤◌, ◌<◌, ◌∙◌, ap, sym, List, length, Option, Some, None, true, false, nat_lt, nat_le, subst, refl, min, ◌&&◌, ◌==◌, ◌+◌, if◌then◌else◌, Result, Ok, Err}
 use Rattle.std.specs.Result.{IsErrAnd}
 use Rattle.std.proofs.lemmas.Bool.{leb-true, leb-false, lt-ltb, le-ltb}
 use Rattle.cq_base.specs.declared.ask.Entry.{Entry}
@@ -9,13 +9,13 @@ use Rattle.cq_chain.specs.declared.fault.WorldFault.{WorldFault}
 use Rattle.cq_chain.specs.declared.fault.WorldFault.TheVariants.{NotHead, HistoryFull, NotTail, NoMemory}
 use Rattle.cq_chain.specs.declared.message.Message as rust
 use Rattle.cq_chain.specs.declared.message.Message.TheVariants as kept
-use Rattle.cq_chain.specs.Messages.{Message, Fwd, Snap, Ack, BeHead, Report, Adopt, BeTail}
+use Rattle.cq_chain.specs.Messages.{Message, Fwd, Snap, Ack, BeHead, Report, Adopt, BeTail, Feed}
 use Rattle.cq_chain.specs.Refusals.{unless_full, refusal_of_arrival, refusal_of_query, refusal_of_taking}
 use Rattle.cq_chain.specs.Servers.{Server, acts, is_that}
 use Rattle.cq_chain.specs.Stands.{Means, IsSnapshot, IsRefusedBy}
 use Rattle.cq_store.specs.Stands as stores
 use Rattle.cq_store.specs.Stands.{StoreKept, count_of, last_of}
-use Rattle.cq_chain.specs.Steps.{is_next, forwarded, acknowledged, headed, reported, adopting, tailed, silent, takes}
+use Rattle.cq_chain.specs.Steps.{is_next, forwarded, acknowledged, headed, reported, adopting, feeding, tailed, silent, takes}
 
 -- want of memory is told where nothing else refuses
 pub no_memory : (result : Result (Unit {0}) WorldFault) (refusal : Option WorldFault) → IsErrAnd result (λ fault. fault ≡ NoMemory) → refusal ≡ None → IsRefusedBy refusal result
@@ -107,8 +107,10 @@ takes-others s from kept.BeHead m fwd snap ack h = ap (λ x. takes (parties.Serv
 takes-others s from (kept.Report pred) m fwd snap ack h = ap (λ x. takes (parties.Server from) x s) h
 takes-others s from (kept.Adopt succ have) m fwd snap ack h = ap (λ x. takes (parties.Server from) x s) h
 takes-others s from (kept.BeTail least) m fwd snap ack h = ap (λ x. takes (parties.Server from) x s) h
+takes-others s from (kept.Feed succ) m fwd snap ack h = ap (λ x. takes (parties.Server from) x s) h
 takes-others s from (kept.Have pred count) m fwd snap ack h = ap (λ x. takes (parties.Server from) x s) h
 takes-others s from (kept.Adopted succ count) m fwd snap ack h = ap (λ x. takes (parties.Server from) x s) h
+takes-others s from (kept.Caught pred count) m fwd snap ack h = ap (λ x. takes (parties.Server from) x s) h
 takes-others s from kept.Ready m fwd snap ack h = ap (λ x. takes (parties.Server from) x s) h
 takes-others s from (kept.Answer answer) m fwd snap ack h = ap (λ x. takes (parties.Server from) x s) h
 
@@ -121,8 +123,10 @@ others-not-refused s from kept.BeHead m fwd h = ap (λ x. refusal_of_taking (par
 others-not-refused s from (kept.Report pred) m fwd h = ap (λ x. refusal_of_taking (parties.Server from) x s) h
 others-not-refused s from (kept.Adopt succ have) m fwd h = ap (λ x. refusal_of_taking (parties.Server from) x s) h
 others-not-refused s from (kept.BeTail least) m fwd h = ap (λ x. refusal_of_taking (parties.Server from) x s) h
+others-not-refused s from (kept.Feed succ) m fwd h = ap (λ x. refusal_of_taking (parties.Server from) x s) h
 others-not-refused s from (kept.Have pred count) m fwd h = ap (λ x. refusal_of_taking (parties.Server from) x s) h
 others-not-refused s from (kept.Adopted succ count) m fwd h = ap (λ x. refusal_of_taking (parties.Server from) x s) h
+others-not-refused s from (kept.Caught pred count) m fwd h = ap (λ x. refusal_of_taking (parties.Server from) x s) h
 others-not-refused s from kept.Ready m fwd h = ap (λ x. refusal_of_taking (parties.Server from) x s) h
 others-not-refused s from (kept.Answer answer) m fwd h = ap (λ x. refusal_of_taking (parties.Server from) x s) h
 
@@ -150,21 +154,27 @@ pub takes-be_tail : (s : Server) (least : ℕ) (m : Message) → m ≡ BeTail le
 unfolding takes
 takes-be_tail s least m is = ap (λ x. takes parties.Master x s) is
 
+pub takes-feed : (s : Server) (succ : Option ℕ) (m : Message) → m ≡ Feed succ → takes parties.Master m s ≡ (if acts s then feeding succ s else silent s)
+unfolding takes
+takes-feed s succ m is = ap (λ x. takes parties.Master x s) is
+
 -- and what the master doesn't say
 pub takes-no_order : (s : Server) (message : rust.Message) (m : Message) → (message ≡ kept.BeHead → ⊥) → ((pred : ℕ) → message ≡ kept.Report pred → ⊥) → ((succ have : ℕ) → message ≡ kept.Adopt succ have → ⊥)
-    → ((least : ℕ) → message ≡ kept.BeTail least → ⊥) → Means message m → takes parties.Master m s ≡ silent s
+    → ((least : ℕ) → message ≡ kept.BeTail least → ⊥) → ((succ : Option ℕ) → message ≡ kept.Feed succ → ⊥) → Means message m → takes parties.Master m s ≡ silent s
 unfolding takes
-takes-no_order s (kept.Fwd place e) m head report adopt tail h = ap (λ x. takes parties.Master x s) h
-takes-no_order s (kept.Snap state) m head report adopt tail h = ap (λ x. takes parties.Master x s) h.is
-takes-no_order s (kept.Ack place) m head report adopt tail h = ap (λ x. takes parties.Master x s) h
-takes-no_order s kept.BeHead m head report adopt tail h = absurd (head refl)
-takes-no_order s (kept.Report pred) m head report adopt tail h = absurd (report pred refl)
-takes-no_order s (kept.Adopt succ have) m head report adopt tail h = absurd (adopt succ have refl)
-takes-no_order s (kept.BeTail least) m head report adopt tail h = absurd (tail least refl)
-takes-no_order s (kept.Have pred count) m head report adopt tail h = ap (λ x. takes parties.Master x s) h
-takes-no_order s (kept.Adopted succ count) m head report adopt tail h = ap (λ x. takes parties.Master x s) h
-takes-no_order s kept.Ready m head report adopt tail h = ap (λ x. takes parties.Master x s) h
-takes-no_order s (kept.Answer answer) m head report adopt tail h = ap (λ x. takes parties.Master x s) h
+takes-no_order s (kept.Fwd place e) m head report adopt tail feed h = ap (λ x. takes parties.Master x s) h
+takes-no_order s (kept.Snap state) m head report adopt tail feed h = ap (λ x. takes parties.Master x s) h.is
+takes-no_order s (kept.Ack place) m head report adopt tail feed h = ap (λ x. takes parties.Master x s) h
+takes-no_order s kept.BeHead m head report adopt tail feed h = absurd (head refl)
+takes-no_order s (kept.Report pred) m head report adopt tail feed h = absurd (report pred refl)
+takes-no_order s (kept.Adopt succ have) m head report adopt tail feed h = absurd (adopt succ have refl)
+takes-no_order s (kept.BeTail least) m head report adopt tail feed h = absurd (tail least refl)
+takes-no_order s (kept.Feed succ) m head report adopt tail feed h = absurd (feed succ refl)
+takes-no_order s (kept.Have pred count) m head report adopt tail feed h = ap (λ x. takes parties.Master x s) h
+takes-no_order s (kept.Adopted succ count) m head report adopt tail feed h = ap (λ x. takes parties.Master x s) h
+takes-no_order s (kept.Caught pred count) m head report adopt tail feed h = ap (λ x. takes parties.Master x s) h
+takes-no_order s kept.Ready m head report adopt tail feed h = ap (λ x. takes parties.Master x s) h
+takes-no_order s (kept.Answer answer) m head report adopt tail feed h = ap (λ x. takes parties.Master x s) h
 
 pub master-not-refused : (s : Server) (m : Message) → refusal_of_taking parties.Master m s ≡ None
 unfolding refusal_of_taking

@@ -1,5 +1,5 @@
 -- What servers, the master and the clients tell each other.
-use Rattle.std.specs.Prelude.{ℕ, List}
+use Rattle.std.specs.Prelude.{ℕ, List, Option}
 use Rattle.cq_base.specs.declared.ask.Entry.{Entry}
 use Rattle.cq_chain.specs.declared.message.Answer.{Answer}
 
@@ -7,7 +7,7 @@ use Rattle.cq_chain.specs.declared.message.Answer.{Answer}
 pub data Message : Type 0 where
   -- To a successor: the entry at that place of the sender's history.
   Fwd : ℕ → Entry → Message
-  -- To a successor that joins: the sender's whole history.
+  -- To a successor that lacks much: the sender's whole history.
   Snap : List Entry → Message
   -- To a predecessor: all entries up to that place have reached the tail.
   Ack : ℕ → Message
@@ -19,10 +19,14 @@ pub data Message : Type 0 where
   Adopt : ℕ → ℕ → Message
   -- From the master: the server is the tail from now on, and acts once it has so many entries.
   BeTail : ℕ → Message
+  -- From the master, to one that acts: it is to feed that server as its successor from now on, or nobody any more.
+  Feed : Option ℕ → Message
   -- To the master: the sender has that predecessor, and so many entries.
   Have : ℕ → ℕ → Message
   -- To the master: the sender has that successor, and has so many entries itself.
   Adopted : ℕ → ℕ → Message
+  -- To the master: the sender has that predecessor, and took a snapshot of so many entries.
+  Caught : ℕ → ℕ → Message
   -- To the master: the sender acts as tail.
   Ready : Message
   -- To the clients: an answer.

@@ -1,6 +1,7 @@
 -- The state of a server of the chain.
 use Rattle.std.specs.Prelude.{ℕ, ◌+◌, ◌-◌, ◌==◌, List, [], length, Bool, true, false, nat_le, if◌then◌else◌, Option, None, Some}
 use Rattle.cq_base.specs.declared.ask.Entry.{Entry}
+pub use Rattle.cq_chain.specs.Parties.{is_that}
 
 -- What a server has of its own (van Renesse and Schneider, "Chain Replication for Supporting High
 -- Throughput and Availability", section 3; how it takes up a place in the chain is a choice of this project).
@@ -35,11 +36,6 @@ acts s = reaches (length s.entries) s.at_least
 -- So many entries it keeps one by one, since it may have to send them once more.
 abbrev pub kept : Server → ℕ
 kept s = length s.entries - s.floor
-
--- whether it is that server
-abbrev pub is_that : Option ℕ → ℕ → Bool
-is_that None id = false
-is_that (Some other) id = other == id
 
 -- A member of the first chain, of so many servers: 1 is the head, and each forwards to the next one.
 abbrev pub first_member : ℕ → ℕ → Server

@@ -12,7 +12,7 @@ use Rattle.cq_chain.specs.within.Boxes.{messages_for}
 use Rattle.cq_chain.specs.within.Replicas.{Recalls}
 use Rattle.cq_chain.specs.Faults.{IsRefusal}
 use Rattle.cq_chain.specs.Masters.{Master, Order}
-use Rattle.cq_chain.specs.Messages.{Message, Fwd, Snap, Ack, BeHead, Report, Adopt, BeTail, Have, Adopted, Ready, Answers}
+use Rattle.cq_chain.specs.Messages.{Message, Fwd, Snap, Ack, BeHead, Report, Adopt, BeTail, Feed, Have, Adopted, Caught, Ready, Answers}
 use Rattle.cq_chain.specs.Parties.{same, addressed}
 use Rattle.cq_chain.specs.Servers.{Server}
 use Rattle.cq_chain.specs.Steps.{Step}
@@ -33,8 +33,10 @@ Means kept.BeHead m = m ≡ BeHead
 Means (kept.Report pred) m = m ≡ Report pred
 Means (kept.Adopt succ have) m = m ≡ Adopt succ have
 Means (kept.BeTail least) m = m ≡ BeTail least
+Means (kept.Feed succ) m = m ≡ Feed succ
 Means (kept.Have pred count) m = m ≡ Have pred count
 Means (kept.Adopted succ count) m = m ≡ Adopted succ count
+Means (kept.Caught pred count) m = m ≡ Caught pred count
 Means kept.Ready m = m ≡ Ready
 Means (kept.Answer answer) m = m ≡ Answers answer
 
@@ -96,6 +98,7 @@ pub record MasterHolds (kept : rust_master.Master) (m : Master) (outbox : Party 
   pub chain : kept.chain.items ≡ m.chain
   pub told : kept.told ≡ m.told
   pub ready : kept.ready ≡ m.ready
+  pub joiner : kept.joiner ≡ m.joiner
   pub used : kept.used.keys ≡ m.used
   pub waiting : (to : Party) → AllMean (messages_for kept.outboxes to) (outbox to)
   pub master : outbox parties.Master ≡ []

@@ -7,7 +7,7 @@ use Rattle.cq_base.specs.declared.party.Party.{Party}
 use Rattle.cq_base.specs.declared.party.Party.TheVariants as parties
 use Rattle.cq_base.specs.History.{reply_to, last_moment, counts_after}
 use Rattle.cq_chain.specs.declared.message.Answer.{Answer}
-use Rattle.cq_chain.specs.Messages.{Message, Fwd, Snap, Ack, BeHead, Report, Adopt, BeTail, Have, Adopted, Ready, Answers}
+use Rattle.cq_chain.specs.Messages.{Message, Fwd, Snap, Ack, BeHead, Report, Adopt, BeTail, Feed, Have, Adopted, Caught, Ready, Answers}
 use Rattle.cq_chain.specs.Servers.{Server, acts, is_that}
 
 -- What a server does: its state afterwards, and what it puts into its outboxes, in order.
@@ -111,11 +111,11 @@ is_restoring s from entries = is_that s.pred from && is_none s.succ && nat_le (l
 abbrev pub with_history : Server → List Entry → Server
 with_history s entries = record s { entries = entries; floor = length entries }
 
--- a snapshot
-abbrev pub restored : List Entry → Server → Step
-restored entries s = record {
+-- A snapshot of that predecessor. A server that is no tail, nor to be it, tells the master.
+abbrev pub restored : ℕ → List Entry → Server → Step
+restored from entries s = record {
   server = settled (with_history s entries);
-  sent = tail_news s (with_history s entries);
+  sent = tail_news s (with_history s entries) ++ when (is_none s.at_least) ((parties.Master, Caught from (length entries)) ∷ []);
 }
 
 -- an acknowledgement, of no more entries than the server has
@@ -149,12 +149,17 @@ forwards to place (e ∷ es) = (parties.Server to, Fwd place e) ∷ forwards to 
 abbrev pub repair : ℕ → ℕ → Server → List (Party × Message)
 repair to have s = if nat_le s.floor have then forwards to (have + 1) (drop have s.entries) else (parties.Server to, Snap s.entries) ∷ []
 
--- Its successor is that one, which has so many entries. The server acts no more.
+-- Its successor is that one, which has so many entries. The server acts no more. One that it feeds already lacks
+-- nothing that isn't on its way.
 abbrev pub adopting : ℕ → ℕ → Server → Step
 adopting succ have s = record {
   server = record s { at_least = None; succ = Some succ };
-  sent = repair succ have s ++ (parties.Master, Adopted succ (length s.entries)) ∷ [];
+  sent = when (not (is_that s.succ succ)) (repair succ have s) ++ (parties.Master, Adopted succ (length s.entries)) ∷ [];
 }
+
+-- It feeds that one from now on, if there is one, which gets its whole history, and it goes on acting.
+abbrev pub feeding : Option ℕ → Server → Step
+feeding succ s = record { server = record s { succ = succ }; sent = to_server succ (Snap s.entries) }
 
 -- as the tail, which acts once it has so many entries
 abbrev pub as_tail : ℕ → Server → Server
@@ -178,10 +183,11 @@ crashed s = silent (record s { down = true })
 -- What a server does with a message from that party. It ignores what is none of these.
 unfoldable pub takes : Party → Message → Server → Step
 takes (parties.Server from) (Fwd place e) s = if is_next s from place e then forwarded e s else silent s
-takes (parties.Server from) (Snap entries) s = if is_restoring s from entries then restored entries s else silent s
+takes (parties.Server from) (Snap entries) s = if is_restoring s from entries then restored from entries s else silent s
 takes (parties.Server from) (Ack n) s = acknowledged (min n (length s.entries)) s
 takes parties.Master BeHead s = headed s
 takes parties.Master (Report pred) s = reported pred s
 takes parties.Master (Adopt succ have) s = adopting succ have s
 takes parties.Master (BeTail least) s = tailed least s
+takes parties.Master (Feed succ) s = if acts s then feeding succ s else silent s
 takes from m s = silent s

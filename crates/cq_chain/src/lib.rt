@@ -5,6 +5,7 @@
 
 mod client;
 mod fault;
+mod identity;
 mod lane;
 mod master;
 mod message;

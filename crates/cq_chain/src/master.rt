@@ -1,7 +1,8 @@
 //! The master: who is in the chain, and what each member is told.
-ghost use Rattle.std.specs.Prelude.{◌≡◌, ℕ, List, [], length, OnOk, OnErr, IfOk};
+ghost use Rattle.std.specs.Prelude.{◌≡◌, ◌&&◌, ℕ, List, [], length, is_none, Err, OnOk, OnErr, IfOk};
 ghost use Rattle.cq_base.specs.declared.party.Party as rust_party;
 ghost use Rattle.cq_base.specs.declared.party.Party.TheVariants as parties;
+ghost use Rattle.cq_chain.specs.declared.fault.WorldFault.TheVariants as faults;
 ghost use Rattle.cq_chain.specs.Masters as masters;
 ghost use Rattle.cq_chain.specs.Masters.{first_master, detected, joined, hears, refusal_of_detection, refusal_of_join};
 ghost use Rattle.cq_chain.specs.Messages as sent;
@@ -13,6 +14,7 @@ mod hear;
 mod neighbours;
 
 use crate::fault::WorldFault;
+use crate::identity::is_that;
 use crate::message::Message;
 use crate::outboxes::Outboxes;
 use cq_base::{CHAIN_LIMIT, ChainSize, NoMemory, Party, ServerId};
@@ -34,6 +36,7 @@ pub struct Master {
     chain: Vec<ServerId>,
     told: bool,
     ready: bool,
+    joiner: Option<ServerId>,
     used: IndexSet<ServerId>,
     outboxes: Outboxes,
 }
@@ -49,6 +52,7 @@ impl Master {
             chain: first_chain(alloc, size)?,
             told: true,
             ready: true,
+            joiner: None,
             used: first_used(alloc, size)?,
             outboxes: Outboxes::new(alloc),
         })
@@ -57,16 +61,22 @@ impl Master {
     /// It learns that a member of the chain has crashed (van Renesse and Schneider, section 3). Where the head is
     /// gone, the next member is told that it is the head; where the last one is, the one before it that it is the
     /// tail, from which the master then expects `Ready`; and where another one is, the one after it is told its new
-    /// predecessor. O(members).
+    /// predecessor. A server that joined behind the last member is dropped for good where that one is gone; and where
+    /// the server that joins is itself gone, the last member is told to feed nobody any more (a choice of this
+    /// project). O(members).
     ///
-    /// Faults: `NoSuchServer` (31) unless the server is a member, `LastFull` (35) where it is the only one,
-    /// `NoMemory` (20).
+    /// Faults: `NoSuchServer` (31) unless the server is a member or joins, `LastFull` (35) where it is the only
+    /// member, `NoMemory` (20).
     pub fn detect(&mut self, id: ServerId) -> Result<(), WorldFault>
         ensures refused { (m : masters.Master) (outbox : rust_party.Party → List sent.Message) → MasterStandsFor self.old m outbox
             → IsRefusedBy (refusal_of_detection id m) result }
         ensures ok { OnOk result (Orders self.old self.new (detected id)) }
         ensures err { OnErr result (KeepsMaster self.old self.new) }
     {
+        if is_that(self.joiner, id) {
+            self.drop_joiner()?;
+            return Ok(());
+        }
         if !self.chain.contains(&id) {
             return Err(WorldFault::NoSuchServer);
         }
@@ -77,16 +87,21 @@ impl Master {
         Ok(())
     }
 
-    /// A new server joins at the end of the chain, and is told the last member as its predecessor (a choice of this
-    /// project). O(1).
+    /// The last member acts, and no server joins.
+    fn is_open(&self) -> bool
+        ensures { result ≡ (self.now.ready && is_none self.now.joiner) }
+    {
+        self.ready && self.joiner.is_none()
+    }
+
+    /// Why a join of that number is refused, if it is, but for want of memory, which `join` alone tells. O(1).
     ///
     /// Faults: `IdUsed` (37) where a server had that number before, `ChainFull` (38) where the chain has 8 members,
-    /// `JoinPending` (36) until the last member is ready, `NoMemory` (20).
-    pub fn join(&mut self, id: ServerId) -> Result<(), WorldFault>
-        ensures refused { (m : masters.Master) (outbox : rust_party.Party → List sent.Message) → MasterStandsFor self.old m outbox
+    /// `JoinPending` (36) until the last member is ready and while another server joins.
+    pub fn check_join(&self, id: ServerId) -> Result<(), WorldFault>
+        ensures refused { (m : masters.Master) (outbox : rust_party.Party → List sent.Message) → MasterStandsFor self.now m outbox
             → IsRefusedBy (refusal_of_join id m) result }
-        ensures ok { OnOk result (Orders self.old self.new (joined id)) }
-        ensures err { OnErr result (KeepsMaster self.old self.new) }
+        ensures memory { ¬ (result ≡ Err faults.NoMemory) }
     {
         if self.used.contains(&id) {
             return Err(WorldFault::IdUsed);
@@ -94,17 +109,36 @@ impl Master {
         if usize::from(CHAIN_LIMIT) <= self.chain().len() {
             return Err(WorldFault::ChainFull);
         }
-        if !self.ready {
+        if !self.is_open() {
             return Err(WorldFault::JoinPending);
         }
-        self.admit(id)?;
         Ok(())
     }
 
-    /// Takes a message of a server (a choice of this project). `Have` of a member with the predecessor that it has in the chain:
-    /// that one is told to adopt it. `Adopted` by the predecessor of a last member that wasn't told: that member is
-    /// told that it is the tail. `Ready` of the last member: another server may join. What is out of date is ignored,
-    /// and so is what isn't of a server. O(members).
+    /// A new server joins behind the last member, which it is told as its predecessor. It becomes a member once it
+    /// holds the state (a choice of this project). O(1).
+    ///
+    /// Faults: those of `check_join`, and `NoMemory` (20).
+    pub fn join(&mut self, id: ServerId) -> Result<(), WorldFault>
+        ensures refused { (m : masters.Master) (outbox : rust_party.Party → List sent.Message) → MasterStandsFor self.old m outbox
+            → IsRefusedBy (refusal_of_join id m) result }
+        ensures ok { OnOk result (Orders self.old self.new (joined id)) }
+        ensures err { OnErr result (KeepsMaster self.old self.new) }
+    {
+        self.check_join(id)?;
+        self.begin_join(id)?;
+        Ok(())
+    }
+
+    /// Takes a message of a server (a choice of this project). What is out of date is ignored, and so is what isn't of
+    /// a server. O(members).
+    ///
+    /// - `Have` of a member with the predecessor that it has in the chain: that one is told to adopt it.
+    /// - `Have` of the server that joins, with the last member as its predecessor: that one is told to feed it.
+    /// - `Caught` of the server that joins, with that predecessor: it is put at the end of the chain, and its
+    ///   predecessor is told to adopt it.
+    /// - `Adopted` by the predecessor of a last member that wasn't told: that member is told that it is the tail.
+    /// - `Ready` of the last member: another server may join.
     ///
     /// Faults: `NoMemory` (20).
     pub fn take(&mut self, from: ServerId, message: &Message) -> Result<(), NoMemory>
@@ -113,6 +147,7 @@ impl Master {
     {
         match message {
             Message::Have { pred, count } => self.hear_have(from, *pred, *count),
+            Message::Caught { pred, count } => self.hear_caught(from, *pred, *count),
             Message::Adopted { succ, count } => self.hear_adopted(*succ, *count),
             Message::Ready => {
                 self.hear_ready(from);
@@ -149,7 +184,15 @@ impl Master {
         &self.chain
     }
 
-    /// Whether the last member of the chain acts as tail, so that another server may join: O(1).
+    /// The server that joins and isn't a member yet, if there is one: O(1).
+    pub fn joiner(&self) -> Option<ServerId>
+        ensures { (m : masters.Master) (outbox : rust_party.Party → List sent.Message) → MasterStandsFor self.now m outbox
+            → result ≡ m.joiner }
+    {
+        self.joiner
+    }
+
+    /// Whether the last member of the chain acts as tail, without which no other server may join: O(1).
     pub fn is_ready(&self) -> bool
         ensures { (m : masters.Master) (outbox : rust_party.Party → List sent.Message) → MasterStandsFor self.now m outbox
             → result ≡ m.ready }

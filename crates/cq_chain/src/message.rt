@@ -21,7 +21,7 @@ pub struct Answer {
 pub enum Message {
     /// To a successor: the entry at that place of the sender's history, from 1.
     Fwd { place: u64, entry: Entry },
-    /// To a successor that joins: the state of the sender after its whole history.
+    /// To a successor that lacks much: the state of the sender after its whole history.
     Snap { state: Snapshot },
     /// To a predecessor: all entries up to that place have reached the tail.
     Ack { place: u64 },
@@ -33,10 +33,14 @@ pub enum Message {
     Adopt { succ: ServerId, have: u64 },
     /// From the master: the server is the tail from now on, and acts once it has so many entries.
     BeTail { at_least: u64 },
+    /// From the master, to one that acts: it is to feed that server as its successor from now on, or nobody any more.
+    Feed { succ: Option<ServerId> },
     /// To the master: the sender has that predecessor, and so many entries.
     Have { pred: ServerId, count: u64 },
     /// To the master: the sender has that successor, and has so many entries itself.
     Adopted { succ: ServerId, count: u64 },
+    /// To the master: the sender has that predecessor, and took a snapshot of so many entries.
+    Caught { pred: ServerId, count: u64 },
     /// To the master: the sender acts as tail.
     Ready,
     /// To the clients: an answer.

@@ -4,7 +4,7 @@ ghost use Rattle.cq_base.specs.declared.limits.TheConstants.{HISTORY_LIMIT};
 ghost use Rattle.cq_base.specs.declared.party.Party as rust_party;
 ghost use Rattle.cq_chain.specs.Messages as sent;
 ghost use Rattle.cq_chain.specs.Servers as states;
-ghost use Rattle.cq_chain.specs.Servers.{first_member, joining, acts, is_that, kept};
+ghost use Rattle.cq_chain.specs.Servers.{first_member, joining, acts, kept};
 ghost use Rattle.cq_chain.specs.Stands.{StandsFor, IsFirst, drained};
 ghost use Rattle.cq_store.specs.Stands.{count_of};
 
@@ -40,16 +40,6 @@ pub struct Server {
     full: bool,
     down: bool,
     outboxes: Outboxes,
-}
-
-/// Whether it is that server.
-fn is_that(server: Option<ServerId>, id: ServerId) -> bool
-    ensures { result ≡ is_that server id }
-{
-    match server {
-        Some(other) => other.get() == id.get(),
-        None => false,
-    }
 }
 
 /// The server before that one, in a first chain.

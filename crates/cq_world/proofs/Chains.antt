@@ -1,16 +1,14 @@
 -- The order of the members of a chain, or of the servers of the line, and of their histories.
-use Rattle.std.proofs.Common.{◌≡◌, ℕ, ◌∙◌, ap, sym, List, [], ◌∷◌, ◌++◌, ◌&&◌, ◌⊎◌, not, Bool, true, false, cond, eqb, subst, refl, inl, inr}
+use Rattle.std.proofs.Common.{◌≡◌, ℕ, ◌∙◌, ap, sym, List, [], ◌∷◌, ◌++◌, ◌&&◌, ◌⊎◌, not, Option, Some, None, Bool, true, false, cond, eqb, subst, refl, inl, inr}
 use Rattle.std.proofs.lemmas.Bool.{eqb-true, eq-eqb, false≢true, both_ways, and_from, and_parts, or_cases, or_left, or_right, cases_Bool}
-use Rattle.cq_base.specs.Relations.{Among, Front, Pairwise}
+use Rattle.cq_base.specs.Relations.{Among, Front}
 use Rattle.cq_chain.specs.Masters.{is_in, is_last, without, stands_before}
 use Rattle.cq_world.proofs.Prefixes.Climbing.{climbs-top, ups}
 use Rattle.cq_world.proofs.Eaches.{front-trans}
 use Rattle.cq_world.proofs.Prefixes.{Prefixes, Linked, LinkedLine}
-use Rattle.cq_world.proofs.Sights.{Sight, line}
-
--- the numbers are all different
-abbrev pub Apart : List ℕ → Type 0
-Apart ids = Pairwise (λ a b. eqb a b ≡ false) ids
+use Rattle.cq_world.proofs.Lines.{in_left, member-line, apart-members}
+pub use Rattle.cq_world.proofs.Lines.{Apart}
+use Rattle.cq_world.proofs.Sights.{Sight, line_of, line}
 
 -- ---- members
 
@@ -120,6 +118,16 @@ last-without d x (a ∷ b ∷ rest) h k = go (eqb a d) (last-without d x (b ∷ 
   go true is = is
   go false is = last-behind a (without d (b ∷ rest)) x is
 
+-- where another one than the last is left out, the last stays the last
+pub last-back : (d x : ℕ) (ids : List ℕ) → is_last ids d ≡ false → is_last (without d ids) x ≡ true → is_last ids x ≡ true
+last-back d x [] h k = k
+last-back d x (a ∷ us) h k =
+    let top = last-some a us in
+    subst (λ i. is_last (a ∷ us) i ≡ true) (last-one (without d (a ∷ us)) top.0 x (last-without d top.0 (a ∷ us) top.1 (other top.0 top.1 (eqb top.0 d) refl)) k) top.1 where
+      other : (z : ℕ) → is_last (a ∷ us) z ≡ true → (t : Bool) → eqb z d ≡ t → t ≡ false
+      other z top false e = refl
+      other z top true e = absurd (both_ways (is_last (a ∷ us) d) h (subst (λ i. is_last (a ∷ us) i ≡ true) (eqb-true z d e) top))
+
 -- with one more at the end, that is the last
 pub last-end : (ids : List ℕ) (x : ℕ) → is_last (ids ++ x ∷ []) x ≡ true
 last-end [] x = eq-eqb x x refl
@@ -202,5 +210,19 @@ line-order v p s h before = go (line v.master) h.linked before where
   go [] l b = absurd b
   go (a ∷ rest) l b = below_linked v a rest p s h l b
 
+-- what stands before another one in the chain does so in the line
+pub before-front : (ids : List ℕ) (o : Option ℕ) (p s : ℕ) → Before p s ids → Before p s (line_of ids o)
+before-front ids None p s h = h
+before-front [] (Some j) p s h = absurd h
+before-front (a ∷ rest) (Some j) p s (inl first) = inl (first.0, in_left rest j s first.1)
+before-front (a ∷ rest) (Some j) p s (inr later) = inr (before-front rest (Some j) p s later)
+
 pub chain-order : (v : Sight) (p s : ℕ) → Prefixes v → Before p s v.master.chain → Front (v.server s).entries (v.server p).entries
-chain-order v p s h before = line-order v p s h before
+chain-order v p s h before = line-order v p s h (before-front v.master.chain v.master.joiner p s before)
+
+-- the members are apart, and have been used
+pub chain-apart : (v : Sight) → Prefixes v → Apart v.master.chain
+chain-apart v h = apart-members v.master.chain v.master.joiner h.apart
+
+pub chain-used : (v : Sight) (id : ℕ) → Prefixes v → is_in v.master.chain id ≡ true → is_in v.master.used id ≡ true
+chain-used v id h member = h.members id (member-line v.master.chain v.master.joiner id member)

@@ -11,12 +11,12 @@ use Rattle.cq_base.specs.declared.party.Party.TheVariants as parties
 use Rattle.cq_base.specs.Relations.{Front}
 use Rattle.cq_chain.specs.Masters.{is_in, is_last, stands_before}
 use Rattle.cq_chain.specs.Messages.{Message, Adopt, BeTail, Adopted, Ready}
-use Rattle.cq_chain.specs.Servers.{Server, acts, reaches}
+use Rattle.cq_chain.specs.Servers.{Server, acts, reaches, is_that}
 use Rattle.cq_world.specs.Runs.{longer, acting_history, longest_at}
 use Rattle.cq_world.specs.Worlds.{World, set_at}
-use Rattle.cq_world.proofs.Chains.{Before, before-either, before-not-last, before-only, last-some}
+use Rattle.cq_world.proofs.Chains.{Before, before-either, before-not-last, before-only, last-some, chain-apart}
 use Rattle.cq_world.proofs.Eaches.{Each}
-use Rattle.cq_world.proofs.Prefixes.{Prefixes}
+use Rattle.cq_world.proofs.Prefixes.{Prefixes, Harmless}
 use Rattle.cq_world.proofs.Sights.{Sight}
 
 -- ---- words on messages
@@ -65,6 +65,20 @@ Enough count m = Unit {0}
 abbrev pub Zero : Message → Type 0
 Zero (BeTail least) = least ≡ 0
 Zero m = Unit {0}
+
+-- it doesn't name that one as a successor
+abbrev pub NotOn : ℕ → Message → Type 0
+NotOn j (Adopt s n) = eqb s j ≡ false
+NotOn j (Adopted s n) = eqb s j ≡ false
+NotOn j m = Unit {0}
+
+-- what a bystander is told doesn't tell it to be the tail
+pub harmless_tails : (ms : List Message) → Each Harmless ms → tails ms ≡ 0
+harmless_tails [] h = refl
+harmless_tails (m ∷ ms) h = step m h.0 (harmless_tails ms h.1) where
+  step : (x : Message) → Harmless x → tails ms ≡ 0 → tails (x ∷ ms) ≡ 0
+  step (BeTail least) g e = absurd g
+  step x g e = e
 
 -- ---- words on servers
 
@@ -118,6 +132,11 @@ pub record Commits (v : Sight) (c : List Entry) : Type 0 where
   pub old : (id : ℕ) → is_in v.master.chain id ≡ true → (v.server id).full ≡ true → Front c (v.server id).entries
   pub old_least : (id least : ℕ) → is_in v.master.chain id ≡ true → (v.server id).full ≡ true → (v.server id).at_least ≡ Some least → least ≤ length (v.server id).entries
   pub old_told : (id : ℕ) → is_in v.master.chain id ≡ true → (v.server id).full ≡ true → Each Zero (v.channel parties.Master (parties.Server id))
+  -- while a server joins the last member acts, no word names the new one as a successor, and it doesn't say that it acts
+  pub joins_ready : is_some v.master.joiner ≡ true → v.master.ready ≡ true
+  pub unnamed_orders : (j : ℕ) → is_that v.master.joiner j ≡ true → (id : ℕ) → Each (NotOn j) (v.channel parties.Master (parties.Server id))
+  pub unnamed_reports : (j : ℕ) → is_that v.master.joiner j ≡ true → (id : ℕ) → Each (NotOn j) (v.channel (parties.Server id) parties.Master)
+  pub unready : (j : ℕ) → is_that v.master.joiner j ≡ true → readies (v.channel (parties.Server j) parties.Master) ≡ 0
   -- nobody acts with more than what is committed, and a full server lives
   pub reached : (id : ℕ) → (v.server id).down ≡ false → acts (v.server id) ≡ true → length (v.server id).entries ≤ length c
   pub lives : (id : ℕ) × (is_in v.master.used id ≡ true) × ((v.server id).full ≡ true) × ((v.server id).down ≡ false)
@@ -147,7 +166,7 @@ some-least (Some n) h = (n, refl)
 -- of two members that are tails none stands before the other one
 pub acts-before : (v : Sight) (c : List Entry) (p s : ℕ) → Prefixes v → Commits v c → Before p s v.master.chain → is_in v.master.chain p ≡ true → is_some (v.server p).at_least ≡ true → is_some (v.server s).at_least ≡ true → is_in v.master.chain s ≡ true → ⊥
 acts-before v c p s h k before member here there other =
-    let rule = k.alone p member here (before-not-last v.master.chain p s h.apart before) in
+    let rule = k.alone p member here (before-not-last v.master.chain p s (chain-apart v h) before) in
     elim (cases_Bool (is_last v.master.chain s)) [
       | inl last ↦ both_ways (is_some (v.server s).at_least) (ap (λ o. is_some o) (k.untold s last rule.0)) there
       | inr not_last ↦ both_ways (is_last v.master.chain s) not_last (last_there v c p s h k before rule)
@@ -158,7 +177,7 @@ acts-before v c p s h k before member here there other =
         go [] is = absurd (subst (λ us. Before q t us) is b)
         go (a ∷ rest) is = let z = last-some a rest in
             let last = ap (λ us. is_last us z.0) is ∙ z.1 in
-            subst (λ i. is_last w.master.chain i ≡ true) (sym (before-only w.master.chain q t z.0 g.apart (r.1 z.0 last) last b)) last
+            subst (λ i. is_last w.master.chain i ≡ true) (sym (before-only w.master.chain q t z.0 (chain-apart w g) (r.1 z.0 last) last b)) last
 
 -- At most one member is the tail, or is to be it.
 pub one-tail : (v : Sight) (c : List Entry) (p s : ℕ) → Prefixes v → Commits v c → is_in v.master.chain p ≡ true → is_in v.master.chain s ≡ true → is_some (v.server p).at_least ≡ true → is_some (v.server s).at_least ≡ true → p ≡ s

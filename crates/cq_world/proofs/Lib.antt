@@ -4,6 +4,7 @@ pub mod Parties
 pub mod Settled
 pub mod Unrefused
 pub mod Sights
+pub mod Lines
 pub mod Prefixes
 pub mod Chains
 pub mod Commits

@@ -3,15 +3,15 @@
 pub mod Climbing
 pub mod Steps
 pub mod Orders
-use Rattle.std.proofs.Common.{◌≡◌, ℕ, ◌∙◌, ap, sym, List, [], ◌∷◌, ◌++◌, ◌&&◌, Bool, true, false, cond, eqb, subst, refl, inl, inr, append_assoc}
+use Rattle.std.proofs.Common.{◌≡◌, ℕ, ◌∙◌, ap, sym, List, [], ◌∷◌, ◌++◌, ◌&&◌, ◌⊎◌, None, Bool, true, false, cond, eqb, subst, refl, inl, inr, append_assoc}
 use Rattle.std.proofs.lemmas.Bool.{eqb-true, eq-eqb, both_ways, and_parts}
 use Rattle.cq_base.specs.declared.ask.Entry.{Entry}
 use Rattle.cq_base.specs.declared.party.Party.{Party}
 use Rattle.cq_base.specs.declared.party.Party.TheVariants as parties
 use Rattle.cq_base.specs.Relations.{Among, Front, Pairwise}
 use Rattle.cq_chain.specs.Masters.{is_in, is_last}
-use Rattle.cq_chain.specs.Messages.{Message, Fwd, Snap, BeHead}
-use Rattle.cq_chain.specs.Parties.{same, addressed}
+use Rattle.cq_chain.specs.Messages.{Message, Fwd, Snap, BeHead, Adopt, BeTail, Feed}
+use Rattle.cq_chain.specs.Parties.{same, addressed, is_that}
 use Rattle.cq_chain.specs.Servers.{Server, joining}
 use Rattle.cq_world.specs.Laws.{Speaks}
 use Rattle.cq_world.specs.Worlds.{set_at, set_pair}
@@ -43,12 +43,30 @@ Heads line s [] = Unit {0}
 Heads line s (BeHead ∷ ms) = (is_first line s ≡ true) × (reports ms ≡ []) × Heads line s ms
 Heads line s (m ∷ ms) = Heads line s ms
 
+-- what the master may tell a server that is none of the chain
+abbrev pub Harmless : Message → Type 0
+Harmless BeHead = ⊥
+Harmless (Adopt s n) = ⊥
+Harmless (BeTail least) = ⊥
+Harmless (Feed succ) = ⊥
+Harmless m = Unit {0}
+
+-- A server that was never a member, of which nothing makes one: it joins, or has joined too late.
+pub record Bystander (s : Server) (ms : List Message) : Type 0 where
+  pub full : s.full ≡ false
+  pub at_least : s.at_least ≡ None
+  pub head : s.head ≡ false
+  pub succ : s.succ ≡ None
+  pub told : Each Harmless ms
+
 pub record Prefixes (v : Sight) : Type 0 where
   -- the servers of the line are different, and have been used
   pub apart : Pairwise (λ a b. eqb a b ≡ false) (line v.master)
   pub members : (id : ℕ) → is_in (line v.master) id ≡ true → is_in v.master.used id ≡ true
-  -- a server that left the line is down
-  pub away : (id : ℕ) → is_in v.master.used id ≡ true → is_in (line v.master) id ≡ false → (v.server id).down ≡ true
+  -- a server outside the line is down, or was never a member
+  pub away : (id : ℕ) → is_in v.master.used id ≡ true → is_in (line v.master) id ≡ false → ((v.server id).down ≡ true) ⊎ Bystander (v.server id) (v.channel parties.Master (parties.Server id))
+  -- nor was the one that joins
+  pub aside : (id : ℕ) → is_that v.master.joiner id ≡ true → Bystander (v.server id) (v.channel parties.Master (parties.Server id))
   -- a number that wasn't used has a server that joins, to which the master said nothing
   pub fresh : (id : ℕ) → is_in v.master.used id ≡ false → (v.server id ≡ joining) × (v.channel parties.Master (parties.Server id) ≡ [])
   -- what is on its way from a server is of its history
@@ -81,12 +99,19 @@ pub record Turn (v : Sight) (from : Party) (k : ℕ) (rest : List Message) (s : 
   pub climbs : Climbs (set_at v.server k s) k (ups_after v from k rest s)
   pub last : is_first (line v.master) k ≡ false → (p : ℕ) → is_last (ups v k) p ≡ true → is_last (ups_after v from k rest s) p ≡ true
   pub head : s.head ≡ true → is_in (line v.master) k ≡ true → ups_after v from k rest s ≡ []
+  pub aside : Bystander (v.server k) (v.channel parties.Master (parties.Server k)) → Bystander s (master_after v from k rest)
 
 -- what a message says stays so when the history grows
 pub speaks-grows : (xs ys : List Entry) → Front xs ys → (m : Message) → Speaks xs m → Speaks ys m
 speaks-grows xs ys h (Fwd place e) f = (f.0, f.1 ++ h.0, h.1 ∙ ap (λ us. us ++ h.0) f.2 ∙ append_assoc f.0 (e ∷ f.1) h.0, f.3)
 speaks-grows xs ys h (Snap snapshot) f = front-trans snapshot xs ys f h
 speaks-grows xs ys h m f = f
+
+-- what is left for the server is the end of what was there
+pub rest_of : (v : Sight) (from : Party) (k : ℕ) (front rest : List Message) → v.channel from (parties.Server k) ≡ front ++ rest → (us : List Message) × (v.channel parties.Master (parties.Server k) ≡ us ++ master_after v from k rest)
+rest_of v parties.Master k front rest taken = (front, taken)
+rest_of v parties.Clients k front rest taken = ([], refl)
+rest_of v (parties.Server p) k front rest taken = ([], refl)
 
 -- what holds of a list holds of its end
 pub each-end : (P : Message → Type 0) (xs ys : List Message) → Each P (xs ++ ys) → Each P ys
@@ -124,12 +149,12 @@ row_after v from k rest s out j b e = ap (λ c. cond (same parties.Master from &
     and_false false = refl
 
 -- the predecessors of another server are as they were
-ups_other : (v : Sight) (from : Party) (k : ℕ) (rest : List Message) (s : Server) (out : List (Party × Message)) (j : ℕ) → eqb j k ≡ false → ups (turn v from k rest s out) j ≡ ups v j
+pub ups_other : (v : Sight) (from : Party) (k : ℕ) (rest : List Message) (s : Server) (out : List (Party × Message)) (j : ℕ) → eqb j k ≡ false → ups (turn v from k rest s out) j ≡ ups v j
 ups_other v from k rest s out j other = ap (λ b. one (cond b s (v.server j)).pred ++ reports ((turn v from k rest s out).channel parties.Master (parties.Server j))) other
     ∙ ap (λ ms. one (v.server j).pred ++ reports ms) (row_after v from k rest s out j false other)
 
 -- those of the server itself
-ups_own : (v : Sight) (from : Party) (k : ℕ) (rest : List Message) (s : Server) (out : List (Party × Message)) (j : ℕ) → eqb j k ≡ true → ups (turn v from k rest s out) j ≡ ups_after v from k rest s
+pub ups_own : (v : Sight) (from : Party) (k : ℕ) (rest : List Message) (s : Server) (out : List (Party × Message)) (j : ℕ) → eqb j k ≡ true → ups (turn v from k rest s out) j ≡ ups_after v from k rest s
 ups_own v from k rest s out j own = ap (λ b. one (cond b s (v.server j)).pred ++ reports ((turn v from k rest s out).channel parties.Master (parties.Server j))) own
     ∙ ap (λ ms. one s.pred ++ reports ms) (row_after v from k rest s out j true own)
 
@@ -189,11 +214,23 @@ headless_turn v from k rest s out h t id member is_head = go (eqb id k) refl whe
   go true own = ups_own v from k rest s out id own ∙ t.head (sym (ap (λ b. (cond b s (v.server id)).head) own) ∙ is_head) (subst (λ i. is_in (line v.master) i ≡ true) (eqb-true id k own) member)
   go false other = ups_other v from k rest s out id other ∙ h.headless id member (sym (ap (λ b. (cond b s (v.server id)).head) other) ∙ is_head)
 
-away_turn : (v : Sight) (k : ℕ) (s : Server) → Prefixes v → (v.server k).down ≡ false → (id : ℕ) → is_in v.master.used id ≡ true → is_in (line v.master) id ≡ false → (set_at v.server k s id).down ≡ true
-away_turn v k s h lives id used out_of = go (eqb id k) refl where
-  go : (b : Bool) → eqb id k ≡ b → (cond b s (v.server id)).down ≡ true
-  go true own = absurd (both_ways (v.server k).down lives (subst (λ i. (v.server i).down ≡ true) (eqb-true id k own) (h.away id used out_of)))
-  go false other = h.away id used out_of
+-- a bystander stays one
+bystander_turn : (v : Sight) (from : Party) (k : ℕ) (rest : List Message) (s : Server) (out : List (Party × Message)) → Turn v from k rest s out → (id : ℕ) → Bystander (v.server id) (v.channel parties.Master (parties.Server id))
+    → Bystander (set_at v.server k s id) ((turn v from k rest s out).channel parties.Master (parties.Server id))
+bystander_turn v from k rest s out t id b = go (eqb id k) refl where
+  go : (u : Bool) → eqb id k ≡ u → Bystander (cond u s (v.server id)) ((turn v from k rest s out).channel parties.Master (parties.Server id))
+  go true own = subst (λ ms. Bystander s ms) (sym (row_after v from k rest s out id true own)) (t.aside (subst (λ i. Bystander (v.server i) (v.channel parties.Master (parties.Server i))) (eqb-true id k own) b))
+  go false other = subst (λ ms. Bystander (v.server id) ms) (sym (row_after v from k rest s out id false other)) b
+
+away_turn : (v : Sight) (from : Party) (k : ℕ) (rest : List Message) (s : Server) (out : List (Party × Message)) → Prefixes v → Turn v from k rest s out → (id : ℕ) → is_in v.master.used id ≡ true → is_in (line v.master) id ≡ false
+    → ((set_at v.server k s id).down ≡ true) ⊎ Bystander (set_at v.server k s id) ((turn v from k rest s out).channel parties.Master (parties.Server id))
+away_turn v from k rest s out h t id used out_of = elim (h.away id used out_of) [
+  | inl down ↦ inl (still_down down (eqb id k) refl)
+  | inr b ↦ inr (bystander_turn v from k rest s out t id b)
+] where
+  still_down : (v.server id).down ≡ true → (b : Bool) → eqb id k ≡ b → (cond b s (v.server id)).down ≡ true
+  still_down down true own = absurd (both_ways (v.server k).down t.lives (subst (λ i. (v.server i).down ≡ true) (eqb-true id k own) down))
+  still_down down false other = down
 
 fresh_turn : (v : Sight) (from : Party) (k : ℕ) (rest : List Message) (s : Server) (out : List (Party × Message)) → Prefixes v → Turn v from k rest s out → (id : ℕ) → is_in v.master.used id ≡ false → (set_at v.server k s id ≡ joining) × ((turn v from k rest s out).channel parties.Master (parties.Server id) ≡ [])
 fresh_turn v from k rest s out h t id unused =
@@ -210,7 +247,8 @@ pub turn-keeps : (v : Sight) (from : Party) (k : ℕ) (rest : List Message) (s :
 turn-keeps v from k rest s out h t = record {
   apart = h.apart;
   members = h.members;
-  away = away_turn v k s h t.lives;
+  away = away_turn v from k rest s out h t;
+  aside = λ id is. bystander_turn v from k rest s out t id (h.aside id is);
   fresh = fresh_turn v from k rest s out h t;
   speaks = speaks_turn v from k rest s out h t;
   climbs = climbs_turn v from k rest s out h t;

@@ -1,6 +1,6 @@
 -- Worked lists of events, each computed by the definitions to what the rules of the chain give. The results were
 -- worked out by hand.
-use Rattle.std.proofs.Common.{◌≡◌, ℕ, List, [], ◌∷◌, ◌++◌, map, length, Some, true, false, codes, refl}
+use Rattle.std.proofs.Common.{◌≡◌, ℕ, List, [], ◌∷◌, ◌++◌, map, length, Option, None, Some, Bool, true, false, codes, refl}
 use Rattle.cq_base.specs.declared.ask.Ask.{Ask}
 use Rattle.cq_base.specs.declared.ask.Ask.TheVariants.{Create, Send}
 use Rattle.cq_base.specs.declared.party.Party.{Party}
@@ -39,6 +39,9 @@ create = Create name 30 false
 
 abbrev send : Ask
 send = Send name (codes "a") (Some (codes "x")) (codes "x")
+
+abbrev send_more : Ask
+send_more = Send name (codes "a") (Some (codes "y")) (codes "y")
 
 -- the first message from one server to another is put, and taken
 abbrev move : ℕ → ℕ → List Event
@@ -152,9 +155,9 @@ unfolding refused_from after next refusal_of first_world numbers_from refusal_of
 dead_first = refl
 
 -- a server that joins isn't full, so the only full one may not crash, and the other may
-joiner_lost : refused_from 1 (first_world 1) (events.Join 2 ∷ events.Crash 1 ∷ events.Crash 2 ∷ events.Crash 1 ∷ events.Join 3 ∷ events.Detect 2 ∷ []) ≡ (2, LastFull) ∷ (4, LastFull) ∷ (5, JoinPending) ∷ []
+joiner_crashes : refused_from 1 (first_world 1) (events.Join 2 ∷ events.Crash 1 ∷ events.Crash 2 ∷ events.Crash 1 ∷ events.Join 3 ∷ events.Detect 2 ∷ []) ≡ (2, LastFull) ∷ (4, LastFull) ∷ (5, JoinPending) ∷ []
 unfolding refused_from after next refusal_of first_world numbers_from detected joined refusal_of_detection refusal_of_join
-joiner_lost = refl
+joiner_crashes = refl
 
 -- nor may the last one that lives
 last_of_two : refused_from 1 (first_world 2) (events.Crash 1 ∷ events.Crash 2 ∷ []) ≡ (2, LastFull) ∷ []
@@ -178,22 +181,6 @@ middle = arrive 1 0 1 create ∷ arrive 1 0 2 create ∷ arrive 1 0 3 create ∷
 middle_lengths : map (λ a. a.length) (made 3 middle) ≡ 1 ∷ 2 ∷ 3 ∷ []
 unfolding made made_from after next refusal_of first_world numbers_from refusal_of_arrival refusal_of_taking arrived takes forwards detected hears refusal_of_detection reply_to history fact_of fresh_fact is_fresh of_client about live removed_lately creations effect_of effect_off last_moment
 middle_lengths = refl
-
--- ---- a server joins, is told to act before the snapshot comes, and takes that after its sender was detected
-
-abbrev told_first : List Event
-told_first = arrive 1 0 1 create ∷ arrive 1 0 2 send ∷ (move 1 2 ++ (move 1 2 ++ (move 2 1 ++ (move 2 1 ++ (events.Join 3 ∷ (pass Master (Server 3) ++ (pass (Server 3) Master ++ (pass Master (Server 2) ++ (events.Put (Server 2) (Server 3) ∷ (pass (Server 2) Master ++ (events.Crash 2 ∷ events.Detect 2 ∷ (pass Master (Server 3)))))))))))))
-
-abbrev snapshot_after : List Event
-snapshot_after = events.Take (Server 2) (Server 3) ∷ events.Put (Server 3) Clients ∷ (pass (Server 3) Master ++ (pass Master (Server 3) ++ (pass (Server 3) Master ++ (pass Master (Server 1) ++ (events.Put (Server 1) (Server 3) ∷ arrive 1 0 3 create ∷ (move 1 3))))))
-
-joining_refused : refused_from 1 (first_world 2) (told_first ++ snapshot_after) ≡ (26, OutboxEmpty) ∷ (35, OutboxEmpty) ∷ []
-unfolding refused_from after next refusal_of first_world numbers_from refusal_of_arrival refusal_of_taking arrived takes forwards detected joined hears refusal_of_detection refusal_of_join last_moment
-joining_refused = refl
-
-joining_lengths : map (λ a. a.length) (made 2 (told_first ++ snapshot_after)) ≡ 1 ∷ 2 ∷ 3 ∷ []
-unfolding made made_from after next refusal_of first_world numbers_from refusal_of_arrival refusal_of_taking arrived takes forwards detected joined hears refusal_of_detection refusal_of_join reply_to history fact_of fresh_fact is_fresh of_client about live removed_lately creations effect_of effect_off last_moment
-joining_lengths = refl
 
 -- ---- the middle one of three is lost, with an entry in its outbox and two on the way
 
@@ -223,33 +210,275 @@ repaired_waiting : found (world_after (first_world 3) repaired) ≡ (1, 0, 2, 1)
 unfolding world_after after next refusal_of first_world numbers_from refusal_of_arrival refusal_of_query refusal_of_taking refusal_of_detection refusal_of_join arrived asked takes forwards detected joined hears reply_to history fact_of fresh_fact is_fresh of_client about on live removed_lately creations effect_of effect_on effect_off last_moment messages duplicate standing message_of hands touches until is_deleted
 repaired_waiting = refl
 
--- ---- a server joins, and the one that feeds it is lost
+-- ---- a server joins: the last member feeds it its state while it still acts
 
+-- What the master knows: the members, whether the last one is told and is ready, and which server joins. Then of each of
+-- these servers whether it acts, whether it is full, and how many entries it has.
+abbrev seen : List ℕ → World → (List ℕ × Bool × Bool × Option ℕ) × List (Bool × Bool × ℕ)
+seen ids w = ((w.master.chain, w.master.told, w.master.ready, w.master.joiner), map (λ id. (acts (w.server id), (w.server id).full, length (w.server id).entries)) ids)
+
+-- how many messages wait in an outbox, and how many stand in the link
+abbrev waiting : Party → Party → World → ℕ × ℕ
+waiting from to w = (length (w.outbox from to), length (w.link from to))
+
+-- server 2 has two entries, and feeds server 3
 abbrev fed : List Event
-fed = arrive 1 0 1 create ∷ (move 1 2 ++ (move 2 1 ++ (events.Join 3 ∷ (pass Master (Server 3) ++ (pass (Server 3) Master ++ pass Master (Server 2))))))
+fed = arrive 1 0 1 create ∷ move 1 2 ++ (move 2 1 ++ (arrive 1 0 2 send ∷ move 1 2 ++ (move 2 1 ++ (events.Join 3 ∷ pass Master (Server 3) ++ (pass (Server 3) Master ++ (pass Master (Server 2)))))))
 
+fed_seen : seen (2 ∷ 3 ∷ []) (world_after (first_world 2) fed) ≡ ((1 ∷ 2 ∷ [], true, true, Some 3), (true, true, 2) ∷ (false, false, 0) ∷ [])
+unfolding world_after after next refusal_of first_world numbers_from refusal_of_arrival refusal_of_query refusal_of_taking refusal_of_detection refusal_of_join arrived asked takes forwards detected joined hears counts_after reply_to reply_again is_stale kept_reply history fact_of fresh_fact is_fresh of_client about on live removed_lately creations effect_of effect_on effect_off last_moment messages duplicate standing message_of hands touches until is_deleted
+fed_seen = refl
+
+fed_waiting : waiting (Server 2) (Server 3) (world_after (first_world 2) fed) ≡ (1, 0)
+unfolding world_after after next refusal_of first_world numbers_from refusal_of_arrival refusal_of_query refusal_of_taking refusal_of_detection refusal_of_join arrived asked takes forwards detected joined hears counts_after reply_to reply_again is_stale kept_reply history fact_of fresh_fact is_fresh of_client about on live removed_lately creations effect_of effect_on effect_off last_moment messages duplicate standing message_of hands touches until is_deleted
+fed_waiting = refl
+
+-- server 2 is lost: server 1 has all, and acts alone; the server that joined behind it is dropped
 abbrev feeder_lost : List Event
-feeder_lost = fed ++ (events.Put (Server 2) Master ∷ events.Crash 2 ∷ events.Take (Server 2) Master ∷ (pass Master (Server 3) ++ (events.Crash 1 ∷ events.Detect 2 ∷ (pass Master (Server 3) ++ (pass (Server 3) Master ++ pass Master (Server 1))))))
+feeder_lost = fed ++ (events.Crash 2 ∷ events.Crash 1 ∷ events.Detect 2 ∷ pass Master (Server 1) ++ (count_at 1 ∷ []))
 
-fed_acting : acts ((world_after (first_world 2) fed).server 2) ≡ false
-unfolding world_after after next refusal_of first_world numbers_from refusal_of_arrival refusal_of_query refusal_of_taking refusal_of_detection refusal_of_join arrived asked takes forwards detected joined hears reply_to history fact_of fresh_fact is_fresh of_client about on live removed_lately creations effect_of effect_on effect_off last_moment messages duplicate standing message_of hands touches until is_deleted
-fed_acting = refl
+feeder_lost_seen : seen (1 ∷ 3 ∷ []) (world_after (first_world 2) feeder_lost) ≡ ((1 ∷ [], true, false, None), (true, true, 2) ∷ (false, false, 0) ∷ [])
+unfolding world_after after next refusal_of first_world numbers_from refusal_of_arrival refusal_of_query refusal_of_taking refusal_of_detection refusal_of_join arrived asked takes forwards detected joined hears counts_after reply_to reply_again is_stale kept_reply history fact_of fresh_fact is_fresh of_client about on live removed_lately creations effect_of effect_on effect_off last_moment messages duplicate standing message_of hands touches until is_deleted
+feeder_lost_seen = refl
 
-feeder_waiting : acts ((world_after (first_world 2) feeder_lost).server 3) ≡ false
-unfolding world_after after next refusal_of first_world numbers_from refusal_of_arrival refusal_of_query refusal_of_taking refusal_of_detection refusal_of_join arrived asked takes forwards detected joined hears reply_to history fact_of fresh_fact is_fresh of_client about on live removed_lately creations effect_of effect_on effect_off last_moment messages duplicate standing message_of hands touches until is_deleted
-feeder_waiting = refl
+abbrev joined_again : List Event
+joined_again = feeder_lost ++ (pass (Server 1) Master ++ (events.Join 3 ∷ events.Join 4 ∷ []))
 
-joined_acting : acts ((world_after (first_world 2) (feeder_lost ++ move 1 3)).server 3) ≡ true
-unfolding world_after after next refusal_of first_world numbers_from refusal_of_arrival refusal_of_query refusal_of_taking refusal_of_detection refusal_of_join arrived asked takes forwards detected joined hears reply_to history fact_of fresh_fact is_fresh of_client about on live removed_lately creations effect_of effect_on effect_off last_moment messages duplicate standing message_of hands touches until is_deleted
-joined_acting = refl
+feeder_lost_refused : refused_from 1 (first_world 2) joined_again ≡ (19, LastFull) ∷ (26, IdUsed) ∷ []
+unfolding refused_from world_after after next refusal_of first_world numbers_from refusal_of_arrival refusal_of_query refusal_of_taking refusal_of_detection refusal_of_join arrived asked takes forwards detected joined hears counts_after reply_to reply_again is_stale kept_reply history fact_of fresh_fact is_fresh of_client about on live removed_lately creations effect_of effect_on effect_off last_moment messages duplicate standing message_of hands touches until is_deleted
+feeder_lost_refused = refl
 
-joined_ready : (world_after (first_world 2) (feeder_lost ++ (move 1 3 ++ (pass (Server 1) Master ++ pass (Server 3) Master)))).master.ready ≡ true
-unfolding world_after after next refusal_of first_world numbers_from refusal_of_arrival refusal_of_query refusal_of_taking refusal_of_detection refusal_of_join arrived asked takes forwards detected joined hears reply_to history fact_of fresh_fact is_fresh of_client about on live removed_lately creations effect_of effect_on effect_off last_moment messages duplicate standing message_of hands touches until is_deleted
-joined_ready = refl
+joined_again_seen : seen (1 ∷ 4 ∷ []) (world_after (first_world 2) joined_again) ≡ ((1 ∷ [], true, true, Some 4), (true, true, 2) ∷ (false, false, 0) ∷ [])
+unfolding world_after after next refusal_of first_world numbers_from refusal_of_arrival refusal_of_query refusal_of_taking refusal_of_detection refusal_of_join arrived asked takes forwards detected joined hears counts_after reply_to reply_again is_stale kept_reply history fact_of fresh_fact is_fresh of_client about on live removed_lately creations effect_of effect_on effect_off last_moment messages duplicate standing message_of hands touches until is_deleted
+joined_again_seen = refl
 
-joined_answers : map (λ a. a.length) (made 2 (feeder_lost ++ (move 1 3 ++ (count_at 3 ∷ [])))) ≡ 1 ∷ 1 ∷ []
-unfolding made made_from after next refusal_of first_world numbers_from counts_after refusal_of_arrival refusal_of_query refusal_of_taking refusal_of_detection refusal_of_join arrived asked takes forwards detected joined hears reply_to history fact_of fresh_fact is_fresh of_client about on live removed_lately creations effect_of effect_on effect_off last_moment messages duplicate standing message_of hands touches until is_deleted
-joined_answers = refl
+-- The state is taken, and the old tail answers one entry more.
+abbrev more_sent : List Event
+more_sent = fed ++ (move 2 3 ++ (arrive 1 0 3 send_more ∷ move 1 2 ++ (events.Put (Server 2) Clients ∷ events.Put (Server 2) Clients ∷ events.Put (Server 2) Clients ∷ [])))
+
+more_sent_seen : seen (2 ∷ 3 ∷ []) (world_after (first_world 2) more_sent) ≡ ((1 ∷ 2 ∷ [], true, true, Some 3), (true, true, 3) ∷ (false, false, 2) ∷ [])
+unfolding world_after after next refusal_of first_world numbers_from refusal_of_arrival refusal_of_query refusal_of_taking refusal_of_detection refusal_of_join arrived asked takes forwards detected joined hears counts_after reply_to reply_again is_stale kept_reply history fact_of fresh_fact is_fresh of_client about on live removed_lately creations effect_of effect_on effect_off last_moment messages duplicate standing message_of hands touches until is_deleted
+more_sent_seen = refl
+
+more_sent_waiting : waiting (Server 3) Master (world_after (first_world 2) more_sent) ≡ (1, 0)
+unfolding world_after after next refusal_of first_world numbers_from refusal_of_arrival refusal_of_query refusal_of_taking refusal_of_detection refusal_of_join arrived asked takes forwards detected joined hears counts_after reply_to reply_again is_stale kept_reply history fact_of fresh_fact is_fresh of_client about on live removed_lately creations effect_of effect_on effect_off last_moment messages duplicate standing message_of hands touches until is_deleted
+more_sent_waiting = refl
+
+-- The new one is a member, and the old tail acts until it is told.
+abbrev member : List Event
+member = more_sent ++ pass (Server 3) Master
+
+member_seen : seen (2 ∷ 3 ∷ []) (world_after (first_world 2) member) ≡ ((1 ∷ 2 ∷ 3 ∷ [], false, false, None), (true, true, 3) ∷ (false, false, 2) ∷ [])
+unfolding world_after after next refusal_of first_world numbers_from refusal_of_arrival refusal_of_query refusal_of_taking refusal_of_detection refusal_of_join arrived asked takes forwards detected joined hears counts_after reply_to reply_again is_stale kept_reply history fact_of fresh_fact is_fresh of_client about on live removed_lately creations effect_of effect_on effect_off last_moment messages duplicate standing message_of hands touches until is_deleted
+member_seen = refl
+
+-- It is told, and sends nothing twice.
+abbrev handing_over : List Event
+handing_over = member ++ pass Master (Server 2)
+
+handing_over_seen : seen (2 ∷ 3 ∷ []) (world_after (first_world 2) handing_over) ≡ ((1 ∷ 2 ∷ 3 ∷ [], false, false, None), (false, true, 3) ∷ (false, false, 2) ∷ [])
+unfolding world_after after next refusal_of first_world numbers_from refusal_of_arrival refusal_of_query refusal_of_taking refusal_of_detection refusal_of_join arrived asked takes forwards detected joined hears counts_after reply_to reply_again is_stale kept_reply history fact_of fresh_fact is_fresh of_client about on live removed_lately creations effect_of effect_on effect_off last_moment messages duplicate standing message_of hands touches until is_deleted
+handing_over_seen = refl
+
+handing_over_waiting : waiting (Server 2) (Server 3) (world_after (first_world 2) handing_over) ≡ (1, 0)
+unfolding world_after after next refusal_of first_world numbers_from refusal_of_arrival refusal_of_query refusal_of_taking refusal_of_detection refusal_of_join arrived asked takes forwards detected joined hears counts_after reply_to reply_again is_stale kept_reply history fact_of fresh_fact is_fresh of_client about on live removed_lately creations effect_of effect_on effect_off last_moment messages duplicate standing message_of hands touches until is_deleted
+handing_over_waiting = refl
+
+-- The new tail is told to act with three entries, and has two.
+abbrev new_tail_told : List Event
+new_tail_told = handing_over ++ (count_at 2 ∷ pass (Server 2) Master ++ (pass Master (Server 3) ++ (count_at 3 ∷ [])))
+
+new_tail_told_seen : seen (2 ∷ 3 ∷ []) (world_after (first_world 2) new_tail_told) ≡ ((1 ∷ 2 ∷ 3 ∷ [], true, false, None), (false, true, 3) ∷ (false, false, 2) ∷ [])
+unfolding world_after after next refusal_of first_world numbers_from refusal_of_arrival refusal_of_query refusal_of_taking refusal_of_detection refusal_of_join arrived asked takes forwards detected joined hears counts_after reply_to reply_again is_stale kept_reply history fact_of fresh_fact is_fresh of_client about on live removed_lately creations effect_of effect_on effect_off last_moment messages duplicate standing message_of hands touches until is_deleted
+new_tail_told_seen = refl
+
+abbrev handed_over : List Event
+handed_over = new_tail_told ++ (move 2 3 ++ (count_at 3 ∷ events.Put (Server 3) Clients ∷ events.Put (Server 3) Clients ∷ []))
+
+handed_over_seen : seen (2 ∷ 3 ∷ []) (world_after (first_world 2) handed_over) ≡ ((1 ∷ 2 ∷ 3 ∷ [], true, false, None), (false, true, 3) ∷ (true, true, 3) ∷ [])
+unfolding world_after after next refusal_of first_world numbers_from refusal_of_arrival refusal_of_query refusal_of_taking refusal_of_detection refusal_of_join arrived asked takes forwards detected joined hears counts_after reply_to reply_again is_stale kept_reply history fact_of fresh_fact is_fresh of_client about on live removed_lately creations effect_of effect_on effect_off last_moment messages duplicate standing message_of hands touches until is_deleted
+handed_over_seen = refl
+
+abbrev handed_over_ready : List Event
+handed_over_ready = handed_over ++ (pass (Server 3) Master ++ (events.Join 4 ∷ []))
+
+handed_over_ready_seen : seen (3 ∷ []) (world_after (first_world 2) handed_over_ready) ≡ ((1 ∷ 2 ∷ 3 ∷ [], true, true, Some 4), (true, true, 3) ∷ [])
+unfolding world_after after next refusal_of first_world numbers_from refusal_of_arrival refusal_of_query refusal_of_taking refusal_of_detection refusal_of_join arrived asked takes forwards detected joined hears counts_after reply_to reply_again is_stale kept_reply history fact_of fresh_fact is_fresh of_client about on live removed_lately creations effect_of effect_on effect_off last_moment messages duplicate standing message_of hands touches until is_deleted
+handed_over_ready_seen = refl
+
+handed_over_refused : refused_from 1 (first_world 2) handed_over_ready ≡ (30, NotTail) ∷ (35, NotTail) ∷ []
+unfolding refused_from world_after after next refusal_of first_world numbers_from refusal_of_arrival refusal_of_query refusal_of_taking refusal_of_detection refusal_of_join arrived asked takes forwards detected joined hears counts_after reply_to reply_again is_stale kept_reply history fact_of fresh_fact is_fresh of_client about on live removed_lately creations effect_of effect_on effect_off last_moment messages duplicate standing message_of hands touches until is_deleted
+handed_over_refused = refl
+
+handed_over_given : map {B = ℕ × ℕ} (λ g. (g.0, g.1.length)) (given_from 1 (first_world 2) handed_over) ≡ (23, 1) ∷ (24, 2) ∷ (25, 3) ∷ (39, 3) ∷ (40, 3) ∷ []
+unfolding given_from given_by world_after after next refusal_of first_world numbers_from refusal_of_arrival refusal_of_query refusal_of_taking refusal_of_detection refusal_of_join arrived asked takes forwards detected joined hears counts_after reply_to reply_again is_stale kept_reply history fact_of fresh_fact is_fresh of_client about on live removed_lately creations effect_of effect_on effect_off last_moment messages duplicate standing message_of hands touches until is_deleted
+handed_over_given = refl
+
+handed_over_replies : map (λ g. g.1.reply) (given_from 1 (first_world 2) handed_over) ≡ Created 1 ∷ Sent 1 ∷ Sent 2 ∷ Sent 2 ∷ Counts 2 0 ∷ []
+unfolding given_from given_by world_after after next refusal_of first_world numbers_from refusal_of_arrival refusal_of_query refusal_of_taking refusal_of_detection refusal_of_join arrived asked takes forwards detected joined hears counts_after reply_to reply_again is_stale kept_reply history fact_of fresh_fact is_fresh of_client about on live removed_lately creations effect_of effect_on effect_off last_moment messages duplicate standing message_of hands touches until is_deleted
+handed_over_replies = refl
+
+-- ---- the old tail is lost when the new one is a member and lacks an entry
+
+abbrev lacking : List Event
+lacking = fed ++ (move 2 3 ++ (arrive 1 0 3 send_more ∷ move 1 2 ++ (move 2 1 ++ (pass (Server 3) Master))))
+
+lacking_waiting : waiting (Server 2) (Server 3) (world_after (first_world 2) lacking) ≡ (1, 0)
+unfolding world_after after next refusal_of first_world numbers_from refusal_of_arrival refusal_of_query refusal_of_taking refusal_of_detection refusal_of_join arrived asked takes forwards detected joined hears counts_after reply_to reply_again is_stale kept_reply history fact_of fresh_fact is_fresh of_client about on live removed_lately creations effect_of effect_on effect_off last_moment messages duplicate standing message_of hands touches until is_deleted
+lacking_waiting = refl
+
+lacking_kept : kept ((world_after (first_world 2) lacking).server 1) ≡ 0
+unfolding world_after after next refusal_of first_world numbers_from refusal_of_arrival refusal_of_query refusal_of_taking refusal_of_detection refusal_of_join arrived asked takes forwards detected joined hears counts_after reply_to reply_again is_stale kept_reply history fact_of fresh_fact is_fresh of_client about on live removed_lately creations effect_of effect_on effect_off last_moment messages duplicate standing message_of hands touches until is_deleted
+lacking_kept = refl
+
+-- Server 1 keeps no entries any more, so it sends its whole state.
+abbrev told_anew : List Event
+told_anew = lacking ++ (events.Crash 2 ∷ events.Crash 1 ∷ events.Put (Server 2) (Server 3) ∷ events.Detect 2 ∷ pass Master (Server 3) ++ (pass (Server 3) Master ++ (pass Master (Server 1))))
+
+told_anew_seen : seen (1 ∷ 3 ∷ []) (world_after (first_world 2) told_anew) ≡ ((1 ∷ 3 ∷ [], false, false, None), (false, true, 3) ∷ (false, false, 2) ∷ [])
+unfolding world_after after next refusal_of first_world numbers_from refusal_of_arrival refusal_of_query refusal_of_taking refusal_of_detection refusal_of_join arrived asked takes forwards detected joined hears counts_after reply_to reply_again is_stale kept_reply history fact_of fresh_fact is_fresh of_client about on live removed_lately creations effect_of effect_on effect_off last_moment messages duplicate standing message_of hands touches until is_deleted
+told_anew_seen = refl
+
+told_anew_waiting : waiting (Server 1) (Server 3) (world_after (first_world 2) told_anew) ≡ (1, 0)
+unfolding world_after after next refusal_of first_world numbers_from refusal_of_arrival refusal_of_query refusal_of_taking refusal_of_detection refusal_of_join arrived asked takes forwards detected joined hears counts_after reply_to reply_again is_stale kept_reply history fact_of fresh_fact is_fresh of_client about on live removed_lately creations effect_of effect_on effect_off last_moment messages duplicate standing message_of hands touches until is_deleted
+told_anew_waiting = refl
+
+-- A member that takes a snapshot tells the master, and nothing changes there.
+abbrev snapshot_taken : List Event
+snapshot_taken = told_anew ++ (count_at 1 ∷ count_at 3 ∷ move 1 3 ++ (count_at 3 ∷ pass (Server 3) Master))
+
+snapshot_taken_seen : seen (1 ∷ 3 ∷ []) (world_after (first_world 2) snapshot_taken) ≡ ((1 ∷ 3 ∷ [], false, false, None), (false, true, 3) ∷ (false, false, 3) ∷ [])
+unfolding world_after after next refusal_of first_world numbers_from refusal_of_arrival refusal_of_query refusal_of_taking refusal_of_detection refusal_of_join arrived asked takes forwards detected joined hears counts_after reply_to reply_again is_stale kept_reply history fact_of fresh_fact is_fresh of_client about on live removed_lately creations effect_of effect_on effect_off last_moment messages duplicate standing message_of hands touches until is_deleted
+snapshot_taken_seen = refl
+
+-- What came in a snapshot is answered where the client asks again.
+abbrev repaired_fully : List Event
+repaired_fully = snapshot_taken ++ (pass (Server 1) Master ++ (pass Master (Server 3) ++ (events.Put (Server 3) Clients ∷ count_at 3 ∷ events.Put (Server 3) Clients ∷ events.Join 4 ∷ pass (Server 3) Master ++ (arrive 1 0 3 send_more ∷ move 1 3 ++ (events.Put (Server 3) Clients ∷ events.Join 4 ∷ [])))))
+
+repaired_fully_seen : seen (1 ∷ 3 ∷ []) (world_after (first_world 2) repaired_fully) ≡ ((1 ∷ 3 ∷ [], true, true, Some 4), (false, true, 4) ∷ (true, true, 4) ∷ [])
+unfolding world_after after next refusal_of first_world numbers_from refusal_of_arrival refusal_of_query refusal_of_taking refusal_of_detection refusal_of_join arrived asked takes forwards detected joined hears counts_after reply_to reply_again is_stale kept_reply history fact_of fresh_fact is_fresh of_client about on live removed_lately creations effect_of effect_on effect_off last_moment messages duplicate standing message_of hands touches until is_deleted
+repaired_fully_seen = refl
+
+repaired_fully_refused : refused_from 1 (first_world 2) repaired_fully ≡ (28, LastFull) ∷ (29, ServerDown) ∷ (37, NotTail) ∷ (38, NotTail) ∷ (41, NotTail) ∷ (48, OutboxEmpty) ∷ (51, JoinPending) ∷ []
+unfolding refused_from world_after after next refusal_of first_world numbers_from refusal_of_arrival refusal_of_query refusal_of_taking refusal_of_detection refusal_of_join arrived asked takes forwards detected joined hears counts_after reply_to reply_again is_stale kept_reply history fact_of fresh_fact is_fresh of_client about on live removed_lately creations effect_of effect_on effect_off last_moment messages duplicate standing message_of hands touches until is_deleted
+repaired_fully_refused = refl
+
+repaired_fully_given : map {B = ℕ × ℕ} (λ g. (g.0, g.1.length)) (given_from 1 (first_world 2) repaired_fully) ≡ (50, 3) ∷ (57, 4) ∷ []
+unfolding given_from given_by world_after after next refusal_of first_world numbers_from refusal_of_arrival refusal_of_query refusal_of_taking refusal_of_detection refusal_of_join arrived asked takes forwards detected joined hears counts_after reply_to reply_again is_stale kept_reply history fact_of fresh_fact is_fresh of_client about on live removed_lately creations effect_of effect_on effect_off last_moment messages duplicate standing message_of hands touches until is_deleted
+repaired_fully_given = refl
+
+repaired_fully_replies : map (λ g. g.1.reply) (given_from 1 (first_world 2) repaired_fully) ≡ Counts 2 0 ∷ Sent 2 ∷ []
+unfolding given_from given_by world_after after next refusal_of first_world numbers_from refusal_of_arrival refusal_of_query refusal_of_taking refusal_of_detection refusal_of_join arrived asked takes forwards detected joined hears counts_after reply_to reply_again is_stale kept_reply history fact_of fresh_fact is_fresh of_client about on live removed_lately creations effect_of effect_on effect_off last_moment messages duplicate standing message_of hands touches until is_deleted
+repaired_fully_replies = refl
+
+-- the same, where the new tail is told to act before the snapshot comes
+abbrev told_first : List Event
+told_first = lacking ++ (events.Crash 2 ∷ events.Detect 2 ∷ pass Master (Server 3) ++ (pass (Server 3) Master ++ (pass Master (Server 1) ++ (pass (Server 1) Master ++ (pass Master (Server 3) ++ (count_at 3 ∷ []))))))
+
+told_first_waits : ((world_after (first_world 2) told_first).server 3).at_least ≡ Some 3
+unfolding world_after after next refusal_of first_world numbers_from refusal_of_arrival refusal_of_query refusal_of_taking refusal_of_detection refusal_of_join arrived asked takes forwards detected joined hears counts_after reply_to reply_again is_stale kept_reply history fact_of fresh_fact is_fresh of_client about on live removed_lately creations effect_of effect_on effect_off last_moment messages duplicate standing message_of hands touches until is_deleted
+told_first_waits = refl
+
+-- It tells the master that it is ready, and nothing else.
+abbrev snapshot_after : List Event
+snapshot_after = told_first ++ (move 1 3 ++ (count_at 3 ∷ events.Put (Server 3) Clients ∷ pass (Server 3) Master ++ (events.Put (Server 3) Master ∷ [])))
+
+snapshot_after_seen : seen (1 ∷ 3 ∷ []) (world_after (first_world 2) snapshot_after) ≡ ((1 ∷ 3 ∷ [], true, true, None), (false, true, 3) ∷ (true, true, 3) ∷ [])
+unfolding world_after after next refusal_of first_world numbers_from refusal_of_arrival refusal_of_query refusal_of_taking refusal_of_detection refusal_of_join arrived asked takes forwards detected joined hears counts_after reply_to reply_again is_stale kept_reply history fact_of fresh_fact is_fresh of_client about on live removed_lately creations effect_of effect_on effect_off last_moment messages duplicate standing message_of hands touches until is_deleted
+snapshot_after_seen = refl
+
+snapshot_after_refused : refused_from 1 (first_world 2) snapshot_after ≡ (39, NotTail) ∷ (46, OutboxEmpty) ∷ []
+unfolding refused_from world_after after next refusal_of first_world numbers_from refusal_of_arrival refusal_of_query refusal_of_taking refusal_of_detection refusal_of_join arrived asked takes forwards detected joined hears counts_after reply_to reply_again is_stale kept_reply history fact_of fresh_fact is_fresh of_client about on live removed_lately creations effect_of effect_on effect_off last_moment messages duplicate standing message_of hands touches until is_deleted
+snapshot_after_refused = refl
+
+snapshot_after_given : map {B = ℕ × ℕ} (λ g. (g.0, g.1.length)) (given_from 1 (first_world 2) snapshot_after) ≡ (43, 3) ∷ []
+unfolding given_from given_by world_after after next refusal_of first_world numbers_from refusal_of_arrival refusal_of_query refusal_of_taking refusal_of_detection refusal_of_join arrived asked takes forwards detected joined hears counts_after reply_to reply_again is_stale kept_reply history fact_of fresh_fact is_fresh of_client about on live removed_lately creations effect_of effect_on effect_off last_moment messages duplicate standing message_of hands touches until is_deleted
+snapshot_after_given = refl
+
+-- ---- the last member is lost before the master hears that the new one has its state
+
+-- It lives, and is no member for good.
+abbrev left_behind : List Event
+left_behind = fed ++ (move 2 3 ++ (events.Put (Server 3) Master ∷ events.Crash 2 ∷ events.Detect 2 ∷ events.Take (Server 3) Master ∷ []))
+
+left_behind_seen : seen (1 ∷ 3 ∷ []) (world_after (first_world 2) left_behind) ≡ ((1 ∷ [], true, false, None), (false, true, 2) ∷ (false, false, 2) ∷ [])
+unfolding world_after after next refusal_of first_world numbers_from refusal_of_arrival refusal_of_query refusal_of_taking refusal_of_detection refusal_of_join arrived asked takes forwards detected joined hears counts_after reply_to reply_again is_stale kept_reply history fact_of fresh_fact is_fresh of_client about on live removed_lately creations effect_of effect_on effect_off last_moment messages duplicate standing message_of hands touches until is_deleted
+left_behind_seen = refl
+
+abbrev joined_instead : List Event
+joined_instead = left_behind ++ (events.Crash 3 ∷ events.Detect 3 ∷ pass Master (Server 1) ++ (pass (Server 1) Master ++ (events.Join 4 ∷ pass Master (Server 4) ++ (pass (Server 4) Master ++ (pass Master (Server 1) ++ (move 1 4 ++ (pass (Server 4) Master ++ (pass Master (Server 1) ++ (pass (Server 1) Master ++ (pass Master (Server 4) ++ (pass (Server 4) Master ++ (count_at 4 ∷ events.Put (Server 4) Clients ∷ []))))))))))))
+
+joined_instead_given : map {B = ℕ × ℕ} (λ g. (g.0, g.1.length)) (given_from 1 (first_world 2) joined_instead) ≡ (50, 2) ∷ []
+unfolding given_from given_by world_after after next refusal_of first_world numbers_from refusal_of_arrival refusal_of_query refusal_of_taking refusal_of_detection refusal_of_join arrived asked takes forwards detected joined hears counts_after reply_to reply_again is_stale kept_reply history fact_of fresh_fact is_fresh of_client about on live removed_lately creations effect_of effect_on effect_off last_moment messages duplicate standing message_of hands touches until is_deleted
+joined_instead_given = refl
+
+joined_instead_refused : refused_from 1 (first_world 2) joined_instead ≡ (25, NoSuchServer) ∷ []
+unfolding refused_from world_after after next refusal_of first_world numbers_from refusal_of_arrival refusal_of_query refusal_of_taking refusal_of_detection refusal_of_join arrived asked takes forwards detected joined hears counts_after reply_to reply_again is_stale kept_reply history fact_of fresh_fact is_fresh of_client about on live removed_lately creations effect_of effect_on effect_off last_moment messages duplicate standing message_of hands touches until is_deleted
+joined_instead_refused = refl
+
+joined_instead_seen : seen (1 ∷ 4 ∷ []) (world_after (first_world 2) joined_instead) ≡ ((1 ∷ 4 ∷ [], true, true, None), (false, true, 2) ∷ (true, true, 2) ∷ [])
+unfolding world_after after next refusal_of first_world numbers_from refusal_of_arrival refusal_of_query refusal_of_taking refusal_of_detection refusal_of_join arrived asked takes forwards detected joined hears counts_after reply_to reply_again is_stale kept_reply history fact_of fresh_fact is_fresh of_client about on live removed_lately creations effect_of effect_on effect_off last_moment messages duplicate standing message_of hands touches until is_deleted
+joined_instead_seen = refl
+
+-- ---- the one that joins is lost, and the last member goes on
+
+abbrev joiner_lost : List Event
+joiner_lost = fed ++ (events.Crash 3 ∷ count_at 2 ∷ events.Put (Server 2) Clients ∷ events.Detect 3 ∷ events.Detect 3 ∷ events.Join 4 ∷ [])
+
+joiner_lost_seen : seen (2 ∷ []) (world_after (first_world 2) joiner_lost) ≡ ((1 ∷ 2 ∷ [], true, true, Some 4), (true, true, 2) ∷ [])
+unfolding world_after after next refusal_of first_world numbers_from refusal_of_arrival refusal_of_query refusal_of_taking refusal_of_detection refusal_of_join arrived asked takes forwards detected joined hears counts_after reply_to reply_again is_stale kept_reply history fact_of fresh_fact is_fresh of_client about on live removed_lately creations effect_of effect_on effect_off last_moment messages duplicate standing message_of hands touches until is_deleted
+joiner_lost_seen = refl
+
+joiner_lost_said : waiting Master (Server 2) (world_after (first_world 2) joiner_lost) ≡ (1, 0)
+unfolding world_after after next refusal_of first_world numbers_from refusal_of_arrival refusal_of_query refusal_of_taking refusal_of_detection refusal_of_join arrived asked takes forwards detected joined hears counts_after reply_to reply_again is_stale kept_reply history fact_of fresh_fact is_fresh of_client about on live removed_lately creations effect_of effect_on effect_off last_moment messages duplicate standing message_of hands touches until is_deleted
+joiner_lost_said = refl
+
+-- It feeds nobody any more, before it feeds the next one.
+abbrev feeds_nobody : List Event
+feeds_nobody = joiner_lost ++ (pass Master (Server 2) ++ (arrive 1 0 3 send_more ∷ move 1 2))
+
+feeds_nobody_old : waiting (Server 2) (Server 3) (world_after (first_world 2) feeds_nobody) ≡ (1, 0)
+unfolding world_after after next refusal_of first_world numbers_from refusal_of_arrival refusal_of_query refusal_of_taking refusal_of_detection refusal_of_join arrived asked takes forwards detected joined hears counts_after reply_to reply_again is_stale kept_reply history fact_of fresh_fact is_fresh of_client about on live removed_lately creations effect_of effect_on effect_off last_moment messages duplicate standing message_of hands touches until is_deleted
+feeds_nobody_old = refl
+
+feeds_nobody_new : waiting (Server 2) (Server 4) (world_after (first_world 2) feeds_nobody) ≡ (0, 0)
+unfolding world_after after next refusal_of first_world numbers_from refusal_of_arrival refusal_of_query refusal_of_taking refusal_of_detection refusal_of_join arrived asked takes forwards detected joined hears counts_after reply_to reply_again is_stale kept_reply history fact_of fresh_fact is_fresh of_client about on live removed_lately creations effect_of effect_on effect_off last_moment messages duplicate standing message_of hands touches until is_deleted
+feeds_nobody_new = refl
+
+abbrev next_joined : List Event
+next_joined = feeds_nobody ++ (count_at 2 ∷ pass Master (Server 4) ++ (pass (Server 4) Master ++ (pass Master (Server 2) ++ (move 2 4 ++ (pass (Server 4) Master ++ (pass Master (Server 2) ++ (pass (Server 2) Master ++ (pass Master (Server 4) ++ (pass (Server 4) Master ++ (count_at 4 ∷ events.Put (Server 4) Clients ∷ events.Put (Server 2) (Server 3) ∷ []))))))))))
+
+next_joined_seen : seen (2 ∷ 4 ∷ []) (world_after (first_world 2) next_joined) ≡ ((1 ∷ 2 ∷ 4 ∷ [], true, true, None), (false, true, 3) ∷ (true, true, 3) ∷ [])
+unfolding world_after after next refusal_of first_world numbers_from refusal_of_arrival refusal_of_query refusal_of_taking refusal_of_detection refusal_of_join arrived asked takes forwards detected joined hears counts_after reply_to reply_again is_stale kept_reply history fact_of fresh_fact is_fresh of_client about on live removed_lately creations effect_of effect_on effect_off last_moment messages duplicate standing message_of hands touches until is_deleted
+next_joined_seen = refl
+
+next_joined_refused : refused_from 1 (first_world 2) next_joined ≡ (22, NoSuchServer) ∷ []
+unfolding refused_from world_after after next refusal_of first_world numbers_from refusal_of_arrival refusal_of_query refusal_of_taking refusal_of_detection refusal_of_join arrived asked takes forwards detected joined hears counts_after reply_to reply_again is_stale kept_reply history fact_of fresh_fact is_fresh of_client about on live removed_lately creations effect_of effect_on effect_off last_moment messages duplicate standing message_of hands touches until is_deleted
+next_joined_refused = refl
+
+next_joined_given : map {B = ℕ × ℕ} (λ g. (g.0, g.1.length)) (given_from 1 (first_world 2) next_joined) ≡ (20, 1) ∷ (49, 3) ∷ []
+unfolding given_from given_by world_after after next refusal_of first_world numbers_from refusal_of_arrival refusal_of_query refusal_of_taking refusal_of_detection refusal_of_join arrived asked takes forwards detected joined hears counts_after reply_to reply_again is_stale kept_reply history fact_of fresh_fact is_fresh of_client about on live removed_lately creations effect_of effect_on effect_off last_moment messages duplicate standing message_of hands touches until is_deleted
+next_joined_given = refl
+
+-- ---- one server that has no entries takes a second
+
+abbrev nothing_fed : List Event
+nothing_fed = events.Join 2 ∷ pass Master (Server 2) ++ (pass (Server 2) Master ++ (pass Master (Server 1) ++ (count_at 1 ∷ move 1 2 ++ (pass (Server 2) Master ++ (events.Join 3 ∷ [])))))
+
+nothing_fed_seen : seen (1 ∷ 2 ∷ []) (world_after (first_world 1) nothing_fed) ≡ ((1 ∷ 2 ∷ [], false, false, None), (true, true, 0) ∷ (false, false, 0) ∷ [])
+unfolding world_after after next refusal_of first_world numbers_from refusal_of_arrival refusal_of_query refusal_of_taking refusal_of_detection refusal_of_join arrived asked takes forwards detected joined hears counts_after reply_to reply_again is_stale kept_reply history fact_of fresh_fact is_fresh of_client about on live removed_lately creations effect_of effect_on effect_off last_moment messages duplicate standing message_of hands touches until is_deleted
+nothing_fed_seen = refl
+
+abbrev nothing_handed_over : List Event
+nothing_handed_over = nothing_fed ++ (pass Master (Server 1) ++ (count_at 1 ∷ pass (Server 1) Master ++ (pass Master (Server 2) ++ (count_at 2 ∷ pass (Server 2) Master ++ (events.Join 3 ∷ [])))))
+
+nothing_handed_over_seen : seen (1 ∷ 2 ∷ []) (world_after (first_world 1) nothing_handed_over) ≡ ((1 ∷ 2 ∷ [], true, true, Some 3), (false, true, 0) ∷ (true, true, 0) ∷ [])
+unfolding world_after after next refusal_of first_world numbers_from refusal_of_arrival refusal_of_query refusal_of_taking refusal_of_detection refusal_of_join arrived asked takes forwards detected joined hears counts_after reply_to reply_again is_stale kept_reply history fact_of fresh_fact is_fresh of_client about on live removed_lately creations effect_of effect_on effect_off last_moment messages duplicate standing message_of hands touches until is_deleted
+nothing_handed_over_seen = refl
+
+nothing_handed_over_refused : refused_from 1 (first_world 1) nothing_handed_over ≡ (13, JoinPending) ∷ (16, NotTail) ∷ []
+unfolding refused_from world_after after next refusal_of first_world numbers_from refusal_of_arrival refusal_of_query refusal_of_taking refusal_of_detection refusal_of_join arrived asked takes forwards detected joined hears counts_after reply_to reply_again is_stale kept_reply history fact_of fresh_fact is_fresh of_client about on live removed_lately creations effect_of effect_on effect_off last_moment messages duplicate standing message_of hands touches until is_deleted
+nothing_handed_over_refused = refl
 
 -- ---- the tail is lost, and what it committed stays
 

@@ -1,5 +1,5 @@
 -- What every event keeps: histories stay fronts of each other, and what is committed only grows.
-use Rattle.std.proofs.Common.{◌≡◌, ℕ, ◌+◌, ◌≤◌, ◌∙◌, ap, sym, List, [], ◌∷◌, ◌++◌, drop, length, ◌&&◌, not, Option, Some, None, Bool, true, false, cond, eqb, subst, refl, inl, inr, nat_lt, append_assoc}
+use Rattle.std.proofs.Common.{◌≡◌, ℕ, ◌+◌, ◌≤◌, ◌∙◌, ap, sym, List, [], ◌∷◌, ◌++◌, drop, length, ◌&&◌, not, Option, Some, None, is_none, Bool, true, false, cond, eqb, subst, refl, inl, inr, nat_lt, append_assoc}
 use Rattle.std.specs.List.{list_any}
 use Rattle.std.proofs.lemmas.Bool.{eq-eqb, false≢true, and_parts, or_cases, or_left, or_right}
 use Rattle.cq_base.specs.declared.ask.Entry.{Entry}
@@ -10,7 +10,7 @@ use Rattle.cq_chain.specs.declared.fault.WorldFault.{WorldFault}
 use Rattle.cq_chain.specs.declared.fault.WorldFault.TheVariants.{LastFull, NotDown, NoSuchServer, IdUsed, ChainFull, JoinPending}
 use Rattle.cq_chain.specs.Masters.{Order, is_in, is_last, detected, joined, hears, hears_from, no_order, refusal_of_detection, refusal_of_join, most_members}
 use Rattle.cq_chain.specs.Messages.{Message}
-use Rattle.cq_chain.specs.Parties.{same, addressed}
+use Rattle.cq_chain.specs.Parties.{same, addressed, is_that}
 use Rattle.cq_chain.specs.Refusals.{refusal_of_arrival, refusal_of_query}
 use Rattle.cq_chain.specs.Servers.{Server}
 use Rattle.cq_chain.specs.Steps.{arrived, asked, takes, crashed}
@@ -25,16 +25,16 @@ use Rattle.cq_world.proofs.Commits.Changes.{detected-commits, joined-commits}
 use Rattle.cq_world.proofs.Commits.Orders.{heard-commits, said_nothing}
 use Rattle.cq_world.proofs.Commits.Steps.{take-acting, arrive-acting, ask-acting, crash-acting}
 use Rattle.cq_world.proofs.Commits.Turns.{Acting, turn-commits, turn-grows}
-use Rattle.cq_world.proofs.Commits.{Commits, Names, Pairs, Retires, HandsOver, Enough, Zero, Free, tails, readies, bit, waits, longest-same, longest-turn}
+use Rattle.cq_world.proofs.Commits.{Commits, Names, Pairs, Retires, HandsOver, Enough, Zero, NotOn, Free, tails, readies, bit, waits, longest-same, longest-turn}
 use Rattle.cq_world.proofs.Eaches.{Each, each-append, each-drop, front-refl, front-trans, some_none}
 use Rattle.cq_world.proofs.First.{prefixes-first, commits-first}
-use Rattle.cq_world.proofs.Prefixes.Orders.{said-keeps, detected-said, joined-said, heard-said}
+use Rattle.cq_world.proofs.Prefixes.Orders.{alone, said-keeps, dropped-keeps, dropped-said, detected-said, joined-said, heard-said}
 use Rattle.cq_world.proofs.Parties.{same-true}
-use Rattle.cq_world.proofs.Prefixes.{Prefixes, Linked, LinkedLine, Heads, Turn, turn-keeps}
+use Rattle.cq_world.proofs.Prefixes.{Prefixes, Linked, LinkedLine, Heads, Bystander, Turn, turn-keeps}
 use Rattle.cq_world.proofs.Sights.{Sight, line, sight, turn, said, drained, same_channels}
 use Rattle.cq_world.proofs.Sights.{sight-put, sight-given, sight-step, sight-taken, sight-without}
-use Rattle.cq_world.proofs.Prefixes.Steps.{lives-member, take-turn, arrive-turn, ask-turn, crash-turn}
-use Rattle.cq_world.proofs.Unrefused.{known-parts, lives-parts, server-parts, at-head}
+use Rattle.cq_world.proofs.Prefixes.Steps.{lives-placed, acting-member, full-member, head-member, take-turn, arrive-turn, ask-turn, crash-turn}
+use Rattle.cq_world.proofs.Unrefused.{known-parts, lives-parts, server-parts, at-head, at-tail}
 
 -- ---- channels that end neither at a server nor begin at the master
 
@@ -43,7 +43,8 @@ pub drained_keeps : (v : Sight) (from to : Party) (rest : List Message) → ((s 
 drained_keeps v from to rest no_server says h = record {
   apart = h.apart;
   members = h.members;
-  away = h.away;
+  away = λ id used out. elim (h.away id used out) [ inl down ↦ inl down | inr b ↦ inr (subst (λ ms. Bystander (v.server id) ms) (sym (row id)) b) ];
+  aside = λ id joins. subst (λ ms. Bystander (v.server id) ms) (sym (row id)) (h.aside id joins);
   fresh = λ id unused. ((h.fresh id unused).0, row id ∙ (h.fresh id unused).1);
   speaks = λ id x. go id x (same (parties.Server id) from) (same x to) refl;
   climbs = λ id. subst (λ ms. Climbs v.server id (one (v.server id).pred ++ reports ms)) (sym (row id)) (h.climbs id);
@@ -95,6 +96,10 @@ aside_commits v c from to rest orders told h = record {
   old = h.old;
   old_least = h.old_least;
   old_told = λ id member full. subst (λ ms. Each Zero ms) (sym (orders id)) (h.old_told id member full);
+  joins_ready = h.joins_ready;
+  unnamed_orders = λ j joins id. subst (λ ms. Each (NotOn j) ms) (sym (orders id)) (h.unnamed_orders j joins id);
+  unnamed_reports = λ j joins id. subst (λ ms. Each (NotOn j) ms) (sym (told id)) (h.unnamed_reports j joins id);
+  unready = λ j joins. ap readies (told j) ∙ h.unready j joins;
   reached = h.reached;
   lives = h.lives;
 }
@@ -221,7 +226,7 @@ taken_good w c from (parties.Server k) (m ∷ ms) at known lives good =
     let rest = ms ++ w.outbox from (parties.Server k) in
     let front = ap (λ us. us ++ w.outbox from (parties.Server k)) at in
     turns_good w (after_take w from (parties.Server k) (m ∷ ms)) c from k rest (takes from m (w.server k)).server (takes from m (w.server k)).sent good (sight-taken w from k m ms (takes from m (w.server k)) at)
-    (take-turn (sight w) from k m rest good.prefixes known lives front) (take-acting (sight w) c from k m rest good.prefixes good.commits (lives-member (sight w) k good.prefixes known lives) front)
+    (take-turn (sight w) from k m rest good.prefixes known lives front) (take-acting (sight w) c from k m rest good.prefixes good.commits known lives front)
 
 -- ---- changes
 
@@ -248,46 +253,51 @@ crash_good w c id known lives free good =
     let other = find_full w id w.master.used (some_refused (another_full w id) LastFull free) in
     turns_good w (stepped w id (crashed (w.server id))) c parties.Clients id (channel w parties.Clients (parties.Server id)) (crashed (w.server id)).server (crashed (w.server id)).sent good (sight-step w id (crashed (w.server id)))
     (crash-turn (sight w) id good.prefixes known lives)
-    (crash-acting (sight w) c id good.prefixes good.commits (lives-member (sight w) id good.prefixes known lives) other.0 other.2 other.1 other.3 other.4)
+    (crash-acting (sight w) c id good.prefixes good.commits (lives-placed (sight w) id good.prefixes known lives) other.0 other.2 other.1 other.3 other.4)
 
 -- what a detection that isn't refused tells
-pub detect_parts : (b d : Bool) (n : ℕ) → cond d (cond (not b) (Some NoSuchServer) (cond (nat_lt 1 n) None (Some LastFull))) (Some NotDown) ≡ None → (d ≡ true) × (b ≡ true) × (nat_lt 1 n ≡ true)
-detect_parts b false n h = absurd (some_none NotDown h)
-detect_parts false true n h = absurd (some_none NoSuchServer h)
-detect_parts true true n h = (refl, refl, some_refused (nat_lt 1 n) LastFull h)
+member_parts : (b : Bool) (n : ℕ) → cond (not b) (Some NoSuchServer) (cond (nat_lt 1 n) None (Some LastFull)) ≡ None → (b ≡ true) × (nat_lt 1 n ≡ true)
+member_parts false n h = absurd (some_none NoSuchServer h)
+member_parts true n h = (refl, some_refused (nat_lt 1 n) LastFull h)
 
-detect_good : (w : World) (c : List Entry) (id : ℕ) → refusal_of_detect w id ≡ None → Good w c → Onward w c (ordered w (detected id w.master))
-unfolding refusal_of_detection
-detect_good w c id free good =
-    let parts = detect_parts (is_in w.master.chain id) (w.server id).down (length w.master.chain) free in
-    let more : length w.master.chain ≡ 1 → ⊥ = λ is. false≢true (sym (ap (λ n. nat_lt 1 n) is) ∙ parts.2) in
-    let is = sight_ordered w (detected id w.master) in
-    stays_good w (ordered w (detected id w.master)) c refl good.commits
-    (subst Prefixes (sym is) (said-keeps (sight w) (detected id w.master).master (detected id w.master).said good.prefixes (detected-said (sight w) id good.prefixes parts.1 parts.0 more)))
-    (subst (λ v. Commits v c) (sym is) (detected-commits (sight w) c id good.prefixes good.commits more))
-
-pub join_parts : (u r : Bool) (n : ℕ) → cond u (Some IdUsed) (cond (not (nat_lt n most_members)) (Some ChainFull) (cond r None (Some JoinPending))) ≡ None → (u ≡ false) × (r ≡ true)
-join_parts true r n h = absurd (some_none IdUsed h)
-join_parts false r n h = go (nat_lt n most_members) h where
-  go : (b : Bool) → cond (not b) (Some ChainFull) (cond r None (Some JoinPending)) ≡ None → (false ≡ false) × (r ≡ true)
-  go true k = (refl, some_refused r JoinPending k)
-  go false k = absurd (some_none ChainFull k)
+pub detect_parts : (j b d : Bool) (n : ℕ) → cond d (cond j None (cond (not b) (Some NoSuchServer) (cond (nat_lt 1 n) None (Some LastFull)))) (Some NotDown) ≡ None → (d ≡ true) × (j ≡ false → (b ≡ true) × (nat_lt 1 n ≡ true))
+detect_parts j b false n h = absurd (some_none NotDown h)
+detect_parts true b true n h = (refl, λ none. absurd (false≢true (sym none)))
+detect_parts false b true n h = (refl, λ none. member_parts b n h)
 
 -- a chain has a member, since a full server lives
 pub chain_some : (v : Sight) (c : List Entry) → Prefixes v → Commits v c → (a : ℕ) × (rest : List ℕ) × (v.master.chain ≡ a ∷ rest)
-chain_some v c g h = go v.master.chain refl (lives-member v h.lives.0 g h.lives.1 h.lives.3) where
+chain_some v c g h = go v.master.chain refl (full-member v h.lives.0 (lives-placed v h.lives.0 g h.lives.1 h.lives.3) h.lives.2) where
   go : (chain : List ℕ) → v.master.chain ≡ chain → is_in v.master.chain h.lives.0 ≡ true → (a : ℕ) × (rest : List ℕ) × (v.master.chain ≡ a ∷ rest)
   go [] is member = absurd (false≢true (sym (ap (λ us. is_in us h.lives.0) is) ∙ member))
   go (a ∷ rest) is member = (a, rest, is)
 
+detect_good : (w : World) (c : List Entry) (id : ℕ) → refusal_of_detect w id ≡ None → Good w c → Onward w c (ordered w (detected id w.master))
+unfolding refusal_of_detection
+detect_good w c id free good =
+    let parts = detect_parts (is_that w.master.joiner id) (is_in w.master.chain id) (w.server id).down (length w.master.chain) free in
+    let more = λ (other : is_that w.master.joiner id ≡ false) (is : length w.master.chain ≡ 1). false≢true (sym (ap (λ n. nat_lt 1 n) is) ∙ (parts.1 other).1) in
+    let chain = chain_some (sight w) c good.prefixes good.commits in
+    let is = sight_ordered w (detected id w.master) in
+    stays_good w (ordered w (detected id w.master)) c refl good.commits
+    (subst Prefixes (sym is) (detected-said (sight w) id good.prefixes parts.0 (λ other. ((parts.1 other).0, more other)) (dropped-said (sight w) chain.0 chain.1 good.prefixes chain.2)))
+    (subst (λ v. Commits v c) (sym is) (detected-commits (sight w) c id chain.0 chain.1 good.prefixes good.commits chain.2 more))
+
+pub join_parts : (u r j : Bool) (n : ℕ) → cond u (Some IdUsed) (cond (not (nat_lt n most_members)) (Some ChainFull) (cond (r && j) None (Some JoinPending))) ≡ None → (u ≡ false) × (r ≡ true) × (j ≡ true)
+join_parts true r j n h = absurd (some_none IdUsed h)
+join_parts false r j n h = go (nat_lt n most_members) h where
+  go : (b : Bool) → cond (not b) (Some ChainFull) (cond (r && j) None (Some JoinPending)) ≡ None → (false ≡ false) × (r ≡ true) × (j ≡ true)
+  go true k = let both = and_parts r j (some_refused (r && j) JoinPending k) in (refl, both.0, both.1)
+  go false k = absurd (some_none ChainFull k)
+
 join_good : (w : World) (c : List Entry) (id : ℕ) → refusal_of_join id w.master ≡ None → Good w c → Onward w c (ordered w (joined id w.master))
 unfolding refusal_of_join
 join_good w c id free good =
-    let parts = join_parts (is_in w.master.used id) w.master.ready (length w.master.chain) free in
+    let parts = join_parts (is_in w.master.used id) w.master.ready (is_none w.master.joiner) (length w.master.chain) free in
     let chain = chain_some (sight w) c good.prefixes good.commits in
     let is = sight_ordered w (joined id w.master) in
     stays_good w (ordered w (joined id w.master)) c refl good.commits
-    (subst Prefixes (sym is) (said-keeps (sight w) (joined id w.master).master (joined id w.master).said good.prefixes (joined-said (sight w) id chain.0 chain.1 good.prefixes parts.0 chain.2)))
+    (subst Prefixes (sym is) (said-keeps (record (sight w) { master = alone w.master }) (joined id w.master).master (joined id w.master).said (dropped-keeps (sight w) good.prefixes) (joined-said (sight w) id chain.0 chain.1 good.prefixes parts.0 chain.2)))
     (subst (λ v. Commits v c) (sym is) (joined-commits (sight w) c id chain.0 chain.1 good.prefixes good.commits parts.0 parts.1 chain.2))
 
 -- ---- events
@@ -298,10 +308,10 @@ unfolding refusal_of next
 next_good w c (Arrive at clock request) free good = let parts = server-parts w at (refusal_of_arrival (w.server at)) free in
     turns_good w (stepped w at (arrived clock request (w.server at))) c parties.Clients at (channel w parties.Clients (parties.Server at)) (arrived clock request (w.server at)).server (arrived clock request (w.server at)).sent good (sight-step w at (arrived clock request (w.server at)))
     (arrive-turn (sight w) at clock request good.prefixes parts.0 parts.1 (at-head (w.server at) parts.2))
-    (arrive-acting (sight w) c at clock request good.prefixes good.commits (lives-member (sight w) at good.prefixes parts.0 parts.1) (at-head (w.server at) parts.2))
+    (arrive-acting (sight w) c at clock request good.prefixes good.commits (head-member (sight w) at (lives-placed (sight w) at good.prefixes parts.0 parts.1) (at-head (w.server at) parts.2)) (at-head (w.server at) parts.2))
 next_good w c (Ask at query) free good = let parts = server-parts w at (refusal_of_query (w.server at)) free in
     turns_good w (stepped w at (asked query (w.server at))) c parties.Clients at (channel w parties.Clients (parties.Server at)) (asked query (w.server at)).server (asked query (w.server at)).sent good (sight-step w at (asked query (w.server at)))
-    (ask-turn (sight w) at query good.prefixes parts.0 parts.1) (ask-acting (sight w) c at query good.prefixes good.commits (lives-member (sight w) at good.prefixes parts.0 parts.1))
+    (ask-turn (sight w) at query good.prefixes parts.0 parts.1) (ask-acting (sight w) c at query good.prefixes good.commits (acting-member (sight w) at (lives-placed (sight w) at good.prefixes parts.0 parts.1) (at-tail (w.server at) parts.2)))
 next_good w c (Put from to) free good = put_good w c from to good
 next_good w c (Take from to) free good =
     let known = known-parts (knows w from && knows w to) (unless_down (is_down w to) (refusal_of_take w from to (w.link from to))) free in

@@ -1,6 +1,6 @@
 -- A world as the invariants of the chain see it: what is on its way from one party to another is one row, whether it
 -- stands in the link or still waits.
-use Rattle.std.proofs.Common.{◌≡◌, ℕ, ◌∙◌, ap, sym, List, [], ◌∷◌, ◌++◌, drop, ◌&&◌, Bool, true, false, cond, refl, subst, append_assoc}
+use Rattle.std.proofs.Common.{◌≡◌, ℕ, ◌∙◌, ap, sym, List, [], ◌∷◌, ◌++◌, drop, ◌&&◌, Option, Some, None, Bool, true, false, cond, refl, subst, append_assoc}
 use Rattle.cq_base.specs.declared.party.Party.{Party}
 use Rattle.cq_base.specs.declared.party.Party.TheVariants as parties
 use Rattle.cq_chain.specs.Masters.{Master}
@@ -18,9 +18,14 @@ pub record Sight : Type 0 where
   pub channel : Party → Party → List Message
   pub master : Master
 
+-- the members, and behind them the server that joins, if there is one
+abbrev pub line_of : List ℕ → Option ℕ → List ℕ
+line_of ids None = ids
+line_of ids (Some joiner) = ids ++ joiner ∷ []
+
 -- the servers that are fed, in order: each gets what the one before it has
 abbrev pub line : Master → List ℕ
-line m = m.chain
+line m = line_of m.chain m.joiner
 
 abbrev pub sight : World → Sight
 sight w = record { server = w.server; channel = channel w; master = w.master }

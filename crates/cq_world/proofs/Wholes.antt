@@ -15,13 +15,13 @@ use Rattle.std.proofs.lemmas.Bool.{eqb-true, eq-eqb, false≢true, both_ways, an
 use Rattle.cq_base.specs.declared.ask.Entry.{Entry}
 use Rattle.cq_base.specs.declared.party.Party.TheVariants as parties
 use Rattle.cq_chain.specs.Masters.{is_in, is_last, stands_before}
-use Rattle.cq_chain.specs.Messages.{Message, Ack, Report, Adopt, BeTail, Have}
+use Rattle.cq_chain.specs.Messages.{Message, Snap, Ack, Report, Adopt, BeTail, Feed, Have, Caught}
 use Rattle.cq_chain.specs.Servers.{is_that}
 use Rattle.cq_world.proofs.Chains.{Apart}
 use Rattle.cq_world.proofs.Prefixes.Climbing.{reports, one, ups}
 use Rattle.cq_world.proofs.Commits.{bit}
 use Rattle.cq_world.proofs.Eaches.{Each}
-use Rattle.cq_world.proofs.Wholes.Feeding.{NoData, OfSnap, Feeds}
+use Rattle.cq_world.proofs.Wholes.Feeding.{NoData, NoSnap, OfSnap, Feeds}
 use Rattle.cq_world.proofs.Prefixes.{Prefixes, Linked, LinkedLine}
 use Rattle.cq_world.proofs.Sights.{Sight, line}
 
@@ -45,23 +45,42 @@ adopts_of s [] = 0
 adopts_of s (Adopt q n ∷ ms) = cond (eqb q s) (suc (adopts_of s ms)) (adopts_of s ms)
 adopts_of s (m ∷ ms) = adopts_of s ms
 
--- how many of these change the successor
-abbrev pub news : List Message → ℕ
-news [] = 0
-news (Adopt s n ∷ ms) = suc (news ms)
-news (BeTail least ∷ ms) = suc (news ms)
-news (m ∷ ms) = news ms
+-- how many of these tell to feed that one
+abbrev pub feeds_of : ℕ → List Message → ℕ
+feeds_of s [] = 0
+feeds_of s (Feed (Some q) ∷ ms) = cond (eqb q s) (suc (feeds_of s ms)) (feeds_of s ms)
+feeds_of s (m ∷ ms) = feeds_of s ms
 
--- behind a word on a server of the line as successor there is no other one
+-- it changes the successor to that one, if to any
+abbrev pub OnlyTo : ℕ → Message → Type 0
+OnlyTo s (Adopt q n) = eqb q s ≡ true
+OnlyTo s (Feed (Some q)) = eqb q s ≡ true
+OnlyTo s (Feed None) = ⊥
+OnlyTo s (BeTail least) = ⊥
+OnlyTo s m = Unit {0}
+
+-- behind a word on a server of the line as successor there is none on another one
 abbrev pub Ends : List ℕ → List Message → Type 0
 Ends line [] = Unit {0}
-Ends line (Adopt s n ∷ ms) = (is_in line s ≡ true → news ms ≡ 0) × Ends line ms
+Ends line (Adopt s n ∷ ms) = (is_in line s ≡ true → Each (OnlyTo s) ms) × Ends line ms
+Ends line (Feed (Some s) ∷ ms) = (is_in line s ≡ true → Each (OnlyTo s) ms) × Ends line ms
 Ends line (m ∷ ms) = Ends line ms
+
+-- who is to be fed is no member
+abbrev pub FeedsOut : List ℕ → Message → Type 0
+FeedsOut chain (Feed (Some s)) = is_in chain s ≡ false
+FeedsOut chain m = Unit {0}
+
+-- P holds if it tells that a server took a snapshot
+abbrev pub Catches : Type 0 → Message → Type 0
+Catches P (Caught p n) = P
+Catches P m = Unit {0}
 
 -- who is named has been used
 abbrev pub Known : List ℕ → Message → Type 0
 Known used (Report p) = is_in used p ≡ true
 Known used (Adopt s n) = is_in used s ≡ true
+Known used (Feed (Some s)) = is_in used s ≡ true
 Known used (Have p n) = is_in used p ≡ true
 Known used m = Unit {0}
 
@@ -81,9 +100,9 @@ AckWithin count m = Unit {0}
 
 -- ---- words on pairs
 
--- the server has that successor, or is told of it
+-- the server has that successor, or is told of it; who is to be fed gets a snapshot, also where it is fed already
 abbrev pub links : Option ℕ → ℕ → List Message → ℕ
-links succ s ms = cond (is_that succ s) 1 (adopts_of s ms)
+links succ s ms = feeds_of s ms + cond (is_that succ s) 1 (adopts_of s ms)
 
 -- at how many stages the making of a pair stands
 abbrev pub tokens : Sight → ℕ → ℕ → ℕ
@@ -102,7 +121,7 @@ pub record Whole (v : Sight) (c : List Entry) : Type 0 where
   pub token : (p s : ℕ) → is_in (line v.master) p ≡ true → is_in (line v.master) s ≡ true → tokens v p s ≡ bit (stands_before p s (line v.master))
   -- a server of the line that is a successor stays it
   pub ends : (p : ℕ) → is_in (line v.master) p ≡ true → Ends (line v.master) (v.channel parties.Master (parties.Server p))
-  pub follows : (p s : ℕ) → is_in (line v.master) p ≡ true → is_in (line v.master) s ≡ true → is_that (v.server p).succ s ≡ true → news (v.channel parties.Master (parties.Server p)) ≡ 0
+  pub follows : (p s : ℕ) → is_in (line v.master) p ≡ true → is_in (line v.master) s ≡ true → is_that (v.server p).succ s ≡ true → Each (OnlyTo s) (v.channel parties.Master (parties.Server p))
   -- what is told of a neighbour's entries is so
   pub counts : (p s : ℕ) → stands_before p s (line v.master) ≡ true → Each (HaveIs p (length (v.server s).entries)) (v.channel (parties.Server s) parties.Master)
   pub adopts : (p s : ℕ) → stands_before p s (line v.master) ≡ true → is_that (v.server p).succ s ≡ false → Each (AdoptIs s (length (v.server s).entries)) (v.channel parties.Master (parties.Server p))
@@ -118,6 +137,12 @@ pub record Whole (v : Sight) (c : List Entry) : Type 0 where
   pub acked : (id : ℕ) → (v.server id).acked ≤ length c
   pub acks : (p s : ℕ) → Each (AckWithin (length c)) (v.channel (parties.Server p) (parties.Server s))
   pub floors : (id : ℕ) → is_in v.master.chain id ≡ true → (v.server id).full ≡ true → (v.server id).floor ≤ length c
+  -- the server that joins has or gets the last member as predecessor, and no other one; where it has told that it took a
+  -- snapshot, it is fed, and no other snapshot is on its way
+  pub fed_by : (j t : ℕ) → is_that v.master.joiner j ≡ true → is_last v.master.chain t ≡ true → ups v j ≡ t ∷ []
+  pub caught : (j t : ℕ) → is_that v.master.joiner j ≡ true → is_last v.master.chain t ≡ true
+      → Each (Catches ((is_that (v.server t).succ j ≡ true) × Each NoSnap (v.channel (parties.Server t) (parties.Server j)))) (v.channel (parties.Server j) parties.Master)
+  pub feeds_out : (p : ℕ) → is_in v.master.chain p ≡ true → Each (FeedsOut v.master.chain) (v.channel parties.Master (parties.Server p))
 
 -- ---- neighbours
 
@@ -179,3 +204,9 @@ stage-past v p s g before none = go (v.server s).pred (reports (v.channel partie
   go None us e f last = absurd (not_told us f last)
   go (Some q) [] e f last = (ap (λ n. Some n) (eqb-true q p last), refl)
   go (Some q) (u ∷ us) e f last = absurd (not_told (u ∷ us) f last)
+
+-- the predecessor that the server has which joins is the last member
+pub linked_ups : (v : Sight) (c : List Entry) (j p t : ℕ) → Whole v c → is_that v.master.joiner j ≡ true → is_last v.master.chain t ≡ true → (v.server j).pred ≡ Some p → p ≡ t
+linked_ups v c j p t h joins last is_pred = same p t (reports (v.channel parties.Master (parties.Server j))) [] (sym (ap (λ o. one o ++ reports (v.channel parties.Master (parties.Server j))) is_pred) ∙ h.fed_by j t joins last) where
+  same : (a b : ℕ) (us ws : List ℕ) → a ∷ us ≡ b ∷ ws → a ≡ b
+  same a b us ws e = cc

@@ -1,6 +1,7 @@
 //! Who stands before and behind whom, and what a gap in the chain makes of them.
-ghost use Rattle.std.specs.Prelude.{◌≡◌, ◌<◌, ◌+◌, ◌==◌, ◌&&◌, ℕ, List, ◌∷◌, length, drop, Some};
-ghost use Rattle.cq_chain.specs.Masters.{is_last, stands_before, closing, said_of_loss, said_of_join};
+ghost use Rattle.std.specs.Prelude.{◌≡◌, ◌<◌, ◌+◌, ◌==◌, ◌&&◌, ℕ, List, ◌∷◌, length, drop, Some, None};
+ghost use Rattle.cq_chain.specs.Masters.{is_last, stands_before, closing, said_of_loss, said_of_join, to_last};
+ghost use Rattle.cq_chain.specs.Messages.{Feed};
 ghost use Rattle.cq_chain.specs.within.Waiting.{IsSaid};
 
 use crate::message::Message;
@@ -84,6 +85,16 @@ pub(super) fn said_of_join(chain: &[ServerId], id: ServerId) -> Option<(ServerId
             let pred = *last;
             Some((id, Message::Report { pred }))
         }
+        None => None,
+    }
+}
+
+/// What is said when the server that joins is gone: the last member is to feed nobody any more.
+pub(super) fn said_of_drop(chain: &[ServerId]) -> Option<(ServerId, Message)>
+    ensures { IsSaid result (to_last (Feed None) chain.now) }
+{
+    match chain.last() {
+        Some(last) => Some((*last, Message::Feed { succ: None })),
         None => None,
     }
 }

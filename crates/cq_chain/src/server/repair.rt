@@ -1,23 +1,25 @@
 //! What a new successor is sent.
-ghost use Rattle.std.specs.Prelude.{◌≡◌, ◌≤◌, ◌+◌, ◌-◌, ℕ, List, [], ◌∷◌, length, drop, IfOk};
+ghost use Rattle.std.specs.Prelude.{◌≡◌, ◌≤◌, ◌+◌, ◌-◌, ℕ, List, [], ◌∷◌, length, drop, not, IfOk};
 ghost use Rattle.cq_base.specs.declared.ask.Entry as rust_entry;
 ghost use Rattle.cq_base.specs.declared.party.Party as rust_party;
 ghost use Rattle.cq_base.specs.declared.party.Party.TheVariants as parties;
 ghost use Rattle.cq_chain.specs.Messages as sent;
 ghost use Rattle.cq_chain.specs.Servers as states;
+ghost use Rattle.cq_chain.specs.Servers.{is_that};
 ghost use Rattle.cq_chain.specs.Stands.{StandsFor};
-ghost use Rattle.cq_chain.specs.Steps.{forwards, repair};
+ghost use Rattle.cq_chain.specs.Steps.{forwards, repair, when};
 ghost use Rattle.cq_chain.specs.within.Replicas.{Recalls};
 ghost use Rattle.cq_chain.specs.within.Waiting.{AllFor};
 ghost use Rattle.cq_store.specs.Stands as stores;
 ghost use Rattle.cq_store.specs.Stands.{count_of};
 
 use super::Server;
+use crate::identity::is_that;
 use crate::lane::Lane;
 use crate::message::Message;
 use crate::replica::Replica;
 use crate::snapshot::Snapshot;
-use cq_base::NoMemory;
+use cq_base::{NoMemory, ServerId};
 use cq_store::Store;
 use std::alloc::Global;
 
@@ -54,7 +56,7 @@ fn snapshot(alloc: Global, store: &Store) -> Result<Lane, NoMemory>
 impl Server {
     /// What a new successor that has so many entries is to be sent: the entries that it lacks, or the whole
     /// state where the server has forgotten some of these.
-    pub(super) fn repair(&self, have: u64) -> Result<Lane, NoMemory>
+    fn repair(&self, have: u64) -> Result<Lane, NoMemory>
         ensures { (s : states.Server) (outbox : rust_party.Party → List sent.Message) → StandsFor self.now s outbox
             → IfOk result (λ lane. (to : ℕ) → AllFor (parties.Server to) lane.messages (repair to have s)) }
     {
@@ -62,6 +64,19 @@ impl Server {
             missing(self.alloc, have, &self.replica)
         } else {
             snapshot(self.alloc, self.replica.store())
+        }
+    }
+
+    /// What a successor that has so many entries is to be sent. One that the server feeds already lacks none that
+    /// isn't on its way.
+    pub(super) fn handover(&self, succ: ServerId, have: u64) -> Result<Lane, NoMemory>
+        ensures { (s : states.Server) (outbox : rust_party.Party → List sent.Message) → StandsFor self.now s outbox
+            → IfOk result (λ lane. AllFor (parties.Server succ) lane.messages (when (not (is_that s.succ succ)) (repair succ have s))) }
+    {
+        if is_that(self.succ, succ) {
+            Ok(Lane::new(self.alloc))
+        } else {
+            self.repair(have)
         }
     }
 }

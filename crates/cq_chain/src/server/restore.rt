@@ -1,17 +1,22 @@
 //! A server that joined gets the state of its predecessor.
-ghost use Rattle.std.specs.Prelude.{◌≡◌, ◌&&◌, List, is_none, nat_le, OnOk, OnErr};
+ghost use Rattle.std.specs.Prelude.{◌≡◌, ◌&&◌, ◌++◌, List, [], ◌∷◌, length, is_none, nat_le, OnOk, OnErr};
 ghost use Rattle.cq_base.specs.declared.ask.Entry as rust_entry;
+ghost use Rattle.cq_base.specs.declared.party.Party as rust_party;
 ghost use Rattle.cq_base.specs.declared.party.Party.TheVariants as parties;
 ghost use Rattle.cq_chain.specs.Messages as sent;
-ghost use Rattle.cq_chain.specs.Servers.{is_that};
-ghost use Rattle.cq_chain.specs.Stands.{Does, Keeps};
-ghost use Rattle.cq_chain.specs.Steps.{restored, takes};
+ghost use Rattle.cq_chain.specs.Servers as states;
+ghost use Rattle.cq_chain.specs.Servers.{acts, is_that};
+ghost use Rattle.cq_chain.specs.Stands.{StandsFor, Does, Keeps, posted};
+ghost use Rattle.cq_chain.specs.Steps.{restored, tail_news, takes, when};
+ghost use Rattle.cq_chain.specs.within.Waiting.{HasRoom};
 ghost use Rattle.cq_store.specs.Stands as stores;
 ghost use Rattle.cq_store.specs.Stands.{count_of};
 
-use super::{Server, is_that};
+use super::Server;
+use crate::identity::is_that;
+use crate::message::Message;
 use crate::snapshot::Snapshot;
-use cq_base::{NoMemory, ServerId};
+use cq_base::{NoMemory, Party, ServerId};
 
 impl Server {
     /// A snapshot comes from the predecessor, no entry is lost by it, and there is nobody to whom it would have
@@ -23,17 +28,41 @@ impl Server {
         is_that(self.pred, from) && self.succ.is_none() && self.replica.count() <= state.count()
     }
 
-    /// The store of a snapshot takes the place of the server's own.
-    fn restore(&mut self, state: &Snapshot) -> Result<(), NoMemory>
+    /// Tells the master how many entries it has, which come from that predecessor.
+    fn tell_caught(&mut self, pred: ServerId)
+        requires { HasRoom self.old.outboxes 2 self.old.pred self.old.succ }
+        ensures { (s : states.Server) (outbox : rust_party.Party → List sent.Message) → StandsFor self.old s outbox
+            → StandsFor self.new s (posted outbox ((parties.Master, sent.Caught pred (length s.entries)) ∷ [])) }
+    {
+        let count = self.replica.count();
+        self.outboxes
+            .push(Party::Master, Message::Caught { pred, count });
+    }
+
+    /// Tells what comes of a snapshot of that predecessor: as the tail that it is or is to be, or else the master.
+    fn tell_restored(&mut self, pred: ServerId, acted: bool)
+        requires { HasRoom self.old.outboxes 2 self.old.pred self.old.succ }
+        ensures { (old now : states.Server) (outbox : rust_party.Party → List sent.Message) → StandsFor self.old now outbox
+            → acted ≡ acts old → old.pred ≡ now.pred → StandsFor self.new now (posted outbox (tail_news old now
+            ++ when (is_none now.at_least) ((parties.Master, sent.Caught pred (length now.entries)) ∷ []))) }
+    {
+        match self.at_least {
+            Some(_) => self.tell(acted),
+            None => self.tell_caught(pred),
+        }
+    }
+
+    /// The store of a snapshot of that predecessor takes the place of the server's own.
+    fn restore(&mut self, from: ServerId, state: &Snapshot) -> Result<(), NoMemory>
         ensures ok { (entries : List rust_entry.Entry) → stores.StandsFor state.now entries
-            → OnOk result (Does self.old self.new (restored entries)) }
+            → OnOk result (Does self.old self.new (restored from entries)) }
         ensures err { OnErr result (Keeps self.old self.new) }
     {
         let acted = self.is_acting();
         let store = state.store().try_copy()?;
         self.reserve()?;
         self.replica.restore(store);
-        self.tell(acted);
+        self.tell_restored(from, acted);
         self.settle();
         Ok(())
     }
@@ -47,6 +76,6 @@ impl Server {
         if !self.is_restoring(from, state) {
             return Ok(());
         }
-        self.restore(state)
+        self.restore(from, state)
     }
 }

@@ -11,8 +11,9 @@ ghost use Rattle.cq_chain.specs.Stands.{StandsFor, Does, Keeps, IsRefusedBy, Mea
 ghost use Rattle.cq_chain.specs.Steps.{forwarded, acknowledged, takes};
 ghost use Rattle.cq_store.specs.Stands.{count_of, last_of};
 
-use super::{Server, is_that};
+use super::Server;
 use crate::fault::WorldFault;
+use crate::identity::is_that;
 use crate::message::Message;
 use cq_base::{Entry, NoMemory, Party, ServerId};
 
@@ -104,16 +105,20 @@ impl Server {
     /// - `Fwd`: the next entry of the predecessor becomes an entry of the server, which sends it on; where it acts
     ///   it answers the clients and acknowledges to its predecessor. O(1), and what the store takes for an entry.
     /// - `Snap` of the predecessor: a server with no successor, which has no more entries, takes the state over and
-    ///   answers none of its entries. It takes what a copy of the store takes.
+    ///   answers none of its entries. Where it is no tail, nor to be it, it tells the master. It takes what a copy of
+    ///   the store takes.
     /// - `Ack`: an acknowledgement, of no more entries than the server has, is kept and passed on to the
     ///   predecessor, if it is news, and these entries are forgotten. O(entries forgotten).
     /// - `BeHead` of the master: it is the head. O(1).
     /// - `Report` of the master: it has that predecessor, tells the master how many entries it has, and the
     ///   predecessor which are acknowledged. O(1).
     /// - `Adopt` of the master: it has that successor, acts no more, sends it the entries that it lacks, one by one
-    ///   or as a snapshot, and tells the master how many entries it has. O(entries sent), or what a copy of the
-    ///   store takes.
+    ///   or as a snapshot, and tells the master how many entries it has. One that was its successor already lacks
+    ///   none that isn't on its way, and is sent none. O(entries sent), or what a copy of the store takes.
     /// - `BeTail` of the master: it is the tail, and acts once it has so many entries. O(1).
+    /// - `Feed` of the master: a server that acts has that successor, sends it the whole state and from then on each
+    ///   entry, and goes on acting; with no server named it has no successor any more. What a copy of the store
+    ///   takes, or O(1).
     ///
     /// A server that begins to act tells the master. What else comes is ignored. A chain is mended as in van Renesse
     /// and Schneider, section 3; snapshots, and what servers and master tell each other meanwhile, are a choice of

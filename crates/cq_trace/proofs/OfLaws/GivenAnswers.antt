@@ -38,8 +38,10 @@ mean_left a kept.BeHead h = absurd cc
 mean_left a (kept.Report pred) h = absurd cc
 mean_left a (kept.Adopt succ have) h = absurd cc
 mean_left a (kept.BeTail least) h = absurd cc
+mean_left a (kept.Feed succ) h = absurd cc
 mean_left a (kept.Have pred count) h = absurd cc
 mean_left a (kept.Adopted succ count) h = absurd cc
+mean_left a (kept.Caught pred count) h = absurd cc
 mean_left a kept.Ready h = absurd cc
 
 -- an answer among kept messages is among those that they stand for

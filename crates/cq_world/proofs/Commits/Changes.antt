@@ -1,18 +1,19 @@
 -- Detections and joins keep the sentences on who may act and what is committed, and the first world has them.
-use Rattle.std.proofs.Common.{◌≡◌, ℕ, ◌+◌, ◌∙◌, ap, sym, List, [], ◌∷◌, ◌++◌, length, ◌&&◌, ◌||◌, not, is_some, Bool, true, false, cond, eqb, arith, subst, refl, inl, inr, append-nil}
+use Rattle.std.proofs.Common.{◌≡◌, ℕ, ◌+◌, ◌∙◌, ap, sym, List, [], ◌∷◌, ◌++◌, length, ◌&&◌, ◌||◌, not, Some, None, is_some, Bool, true, false, cond, eqb, arith, subst, refl, inl, inr, append-nil}
 use Rattle.std.proofs.lemmas.Bool.{eqb-true, eq-eqb, false≢true, both_ways, cases_Bool, or_left}
 use Rattle.cq_base.specs.declared.ask.Entry.{Entry}
 use Rattle.cq_base.specs.declared.party.Party.TheVariants as parties
 use Rattle.cq_base.specs.Relations.{Among}
-use Rattle.cq_chain.specs.Masters.{is_in, is_last, without, closing, said_of_loss, said_of_join, detected, joined, stands_before}
-use Rattle.cq_chain.specs.Messages.{Message, BeHead, Report, Adopt, BeTail, Adopted}
-use Rattle.cq_chain.specs.Servers.{acts, joining}
-use Rattle.cq_world.proofs.Chains.{Apart, among-in, last-in, last-one, last-some, last-behind, last-without, last-end, before-in, before-behind, before-first, before-without, before-more, before-end, before-last, before-either, before-only}
-use Rattle.cq_world.proofs.Commits.{Commits, tails, readies, Names, Pairs, Retires, HandsOver, Enough, Zero, bit, waits, busy, Free}
-use Rattle.cq_world.proofs.Commits.Orders.{Neutral, neutral_tails, neutral_names, neutral_pairs, neutral_enough, neutral_zero, neutral_retires, retires_append, retires_tail, each_one, one_more}
+use Rattle.cq_chain.specs.Masters.{is_in, is_last, without, closing, said_of_loss, said_of_join, to_last, dropped, closed_up, detected, joined, stands_before}
+use Rattle.cq_chain.specs.Messages.{Message, BeHead, Report, Adopt, BeTail, Feed, Adopted}
+use Rattle.cq_chain.specs.Parties.{is_that}
+use Rattle.cq_world.proofs.Chains.{Apart, among-in, last-in, last-one, last-behind, last-without, last-back, before-in, before-behind, before-first, before-without, before-last, before-either, before-only, chain-apart}
+use Rattle.cq_world.proofs.Commits.{Commits, tails, readies, Names, Pairs, Retires, HandsOver, Enough, Zero, NotOn, bit, waits, Free}
+use Rattle.cq_world.proofs.Commits.Orders.{Neutral, neutral_not_on, feed-commits, neutral_tails, neutral_names, neutral_pairs, neutral_enough, neutral_zero, neutral_retires, retires_append, retires_tail, each_one, one_more}
 use Rattle.cq_world.proofs.Commits.Turns.{tails-append}
-use Rattle.cq_world.proofs.Eaches.{Each, each-append, each-follows, some_none}
-use Rattle.cq_world.proofs.Prefixes.Orders.{told_to, one_told, in-without, in_more, in_left, out_more, join_told, last_of}
+use Rattle.cq_world.proofs.Eaches.{Each, each-append, each-follows}
+use Rattle.cq_world.proofs.Lines.{in_left, out_more}
+use Rattle.cq_world.proofs.Prefixes.Orders.{told_to, one_told, in-without, join_told, last_told, last_of, alone}
 use Rattle.cq_world.proofs.Prefixes.{Prefixes}
 use Rattle.cq_world.proofs.Sights.{Sight, said}
 
@@ -120,6 +121,10 @@ other_commits v c id g h not_last = record {
   old = λ j member. h.old j (in-without id chain j member).0;
   old_least = λ j least member. h.old_least j least (in-without id chain j member).0;
   old_told = λ j member full. each-append Zero (row j) (out j) (h.old_told j (in-without id chain j member).0 full) (each-follows Neutral Zero (out j) neutral_zero (calm j));
+  joins_ready = h.joins_ready;
+  unnamed_orders = λ i joins j. each-append (NotOn i) (row j) (out j) (h.unnamed_orders i joins j) (each-follows Neutral (NotOn i) (out j) (neutral_not_on i) (calm j));
+  unnamed_reports = h.unnamed_reports;
+  unready = h.unready;
   reached = h.reached;
   lives = h.lives;
 } where
@@ -146,23 +151,16 @@ other_commits v c id g h not_last = record {
 
   same_last : (z : ℕ) → is_last (without id v.master.chain) z ≡ is_last v.master.chain z
   same_last z = go (is_last v.master.chain z) (is_last (without id v.master.chain) z) refl refl where
-    back : (us : List ℕ) → v.master.chain ≡ us → is_last (without id v.master.chain) z ≡ true → is_last v.master.chain z ≡ true
-    back [] is last = absurd (false≢true (sym (ap (λ xs. is_last (without id xs) z) is) ∙ last))
-    back (a ∷ us) is last = let top = last-some a us in
-        let was = ap (λ xs. is_last xs top.0) is ∙ top.1 in
-        let other = not_true (eqb top.0 id) (λ e. both_ways (is_last v.master.chain id) not_last (subst (λ i. is_last v.master.chain i ≡ true) (eqb-true top.0 id e) was)) in
-        subst (λ i. is_last v.master.chain i ≡ true) (last-one (without id v.master.chain) top.0 z (last-without id top.0 v.master.chain was other) last) was
-
     go : (a b : Bool) → is_last v.master.chain z ≡ a → is_last (without id v.master.chain) z ≡ b → b ≡ a
     go true true e f = refl
     go false false e f = refl
     go true false e f = absurd (both_ways (is_last (without id v.master.chain) z) f (last-without id z v.master.chain e (not_true (eqb z id) (λ same. both_ways (is_last v.master.chain id) not_last (subst (λ i. is_last v.master.chain i ≡ true) (eqb-true z id same) e)))))
-    go false true e f = absurd (both_ways (is_last v.master.chain z) e (back v.master.chain refl f))
+    go false true e f = absurd (both_ways (is_last v.master.chain z) e (last-back id z v.master.chain not_last f))
 
 -- ---- detections of the last
 
 last_commits : (v : Sight) (c : List Entry) (id q : ℕ) → Prefixes v → Commits v c → is_last v.master.chain id ≡ true → stands_before q id v.master.chain ≡ true → is_last (without id v.master.chain) q ≡ true
-    → Commits (said v (record v.master { chain = without id v.master.chain; told = true; ready = false }) ((parties.Server q, BeTail 0) ∷ [])) c
+    → Commits (said v (record v.master { chain = without id v.master.chain; told = true; ready = false; joiner = None }) ((parties.Server q, BeTail 0) ∷ [])) c
 last_commits v c id q g h last before now_last = record {
   acting = h.acting;
   silent = h.silent;
@@ -183,6 +181,10 @@ last_commits v c id q g h last before now_last = record {
   old = λ j member. h.old j (in-without id chain j member).0;
   old_least = λ j least member. h.old_least j least (in-without id chain j member).0;
   old_told = λ j member full. each_one Zero j q (BeTail 0) (row j) (h.old_told j (in-without id chain j member).0 full) (λ e. refl);
+  joins_ready = λ none. absurd (false≢true none);
+  unnamed_orders = λ i none. absurd (false≢true none);
+  unnamed_reports = λ i none. absurd (false≢true none);
+  unready = λ i none. absurd (false≢true none);
   reached = h.reached;
   lives = h.lives;
 } where
@@ -207,8 +209,8 @@ last_commits v c id q g h last before now_last = record {
         let rule = h.alone j was.0 some (was_not j member) in
         let q_member = (before-in q id v.master.chain before).0 in
         elim (before-either v.master.chain j q was.0 q_member other) [
-          | inl first ↦ absurd (before-last q id v.master.chain g.apart before (subst (λ i. is_last v.master.chain i ≡ true) (sym (before-only v.master.chain j q id g.apart (rule.1 id last) last first)) last))
-          | inr second ↦ absurd (both_ways (is_last v.master.chain j) (was_not j member) (subst (λ i. is_last v.master.chain i ≡ true) (sym (before-only v.master.chain q j id g.apart before last second)) last))
+          | inl first ↦ absurd (before-last q id v.master.chain (chain-apart v g) before (subst (λ i. is_last v.master.chain i ≡ true) (sym (before-only v.master.chain j q id (chain-apart v g) (rule.1 id last) last first)) last))
+          | inr second ↦ absurd (both_ways (is_last v.master.chain j) (was_not j member) (subst (λ i. is_last v.master.chain i ≡ true) (sym (before-only v.master.chain q j id (chain-apart v g) before last second)) last))
         ]
   ]
 
@@ -235,156 +237,112 @@ last_commits v c id q g h last before now_last = record {
     ap (λ b. bit (b && (true && not false))) (not_true (is_last (without id v.master.chain) j) (λ k. both_ways (eqb j q) e (eq-eqb j q (last-one (without id v.master.chain) j q k now_last)))),
   )
 
--- A detection of a member, while others remain, keeps all sentences.
-pub detected-commits : (v : Sight) (c : List Entry) (id : ℕ) → Prefixes v → Commits v c → (length v.master.chain ≡ 1 → ⊥) → Commits (said v (detected id v.master).master (detected id v.master).said) c
+-- ---- a server that joins is dropped
+
+dropped_commits : (v : Sight) (c : List Entry) → Commits v c → Commits (record v { master = alone v.master }) c
+dropped_commits v c h = record {
+  acting = h.acting;
+  silent = h.silent;
+  orders_named = h.orders_named;
+  reports_named = h.reports_named;
+  pairs = h.pairs;
+  stages = h.stages;
+  alone = h.alone;
+  untold = h.untold;
+  heard = h.heard;
+  ready = h.ready;
+  retires = h.retires;
+  hands_over = h.hands_over;
+  young_last = h.young_last;
+  young_least = h.young_least;
+  young_told = h.young_told;
+  young = h.young;
+  old = h.old;
+  old_least = h.old_least;
+  old_told = h.old_told;
+  joins_ready = λ none. absurd (false≢true none);
+  unnamed_orders = λ i none. absurd (false≢true none);
+  unnamed_reports = λ i none. absurd (false≢true none);
+  unready = λ i none. absurd (false≢true none);
+  reached = h.reached;
+  lives = h.lives;
+}
+
+-- ---- all detections
+
+-- A detection keeps all sentences: of the server that joins, or of a member, while others remain.
+pub detected-commits : (v : Sight) (c : List Entry) (id a : ℕ) (rest : List ℕ) → Prefixes v → Commits v c → v.master.chain ≡ a ∷ rest → (is_that v.master.joiner id ≡ false → length v.master.chain ≡ 1 → ⊥)
+    → Commits (said v (detected id v.master).master (detected id v.master).said) c
 unfolding detected
-detected-commits v c id g h more = go (is_last v.master.chain id) refl where
-  go : (t : Bool) → is_last v.master.chain id ≡ t → Commits (said v (record v.master { chain = without id v.master.chain; told = t || v.master.told; ready = not t && v.master.ready }) (said_of_loss id v.master.chain)) c
-  go true e = let loss = loss_last id v.master.chain g.apart e more in
-      subst (λ out. Commits (said v (record v.master { chain = without id v.master.chain; told = true; ready = false }) out) c) (sym loss.3) (last_commits v c id loss.0 g h e loss.1 loss.2)
-  go false e = other_commits v c id g h e
+detected-commits v c id a rest g h is more = by (is_that v.master.joiner id) refl where
+  go : is_that v.master.joiner id ≡ false → (t : Bool) → is_last v.master.chain id ≡ t
+      → Commits (said v (record v.master { chain = without id v.master.chain; told = t || v.master.told; ready = not t && v.master.ready; joiner = cond t None v.master.joiner }) (said_of_loss id v.master.chain)) c
+  go other true e = let loss = loss_last id v.master.chain (chain-apart v g) e (more other) in
+      subst (λ out. Commits (said v (record v.master { chain = without id v.master.chain; told = true; ready = false; joiner = None }) out) c) (sym loss.3) (last_commits v c id loss.0 g h e loss.1 loss.2)
+  go other false e = other_commits v c id g h e
+
+  by : (t : Bool) → is_that v.master.joiner id ≡ t → Commits (said v (cond t (dropped v.master) (closed_up id v.master)).master (cond t (dropped v.master) (closed_up id v.master)).said) c
+  by true joins = subst (λ out. Commits (said v (alone v.master) out) c) (sym (ap (λ us. to_last (Feed None) us) is ∙ last_told (Feed None) a rest)) (feed-commits (record v { master = alone v.master }) c (last_of a rest) None (dropped_commits v c h))
+  by false other = go other (is_last v.master.chain id) refl
 
 -- ---- joins
 
-join_commits : (v : Sight) (c : List Entry) (id t : ℕ) → Prefixes v → Commits v c → is_in v.master.used id ≡ false → v.master.ready ≡ true → is_last v.master.chain t ≡ true
-    → Commits (said v (record { chain = v.master.chain ++ id ∷ []; told = false; ready = false; used = v.master.used ++ id ∷ [] }) ((parties.Server id, Report t) ∷ [])) c
-join_commits v c id t g h unused ready last = record {
+-- A new server joins behind the last member, which acts. The chain stays.
+join_commits : (v : Sight) (c : List Entry) (id t : ℕ) → Prefixes v → Commits v c → is_in v.master.used id ≡ false → v.master.ready ≡ true
+    → Commits (said v (record v.master { joiner = Some id; used = v.master.used ++ id ∷ [] }) ((parties.Server id, Report t) ∷ [])) c
+join_commits v c id t g h unused ready = record {
   acting = h.acting;
   silent = λ j out. h.silent j (out_more used id j out).0;
   orders_named = λ j. each_one (Names (used ++ id ∷ [])) j id (Report t) (row j) (each-follows (Names used) (Names (used ++ id ∷ [])) (row j) wider (h.orders_named j)) (λ e. tt);
   reports_named = λ j. each-follows (Names used) (Names (used ++ id ∷ [])) (v.channel (parties.Server j) parties.Master) wider (h.reports_named j);
-  pairs = λ j member. elim (in_more chain id j member) [
-    | inl was ↦ each_one (Pairs (chain ++ id ∷ []) j) j id (Report t) (row j) (pairs_more j (row j) (h.pairs j was) (h.orders_named j)) (λ e. tt)
-    | inr is ↦ each_one (Pairs (chain ++ id ∷ []) j) j id (Report t) (row j) (subst (λ ms. Each (Pairs (chain ++ id ∷ []) j) ms) (sym (new_row j is)) tt) (λ e. tt)
-  ];
-  stages = λ j member. same_tails_stage j member;
-  alone = λ j member some away. elim (in_more chain id j member) [
-    | inl was ↦ (refl, λ z is. subst (λ i. stands_before j i (chain ++ id ∷ []) ≡ true) (last-one (chain ++ id ∷ []) id z (last-end chain id) is) (before-end j id chain (was_last j was some)))
-    | inr is ↦ absurd (both_ways (is_last (chain ++ id ∷ []) j) away (subst (λ i. is_last (chain ++ id ∷ []) i ≡ true) (eqb-true id j is) (last-end chain id)))
-  ];
-  untold = λ j is told. ap (λ s. s.at_least) (new_server j (eq-eqb id j (last-one (chain ++ id ∷ []) id j (last-end chain id) is)));
-  heard = λ j is told. absurd (false≢true told);
-  ready = λ r. absurd (false≢true r);
-  retires = λ j is. let same = eq-eqb id j (last-one (chain ++ id ∷ []) id j (last-end chain id) is) in one_more j id (Report t) Retires (row j) (λ e. subst (λ ms. Retires (ms ++ Report t ∷ [])) (sym (new_row j same)) tt) (λ e. subst Retires (sym (new_row j same)) tt);
-  hands_over = λ told x is i. each-follows (Names used) (HandsOver (length c) (Free w) x) (v.channel (parties.Server i) parties.Master) (hands_nobody x (last-one (chain ++ id ∷ []) x id is (last-end chain id))) (h.reports_named i);
-  young_last = λ j member young. elim (in_more chain id j member) [
-    | inl was ↦ absurd (both_ways (v.server j).full young (grown j was))
-    | inr is ↦ subst (λ i. is_last (chain ++ id ∷ []) i ≡ true) (eqb-true id j is) (last-end chain id)
-  ];
-  young_least = λ j least member young is. elim (in_more chain id j member) [
-    | inl was ↦ absurd (both_ways (v.server j).full young (grown j was))
-    | inr same ↦ absurd (some_none least (sym is ∙ ap (λ s. s.at_least) (new_server j same)))
-  ];
-  young_told = λ j member young. elim (in_more chain id j member) [
-    | inl was ↦ absurd (both_ways (v.server j).full young (grown j was))
-    | inr same ↦ each_one (Enough (length c)) j id (Report t) (row j) (subst (λ ms. Each (Enough (length c)) ms) (sym (new_row j same)) tt) (λ e. tt)
-  ];
-  young = λ told j is. ap (λ s. s.full) (new_server j (eq-eqb id j (last-one (chain ++ id ∷ []) id j (last-end chain id) is)));
-  old = λ j member full. h.old j (was_member j member full) full;
-  old_least = λ j least member full. h.old_least j least (was_member j member full) full;
-  old_told = λ j member full. each_one Zero j id (Report t) (row j) (h.old_told j (was_member j member full) full) (λ e. tt);
+  pairs = λ j member. each_one (Pairs v.master.chain j) j id (Report t) (row j) (h.pairs j member) (λ e. tt);
+  stages = λ j member. ap (λ n. n + (readies (v.channel (parties.Server j) parties.Master) + bit (waits (v.server j)))) (same_tails j) ∙ h.stages j member;
+  alone = h.alone;
+  untold = h.untold;
+  heard = λ j last told none. h.heard j last told (sym (same_tails j) ∙ none);
+  ready = h.ready;
+  retires = λ j last. one_more j id (Report t) Retires (row j) (λ e. retires_append (row j) (Report t ∷ []) (h.retires j last) tt) (λ e. h.retires j last);
+  hands_over = h.hands_over;
+  young_last = h.young_last;
+  young_least = h.young_least;
+  young_told = λ j member young. each_one (Enough (length c)) j id (Report t) (row j) (h.young_told j member young) (λ e. tt);
+  young = h.young;
+  old = h.old;
+  old_least = h.old_least;
+  old_told = λ j member full. each_one Zero j id (Report t) (row j) (h.old_told j member full) (λ e. tt);
+  joins_ready = λ joins. ready;
+  unnamed_orders = λ i is j. each_one (NotOn i) j id (Report t) (row j) (each-follows (Names used) (NotOn i) (row j) (unnamed i is) (h.orders_named j)) (λ e. tt);
+  unnamed_reports = λ i is j. each-follows (Names used) (NotOn i) (v.channel (parties.Server j) parties.Master) (unnamed i is) (h.reports_named j);
+  unready = λ i is. ap readies (ap (λ k. v.channel (parties.Server k) parties.Master) (sym (eqb-true id i is)) ∙ h.silent id unused);
   reached = h.reached;
   lives = (h.lives.0, in_left used id h.lives.0 h.lives.1, h.lives.2, h.lives.3);
 } where
-  chain : List ℕ
-  chain = v.master.chain
-
   used : List ℕ
   used = v.master.used
 
   row : ℕ → List Message
   row j = v.channel parties.Master (parties.Server j)
 
-  w : Sight
-  w = said v (record { chain = v.master.chain ++ id ∷ []; told = false; ready = false; used = v.master.used ++ id ∷ [] }) ((parties.Server id, Report t) ∷ [])
-
-  new_server : (j : ℕ) → eqb id j ≡ true → v.server j ≡ joining
-  new_server j same = ap (λ i. v.server i) (sym (eqb-true id j same)) ∙ (g.fresh id unused).0
-
-  new_row : (j : ℕ) → eqb id j ≡ true → v.channel parties.Master (parties.Server j) ≡ []
-  new_row j same = ap (λ i. v.channel parties.Master (parties.Server i)) (sym (eqb-true id j same)) ∙ (g.fresh id unused).1
-
   wider : (m : Message) → Names v.master.used m → Names (v.master.used ++ id ∷ []) m
   wider (Adopt s n) k = in_left v.master.used id s k
   wider (Adopted s n) k = in_left v.master.used id s k
   wider m k = tt
 
-  pairs_more : (j : ℕ) (ms : List Message) → Each (Pairs v.master.chain j) ms → Each (Names v.master.used) ms → Each (Pairs (v.master.chain ++ id ∷ []) j) ms
-  pairs_more j [] k n = tt
-  pairs_more j (m ∷ ms) k n = (one m k.0 n.0, pairs_more j ms k.1 n.1) where
-    one : (y : Message) → Pairs v.master.chain j y → Names v.master.used y → Pairs (v.master.chain ++ id ∷ []) j y
-    one (Adopt s i) p named = λ there. elim (in_more v.master.chain id s there) [
-      | inl was ↦ before-more j s id v.master.chain (p was)
-      | inr same ↦ absurd (both_ways (is_in v.master.used id) unused (subst (λ k. is_in v.master.used k ≡ true) (sym (eqb-true id s same)) named))
-    ]
-    one y p named = tt
+  -- nobody named the new one
+  not_used : (i s : ℕ) → eqb id i ≡ true → is_in v.master.used s ≡ true → eqb s i ≡ false
+  not_used i s is known = not_true (eqb s i) (λ same. both_ways (is_in v.master.used id) unused (subst (λ k. is_in v.master.used k ≡ true) (eqb-true s i same ∙ sym (eqb-true id i is)) known))
 
-  -- no member is on its way to act, and so the last one acts
-  nobody : (a : Bool) → bit (a && (v.master.told && not v.master.ready)) ≡ 0
-  nobody a = ap (λ b. bit (a && (v.master.told && not b))) ready ∙ go a v.master.told where
-    go : (x y : Bool) → bit (x && (y && false)) ≡ 0
-    go true true = refl
-    go true false = refl
-    go false y = refl
-
-  idle : (j : ℕ) → is_in v.master.chain j ≡ true → busy v j ≡ 0
-  idle j member = h.stages j member ∙ nobody (is_last v.master.chain j)
-
-  last_acts : (z : ℕ) → is_last v.master.chain z ≡ true → acts (v.server z) ≡ true
-  last_acts z is =
-      let member = last-in v.master.chain z is in
-      let some = h.heard z is (h.ready ready) (omega (arith, idle z member)) in
-      go (acts (v.server z)) (is_some (v.server z).at_least) refl some (omega (arith, idle z member)) where
-        go : (a s : Bool) → acts (v.server z) ≡ a → s ≡ true → bit (s && not (acts (v.server z))) ≡ 0 → a ≡ true
-        go true s e f n = refl
-        go false true e f n = absurd (omega (arith, n, ap (λ b. bit (not b)) e))
-        go false false e f n = absurd (false≢true f)
-
-  grown : (j : ℕ) → is_in v.master.chain j ≡ true → (v.server j).full ≡ true
-  grown j member = elim (cases_Bool (v.server j).full) [ inl full ↦ full | inr young ↦ absurd (both_ways (v.server j).full young (h.acting j (last_acts j (h.young_last j member young)))) ]
-
-  -- the only one that may be a tail is the old last one
-  was_last : (j : ℕ) → is_in v.master.chain j ≡ true → is_some (v.server j).at_least ≡ true → is_last v.master.chain j ≡ true
-  was_last j member some = elim (cases_Bool (is_last v.master.chain j)) [
-    | inl is ↦ is
-    | inr not_last ↦ absurd (both_ways v.master.told (h.alone j member some not_last).0 (h.ready ready))
-  ]
-
-  was_member : (j : ℕ) → is_in (v.master.chain ++ id ∷ []) j ≡ true → (v.server j).full ≡ true → is_in v.master.chain j ≡ true
-  was_member j member full = elim (in_more v.master.chain id j member) [
-    | inl was ↦ was
-    | inr same ↦ absurd (both_ways (v.server j).full (ap (λ s. s.full) (ap (λ i. v.server i) (sym (eqb-true id j same)) ∙ (g.fresh id unused).0)) full)
-  ]
-
-  hands_nobody : (x : ℕ) → x ≡ id → (m : Message) → Names v.master.used m → HandsOver (length c) (Free (said v (record { chain = v.master.chain ++ id ∷ []; told = false; ready = false; used = v.master.used ++ id ∷ [] }) ((parties.Server id, Report t) ∷ []))) x m
-  hands_nobody x is (Adopted s n) named = λ e. absurd (both_ways (is_in v.master.used id) unused (subst (λ k. is_in v.master.used k ≡ true) (eqb-true s x e ∙ is) named))
-  hands_nobody x is m named = tt
+  unnamed : (i : ℕ) → eqb id i ≡ true → (m : Message) → Names v.master.used m → NotOn i m
+  unnamed i is (Adopt s n) known = not_used i s is known
+  unnamed i is (Adopted s n) known = not_used i s is known
+  unnamed i is m known = tt
 
   same_tails : (j : ℕ) → tails (v.channel parties.Master (parties.Server j) ++ told_to j ((parties.Server id, Report t) ∷ [])) ≡ tails (v.channel parties.Master (parties.Server j))
   same_tails j = one_more j id (Report t) (λ us. tails us ≡ tails (v.channel parties.Master (parties.Server j))) (v.channel parties.Master (parties.Server j)) (λ e. omega (arith, tails-append (v.channel parties.Master (parties.Server j)) (Report t ∷ []))) (λ e. refl)
-
-  silent_now : (a : Bool) → bit (a && (false && not false)) ≡ 0
-  silent_now true = refl
-  silent_now false = refl
-
-  new_busy : (j : ℕ) → eqb id j ≡ true → busy v j ≡ 0
-  new_busy j same = ap (λ ms. tails ms + (readies (v.channel (parties.Server j) parties.Master) + bit (waits (v.server j)))) (ap (λ i. v.channel parties.Master (parties.Server i)) (sym (eqb-true id j same)) ∙ (g.fresh id unused).1)
-      ∙ ap (λ ms. 0 + (readies ms + bit (waits (v.server j)))) (ap (λ i. v.channel (parties.Server i) parties.Master) (sym (eqb-true id j same)) ∙ h.silent id unused)
-      ∙ ap (λ s. 0 + (0 + bit (waits s))) (ap (λ i. v.server i) (sym (eqb-true id j same)) ∙ (g.fresh id unused).0)
-
-  same_tails_stage : (j : ℕ) → is_in (v.master.chain ++ id ∷ []) j ≡ true
-      → tails (v.channel parties.Master (parties.Server j) ++ told_to j ((parties.Server id, Report t) ∷ [])) + (readies (v.channel (parties.Server j) parties.Master) + bit (waits (v.server j))) ≡ bit (is_last (v.master.chain ++ id ∷ []) j && (false && not false))
-  same_tails_stage j member = elim (in_more v.master.chain id j member) [
-    | inl was ↦ omega (arith, same_tails j, idle j was, silent_now (is_last (v.master.chain ++ id ∷ []) j))
-    | inr same ↦ omega (arith, same_tails j, new_busy j same, silent_now (is_last (v.master.chain ++ id ∷ []) j))
-  ]
 
 -- A join of a number that wasn't used, where the last member acts, keeps all sentences.
 pub joined-commits : (v : Sight) (c : List Entry) (id a : ℕ) (rest : List ℕ) → Prefixes v → Commits v c → is_in v.master.used id ≡ false → v.master.ready ≡ true → v.master.chain ≡ a ∷ rest
     → Commits (said v (joined id v.master).master (joined id v.master).said) c
 unfolding joined
-joined-commits v c id a rest g h unused ready is = subst (λ out. Commits (said v (record { chain = v.master.chain ++ id ∷ []; told = false; ready = false; used = v.master.used ++ id ∷ [] }) out) c) (sym (ap (λ us. said_of_join id us) is ∙ join_told id a rest))
-    (join_commits v c id (last_of a rest) g h unused ready (ap (λ us. is_last us (last_of a rest)) is ∙ at_last a rest)) where
-      at_last : (b : ℕ) (us : List ℕ) → is_last (b ∷ us) (last_of b us) ≡ true
-      at_last b [] = eq-eqb b b refl
-      at_last b (d ∷ us) = at_last d us
+joined-commits v c id a rest g h unused ready is = subst (λ out. Commits (said v (record v.master { joiner = Some id; used = v.master.used ++ id ∷ [] }) out) c) (sym (ap (λ us. said_of_join id us) is ∙ join_told id a rest))
+    (join_commits v c id (last_of a rest) g h unused ready)

@@ -1,19 +1,22 @@
 -- Each step of the master keeps the sentences on who may act and what is committed.
-use Rattle.std.proofs.Common.{◌≡◌, ℕ, ◌+◌, ◌≤◌, ◌∙◌, ap, sym, List, [], ◌∷◌, ◌++◌, length, ◌&&◌, not, is_some, Bool, true, false, cond, eqb, arith, subst, refl, inl, inr, append-nil}
+use Rattle.std.proofs.Common.{◌≡◌, ℕ, ◌+◌, ◌≤◌, ◌∙◌, ap, sym, List, [], ◌∷◌, ◌++◌, length, ◌&&◌, not, Option, Some, None, is_some, Bool, true, false, cond, eqb, arith, subst, refl, inl, inr, append-nil}
 use Rattle.std.proofs.lemmas.Bool.{eqb-true, eq-eqb, false≢true, both_ways, cases_Bool, and_parts}
 use Rattle.cq_base.specs.declared.ask.Entry.{Entry}
 use Rattle.cq_base.specs.declared.party.Party.{Party}
 use Rattle.cq_base.specs.declared.party.Party.TheVariants as parties
-use Rattle.cq_chain.specs.Masters.{Master, is_in, is_last, hears, no_order, stands_before}
-use Rattle.cq_chain.specs.Messages.{Message, BeHead, Report, Adopt, BeTail, Have, Adopted, Ready}
-use Rattle.cq_chain.specs.Parties.{same}
-use Rattle.cq_world.proofs.Chains.{last-in, last-one, before-in, before-last}
-use Rattle.cq_world.proofs.Commits.{Commits, tails, readies, Names, Pairs, Retires, HandsOver, Enough, Zero, bit, waits, busy, Free}
-use Rattle.cq_world.proofs.Commits.Turns.{tails-append, if_false, stage_one}
+use Rattle.cq_chain.specs.Masters.{Master, is_in, is_last, hears, joins_behind, admitted, no_order, stands_before}
+use Rattle.cq_chain.specs.Messages.{Message, BeHead, Report, Adopt, BeTail, Feed, Have, Adopted, Caught, Ready}
+use Rattle.cq_chain.specs.Parties.{same, is_that}
+use Rattle.cq_chain.specs.Servers.{acts}
+use Rattle.cq_world.proofs.Chains.{last-in, last-one, last-end, before-in, before-last, before-more, before-end, chain-apart, chain-used}
+use Rattle.cq_world.proofs.Commits.{Commits, harmless_tails, tails, readies, Names, Pairs, Retires, HandsOver, Enough, Zero, NotOn, bit, waits, busy, Free}
+use Rattle.cq_world.proofs.Commits.Turns.{tails-append, if_false, stage_one, ready-idle, ready-acts}
 use Rattle.cq_world.proofs.Eaches.{Each, each-append, some_none, cons_nil}
-use Rattle.cq_world.proofs.Prefixes.Orders.{told_to, one_told}
-use Rattle.cq_world.proofs.Prefixes.{Prefixes}
-use Rattle.cq_world.proofs.Sights.{Sight, said, drained, same_channels}
+use Rattle.cq_world.proofs.Lines.{in_more, member-other}
+use Rattle.cq_world.proofs.Prefixes.Orders.{told_to, one_told, still_said, said-keeps}
+use Rattle.cq_world.proofs.Prefixes.{Prefixes, Harmless, Bystander}
+use Rattle.cq_world.proofs.Settled.{that_some}
+use Rattle.cq_world.proofs.Sights.{Sight, line_of, said, drained, same_channels}
 
 -- ---- words without a meaning for who acts
 
@@ -43,6 +46,11 @@ pub neutral_enough : (n : ℕ) (m : Message) → Neutral m → Enough n m
 neutral_enough n (BeTail least) h = absurd h
 neutral_enough n (Adopt s i) h = absurd h
 neutral_enough n m h = tt
+
+pub neutral_not_on : (j : ℕ) (m : Message) → Neutral m → NotOn j m
+neutral_not_on j (Adopt s n) h = absurd h
+neutral_not_on j (Adopted s n) h = absurd h
+neutral_not_on j m h = tt
 
 pub neutral_zero : (m : Message) → Neutral m → Zero m
 neutral_zero (BeTail least) h = absurd h
@@ -91,6 +99,11 @@ by_left v from word rest P at all j = subst (λ ms. Each (P j) ms) (sym (left_ro
   go true e = subst (λ i. Each (P i) rest) (sym (eqb-true j from e)) (subst (λ ms. Each (P from) ms) at (all from)).1
   go false e = all j
 
+-- without the first word no more of them say that a server acts
+readies_rest : (word : Message) (rest : List Message) → readies (word ∷ rest) ≡ 0 → readies rest ≡ 0
+readies_rest Ready rest h = absurd (omega (arith, h))
+readies_rest word rest h = h
+
 -- a word that doesn't say that a member acts, or nothing
 drained_commits : (v : Sight) (c : List Entry) (from : ℕ) (word : Message) (rest : List Message) → Commits v c → v.channel (parties.Server from) parties.Master ≡ word ∷ rest
     → (is_in v.master.chain from ≡ true → readies rest ≡ readies (word ∷ rest)) → Commits (drained v (parties.Server from) parties.Master rest) c
@@ -114,9 +127,17 @@ drained_commits v c from word rest h at quiet = record {
   old = h.old;
   old_least = h.old_least;
   old_told = h.old_told;
+  joins_ready = h.joins_ready;
+  unnamed_orders = h.unnamed_orders;
+  unnamed_reports = λ j joins. by_left v from word rest (λ i m. NotOn j m) at (h.unnamed_reports j joins);
+  unready = λ j joins. ap readies (left_row v from rest j) ∙ still_unready j joins (eqb j from) refl;
   reached = h.reached;
   lives = h.lives;
 } where
+  still_unready : (j : ℕ) → is_that v.master.joiner j ≡ true → (t : Bool) → eqb j from ≡ t → readies (cond t rest (v.channel (parties.Server j) parties.Master)) ≡ 0
+  still_unready j joins false e = h.unready j joins
+  still_unready j joins true e = readies_rest word rest (ap readies (sym at ∙ ap (λ i. v.channel (parties.Server i) parties.Master) (sym (eqb-true j from e))) ∙ h.unready j joins)
+
   other : (j : ℕ) → is_in v.master.used j ≡ false → (t : Bool) → eqb j from ≡ t → t ≡ false
   other j unused false e = refl
   other j unused true e = absurd (cons_nil word rest (sym at ∙ h.silent from (subst (λ i. is_in v.master.used i ≡ false) (eqb-true j from e) unused)))
@@ -141,7 +162,7 @@ adopt_commits : (v : Sight) (c : List Entry) (p s count : ℕ) → Prefixes v �
 adopt_commits v c p s count g h before = record {
   acting = h.acting;
   silent = h.silent;
-  orders_named = λ j. each_one (Names v.master.used) j p word (v.channel parties.Master (parties.Server j)) (h.orders_named j) (λ e. g.members s (before-in p s v.master.chain before).1);
+  orders_named = λ j. each_one (Names v.master.used) j p word (v.channel parties.Master (parties.Server j)) (h.orders_named j) (λ e. chain-used v s g (before-in p s v.master.chain before).1);
   reports_named = h.reports_named;
   pairs = λ j member. each_one (Pairs v.master.chain j) j p word (v.channel parties.Master (parties.Server j)) (h.pairs j member) (λ e there. subst (λ i. stands_before i s v.master.chain ≡ true) (sym (eqb-true j p e)) before);
   stages = λ j member. ap (λ n. n + (readies (v.channel (parties.Server j) parties.Master) + bit (waits (v.server j)))) (same_tails j) ∙ h.stages j member;
@@ -158,17 +179,26 @@ adopt_commits v c p s count g h before = record {
   old = h.old;
   old_least = h.old_least;
   old_told = λ j member full. each_one Zero j p word (v.channel parties.Master (parties.Server j)) (h.old_told j member full) (λ e. tt);
+  joins_ready = h.joins_ready;
+  unnamed_orders = λ i joins j. each_one (NotOn i) j p word (v.channel parties.Master (parties.Server j)) (h.unnamed_orders i joins j) (λ e. not_joining i joins (eqb s i) refl);
+  unnamed_reports = h.unnamed_reports;
+  unready = h.unready;
   reached = h.reached;
   lives = h.lives;
 } where
   word : Message
   word = Adopt s count
 
+  -- the successor is a member
+  not_joining : (i : ℕ) → is_that v.master.joiner i ≡ true → (t : Bool) → eqb s i ≡ t → t ≡ false
+  not_joining i joins false e = refl
+  not_joining i joins true e = absurd (both_ways (is_that v.master.joiner i) (subst (λ k. is_that v.master.joiner k ≡ false) (eqb-true s i e) (member-other v.master.chain v.master.joiner s g.apart (before-in p s v.master.chain before).1)) joins)
+
   same_tails : (j : ℕ) → tails (v.channel parties.Master (parties.Server j) ++ told_to j ((parties.Server p, Adopt s count) ∷ [])) ≡ tails (v.channel parties.Master (parties.Server j))
   same_tails j = one_more j p (Adopt s count) (λ us. tails us ≡ tails (v.channel parties.Master (parties.Server j))) (v.channel parties.Master (parties.Server j)) (λ e. omega (arith, tails-append (v.channel parties.Master (parties.Server j)) (Adopt s count ∷ []))) (λ e. refl)
 
   not_last : (j : ℕ) → eqb j p ≡ true → is_last v.master.chain j ≡ true → ⊥
-  not_last j e last = before-last p s v.master.chain g.apart before (subst (λ i. is_last v.master.chain i ≡ true) (eqb-true j p e) last)
+  not_last j e last = before-last p s v.master.chain (chain-apart v g) before (subst (λ i. is_last v.master.chain i ≡ true) (eqb-true j p e) last)
 
 -- ---- the last one is told
 
@@ -202,6 +232,10 @@ told_commits v c s count g h last untold enough free = record {
   old = h.old;
   old_least = h.old_least;
   old_told = λ j member full. each_one Zero j s word (v.channel parties.Master (parties.Server j)) (h.old_told j member full) (λ e. absurd (both_ways (v.server j).full (h.young untold j (subst (λ i. is_last v.master.chain i ≡ true) (sym (eqb-true j s e)) last)) full));
+  joins_ready = h.joins_ready;
+  unnamed_orders = λ i joins j. each_one (NotOn i) j s word (v.channel parties.Master (parties.Server j)) (h.unnamed_orders i joins j) (λ e. tt);
+  unnamed_reports = h.unnamed_reports;
+  unready = h.unready;
   reached = h.reached;
   lives = h.lives;
 } where
@@ -259,9 +293,17 @@ ready_commits v c from rest h at last = record {
   old = h.old;
   old_least = h.old_least;
   old_told = h.old_told;
+  joins_ready = λ joins. refl;
+  unnamed_orders = h.unnamed_orders;
+  unnamed_reports = λ j joins. by_left v from Ready rest (λ i m. NotOn j m) at (h.unnamed_reports j joins);
+  unready = λ j joins. ap readies (left_row v from rest j) ∙ still_unready j joins (eqb j from) refl;
   reached = h.reached;
   lives = h.lives;
 } where
+  still_unready : (j : ℕ) → is_that v.master.joiner j ≡ true → (t : Bool) → eqb j from ≡ t → readies (cond t rest (v.channel (parties.Server j) parties.Master)) ≡ 0
+  still_unready j joins false e = h.unready j joins
+  still_unready j joins true e = readies_rest Ready rest (ap readies (sym at ∙ ap (λ i. v.channel (parties.Server i) parties.Master) (sym (eqb-true j from e))) ∙ h.unready j joins)
+
   other : (j : ℕ) → is_in v.master.used j ≡ false → (t : Bool) → eqb j from ≡ t → t ≡ false
   other j unused false e = refl
   other j unused true e = absurd (cons_nil Ready rest (sym at ∙ h.silent from (subst (λ i. is_in v.master.used i ≡ false) (eqb-true j from e) unused)))
@@ -291,19 +333,228 @@ ready_commits v c from rest h at last = record {
       let is : is_last v.master.chain j ≡ false = elim (cases_Bool (is_last v.master.chain j)) [ inl k ↦ absurd (both_ways (eqb j from) e (eq-eqb j from (last-one v.master.chain j from k last))) | inr k ↦ k ] in
       omega (arith, h.stages j member, ap (λ b. bit (b && (v.master.told && not v.master.ready))) is, nobody (is_last v.master.chain j) v.master.told)
 
+-- ---- a server that is fed
+
+-- a row that tells of feeding at its end
+retires_fed : (xs : List Message) (succ : Option ℕ) → Retires xs → Retires (xs ++ Feed succ ∷ [])
+retires_fed xs succ h = retires_append xs (Feed succ ∷ []) h tt
+
+-- What is said of feeding says nothing of who acts.
+pub feed-commits : (v : Sight) (c : List Entry) (to : ℕ) (succ : Option ℕ) → Commits v c → Commits (said v v.master ((parties.Server to, Feed succ) ∷ [])) c
+feed-commits v c to succ h = record {
+  acting = h.acting;
+  silent = h.silent;
+  orders_named = λ j. each_one (Names v.master.used) j to word (row j) (h.orders_named j) (λ e. tt);
+  reports_named = h.reports_named;
+  pairs = λ j member. each_one (Pairs v.master.chain j) j to word (row j) (h.pairs j member) (λ e. tt);
+  stages = λ j member. ap (λ n. n + (readies (v.channel (parties.Server j) parties.Master) + bit (waits (v.server j)))) (same_tails j) ∙ h.stages j member;
+  alone = h.alone;
+  untold = h.untold;
+  heard = λ j last told none. h.heard j last told (sym (same_tails j) ∙ none);
+  ready = h.ready;
+  retires = λ j last. one_more j to word Retires (row j) (λ e. retires_fed (row j) succ (h.retires j last)) (λ e. h.retires j last);
+  hands_over = h.hands_over;
+  young_last = h.young_last;
+  young_least = h.young_least;
+  young_told = λ j member young. each_one (Enough (length c)) j to word (row j) (h.young_told j member young) (λ e. tt);
+  young = h.young;
+  old = h.old;
+  old_least = h.old_least;
+  old_told = λ j member full. each_one Zero j to word (row j) (h.old_told j member full) (λ e. tt);
+  joins_ready = h.joins_ready;
+  unnamed_orders = λ i joins j. each_one (NotOn i) j to word (row j) (h.unnamed_orders i joins j) (λ e. tt);
+  unnamed_reports = h.unnamed_reports;
+  unready = h.unready;
+  reached = h.reached;
+  lives = h.lives;
+} where
+  word : Message
+  word = Feed succ
+
+  row : ℕ → List Message
+  row j = v.channel parties.Master (parties.Server j)
+
+  same_tails : (j : ℕ) → tails (v.channel parties.Master (parties.Server j) ++ told_to j ((parties.Server to, Feed succ) ∷ [])) ≡ tails (v.channel parties.Master (parties.Server j))
+  same_tails j = one_more j to (Feed succ) (λ us. tails us ≡ tails (v.channel parties.Master (parties.Server j))) (v.channel parties.Master (parties.Server j)) (λ e. omega (arith, tails-append (v.channel parties.Master (parties.Server j)) (Feed succ ∷ []))) (λ e. refl)
+
+-- ---- a server that becomes a member
+
+harmless_pairs : (chain : List ℕ) (p : ℕ) (ms : List Message) → Each Harmless ms → Each (Pairs chain p) ms
+harmless_pairs chain p [] h = tt
+harmless_pairs chain p (m ∷ ms) h = (one m h.0, harmless_pairs chain p ms h.1) where
+  one : (y : Message) → Harmless y → Pairs chain p y
+  one (Adopt s n) g = absurd g
+  one y g = tt
+
+harmless_retires : (ms : List Message) → Each Harmless ms → Retires ms
+harmless_retires [] h = tt
+harmless_retires (m ∷ ms) h = step m h.0 (harmless_retires ms h.1) where
+  step : (y : Message) → Harmless y → Retires ms → Retires (y ∷ ms)
+  step (Adopt s n) g r = absurd g
+  step y g r = r
+
+harmless_enough : (n : ℕ) (ms : List Message) → Each Harmless ms → Each (Enough n) ms
+harmless_enough n [] h = tt
+harmless_enough n (m ∷ ms) h = (one m h.0, harmless_enough n ms h.1) where
+  one : (y : Message) → Harmless y → Enough n y
+  one (BeTail least) g = absurd g
+  one (Adopt s i) g = absurd g
+  one y g = tt
+
+-- The server that joins is put at the end of the chain, and isn't told yet.
+grow_commits : (v : Sight) (c : List Entry) (id : ℕ) → Prefixes v → Commits v c → is_that v.master.joiner id ≡ true
+    → Commits (record v { master = record v.master { chain = v.master.chain ++ id ∷ []; told = false; ready = false; joiner = None } }) c
+grow_commits v c id g h joins = record {
+  acting = h.acting;
+  silent = h.silent;
+  orders_named = h.orders_named;
+  reports_named = h.reports_named;
+  pairs = λ j member. elim (in_more chain id j member) [
+    | inl was ↦ pairs_more j (row j) (h.pairs j was) (h.unnamed_orders id joins j)
+    | inr is ↦ harmless_pairs (chain ++ id ∷ []) j (row j) (by j is).told
+  ];
+  stages = λ j member. stages j member;
+  alone = λ j member some away. elim (in_more chain id j member) [
+    | inl was ↦ (refl, λ z is. subst (λ i. stands_before j i (chain ++ id ∷ []) ≡ true) (last-one (chain ++ id ∷ []) id z (last-end chain id) is) (before-end j id chain (was_last j was some)))
+    | inr is ↦ absurd (both_ways (is_last (chain ++ id ∷ []) j) away (subst (λ i. is_last (chain ++ id ∷ []) i ≡ true) (eqb-true id j is) (last-end chain id)))
+  ];
+  untold = λ j is told. (by j (new_last j is)).at_least;
+  heard = λ j is told. absurd (false≢true told);
+  ready = λ r. absurd (false≢true r);
+  retires = λ j is. harmless_retires (row j) (by j (new_last j is)).told;
+  hands_over = λ told x is i. hands_nobody x (eqb-true id x (new_last x is)) (v.channel (parties.Server i) parties.Master) (h.unnamed_reports id joins i);
+  young_last = λ j member young. elim (in_more chain id j member) [
+    | inl was ↦ absurd (both_ways (v.server j).full young (grown j was))
+    | inr is ↦ subst (λ i. is_last (chain ++ id ∷ []) i ≡ true) (eqb-true id j is) (last-end chain id)
+  ];
+  young_least = λ j least member young is. elim (in_more chain id j member) [
+    | inl was ↦ absurd (both_ways (v.server j).full young (grown j was))
+    | inr same ↦ absurd (some_none least (sym is ∙ (by j same).at_least))
+  ];
+  young_told = λ j member young. elim (in_more chain id j member) [
+    | inl was ↦ absurd (both_ways (v.server j).full young (grown j was))
+    | inr same ↦ harmless_enough (length c) (row j) (by j same).told
+  ];
+  young = λ told j is. (by j (new_last j is)).full;
+  old = λ j member full. h.old j (was_member j member full) full;
+  old_least = λ j least member full. h.old_least j least (was_member j member full) full;
+  old_told = λ j member full. h.old_told j (was_member j member full) full;
+  joins_ready = λ none. absurd (false≢true none);
+  unnamed_orders = λ j none. absurd (false≢true none);
+  unnamed_reports = λ j none. absurd (false≢true none);
+  unready = λ j none. absurd (false≢true none);
+  reached = h.reached;
+  lives = h.lives;
+} where
+  chain : List ℕ
+  chain = v.master.chain
+
+  row : ℕ → List Message
+  row j = v.channel parties.Master (parties.Server j)
+
+  ready : v.master.ready ≡ true
+  ready = h.joins_ready (ap (λ o. is_some o) (that_some v.master.joiner id joins))
+
+  -- the new one is a bystander until now
+  by : (j : ℕ) → eqb id j ≡ true → Bystander (v.server j) (v.channel parties.Master (parties.Server j))
+  by j same = subst (λ i. Bystander (v.server i) (v.channel parties.Master (parties.Server i))) (eqb-true id j same) (g.aside id joins)
+
+  new_last : (j : ℕ) → is_last (v.master.chain ++ id ∷ []) j ≡ true → eqb id j ≡ true
+  new_last j is = eq-eqb id j (last-one (v.master.chain ++ id ∷ []) id j (last-end v.master.chain id) is)
+
+  pairs_more : (j : ℕ) (ms : List Message) → Each (Pairs v.master.chain j) ms → Each (NotOn id) ms → Each (Pairs (v.master.chain ++ id ∷ []) j) ms
+  pairs_more j [] k n = tt
+  pairs_more j (m ∷ ms) k n = (one m k.0 n.0, pairs_more j ms k.1 n.1) where
+    one : (y : Message) → Pairs v.master.chain j y → NotOn id y → Pairs (v.master.chain ++ id ∷ []) j y
+    one (Adopt s i) p other = λ there. elim (in_more v.master.chain id s there) [
+      | inl was ↦ before-more j s id v.master.chain (p was)
+      | inr same ↦ absurd (both_ways (eqb s id) other (eq-eqb s id (sym (eqb-true id s same))))
+    ]
+    one y p other = tt
+
+  idle : (j : ℕ) → is_in v.master.chain j ≡ true → busy v j ≡ 0
+  idle j member = ready-idle v c j h ready member
+
+  grown : (j : ℕ) → is_in v.master.chain j ≡ true → (v.server j).full ≡ true
+  grown j member = elim (cases_Bool (v.server j).full) [ inl full ↦ full | inr young ↦ absurd (both_ways (v.server j).full young (h.acting j (ready-acts v c j h ready (h.young_last j member young)))) ]
+
+  -- the only one that may be a tail is the old last one
+  was_last : (j : ℕ) → is_in v.master.chain j ≡ true → is_some (v.server j).at_least ≡ true → is_last v.master.chain j ≡ true
+  was_last j member some = elim (cases_Bool (is_last v.master.chain j)) [
+    | inl is ↦ is
+    | inr not_last ↦ absurd (both_ways v.master.told (h.alone j member some not_last).0 (h.ready ready))
+  ]
+
+  was_member : (j : ℕ) → is_in (v.master.chain ++ id ∷ []) j ≡ true → (v.server j).full ≡ true → is_in v.master.chain j ≡ true
+  was_member j member full = elim (in_more v.master.chain id j member) [
+    | inl was ↦ was
+    | inr same ↦ absurd (both_ways (v.server j).full (by j same).full full)
+  ]
+
+  hands_nobody : (x : ℕ) → id ≡ x → (ms : List Message) → Each (NotOn id) ms → Each (HandsOver (length c) (Free (record v { master = record v.master { chain = v.master.chain ++ id ∷ []; told = false; ready = false; joiner = None } })) x) ms
+  hands_nobody x is [] k = tt
+  hands_nobody x is (m ∷ ms) k = (one m k.0, hands_nobody x is ms k.1) where
+    one : (y : Message) → NotOn id y → HandsOver (length c) (Free (record v { master = record v.master { chain = v.master.chain ++ id ∷ []; told = false; ready = false; joiner = None } })) x y
+    one (Adopted s n) other = λ e. absurd (both_ways (eqb s id) other (eq-eqb s id (eqb-true s x e ∙ sym is)))
+    one y other = tt
+
+  silent_now : (a : Bool) → bit (a && (false && not false)) ≡ 0
+  silent_now true = refl
+  silent_now false = refl
+
+  new_busy : (j : ℕ) → eqb id j ≡ true → busy v j ≡ 0
+  new_busy j same = omega (
+    arith,
+    harmless_tails (row j) (by j same).told,
+    subst (λ i. readies (v.channel (parties.Server i) parties.Master) ≡ 0) (eqb-true id j same) (h.unready id joins),
+    ap (λ o. bit (is_some o && not (acts (v.server j)))) (by j same).at_least,
+  )
+
+  stages : (j : ℕ) → is_in (v.master.chain ++ id ∷ []) j ≡ true → busy v j ≡ bit (is_last (v.master.chain ++ id ∷ []) j && (false && not false))
+  stages j member = elim (in_more v.master.chain id j member) [
+    | inl was ↦ idle j was ∙ sym (silent_now (is_last (v.master.chain ++ id ∷ []) j))
+    | inr same ↦ new_busy j same ∙ sym (silent_now (is_last (v.master.chain ++ id ∷ []) j))
+  ]
+
+-- It is put there, and the old last one is told.
+caught_commits : (v : Sight) (c : List Entry) (p from count : ℕ) → Prefixes v → Commits v c → is_that v.master.joiner from ≡ true → is_last v.master.chain p ≡ true → Commits (said v (admitted p from count v.master).master (admitted p from count v.master).said) c
+caught_commits v c p from count g h joins last = adopt_commits w c p from count grown (grow_commits v c from g h joins) (before-end p from v.master.chain last) where
+  w : Sight
+  w = record v { master = (admitted p from count v.master).master }
+
+  grown : Prefixes (record v { master = (admitted p from count v.master).master })
+  grown = subst Prefixes (said_nothing v (admitted p from count v.master).master) (said-keeps v (admitted p from count v.master).master [] g
+      (still_said v (admitted p from count v.master).master g (sym (ap (λ o. line_of v.master.chain o) (that_some v.master.joiner from joins))) refl (λ j none. absurd (false≢true none))))
+
 -- ---- all that is heard
 
 -- Whatever the master hears, its order keeps all sentences.
 pub heard-commits : (v : Sight) (c : List Entry) (from : ℕ) (word : Message) (rest : List Message) → Prefixes (drained v (parties.Server from) parties.Master rest) → Commits v c → v.channel (parties.Server from) parties.Master ≡ word ∷ rest
     → Commits (said (drained v (parties.Server from) parties.Master rest) (hears from word v.master).master (hears from word v.master).said) c
 unfolding hears
-heard-commits v c from (Have p count) rest g h at = go (stands_before p from v.master.chain) refl where
+heard-commits v c from (Have p count) rest g h at = go (stands_before p from v.master.chain) (joins_behind p from v.master) refl where
   d : Sight
   d = drained v (parties.Server from) parties.Master rest
 
-  go : (t : Bool) → stands_before p from v.master.chain ≡ t → Commits (said d (cond t (record { master = v.master; said = (parties.Server p, Adopt from count) ∷ [] }) (no_order v.master)).master (cond t (record { master = v.master; said = (parties.Server p, Adopt from count) ∷ [] }) (no_order v.master)).said) c
-  go true e = adopt_commits d c p from count g (drained_commits v c from (Have p count) rest h at (λ member. refl)) e
-  go false e = subst (λ w. Commits w c) (sym (said_nothing d v.master)) (drained_commits v c from (Have p count) rest h at (λ member. refl))
+  quiet : Commits (drained v (parties.Server from) parties.Master rest) c
+  quiet = drained_commits v c from (Have p count) rest h at (λ member. refl)
+
+  go : (t u : Bool) → stands_before p from v.master.chain ≡ t
+      → Commits (said d (cond t (record { master = v.master; said = (parties.Server p, Adopt from count) ∷ [] }) (cond u (record { master = v.master; said = (parties.Server p, Feed (Some from)) ∷ [] }) (no_order v.master))).master
+      (cond t (record { master = v.master; said = (parties.Server p, Adopt from count) ∷ [] }) (cond u (record { master = v.master; said = (parties.Server p, Feed (Some from)) ∷ [] }) (no_order v.master))).said) c
+  go true u e = adopt_commits d c p from count g quiet e
+  go false true e = feed-commits d c p (Some from) quiet
+  go false false e = subst (λ w. Commits w c) (sym (said_nothing d v.master)) quiet
+heard-commits v c from (Caught p count) rest g h at = go (joins_behind p from v.master) refl where
+  d : Sight
+  d = drained v (parties.Server from) parties.Master rest
+
+  quiet : Commits (drained v (parties.Server from) parties.Master rest) c
+  quiet = drained_commits v c from (Caught p count) rest h at (λ member. refl)
+
+  go : (t : Bool) → joins_behind p from v.master ≡ t → Commits (said d (cond t (admitted p from count v.master) (no_order v.master)).master (cond t (admitted p from count v.master) (no_order v.master)).said) c
+  go true e = let both = and_parts (is_that v.master.joiner from) (is_last v.master.chain p) e in caught_commits d c p from count g quiet both.0 both.1
+  go false e = subst (λ w. Commits w c) (sym (said_nothing d v.master)) quiet
 heard-commits v c from (Adopted s count) rest g h at = go (is_last v.master.chain s && not v.master.told) refl where
   d : Sight
   d = drained v (parties.Server from) parties.Master rest

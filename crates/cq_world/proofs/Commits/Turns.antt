@@ -8,16 +8,16 @@ use Rattle.cq_base.specs.Relations.{Front}
 use Rattle.cq_chain.specs.Masters.{is_in, is_last, stands_before}
 use Rattle.cq_chain.specs.Messages.{Message, Adopt, BeTail, Adopted, Ready}
 use Rattle.cq_chain.specs.Parties.{same, addressed}
-use Rattle.cq_chain.specs.Servers.{Server, acts, reaches}
+use Rattle.cq_chain.specs.Servers.{Server, acts, reaches, is_that}
 use Rattle.cq_world.specs.Runs.{longer, acting_history}
 use Rattle.cq_world.specs.Worlds.{set_at}
-use Rattle.cq_world.proofs.Chains.{Before, last-one, last-some, before-either, before-not-last, before-only, chain-order}
-use Rattle.cq_world.proofs.Commits.{Commits, tails, readies, Names, Pairs, Retires, HandsOver, Enough, Zero, bit, waits, busy, Free, acts-least, acts-none, some-least, longer-front, longer-still, longer-length}
+use Rattle.cq_world.proofs.Chains.{Before, last-in, last-one, last-some, before-either, before-not-last, before-only, chain-order, chain-apart}
+use Rattle.cq_world.proofs.Commits.{Commits, tails, readies, Names, Pairs, Retires, HandsOver, Enough, Zero, NotOn, bit, waits, busy, Free, acts-least, acts-none, some-least, longer-front, longer-still, longer-length}
 use Rattle.cq_world.proofs.Eaches.{Each, each-append, each-follows, some_none, front-refl, front-trans}
 use Rattle.cq_world.proofs.Prefixes.Orders.{eqb_turned}
-use Rattle.cq_world.proofs.Prefixes.{Prefixes, Turn, turn-keeps, master_after, row_after, each-end}
+use Rattle.cq_world.proofs.Prefixes.{Prefixes, Turn, turn-keeps, master_after, row_after, rest_of, each-end}
 use Rattle.cq_world.proofs.Sights.{Sight, turn}
-use Rattle.cq_world.proofs.Prefixes.Steps.{lives-member, shorter-front}
+use Rattle.cq_world.proofs.Prefixes.Steps.{Placed, lives-placed, full-member, aside-acts, shorter-front}
 
 -- What a turn of a live server has to show, beside what histories ask for. All of it is about that server.
 pub record Acting (v : Sight) (c : List Entry) (from : Party) (k : ℕ) (rest : List Message) (s : Server) (out : List (Party × Message)) : Type 0 where
@@ -34,6 +34,8 @@ pub record Acting (v : Sight) (c : List Entry) (from : Party) (k : ℕ) (rest : 
   pub young_least : (least : ℕ) → (v.server k).full ≡ false → s.at_least ≡ Some least → length c ≤ least
   pub old_least : (least : ℕ) → (v.server k).full ≡ true → s.at_least ≡ Some least → least ≤ length s.entries
   pub tells : (v.server k).full ≡ false → acts s ≡ true → 1 ≤ readies (addressed parties.Master out)
+  pub others : (j : ℕ) → is_that v.master.joiner j ≡ true → Each (NotOn j) (addressed parties.Master out)
+  pub quiet : is_that v.master.joiner k ≡ true → readies (addressed parties.Master out) ≡ 0
   pub lives : (id : ℕ) × (is_in v.master.used id ≡ true) × ((set_at v.server k s id).full ≡ true) × ((set_at v.server k s id).down ≡ false)
 
 -- ---- rows
@@ -79,12 +81,6 @@ retires-end (m ∷ xs) ys h = retires-end xs ys (skip m (xs ++ ys) h) where
   skip (Adopt s n) us g = g.1
   skip n us g = g
 
--- what is left for the server is the end of what was there
-pub rest_of : (v : Sight) (from : Party) (k : ℕ) (front rest : List Message) → v.channel from (parties.Server k) ≡ front ++ rest → (us : List Message) × (v.channel parties.Master (parties.Server k) ≡ us ++ master_after v from k rest)
-rest_of v parties.Master k front rest taken = (front, taken)
-rest_of v parties.Clients k front rest taken = ([], refl)
-rest_of v (parties.Server p) k front rest taken = ([], refl)
-
 -- ---- after a turn
 
 -- All that is known of a turn.
@@ -98,8 +94,15 @@ record Turning (v : Sight) (c : List Entry) (from : Party) (k : ℕ) (rest : Lis
 abbrev after_it : List Entry → Server → List Entry
 after_it c s = longer c (acting_history s)
 
-member_of : (v : Sight) (c : List Entry) (from : Party) (k : ℕ) (rest : List Message) (s : Server) (out : List (Party × Message)) → Turning v c from k rest s out → is_in v.master.chain k ≡ true
-member_of v c from k rest s out t = lives-member v k t.prefixes t.moves.known t.moves.lives
+placed_of : (v : Sight) (c : List Entry) (from : Party) (k : ℕ) (rest : List Message) (s : Server) (out : List (Party × Message)) → Turning v c from k rest s out → Placed v k
+placed_of v c from k rest s out t = lives-placed v k t.prefixes t.moves.known t.moves.lives
+
+-- who acts after it is a member
+acts_member : (v : Sight) (c : List Entry) (from : Party) (k : ℕ) (rest : List Message) (s : Server) (out : List (Party × Message)) → Turning v c from k rest s out → acts s ≡ true → is_in v.master.chain k ≡ true
+acts_member v c from k rest s out t does = elim (placed_of v c from k rest s out t) [
+  | inl member ↦ member
+  | inr b ↦ absurd (both_ways (acts s) (aside-acts s (t.moves.aside b.1).at_least) does)
+]
 
 -- the history that counts is the server's own, or none
 counts_none : (s : Server) → acts s ≡ false → acting_history s ≡ []
@@ -154,6 +157,25 @@ stage_one v c k h member = subst (λ n. n ≤ 1) (sym (h.stages k member)) (go (
   go true = omega arith
   go false = omega arith
 
+-- where the master knows that the last member acts, no member is on its way to act
+pub ready-idle : (v : Sight) (c : List Entry) (k : ℕ) → Commits v c → v.master.ready ≡ true → is_in v.master.chain k ≡ true → busy v k ≡ 0
+ready-idle v c k h ready member = h.stages k member ∙ ap (λ b. bit (is_last v.master.chain k && (v.master.told && not b))) ready ∙ go (is_last v.master.chain k) v.master.told where
+  go : (x y : Bool) → bit (x && (y && false)) ≡ 0
+  go true true = refl
+  go true false = refl
+  go false y = refl
+
+-- and so the last one acts
+pub ready-acts : (v : Sight) (c : List Entry) (z : ℕ) → Commits v c → v.master.ready ≡ true → is_last v.master.chain z ≡ true → acts (v.server z) ≡ true
+ready-acts v c z h ready last =
+    let idle = ready-idle v c z h ready (last-in v.master.chain z last) in
+    let some = h.heard z last (h.ready ready) (omega (arith, idle)) in
+    go (acts (v.server z)) (is_some (v.server z).at_least) refl some (omega (arith, idle)) where
+      go : (a s : Bool) → acts (v.server z) ≡ a → s ≡ true → bit (s && not (acts (v.server z))) ≡ 0 → a ≡ true
+      go true s e f n = refl
+      go false true e f n = absurd (omega (arith, n, ap (λ b. bit (not b)) e))
+      go false false e f n = absurd (false≢true f)
+
 -- the number that it needs, where it acts
 pub reached_so : (s : Server) (n : ℕ) → s.at_least ≡ Some n → acts s ≡ true → n ≤ length s.entries
 reached_so s n is so = leb-true n (length s.entries) (sym (ap (λ o. reaches (length s.entries) o) is) ∙ so)
@@ -162,11 +184,11 @@ reached_so s n is so = leb-true n (length s.entries) (sym (ap (λ o. reaches (le
 begins_with_all : (v : Sight) (c : List Entry) (from : Party) (k : ℕ) (rest : List Message) (s : Server) (out : List (Party × Message)) → Turning v c from k rest s out → (v.server k).full ≡ false → acts s ≡ true → Front c s.entries
 begins_with_all v c from k rest s out t young does =
     let q = t.commits.lives in
-    let member = member_of v c from k rest s out t in
-    let q_member = lives-member v q.0 t.prefixes q.1 q.3 in
+    let member = acts_member v c from k rest s out t does in
+    let q_member = full-member v q.0 (lives-placed v q.0 t.prefixes q.1 q.3) q.2 in
     let other : eqb k q.0 ≡ false = elim (cases_Bool (eqb k q.0)) [ inl e ↦ absurd (both_ways (v.server k).full young (subst (λ i. (v.server i).full ≡ true) (sym (eqb-true k q.0 e)) q.2)) | inr others ↦ others ] in
     let before : Before q.0 k v.master.chain = elim (before-either v.master.chain k q.0 member q_member other) [
-      | inl first ↦ absurd (both_ways (is_last v.master.chain k) (before-not-last v.master.chain k q.0 t.prefixes.apart first) (t.commits.young_last k member young))
+      | inl first ↦ absurd (both_ways (is_last v.master.chain k) (before-not-last v.master.chain k q.0 (chain-apart v t.prefixes) first) (t.commits.young_last k member young))
       | inr second ↦ second
     ] in
     let order = chain-order (turn v from k rest s out) q.0 k (turn-keeps v from k rest s out t.prefixes t.moves) before in
@@ -178,7 +200,7 @@ begins_with_all v c from k rest s out t young does =
 -- all that was committed is in its history, if it is full
 own_front : (v : Sight) (c : List Entry) (from : Party) (k : ℕ) (rest : List Message) (s : Server) (out : List (Party × Message)) → Turning v c from k rest s out → s.full ≡ true → Front c s.entries
 own_front v c from k rest s out t full = elim (cases_Bool (v.server k).full) [
-  | inl was ↦ front-trans c (v.server k).entries s.entries (t.commits.old k (member_of v c from k rest s out t) was) t.moves.grows
+  | inl was ↦ front-trans c (v.server k).entries s.entries (t.commits.old k (full-member v k (placed_of v c from k rest s out t) was) was) t.moves.grows
   | inr young ↦ elim (t.acts_so.fulls full) [ inl was ↦ absurd (both_ways (v.server k).full young was) | inr does ↦ begins_with_all v c from k rest s out t young does ]
 ]
 
@@ -288,6 +310,10 @@ commits_keep v c from k rest s out t = record {
   old_least = λ j least. by_server v k s (λ i x. is_in v.master.chain i ≡ true → x.full ≡ true → x.at_least ≡ Some least → least ≤ length x.entries)
       (λ m full is. elim (a.fulls full) [ inl was ↦ a.old_least least was is | inr does ↦ reached_so s least is does ]) (λ i other. h.old_least i least) j;
   old_told = λ j. by_told v from k rest s out (λ i x ms. is_in v.master.chain i ≡ true → x.full ≡ true → Each Zero ms) (λ m full. old_told m full (v.server k).full refl) (λ i other. h.old_told i) j;
+  joins_ready = h.joins_ready;
+  unnamed_orders = λ j joins id. by_told v from k rest s out (λ i x ms. Each (NotOn j) ms) (end_of (NotOn j) (h.unnamed_orders j joins k)) (λ i other. h.unnamed_orders j joins i) id;
+  unnamed_reports = λ j joins id. by_report v from k rest s out (λ i ms. Each (NotOn j) ms) (h.unnamed_reports j joins) (λ g. each-append (NotOn j) (v.channel (parties.Server k) parties.Master) (addressed parties.Master out) g (a.others j joins)) id;
+  unready = λ j. by_report v from k rest s out (λ i ms. is_that v.master.joiner i ≡ true → readies ms ≡ 0) h.unready (λ g joins. omega (arith, readies-append (v.channel (parties.Server k) parties.Master) (addressed parties.Master out), g joins, a.quiet joins)) j;
   reached = λ j. by_server v k s (λ i x. x.down ≡ false → acts x ≡ true → length x.entries ≤ length (after_it c s))
       (λ up does. subst (λ us. length s.entries ≤ length (longer c us)) (sym (ap (λ b. cond (b && not s.down) s.entries []) does ∙ ap (λ b. cond (not b) s.entries []) up)) (longer-length c s.entries).1)
       (λ i other up does. omega (arith, h.reached i up does, (longer-length c (acting_history s)).0)) j;
@@ -330,7 +356,12 @@ commits_keep v c from k rest s out t = record {
   still_free told free j m = by_server v k s (λ i x. is_in v.master.chain i ≡ true → x.at_least ≡ None) (λ own. t.acts_so.free told (free k own)) (λ i other. free i) j m
 
   within : Free (turn v from k rest s out) → length (after_it c s) ≤ length c
-  within free = subst (λ us. length us ≤ length c) (sym (same_committed c s (acts-none s (ap (λ x. x.at_least) (sym (if_true (eqb k k) s (v.server k) (eq-eqb k k refl))) ∙ free k (member_of v c from k rest s out t))))) (omega arith)
+  within free = subst (λ us. length us ≤ length c) (sym (same_committed c s (acts-none s none))) (omega arith) where
+    none : s.at_least ≡ None
+    none = elim (placed_of v c from k rest s out t) [
+      | inl member ↦ ap (λ x. x.at_least) (sym (if_true (eqb k k) s (v.server k) (eq-eqb k k refl))) ∙ free k member
+      | inr b ↦ (t.moves.aside b.1).at_least
+    ]
 
   still_young : v.master.told ≡ false → is_last v.master.chain k ≡ true → (b : Bool) → s.full ≡ b → b ≡ false
   still_young told last false e = refl
@@ -340,19 +371,19 @@ commits_keep v c from k rest s out t = record {
   ]
 
   others_have : (i : ℕ) → eqb i k ≡ false → is_in v.master.chain i ≡ true → (v.server i).full ≡ true → acts s ≡ true → Front s.entries (v.server i).entries
-  others_have i other m full does = elim (before-either v.master.chain i k m (member_of v c from k rest s out t) other) [
+  others_have i other m full does = elim (before-either v.master.chain i k m (acts_member v c from k rest s out t does) other) [
     | inl before ↦ subst (λ x. Front s.entries x.entries) (if_false (eqb i k) s (v.server i) other)
         (subst (λ x. Front x.entries (set_at v.server k s i).entries) (if_true (eqb k k) s (v.server k) (eq-eqb k k refl)) (chain-order (turn v from k rest s out) i k (turn-keeps v from k rest s out t.prefixes t.moves) before))
     | inr behind ↦ absurd (both_ways (v.server i).full (not_full behind) full)
   ] where
     not_full : Before k i v.master.chain → (v.server i).full ≡ false
-    not_full behind = let rule = t.acts_so.alone (acts-least s does) (before-not-last v.master.chain k i t.prefixes.apart behind) in
+    not_full behind = let rule = t.acts_so.alone (acts-least s does) (before-not-last v.master.chain k i (chain-apart v t.prefixes) behind) in
         go v.master.chain refl rule where
           go : (chain : List ℕ) → v.master.chain ≡ chain → (v.master.told ≡ false) × ((z : ℕ) → is_last v.master.chain z ≡ true → stands_before k z v.master.chain ≡ true) → (v.server i).full ≡ false
           go [] is rule = absurd (subst (λ us. Before k i us) is behind)
           go (b ∷ us) is rule = let z = last-some b us in
               let last = ap (λ xs. is_last xs z.0) is ∙ z.1 in
-              t.commits.young rule.0 i (subst (λ j. is_last v.master.chain j ≡ true) (sym (before-only v.master.chain k i z.0 t.prefixes.apart (rule.1 z.0 last) last behind)) last)
+              t.commits.young rule.0 i (subst (λ j. is_last v.master.chain j ≡ true) (sym (before-only v.master.chain k i z.0 (chain-apart v t.prefixes) (rule.1 z.0 last) last behind)) last)
 
   old_told : is_in v.master.chain k ≡ true → s.full ≡ true → (b : Bool) → (v.server k).full ≡ b → Each Zero (master_after v from k rest)
   old_told m full true was = each-end Zero (rest_of v from k t.moves.front rest t.moves.taken).0 (master_after v from k rest) (subst (λ ms. Each Zero ms) (rest_of v from k t.moves.front rest t.moves.taken).1 (t.commits.old_told k m was))

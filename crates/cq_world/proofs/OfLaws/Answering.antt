@@ -1,5 +1,5 @@
 -- Every answer that is made is the queue object's, over what is committed then.
-use Rattle.std.proofs.Common.{◌≡◌, ℕ, ◌+◌, ◌≤◌, ◌∙◌, ◌&&◌, ap, sym, arith, List, [], ◌∷◌, ◌++◌, length, drop, Option, Some, None, Bool, true, false, cond, inl, inr, refl, min, max, nat_lt, nat_le, append-nil, append_assoc, length-append}
+use Rattle.std.proofs.Common.{◌≡◌, ℕ, ◌+◌, ◌≤◌, ◌∙◌, ◌&&◌, ap, sym, arith, List, [], ◌∷◌, ◌++◌, length, drop, Option, Some, None, is_none, not, Bool, true, false, cond, inl, inr, refl, min, max, nat_lt, nat_le, append-nil, append_assoc, length-append}
 use Rattle.std.proofs.lemmas.Bool.{and_parts}
 use Rattle.cq_base.specs.declared.ask.Entry.{Entry}
 use Rattle.cq_base.specs.declared.ask.Query.{Query}
@@ -10,11 +10,11 @@ use Rattle.cq_base.specs.Relations.{Front, Pairwise}
 use Rattle.cq_base.proofs.Among.{among-append}
 use Rattle.cq_chain.specs.declared.fault.WorldFault.{WorldFault}
 use Rattle.cq_chain.specs.declared.message.Answer.{Answer}
-use Rattle.cq_chain.specs.Messages.{Message, Fwd, Snap, Ack, BeHead, Report, Adopt, BeTail, Adopted, Ready, Answers}
+use Rattle.cq_chain.specs.Messages.{Message, Fwd, Snap, Ack, BeHead, Report, Adopt, BeTail, Feed, Adopted, Caught, Ready, Answers}
 use Rattle.cq_chain.specs.Parties.{addressed}
 use Rattle.cq_chain.specs.Refusals.{refusal_of_arrival, refusal_of_query}
-use Rattle.cq_chain.specs.Servers.{Server, acts, reaches}
-use Rattle.cq_chain.specs.Steps.{silent, to_server, when, appended, settled, begins_to_act, answer_to, passed_on, tail_news, stamped, arrived, asked, is_next, forwarded, is_restoring, with_history, restored, forwards, repair, as_tail, tailed, takes}
+use Rattle.cq_chain.specs.Servers.{Server, acts, reaches, is_that}
+use Rattle.cq_chain.specs.Steps.{silent, to_server, when, appended, settled, begins_to_act, answer_to, passed_on, tail_news, stamped, arrived, asked, is_next, forwarded, is_restoring, with_history, restored, feeding, forwards, repair, as_tail, tailed, takes}
 use Rattle.cq_world.specs.Worlds.{World, is_in, channel, stepped}
 use Rattle.cq_world.specs.Events.{knows, unless_down, is_down, refusal_of, refusal_of_take, after, next, unless_refused, answers_in, after_take}
 use Rattle.cq_world.specs.Laws.{IsAnswered}
@@ -28,7 +28,7 @@ use Rattle.cq_world.proofs.Prefixes.{Turn}
 use Rattle.cq_world.proofs.Running.{Good, onward, list-turned, runs-grow}
 use Rattle.cq_world.proofs.Settled.{is_settled}
 use Rattle.cq_world.proofs.Sights.{sight, sight-step, sight-taken}
-use Rattle.cq_world.proofs.Prefixes.Steps.{lives-member, take-turn, arrive-turn, ask-turn}
+use Rattle.cq_world.proofs.Prefixes.Steps.{lives-placed, acting-member, head-member, take-turn, arrive-turn, ask-turn}
 use Rattle.cq_world.proofs.Unrefused.{known-parts, lives-parts, server-parts, at-head, at-tail}
 
 -- ---- what is said to the clients
@@ -178,12 +178,17 @@ unfolding asked
 query_own query s c lives does h = h does lives
 
 -- what a server says when it takes a message of another one
+-- what a server says of a snapshot tells clients nothing
+told_restored : (P : Answer → Type 0) (from : ℕ) (entries : List Entry) (s : Server) → AllTell P (restored from entries s).sent
+told_restored P from entries s = each-append (λ x. TellsTo P x.0 x.1) (tail_news s (with_history s entries)) (when (is_none s.at_least) ((parties.Master, Caught from (length entries)) ∷ [])) (told_tail P s (with_history s entries))
+    (each-when (λ x. TellsTo P x.0 x.1) (is_none s.at_least) ((parties.Master, Caught from (length entries)) ∷ []) (λ none. (tt, tt)))
+
 told_taking : (w new : World) (c : List Entry) (p k : ℕ) (m : Message) (rest : List Message) (events : List Event) → Good w c → is_in w.master.used k ≡ true → (w.server k).down ≡ false
     → channel w (parties.Server p) (parties.Server k) ≡ m ∷ rest
     → longest_at new c ≡ longer c (acting_history (takes (parties.Server p) m (w.server k)).server) → AllTell (IsRight (longest_at new c) w events) (takes (parties.Server p) m (w.server k)).sent
 unfolding takes
 told_taking w new c p k (Fwd place e) rest events good known lives at is =
-    go (is_next (w.server k) p place e) is (take-turn (sight w) (parties.Server p) k (Fwd place e) rest good.prefixes known lives at) (take-acting (sight w) c (parties.Server p) k (Fwd place e) rest good.prefixes good.commits (lives-member (sight w) k good.prefixes known lives) at) where
+    go (is_next (w.server k) p place e) is (take-turn (sight w) (parties.Server p) k (Fwd place e) rest good.prefixes known lives at) (take-acting (sight w) c (parties.Server p) k (Fwd place e) rest good.prefixes good.commits known lives at) where
       go : (t : Bool) → longest_at new c ≡ longer c (acting_history (cond t (forwarded e (w.server k)) (silent (w.server k))).server)
           → Turn (sight w) (parties.Server p) k rest (cond t (forwarded e (w.server k)) (silent (w.server k))).server (cond t (forwarded e (w.server k)) (silent (w.server k))).sent
           → Acting (sight w) c (parties.Server p) k rest (cond t (forwarded e (w.server k)) (silent (w.server k))).server (cond t (forwarded e (w.server k)) (silent (w.server k))).sent
@@ -194,8 +199,8 @@ told_taking w new c p k (Fwd place e) rest events good known lives at is =
           (told_tail (IsRight (longest_at new c) w events) (w.server k) (appended (w.server k) e))
       go false list t a = tt
 told_taking w new c p k (Snap entries) rest events good known lives at is = go (is_restoring (w.server k) p entries) where
-  go : (t : Bool) → AllTell (IsRight (longest_at new c) w events) (cond t (restored entries (w.server k)) (silent (w.server k))).sent
-  go true = told_tail (IsRight (longest_at new c) w events) (w.server k) (with_history (w.server k) entries)
+  go : (t : Bool) → AllTell (IsRight (longest_at new c) w events) (cond t (restored p entries (w.server k)) (silent (w.server k))).sent
+  go true = told_restored (IsRight (longest_at new c) w events) p entries (w.server k)
   go false = tt
 told_taking w new c p k (Ack n) rest events good known lives at is = go (nat_lt (w.server k).acked (min n (length (w.server k).entries))) where
   go : (t : Bool) → AllTell (IsRight (longest_at new c) w events) (cond t (record { server = record (w.server k) { acked = min n (length (w.server k).entries); floor = max (w.server k).floor (min n (length (w.server k).entries)) }; sent = to_server (w.server k).pred (Ack (min n (length (w.server k).entries))) }) (silent (w.server k))).sent
@@ -208,7 +213,12 @@ told_order : (P : Answer → Type 0) (s : Server) (m : Message) → AllTell P (t
 unfolding takes
 told_order P s BeHead = tt
 told_order P s (Report p) = (tt, (tt, tt))
-told_order P s (Adopt succ have) = each-append (λ x. TellsTo P x.0 x.1) (repair succ have s) ((parties.Master, Adopted succ (length s.entries)) ∷ []) (told_repair P succ have s) (tt, tt)
+told_order P s (Adopt succ have) = each-append (λ x. TellsTo P x.0 x.1) (when (not (is_that s.succ succ)) (repair succ have s)) ((parties.Master, Adopted succ (length s.entries)) ∷ [])
+    (each-when (λ x. TellsTo P x.0 x.1) (not (is_that s.succ succ)) (repair succ have s) (λ new. told_repair P succ have s)) (tt, tt)
+told_order P s (Feed succ) = go (acts s) where
+  go : (t : Bool) → AllTell P (cond t (feeding succ s) (silent s)).sent
+  go true = each-to_server (λ x. TellsTo P x.0 x.1) succ (Snap s.entries) (λ i. tt)
+  go false = tt
 told_order P s (BeTail least) = told_tailed P least s
 told_order P s m = tt
 
@@ -235,7 +245,7 @@ arrive_right w c k clock request good parts = arrived_tells clock request (w.ser
   own does lives = list-turned w (stepped w k (arrived clock request (w.server k))) c parties.Clients k (channel w parties.Clients (parties.Server k)) (arrived clock request (w.server k)).server (arrived clock request (w.server k)).sent good (sight-step w k (arrived clock request (w.server k))) parts.0
       ∙ turn-own (sight w) c parties.Clients k (channel w parties.Clients (parties.Server k)) (arrived clock request (w.server k)).server (arrived clock request (w.server k)).sent good.prefixes good.commits
       (arrive-turn (sight w) k clock request good.prefixes parts.0 parts.1 (at-head (w.server k) parts.2))
-      (arrive-acting (sight w) c k clock request good.prefixes good.commits (lives-member (sight w) k good.prefixes parts.0 parts.1) (at-head (w.server k) parts.2)) does lives
+      (arrive-acting (sight w) c k clock request good.prefixes good.commits (head-member (sight w) k (lives-placed (sight w) k good.prefixes parts.0 parts.1) (at-head (w.server k) parts.2)) (at-head (w.server k) parts.2)) does lives
 
   right : acts (appended (w.server k) (stamped (w.server k).entries clock request)) ≡ true → IsRight (longest_at (stepped w k (arrived clock request (w.server k))) c) w (Arrive k clock request ∷ []) (answer_to (w.server k).entries (stamped (w.server k).entries clock request))
   right does = entry_right (w.server k) (stamped (w.server k).entries clock request) (longest_at (stepped w k (arrived clock request (w.server k))) c) w (Arrive k clock request ∷ [])
@@ -247,7 +257,7 @@ query_right : (w : World) (c : List Entry) (k : ℕ) (query : Query) → Good w 
 query_right w c k query good free parts = asked_tells w k query (longest_at (stepped w k (asked query (w.server k))) c) free
     (list-turned w (stepped w k (asked query (w.server k))) c parties.Clients k (channel w parties.Clients (parties.Server k)) (asked query (w.server k)).server (asked query (w.server k)).sent good (sight-step w k (asked query (w.server k))) parts.0
     ∙ query_own query (w.server k) c parts.1 (at-tail (w.server k) parts.2) (λ does lives. turn-own (sight w) c parties.Clients k (channel w parties.Clients (parties.Server k)) (asked query (w.server k)).server (asked query (w.server k)).sent good.prefixes good.commits
-    (ask-turn (sight w) k query good.prefixes parts.0 parts.1) (ask-acting (sight w) c k query good.prefixes good.commits (lives-member (sight w) k good.prefixes parts.0 parts.1)) does lives))
+    (ask-turn (sight w) k query good.prefixes parts.0 parts.1) (ask-acting (sight w) c k query good.prefixes good.commits (acting-member (sight w) k (lives-placed (sight w) k good.prefixes parts.0 parts.1) (at-tail (w.server k) parts.2))) does lives))
 
 -- what is said by an event that isn't refused
 told_event : (w : World) (c : List Entry) (event : Event) → Good w c → refusal_of w event ≡ None → AllTell (IsRight (longest_at (next w event) c) w (event ∷ [])) (sent_by w event)

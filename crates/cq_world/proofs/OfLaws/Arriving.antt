@@ -10,9 +10,9 @@ use Rattle.cq_base.specs.declared.party.Party.TheVariants as parties
 use Rattle.cq_base.specs.History.{last_moment}
 use Rattle.cq_base.specs.Relations.{Among, Front}
 use Rattle.cq_chain.specs.declared.fault.WorldFault.{WorldFault}
-use Rattle.cq_chain.specs.Messages.{Message, Fwd, Snap, Ack, BeHead, Report, Adopt, BeTail}
-use Rattle.cq_chain.specs.Servers.{Server, is_that, first_member, joining}
-use Rattle.cq_chain.specs.Steps.{Step, silent, to_server, stamped, arrived, asked, appended, is_next, forwarded, is_restoring, with_history, restored, as_tail, takes, crashed}
+use Rattle.cq_chain.specs.Messages.{Message, Fwd, Snap, Ack, BeHead, Report, Adopt, BeTail, Feed}
+use Rattle.cq_chain.specs.Servers.{Server, acts, is_that, first_member, joining}
+use Rattle.cq_chain.specs.Steps.{Step, silent, to_server, stamped, arrived, asked, appended, is_next, forwarded, is_restoring, with_history, restored, feeding, as_tail, takes, crashed}
 use Rattle.cq_store.specs.Laws.{Stamped}
 use Rattle.cq_world.specs.Worlds.{World, is_in, numbers_from, first_world, stepped}
 use Rattle.cq_world.specs.Events.{refusal_of, after, next, unless_refused, after_take, without_first}
@@ -90,7 +90,7 @@ taken_front w p k (Fwd place e) g says arrivals own theirs = go (is_next (w.serv
       (arrivals-below 0 ((w.server k).entries ++ e ∷ []) (w.server p).entries arrivals (forwarded_front (w.server k) (w.server p).entries p place e (below-pred (sight w) k p g is_pred) accepts says) theirs)
   go false ignores = own
 taken_front w p k (Snap entries) g says arrivals own theirs = go (is_restoring (w.server k) p entries) where
-  go : (t : Bool) → AreArrivals 0 (cond t (restored entries (w.server k)) (silent (w.server k))).server.entries arrivals
+  go : (t : Bool) → AreArrivals 0 (cond t (restored p entries (w.server k)) (silent (w.server k))).server.entries arrivals
   go true = subst (λ us. AreArrivals 0 us arrivals) (sym (is_settled (with_history (w.server k) entries)).entries) (arrivals-below 0 entries (w.server p).entries arrivals says theirs)
   go false = own
 taken_front w p k (Ack n) g says arrivals own theirs = go (nat_lt (w.server k).acked (min n (length (w.server k).entries))) where
@@ -106,6 +106,10 @@ told_same s BeHead = refl
 told_same s (Report p) = refl
 told_same s (Adopt succ have) = refl
 told_same s (BeTail least) = (is_settled (as_tail least s)).entries
+told_same s (Feed succ) = go (acts s) where
+  go : (t : Bool) → (cond t (feeding succ s) (silent s)).server.entries ≡ s.entries
+  go true = refl
+  go false = refl
 told_same s m = refl
 
 taken_arrived : (w : World) (from to : Party) (ms : List Message) (arrivals : List Arrival) → w.link from to ≡ ms → Prefixes (sight w) → Arrived arrivals w → Arrived (arrivals ++ []) (after_take w from to ms)

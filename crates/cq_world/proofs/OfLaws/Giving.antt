@@ -6,9 +6,9 @@ use Rattle.cq_base.specs.Relations.{Among}
 use Rattle.cq_base.proofs.Among.{among-append, among-left, among-right}
 use Rattle.cq_chain.specs.declared.fault.WorldFault.{WorldFault}
 use Rattle.cq_chain.specs.declared.message.Answer.{Answer}
-use Rattle.cq_chain.specs.Messages.{Message, BeHead, Report, Adopt, BeTail, Have, Adopted, Ready, Answers}
-use Rattle.cq_chain.specs.Masters.{Master, Order, is_last, stands_before, closing, said_of_loss, said_of_join, no_order, detected, joined, hears, hears_from}
-use Rattle.cq_chain.specs.Parties.{same, addressed}
+use Rattle.cq_chain.specs.Messages.{Message, BeHead, Report, Adopt, BeTail, Feed, Have, Adopted, Caught, Ready, Answers}
+use Rattle.cq_chain.specs.Masters.{Master, Order, is_last, stands_before, closing, said_of_loss, said_of_join, to_last, dropped, closed_up, no_order, detected, joined, joins_behind, admitted, hears, hears_from}
+use Rattle.cq_chain.specs.Parties.{same, addressed, is_that}
 use Rattle.cq_chain.specs.Steps.{Step, takes, arrived, asked, crashed}
 use Rattle.cq_world.specs.Worlds.{World, first_world, stepped, ordered}
 use Rattle.cq_world.specs.Events.{refusal_of, after, next, unless_refused, answers_in, first_of, head_of, given_to, given_by, after_put, after_take, without_first}
@@ -97,9 +97,17 @@ loss_silent id (a ∷ b ∷ rest) = go (eqb a id) where
   go true = refl
   go false = closing_silent a id (b ∷ rest)
 
+last_silent : (m : Message) (chain : List ℕ) → addressed parties.Clients (to_last m chain) ≡ []
+last_silent m [] = refl
+last_silent m (a ∷ []) = refl
+last_silent m (a ∷ b ∷ rest) = last_silent m (b ∷ rest)
+
 detected_silent : (id : ℕ) (m : Master) → addressed parties.Clients (detected id m).said ≡ []
 unfolding detected
-detected_silent id m = loss_silent id m.chain
+detected_silent id m = go (is_that m.joiner id) where
+  go : (t : Bool) → addressed parties.Clients (cond t (dropped m) (closed_up id m)).said ≡ []
+  go true = last_silent (Feed None) m.chain
+  go false = loss_silent id m.chain
 
 join_silent : (id : ℕ) (chain : List ℕ) → addressed parties.Clients (said_of_join id chain) ≡ []
 join_silent id [] = refl
@@ -112,8 +120,13 @@ joined_silent id m = join_silent id m.chain
 
 hears_silent : (from : ℕ) (m : Message) (master : Master) → addressed parties.Clients (hears from m master).said ≡ []
 unfolding hears
-hears_silent from (Have p count) master = go (stands_before p from master.chain) where
-  go : (t : Bool) → addressed parties.Clients (cond t (record { master = master; said = (parties.Server p, Adopt from count) ∷ [] }) (no_order master)).said ≡ []
+hears_silent from (Have p count) master = go (stands_before p from master.chain) (joins_behind p from master) where
+  go : (t u : Bool) → addressed parties.Clients (cond t (record { master = master; said = (parties.Server p, Adopt from count) ∷ [] }) (cond u (record { master = master; said = (parties.Server p, Feed (Some from)) ∷ [] }) (no_order master))).said ≡ []
+  go true u = refl
+  go false true = refl
+  go false false = refl
+hears_silent from (Caught p count) master = go (joins_behind p from master) where
+  go : (t : Bool) → addressed parties.Clients (cond t (admitted p from count master) (no_order master)).said ≡ []
   go true = refl
   go false = refl
 hears_silent from (Adopted s count) master = go (is_last master.chain s && not master.told) where

@@ -28,7 +28,7 @@ use Rattle.cq_world.proofs.Eaches.{each-among}
 use Rattle.cq_world.proofs.OfLaws.Giving.{given-after, given-of-run}
 use Rattle.cq_world.proofs.Running.{Good, onward, first-good, runs-good, runs-grow}
 use Rattle.cq_world.proofs.Sights.{sight}
-use Rattle.cq_world.proofs.Prefixes.Steps.{below-pred, lives-member}
+use Rattle.cq_world.proofs.Prefixes.Steps.{below-pred, lives-placed, acting-member, full-member, head-member}
 use Rattle.cq_world.proofs.Unrefused.{server-parts, at-head, at-tail}
 
 -- the world after a run
@@ -59,12 +59,12 @@ made_within size events a some among = each-among (λ b. b.length ≤ length (lo
 
 -- a full server that lives has it
 pub of_full : CommittedIsOfFullServers
-of_full size events id some known full lives = let good = run_good size events some in good.commits.old id (lives-member (sight (ended size events)) id good.prefixes known lives) full
+of_full size events id some known full lives = let good = run_good size events some in good.commits.old id (full-member (sight (ended size events)) id (lives-placed (sight (ended size events)) id good.prefixes known lives) full) full
 
 -- so has a head that lives
 pub of_the_head : CommittedIsOfTheHead
 of_the_head size events id some known is_head lives = let good = run_good size events some in
-    of_full size events id some known (head-full (sight (ended size events)) (committed size events) id good.prefixes good.commits (lives-member (sight (ended size events)) id good.prefixes known lives) is_head) lives
+    of_full size events id some known (head-full (sight (ended size events)) (committed size events) id good.prefixes good.commits (head-member (sight (ended size events)) id (lives-placed (sight (ended size events)) id good.prefixes known lives) is_head) is_head) lives
 
 -- a request comes to a head, which has all that is committed
 pub later_arrivals : LaterArrivalsStandAbove
@@ -138,8 +138,8 @@ one_acts size events id other some lives does others too =
     let good = run_good size events some in
     let w = ended size events in
     one-tail (sight w) (committed size events) id other good.prefixes good.commits
-    (lives-member (sight w) id good.prefixes (acting_known w (committed size events) id good does) lives)
-    (lives-member (sight w) other good.prefixes (acting_known w (committed size events) other good too) others)
+    (acting-member (sight w) id (lives-placed (sight w) id good.prefixes (acting_known w (committed size events) id good does) lives) does)
+    (acting-member (sight w) other (lives-placed (sight w) other good.prefixes (acting_known w (committed size events) other good too) others) too)
     (acts-least (w.server id) does) (acts-least (w.server other) too)
 
 -- ---- all of it

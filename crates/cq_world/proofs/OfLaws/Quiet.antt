@@ -14,10 +14,11 @@ use Rattle.cq_world.proofs.Chains.{last-in, before-in, before-behind, before-fir
 use Rattle.cq_world.proofs.Commits.{Commits, tails, bit, waits}
 use Rattle.cq_world.proofs.Wholes.Feeding.{Feeds}
 use Rattle.cq_world.proofs.Running.{Good, first-good, runs-good}
-use Rattle.cq_world.proofs.Sights.{sight}
+use Rattle.cq_world.proofs.Lines.{member-line, line-before}
+use Rattle.cq_world.proofs.Sights.{sight, line}
 use Rattle.cq_world.proofs.Prefixes.Steps.{below-pred}
 use Rattle.cq_world.proofs.Wholes.Runs.{whole-of-run}
-use Rattle.cq_world.proofs.Wholes.{Whole, reports_of, haves_of, adopts_of, tokens, stage-past}
+use Rattle.cq_world.proofs.Wholes.{Whole, reports_of, haves_of, adopts_of, feeds_of, tokens, stage-past}
 
 -- nothing is on its way
 empty_row : (w : World) (from to : Party) → IsQuiet w → IsOfChain w from → IsOfChain w to → channel w from to ≡ []
@@ -32,7 +33,10 @@ whole_front xs ys h same = sym (h.1 ∙ ap (λ us. xs ++ us) (nothing h.0 (omega
 
 -- neighbours agree
 neighbours_agree : (w : World) (c : List Entry) (p s : ℕ) → Good w c → Whole (sight w) c → IsQuiet w → stands_before p s w.master.chain ≡ true → (w.server s).entries ≡ (w.server p).entries
-neighbours_agree w c p s good h q before = whole_front (w.server s).entries (w.server p).entries (below-pred (sight w) s p good.prefixes is_pred) (subst (λ ms. Feeds (length (w.server s).entries) ms (length (w.server p).entries)) between (h.feed p s members.1 is_pred (linked (is_that (w.server p).succ s) refl))) where
+neighbours_agree w c p s good h q before = whole_front (w.server s).entries (w.server p).entries (below-pred (sight w) s p good.prefixes is_pred) (subst (λ ms. Feeds (length (w.server s).entries) ms (length (w.server p).entries)) between (h.feed p s (in_line s members.1) is_pred (linked (is_that (w.server p).succ s) refl))) where
+  in_line : (j : ℕ) → is_in w.master.chain j ≡ true → is_in (line w.master) j ≡ true
+  in_line j member = member-line w.master.chain w.master.joiner j member
+
   members : (is_in w.master.chain p ≡ true) × (is_in w.master.chain s ≡ true)
   members = before-in p s w.master.chain before
 
@@ -48,15 +52,19 @@ neighbours_agree w c p s good h q before = whole_front (w.server s).entries (w.s
   of_s : channel w (parties.Server s) parties.Master ≡ []
   of_s = empty_row w (parties.Server s) parties.Master q members.1 tt
 
+  -- they are neighbours in the line too
+  line_pair : stands_before p s (line w.master) ≡ true
+  line_pair = line-before w.master.chain w.master.joiner p s good.prefixes.apart members.1 ∙ before
+
   is_pred : (w.server s).pred ≡ Some p
-  is_pred = (stage-past (sight w) p s good.prefixes before (ap (λ ms. reports_of p ms) to_s)).0
+  is_pred = (stage-past (sight w) p s good.prefixes line_pair (ap (λ ms. reports_of p ms) to_s)).0
 
   one_token : tokens (sight w) p s ≡ 1
-  one_token = h.token p s members.0 members.1 ∙ ap (λ b. bit b) before
+  one_token = h.token p s (in_line p members.0) (in_line s members.1) ∙ ap (λ b. bit b) line_pair
 
   linked : (t : Bool) → is_that (w.server p).succ s ≡ t → is_that (w.server p).succ s ≡ true
   linked true e = e
-  linked false e = absurd (omega (arith, one_token, ap (λ ms. reports_of p ms) to_s, ap (λ ms. haves_of p ms) of_s, ap (λ ms. adopts_of s ms) to_p, ap (λ b. cond b 1 (adopts_of s (channel w parties.Master (parties.Server p)))) e))
+  linked false e = absurd (omega (arith, one_token, ap (λ ms. reports_of p ms) to_s, ap (λ ms. haves_of p ms) of_s, ap (λ ms. adopts_of s ms) to_p, ap (λ ms. feeds_of s ms) to_p, ap (λ b. cond b 1 (adopts_of s (channel w parties.Master (parties.Server p)))) e))
 
 -- so do all behind the first
 behind_agree : (w : World) (a : ℕ) (rest : List ℕ) (s : ℕ) → ((p t : ℕ) → stands_before p t (a ∷ rest) ≡ true → (w.server t).entries ≡ (w.server p).entries) → is_in rest s ≡ true → (w.server s).entries ≡ (w.server a).entries

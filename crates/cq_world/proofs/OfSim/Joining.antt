@@ -1,10 +1,10 @@
 -- A server joins: when that is refused, and what is kept after it.
-use Rattle.std.proofs.Common.{◌≡◌, ℕ, ◌∙◌, ◌==◌, ◌||◌, ap, sym, refl, subst, Bool, true, false, not, List, [], ◌∷◌, ◌++◌, length, nat_lt, Option, None, Some, cond, inl, inr, if◌then◌else◌}
+use Rattle.std.proofs.Common.{◌≡◌, ℕ, ◌∙◌, ◌==◌, ◌||◌, ap, sym, refl, subst, Bool, true, false, List, [], ◌∷◌, ◌++◌, Option, None, Some, cond, inl, inr}
 use Rattle.std.proofs.lemmas.Bool.{cases_Bool, eqb-true}
 use Rattle.std.proofs.lemmas.List.Folds.{list_any-append}
 use Rattle.cq_base.specs.declared.party.Party.{Party}
 use Rattle.cq_base.specs.declared.party.Party.TheVariants as parties
-use Rattle.cq_chain.specs.declared.fault.WorldFault.TheVariants.{IdUsed, ChainFull, JoinPending}
+use Rattle.cq_chain.specs.declared.fault.WorldFault.TheVariants.{IdUsed}
 use Rattle.cq_chain.specs.declared.server.Server as rust_server
 use Rattle.cq_chain.specs.Masters.{Master, joined, refusal_of_join}
 use Rattle.cq_chain.specs.Messages.{Message}
@@ -19,30 +19,14 @@ use Rattle.cq_world.proofs.OfSim.Stands.{ordered-stands}
 
 -- ---- refusals
 
-pub refused-used : (id : ℕ) (m : Master) → is_in m.used id ≡ true → refusal_of_join id m ≡ Some IdUsed
+refused_used : (id : ℕ) (m : Master) → is_in m.used id ≡ true → refusal_of_join id m ≡ Some IdUsed
 unfolding refusal_of_join
-refused-used id m used = ap (λ b. if b then Some IdUsed else if not (nat_lt (length m.chain) 8) then Some ChainFull else if m.ready then None else Some JoinPending) used
-
-after_used : (id : ℕ) (m : Master) → is_in m.used id ≡ false → refusal_of_join id m ≡ (if not (nat_lt (length m.chain) 8) then Some ChainFull else if m.ready then None else Some JoinPending)
-unfolding refusal_of_join
-after_used id m new = ap (λ b. if b then Some IdUsed else if not (nat_lt (length m.chain) 8) then Some ChainFull else if m.ready then None else Some JoinPending) new
-
-pub refused-full : (id : ℕ) (m : Master) → is_in m.used id ≡ false → nat_lt (length m.chain) 8 ≡ false → refusal_of_join id m ≡ Some ChainFull
-refused-full id m new full = after_used id m new ∙ ap (λ b. if not b then Some ChainFull else if m.ready then None else Some JoinPending) full
-
-after_full : (id : ℕ) (m : Master) → is_in m.used id ≡ false → nat_lt (length m.chain) 8 ≡ true → refusal_of_join id m ≡ (if m.ready then None else Some JoinPending)
-after_full id m new room = after_used id m new ∙ ap (λ b. if not b then Some ChainFull else if m.ready then None else Some JoinPending) room
-
-pub refused-pending : (id : ℕ) (m : Master) → is_in m.used id ≡ false → nat_lt (length m.chain) 8 ≡ true → m.ready ≡ false → refusal_of_join id m ≡ Some JoinPending
-refused-pending id m new room pending = after_full id m new room ∙ ap (λ b. if b then None else Some JoinPending) pending
-
-pub allowed : (id : ℕ) (m : Master) → is_in m.used id ≡ false → nat_lt (length m.chain) 8 ≡ true → m.ready ≡ true → refusal_of_join id m ≡ None
-allowed id m new room ready = after_full id m new room ∙ ap (λ b. if b then None else Some JoinPending) ready
+refused_used id m used = rw used
 
 -- what isn't refused is new
 pub new-number : (id : ℕ) (m : Master) → refusal_of_join id m ≡ None → is_in m.used id ≡ false
 new-number id m none = elim (cases_Bool (is_in m.used id)) [
-  | inl used ↦ absurd (some_none (sym (refused-used id m used) ∙ none))
+  | inl used ↦ absurd (some_none (sym (refused_used id m used) ∙ none))
   | inr new ↦ new
 ]
   where

@@ -8,9 +8,9 @@ use Rattle.cq_chain.specs.declared.message.Message as rust_message
 use Rattle.cq_chain.specs.declared.master.Master as rust_master
 use Rattle.cq_chain.specs.declared.server.Server as rust_server
 use Rattle.cq_chain.specs.Lanes.{Lane}
-use Rattle.cq_chain.specs.Masters.{Master, Order, no_order, detected, hears, stands_before, is_last}
-use Rattle.cq_chain.specs.Messages.{Message, Fwd, Snap, Ack, BeHead, Report, Adopt, BeTail, Have, Adopted, Ready, Answers}
-use Rattle.cq_chain.specs.Parties.{same, addressed}
+use Rattle.cq_chain.specs.Masters.{Master, Order, no_order, dropped, closed_up, detected, hears, joins_behind, admitted, stands_before, is_last}
+use Rattle.cq_chain.specs.Messages.{Message, Fwd, Snap, Ack, BeHead, Report, Adopt, BeTail, Feed, Have, Adopted, Caught, Ready, Answers}
+use Rattle.cq_chain.specs.Parties.{same, addressed, is_that}
 use Rattle.cq_chain.specs.Servers.{Server, joining}
 use Rattle.cq_chain.specs.Stands as chain
 use Rattle.cq_chain.specs.Stands.{AllMean, IsFirst, posted, drained}
@@ -193,14 +193,14 @@ unordered w = λ i. record w { outbox = λ x y. sent-none x y (same x parties.Ma
     sent-none x y true = append-nil (w.outbox x y)
     sent-none x y false = refl
 
--- what it says of a loss, and what it hears, uses up no number
-pub detected-used : (id : ℕ) (m : Master) → (detected id m).master.used ≡ m.used
-unfolding detected
-detected-used id m = refl
-
 used-either : (b : Bool) (x y : Order) (used : List ℕ) → x.master.used ≡ used → y.master.used ≡ used → (if b then x else y).master.used ≡ used
 used-either true x y used h k = h
 used-either false x y used h k = k
+
+-- what it says of a loss, and what it hears, uses up no number
+pub detected-used : (id : ℕ) (m : Master) → (detected id m).master.used ≡ m.used
+unfolding detected
+detected-used id m = used-either (is_that m.joiner id) (dropped m) (closed_up id m) m.used refl refl
 
 pub hears-used : (from : ℕ) (message : Message) (m : Master) → (hears from message m).master.used ≡ m.used
 unfolding hears
@@ -211,7 +211,9 @@ hears-used from BeHead m = refl
 hears-used from (Report pred) m = refl
 hears-used from (Adopt succ have) m = refl
 hears-used from (BeTail least) m = refl
-hears-used from (Have p count) m = used-either (stands_before p from m.chain) _ (no_order m) m.used refl refl
+hears-used from (Feed succ) m = refl
+hears-used from (Have p count) m = used-either (stands_before p from m.chain) _ _ m.used refl (used-either (joins_behind p from m) _ (no_order m) m.used refl refl)
+hears-used from (Caught p count) m = used-either (joins_behind p from m) (admitted p from count m) (no_order m) m.used refl refl
 hears-used from (Adopted s count) m = used-either (is_last m.chain s && not m.told) _ (no_order m) m.used refl refl
 hears-used from Ready m = used-either (is_last m.chain from) _ (no_order m) m.used refl refl
 hears-used from (Answers answer) m = refl

@@ -1,18 +1,20 @@
 -- Each step of the master keeps histories fronts of each other along the line.
-use Rattle.std.proofs.Common.{◌≡◌, ℕ, ◌∙◌, ap, sym, List, [], ◌∷◌, ◌++◌, length, ◌&&◌, ◌||◌, ◌⊎◌, not, Bool, true, false, cond, eqb, subst, refl, inl, inr, append-nil, append_assoc}
-use Rattle.std.proofs.lemmas.Bool.{eqb-true, eq-eqb, ne_eqb, false≢true, both_ways, and_parts, or_cases, or_left, or_right, or_parts}
+use Rattle.std.proofs.Common.{◌≡◌, ℕ, ◌∙◌, ap, sym, List, [], ◌∷◌, ◌++◌, length, ◌&&◌, ◌||◌, ◌⊎◌, not, Option, Some, None, Bool, true, false, cond, eqb, arith, subst, refl, inl, inr, append-nil, append_assoc, length-append}
+use Rattle.std.proofs.lemmas.Bool.{eqb-true, eq-eqb, ne_eqb, false≢true, both_ways, cases_Bool, and_parts, or_cases, or_left, or_right, or_parts}
 use Rattle.cq_base.specs.declared.party.Party.{Party}
 use Rattle.cq_base.specs.declared.party.Party.TheVariants as parties
 use Rattle.cq_base.specs.Relations.{Among, Pairwise}
 use Rattle.cq_base.proofs.Pairs.{pairwise-filter, pairwise-push}
-use Rattle.cq_chain.specs.Masters.{Master, is_in, is_last, without, closing, said_of_loss, said_of_join, detected, joined, hears, no_order, stands_before}
-use Rattle.cq_chain.specs.Messages.{Message, BeHead, Report, Adopt, BeTail, Have, Adopted, Ready}
-use Rattle.cq_chain.specs.Parties.{same, addressed}
-use Rattle.cq_chain.specs.Servers.{joining}
+use Rattle.cq_chain.specs.Masters.{Master, is_in, is_last, without, closing, said_of_loss, said_of_join, to_last, dropped, closed_up, detected, joined, joins_behind, admitted, hears, no_order, stands_before}
+use Rattle.cq_chain.specs.Messages.{Message, BeHead, Report, Adopt, BeTail, Feed, Have, Adopted, Caught, Ready}
+use Rattle.cq_chain.specs.Parties.{same, addressed, is_that}
+use Rattle.cq_chain.specs.Servers.{Server, joining}
 use Rattle.cq_world.proofs.Prefixes.Climbing.{reports, one, ups, Climbs, climbs-top, climbs-on, last-more, reports-append}
-use Rattle.cq_world.proofs.Eaches.{front-none}
-use Rattle.cq_world.proofs.Prefixes.{Prefixes, Linked, LinkedLine, Heads, is_first, heads-end}
-use Rattle.cq_world.proofs.Sights.{Sight, line, said}
+use Rattle.cq_world.proofs.Eaches.{Each, front-none}
+use Rattle.cq_world.proofs.Lines.{line-cases, in_more, in_left, in_end, out_more, member-line, out-line, apart-members, joiner-out}
+use Rattle.cq_world.proofs.Prefixes.{Prefixes, Linked, LinkedLine, Heads, Harmless, Bystander, is_first, heads-end}
+use Rattle.cq_world.proofs.Settled.{that_some}
+use Rattle.cq_world.proofs.Sights.{Sight, line_of, line, said}
 
 -- ---- what the master says
 
@@ -75,7 +77,8 @@ heads_first old new s (m ∷ ms) ys first h told none = first_skip m (heads_firs
 pub record Said (v : Sight) (m : Master) (out : List (Party × Message)) : Type 0 where
   pub apart : Pairwise (λ a b. eqb a b ≡ false) (line m)
   pub members : (id : ℕ) → is_in (line m) id ≡ true → is_in m.used id ≡ true
-  pub away : (id : ℕ) → is_in m.used id ≡ true → is_in (line m) id ≡ false → (v.server id).down ≡ true
+  pub away : (id : ℕ) → is_in m.used id ≡ true → is_in (line m) id ≡ false → ((v.server id).down ≡ true) ⊎ Bystander (v.server id) (v.channel parties.Master (parties.Server id) ++ told_to id out)
+  pub aside : (id : ℕ) → is_that m.joiner id ≡ true → Bystander (v.server id) (v.channel parties.Master (parties.Server id) ++ told_to id out)
   pub unused : (id : ℕ) → is_in m.used id ≡ false → (is_in v.master.used id ≡ false) × (told_to id out ≡ [])
   pub climbs : (id : ℕ) → Climbs v.server id (ups v id ++ reports (told_to id out))
   pub linked : LinkedLine (said v m out) (line m)
@@ -88,6 +91,7 @@ said-keeps v m out h o = record {
   apart = o.apart;
   members = o.members;
   away = o.away;
+  aside = o.aside;
   fresh = λ id unused. let was = o.unused id unused in ((h.fresh id was.0).0, ap (λ ms. ms ++ told_to id out) (h.fresh id was.0).1 ∙ was.1);
   speaks = h.speaks;
   climbs = λ id. subst (λ us. Climbs v.server id us) (sym (said_ups v m out id)) (o.climbs id);
@@ -95,6 +99,71 @@ said-keeps v m out h o = record {
   heads = o.heads;
   headless = λ id member is. said_ups v m out id ∙ o.headless id member is;
 }
+
+-- a bystander to which nothing is said
+unsaid : (s : Server) (ms us : List Message) → us ≡ [] → Bystander s ms → Bystander s (ms ++ us)
+unsaid s ms us none b = subst (λ xs. Bystander s xs) (sym (ap (λ xs. ms ++ xs) none ∙ append-nil ms)) b
+
+-- the same of one that may be down instead
+still_away : (s : Server) (ms us : List Message) → us ≡ [] → (s.down ≡ true) ⊎ Bystander s ms → (s.down ≡ true) ⊎ Bystander s (ms ++ us)
+still_away s ms us none h = elim h [ inl down ↦ inl down | inr b ↦ inr (unsaid s ms us none b) ]
+
+-- ---- a server that joins is dropped
+
+-- a row on the head, for other servers of which the first stays the first
+heads_other : (old new : List ℕ) (s : ℕ) (ms : List Message) → (is_first old s ≡ true → is_first new s ≡ true) → Heads old s ms → Heads new s ms
+heads_other old new s [] first h = tt
+heads_other old new s (m ∷ ms) first h = step m h (λ g. heads_other old new s ms first g) where
+  step : (n : Message) → Heads old s (n ∷ ms) → (Heads old s ms → Heads new s ms) → Heads new s (n ∷ ms)
+  step BeHead g rest = (first g.0, g.1, rest g.2)
+  step n g rest = rest (heads-end old s (n ∷ []) ms g)
+
+linked_front : (v w : Sight) (p : ℕ) (xs ys : List ℕ) → ((s q : ℕ) → is_last (ups v s) q ≡ true → is_last (ups w s) q ≡ true) → Linked v p (xs ++ ys) → Linked w p xs
+linked_front v w p [] ys same l = tt
+linked_front v w p (s ∷ xs) ys same l = (same s p l.0, linked_front v w s xs ys same l.1)
+
+line_front : (v w : Sight) (ids : List ℕ) (o : Option ℕ) → ((s q : ℕ) → is_last (ups v s) q ≡ true → is_last (ups w s) q ≡ true) → LinkedLine v (line_of ids o) → LinkedLine w ids
+line_front v w [] o same l = tt
+line_front v w (a ∷ rest) None same l = linked_front v w a rest [] same (subst (λ us. Linked v a us) (sym (append-nil rest)) l)
+line_front v w (a ∷ rest) (Some j) same l = linked_front v w a rest (j ∷ []) same l
+
+first_front : (ids : List ℕ) (o : Option ℕ) (s : ℕ) → is_in ids s ≡ true → is_first (line_of ids o) s ≡ is_first ids s
+first_front [] o s member = absurd (false≢true member)
+first_front (a ∷ rest) None s member = refl
+first_front (a ∷ rest) (Some j) s member = refl
+
+-- the master without a server that joins
+abbrev pub alone : Master → Master
+alone m = record m { joiner = None }
+
+-- The server that joins, if there is one, is dropped: it may live, and is a bystander for good.
+pub dropped-keeps : (v : Sight) → Prefixes v → Prefixes (record v { master = alone v.master })
+dropped-keeps v h = record {
+  apart = apart-members chain joiner h.apart;
+  members = λ id member. h.members id (member-line chain joiner id member);
+  away = λ id used out. elim (cases_Bool (is_that joiner id)) [
+    | inl joins ↦ inr (h.aside id joins)
+    | inr other ↦ h.away id used (out_of id out other)
+  ];
+  aside = λ id none. absurd (false≢true none);
+  fresh = h.fresh;
+  speaks = h.speaks;
+  climbs = h.climbs;
+  linked = line_front v (record v { master = alone v.master }) chain joiner (λ s q last. last) h.linked;
+  heads = λ id member. heads_other (line v.master) chain id (v.channel parties.Master (parties.Server id)) (λ first. sym (first_front chain joiner id member) ∙ first) (h.heads id (member-line chain joiner id member));
+  headless = λ id member is. h.headless id (member-line chain joiner id member) is;
+} where
+  chain : List ℕ
+  chain = v.master.chain
+
+  joiner : Option ℕ
+  joiner = v.master.joiner
+
+  out_of : (id : ℕ) → is_in v.master.chain id ≡ false → is_that v.master.joiner id ≡ false → is_in (line v.master) id ≡ false
+  out_of id out other = elim (cases_Bool (is_in (line v.master) id)) [
+    | inr outside ↦ outside
+    | inl there ↦ elim (line-cases v.master.chain v.master.joiner id there) [ inl member ↦ absurd (both_ways (is_in v.master.chain id) out member) | inr joins ↦ absurd (both_ways (is_that v.master.joiner id) other joins) ]
+  ]
 
 -- ---- detections
 
@@ -228,28 +297,37 @@ linked_some v a (x ∷ rest) s l (inl e) none = false≢true (sym (ap (λ us. is
 linked_some v a (x ∷ rest) s l (inr among) none = linked_some v x rest s l.1 among none
 
 -- the sentences that any order keeps which leaves out one server that is down
-record LeavesOut (v : Sight) (m : Master) (id : ℕ) : Type 0 where
+record LeavesOut (v : Sight) (m : Master) (id : ℕ) (out : List (Party × Message)) : Type 0 where
   left : line m ≡ without id (line v.master)
   used : m.used ≡ v.master.used
+  joins : (j : ℕ) → is_that m.joiner j ≡ true → is_that v.master.joiner j ≡ true
+  silent : (j : ℕ) → is_in v.master.chain j ≡ false → told_to j out ≡ []
 
-left_apart : (v : Sight) (m : Master) (id : ℕ) → Prefixes v → LeavesOut v m id → Pairwise (λ a b. eqb a b ≡ false) (line m)
-left_apart v m id h o = subst (λ us. Pairwise (λ a b. eqb a b ≡ false) us) (sym o.left) (pairwise-filter (λ a b. eqb a b ≡ false) (λ other. not (eqb other id)) (line v.master) h.apart)
+left_apart : (v : Sight) (m : Master) (id : ℕ) (out : List (Party × Message)) → Prefixes v → LeavesOut v m id out → Pairwise (λ a b. eqb a b ≡ false) (line m)
+left_apart v m id out h o = subst (λ us. Pairwise (λ a b. eqb a b ≡ false) us) (sym o.left) (pairwise-filter (λ a b. eqb a b ≡ false) (λ other. not (eqb other id)) (line v.master) h.apart)
 
-left_members : (v : Sight) (m : Master) (id : ℕ) → Prefixes v → LeavesOut v m id → (j : ℕ) → is_in (line m) j ≡ true → is_in m.used j ≡ true
-left_members v m id h o j member = ap (λ us. is_in us j) o.used ∙ h.members j (in-without id (line v.master) j (sym (ap (λ us. is_in us j) o.left) ∙ member)).0
+left_members : (v : Sight) (m : Master) (id : ℕ) (out : List (Party × Message)) → Prefixes v → LeavesOut v m id out → (j : ℕ) → is_in (line m) j ≡ true → is_in m.used j ≡ true
+left_members v m id out h o j member = ap (λ us. is_in us j) o.used ∙ h.members j (in-without id (line v.master) j (sym (ap (λ us. is_in us j) o.left) ∙ member)).0
 
-left_away : (v : Sight) (m : Master) (id : ℕ) → Prefixes v → LeavesOut v m id → (v.server id).down ≡ true → (j : ℕ) → is_in m.used j ≡ true → is_in (line m) j ≡ false → (v.server j).down ≡ true
-left_away v m id h o down j used out = go (eqb j id) refl where
-  go : (t : Bool) → eqb j id ≡ t → (v.server j).down ≡ true
-  go true e = subst (λ i. (v.server i).down ≡ true) (sym (eqb-true j id e)) down
-  go false e = h.away j (sym (ap (λ us. is_in us j) o.used) ∙ used) (out-without id (line v.master) j (sym (ap (λ us. is_in us j) o.left) ∙ out) e)
+left_away : (v : Sight) (m : Master) (id : ℕ) (out : List (Party × Message)) → Prefixes v → LeavesOut v m id out → (v.server id).down ≡ true → (j : ℕ) → is_in m.used j ≡ true → is_in (line m) j ≡ false
+    → ((v.server j).down ≡ true) ⊎ Bystander (v.server j) (v.channel parties.Master (parties.Server j) ++ told_to j out)
+left_away v m id out h o down j used away = go (eqb j id) refl where
+  go : (t : Bool) → eqb j id ≡ t → ((v.server j).down ≡ true) ⊎ Bystander (v.server j) (v.channel parties.Master (parties.Server j) ++ told_to j out)
+  go true e = inl (subst (λ i. (v.server i).down ≡ true) (sym (eqb-true j id e)) down)
+  go false e = let was = out-without id (line v.master) j (sym (ap (λ us. is_in us j) o.left) ∙ away) e in
+      still_away (v.server j) (v.channel parties.Master (parties.Server j)) (told_to j out) (o.silent j (out-line v.master.chain v.master.joiner j was).0) (h.away j (sym (ap (λ us. is_in us j) o.used) ∙ used) was)
+
+left_aside : (v : Sight) (m : Master) (id : ℕ) (out : List (Party × Message)) → Prefixes v → LeavesOut v m id out → (j : ℕ) → is_that m.joiner j ≡ true → Bystander (v.server j) (v.channel parties.Master (parties.Server j) ++ told_to j out)
+left_aside v m id out h o j is = let joins = o.joins j is in
+    unsaid (v.server j) (v.channel parties.Master (parties.Server j)) (told_to j out) (o.silent j (joiner-out v.master.chain v.master.joiner j h.apart joins)) (h.aside j joins)
 
 -- the head is gone, and the next one is told
-head_lost : (v : Sight) (m : Master) (a b : ℕ) (rest : List ℕ) → Prefixes v → line v.master ≡ a ∷ b ∷ rest → LeavesOut v m a → (v.server a).down ≡ true → Said v m ((parties.Server b, BeHead) ∷ [])
+head_lost : (v : Sight) (m : Master) (a b : ℕ) (rest : List ℕ) → Prefixes v → line v.master ≡ a ∷ b ∷ rest → LeavesOut v m a ((parties.Server b, BeHead) ∷ []) → (v.server a).down ≡ true → Said v m ((parties.Server b, BeHead) ∷ [])
 head_lost v m a b rest h is o down = record {
-  apart = left_apart v m a h o;
-  members = left_members v m a h o;
-  away = left_away v m a h o down;
+  apart = left_apart v m a out h o;
+  members = left_members v m a out h o;
+  away = left_away v m a out h o down;
+  aside = left_aside v m a out h o;
   unused = λ id un. let was = sym (ap (λ us. is_in us id) o.used) ∙ un in (was, one_told id b BeHead false (ne_eqb id b (λ e. both_ways (is_in v.master.used id) was (h.members id (ap (λ us. is_in us id) is ∙ or_right (eqb a id) (is_in (b ∷ rest) id) (or_left (eqb b id) (is_in rest id) (eq-eqb b id (sym e))))))));
   climbs = λ id. subst (λ us. Climbs v.server id us) (sym (ap (λ r. ups v id ++ r) (none id) ∙ append-nil (ups v id))) (h.climbs id);
   linked = subst (λ us. LinkedLine (said v m out) us) (sym now) (linked_silent v m out b rest (λ s among. none s) old_linked.1);
@@ -283,11 +361,12 @@ head_lost v m a b rest h is o down = record {
         ends false k = tt
 
 -- another one is gone
-other_lost : (v : Sight) (m : Master) (a id : ℕ) (rest : List ℕ) → Prefixes v → line v.master ≡ a ∷ rest → eqb a id ≡ false → is_in rest id ≡ true → LeavesOut v m id → (v.server id).down ≡ true → Said v m (closing a id rest)
+other_lost : (v : Sight) (m : Master) (a id : ℕ) (rest : List ℕ) → Prefixes v → line v.master ≡ a ∷ rest → eqb a id ≡ false → is_in rest id ≡ true → LeavesOut v m id (closing a id rest) → (v.server id).down ≡ true → Said v m (closing a id rest)
 other_lost v m a id rest h is other there o down = record {
-  apart = left_apart v m id h o;
-  members = left_members v m id h o;
-  away = left_away v m id h o down;
+  apart = left_apart v m id (closing a id rest) h o;
+  members = left_members v m id (closing a id rest) h o;
+  away = left_away v m id (closing a id rest) h o down;
+  aside = left_aside v m id (closing a id rest) h o;
   unused = λ j un. let was = sym (ap (λ us. is_in us j) o.used) ∙ un in
       let parts = or_parts (eqb a j) (is_in rest j) (out_of j was) in (was, behind.silent j parts.0 parts.1);
   climbs = behind.climbs;
@@ -329,20 +408,104 @@ other_lost v m a id rest h is other there o down = record {
     | inr later ↦ absurd (linked_some v a rest j old_linked (in_apart rest j later) none)
   ]
 
--- A detection of a member that is down, while others remain, keeps all sentences.
-pub detected-said : (v : Sight) (id : ℕ) → Prefixes v → is_in v.master.chain id ≡ true → (v.server id).down ≡ true → (length v.master.chain ≡ 1 → ⊥) → Said v (detected id v.master).master (detected id v.master).said
-unfolding detected
-detected-said v id h member down more = by_chain v.master.chain refl where
-  m : Master
-  m = (detected id v.master).master
+-- what is said of a loss is said to members
+closing_silent : (p id : ℕ) (us : List ℕ) (j : ℕ) → eqb p j ≡ false → is_in us j ≡ false → told_to j (closing p id us) ≡ []
+closing_silent p id [] j other out = refl
+closing_silent p id (a ∷ []) j other out = go (eqb a id) where
+  go : (t : Bool) → told_to j (cond t ((parties.Server p, BeTail 0) ∷ []) []) ≡ []
+  go true = one_told j p (BeTail 0) false (eqb_turned p j other)
+  go false = refl
+closing_silent p id (a ∷ b ∷ rest) j other out = go (eqb a id) (closing_silent a id (b ∷ rest) j parts.0 parts.1) where
+  parts : (eqb a j ≡ false) × (is_in (b ∷ rest) j ≡ false)
+  parts = or_parts (eqb a j) (is_in (b ∷ rest) j) out
 
-  by_chain : (chain : List ℕ) → v.master.chain ≡ chain → Said v m (said_of_loss id chain)
-  by_chain [] is = absurd (both_ways (is_in v.master.chain id) (ap (λ us. is_in us id) is) member)
-  by_chain (a ∷ []) is = absurd (more (ap length is))
-  by_chain (a ∷ b ∷ rest) is = go (eqb a id) refl where
-    go : (t : Bool) → eqb a id ≡ t → Said v m (cond t ((parties.Server b, BeHead) ∷ []) (closing a id (b ∷ rest)))
-    go true e = head_lost v m a b rest h is (record { left = ap (λ i. without i v.master.chain) (sym (eqb-true a id e)); used = refl }) (subst (λ i. (v.server i).down ≡ true) (sym (eqb-true a id e)) down)
-    go false e = other_lost v m a id (b ∷ rest) h is e (elim (or_cases (eqb a id) (is_in (b ∷ rest) id) (sym (ap (λ us. is_in us id) is) ∙ member)) [ inl k ↦ absurd (both_ways (eqb a id) e k) | inr k ↦ k ]) (record { left = refl; used = refl }) down
+  go : (t : Bool) → told_to j (closing a id (b ∷ rest)) ≡ [] → told_to j (cond t ((parties.Server b, Report p) ∷ []) (closing a id (b ∷ rest))) ≡ []
+  go true later = one_told j b (Report p) false (eqb_turned b j (or_parts (eqb b j) (is_in rest j) parts.1).0)
+  go false later = later
+
+pub loss_silent : (id : ℕ) (chain : List ℕ) (j : ℕ) → is_in chain j ≡ false → told_to j (said_of_loss id chain) ≡ []
+loss_silent id [] j out = refl
+loss_silent id (a ∷ []) j out = refl
+loss_silent id (a ∷ b ∷ rest) j out = go (eqb a id) where
+  parts : (eqb a j ≡ false) × (is_in (b ∷ rest) j ≡ false)
+  parts = or_parts (eqb a j) (is_in (b ∷ rest) j) out
+
+  go : (t : Bool) → told_to j (cond t ((parties.Server b, BeHead) ∷ []) (closing a id (b ∷ rest))) ≡ []
+  go true = one_told j b BeHead false (eqb_turned b j (or_parts (eqb b j) (is_in rest j) parts.1).0)
+  go false = closing_silent a id (b ∷ rest) j parts.0 parts.1
+
+-- What is said of a loss in the line keeps all sentences, if it is said to members alone.
+lost_said : (v : Sight) (m : Master) (id : ℕ) → Prefixes v → (line_now : List ℕ) → line v.master ≡ line_now → is_in line_now id ≡ true → (v.server id).down ≡ true → (length line_now ≡ 1 → ⊥)
+    → LeavesOut v m id (said_of_loss id line_now) → Said v m (said_of_loss id line_now)
+lost_said v m id h [] is there down more o = absurd (false≢true there)
+lost_said v m id h (a ∷ []) is there down more o = absurd (more refl)
+lost_said v m id h (a ∷ b ∷ rest) is there down more o = go (eqb a id) refl o where
+  go : (t : Bool) → eqb a id ≡ t → LeavesOut v m id (cond t ((parties.Server b, BeHead) ∷ []) (closing a id (b ∷ rest))) → Said v m (cond t ((parties.Server b, BeHead) ∷ []) (closing a id (b ∷ rest)))
+  go true e k = head_lost v m a b rest h is (subst (λ i. LeavesOut v m i ((parties.Server b, BeHead) ∷ [])) (sym (eqb-true a id e)) k) (subst (λ i. (v.server i).down ≡ true) (sym (eqb-true a id e)) down)
+  go false e k = other_lost v m a id (b ∷ rest) h is e (elim (or_cases (eqb a id) (is_in (b ∷ rest) id) there) [ inl same ↦ absurd (both_ways (eqb a id) e same) | inr later ↦ later ]) k down
+
+-- where another one than the last member is lost, what is said is the same for the line
+closing_line : (p id j : ℕ) (us : List ℕ) → is_last us id ≡ false → eqb j id ≡ false → closing p id (us ++ j ∷ []) ≡ closing p id us
+closing_line p id j [] last other = ap (λ b. cond b ((parties.Server p, BeTail 0) ∷ []) []) other
+closing_line p id j (a ∷ []) last other = ap (λ b. cond b ((parties.Server j, Report p) ∷ []) (closing a id (j ∷ []))) last ∙ ap (λ b. cond b ((parties.Server a, BeTail 0) ∷ []) []) other
+    ∙ sym (ap (λ b. cond b ((parties.Server p, BeTail 0) ∷ []) []) last)
+closing_line p id j (a ∷ b ∷ rest) last other = ap (λ us. cond (eqb a id) ((parties.Server b, Report p) ∷ []) us) (closing_line a id j (b ∷ rest) last other)
+
+pub loss-line : (id : ℕ) (ids : List ℕ) (o : Option ℕ) → is_last ids id ≡ false → is_in ids id ≡ true → is_that o id ≡ false → said_of_loss id (line_of ids o) ≡ said_of_loss id ids
+loss-line id ids None last member other = refl
+loss-line id [] (Some j) last member other = absurd (false≢true member)
+loss-line id (a ∷ []) (Some j) last member other = absurd (both_ways (eqb a id) last (elim (or_cases (eqb a id) false member) [ inl e ↦ e | inr none ↦ absurd (false≢true none) ]))
+loss-line id (a ∷ b ∷ rest) (Some j) last member other = ap (λ us. cond (eqb a id) ((parties.Server b, BeHead) ∷ []) us) (closing_line a id j (b ∷ rest) last other)
+
+-- so is the line without it
+pub without-line : (id : ℕ) (ids : List ℕ) (o : Option ℕ) → is_that o id ≡ false → line_of (without id ids) o ≡ without id (line_of ids o)
+without-line id ids None other = refl
+without-line id [] (Some j) other = sym (ap (λ b. cond (not b) (j ∷ []) []) other)
+without-line id (a ∷ ids) (Some j) other = go (eqb a id) (without-line id ids (Some j) other) where
+  go : (t : Bool) → without id ids ++ j ∷ [] ≡ without id (ids ++ j ∷ []) → cond (not t) (a ∷ without id ids) (without id ids) ++ j ∷ [] ≡ cond (not t) (a ∷ without id (ids ++ j ∷ [])) (without id (ids ++ j ∷ []))
+  go true later = later
+  go false later = ap (λ us. a ∷ us) later
+
+-- A detection keeps all sentences: of the server that joins, or of a member that is down, while others remain.
+pub detected-said : (v : Sight) (id : ℕ) → Prefixes v → (v.server id).down ≡ true → (is_that v.master.joiner id ≡ false → (is_in v.master.chain id ≡ true) × (length v.master.chain ≡ 1 → ⊥)) → Said (record v { master = alone v.master }) (dropped v.master).master (dropped v.master).said
+    → Prefixes (said v (detected id v.master).master (detected id v.master).said)
+unfolding detected
+detected-said v id h down parts dropping = go (is_that v.master.joiner id) refl where
+  go : (t : Bool) → is_that v.master.joiner id ≡ t → Prefixes (said v (cond t (dropped v.master) (closed_up id v.master)).master (cond t (dropped v.master) (closed_up id v.master)).said)
+  go true joins = said-keeps (record v { master = alone v.master }) (dropped v.master).master (dropped v.master).said (dropped-keeps v h) dropping
+  go false other = by_last (is_last v.master.chain id) refl where
+    member : is_in v.master.chain id ≡ true
+    member = (parts other).0
+
+    by_last : (t : Bool) → is_last v.master.chain id ≡ t → Prefixes (said v (closed_up id v.master).master (closed_up id v.master).said)
+    by_last true last = said-keeps (record v { master = alone v.master }) (closed_up id v.master).master (said_of_loss id v.master.chain) (dropped-keeps v h)
+        (lost_said (record v { master = alone v.master }) (closed_up id v.master).master id (dropped-keeps v h) v.master.chain refl member down (parts other).1 (record {
+          left = ap (λ o. line_of (without id v.master.chain) o) none;
+          used = refl;
+          joins = λ j is. absurd (false≢true (sym (ap (λ o. is_that o j) none) ∙ is));
+          silent = loss_silent id v.master.chain;
+        })) where
+          none : (closed_up id v.master).master.joiner ≡ None
+          none = ap (λ b. cond b None v.master.joiner) last
+    by_last false last = said-keeps v (closed_up id v.master).master (said_of_loss id v.master.chain) h
+        (subst (λ out. Said v (closed_up id v.master).master out) same (lost_said v (closed_up id v.master).master id h (line v.master) refl (member-line v.master.chain v.master.joiner id member) down more (record {
+          left = ap (λ o. line_of (without id v.master.chain) o) still ∙ without-line id v.master.chain v.master.joiner other;
+          used = refl;
+          joins = λ j is. sym (ap (λ o. is_that o j) still) ∙ is;
+          silent = λ j out. ap (λ us. told_to j us) same ∙ loss_silent id v.master.chain j out;
+        }))) where
+          still : (closed_up id v.master).master.joiner ≡ v.master.joiner
+          still = ap (λ b. cond b None v.master.joiner) last
+
+          same : said_of_loss id (line v.master) ≡ said_of_loss id v.master.chain
+          same = loss-line id v.master.chain v.master.joiner last member other
+
+          more : length (line v.master) ≡ 1 → ⊥
+          more is = longer v.master.chain v.master.joiner (parts other).1 member is where
+            longer : (ids : List ℕ) (o : Option ℕ) → (length ids ≡ 1 → ⊥) → is_in ids id ≡ true → length (line_of ids o) ≡ 1 → ⊥
+            longer ids None few there one = few one
+            longer [] (Some j) few there one = false≢true there
+            longer (a ∷ rest) (Some j) few there one = omega (arith, one, length-append rest (j ∷ []))
 
 -- ---- joins
 
@@ -361,26 +524,18 @@ pub join_told : (id a : ℕ) (rest : List ℕ) → said_of_join id (a ∷ rest) 
 join_told id a [] = refl
 join_told id a (b ∷ rest) = join_told id b rest
 
--- who is among more is among these, or is the one more
-pub in_more : (ids : List ℕ) (id j : ℕ) → is_in (ids ++ id ∷ []) j ≡ true → (is_in ids j ≡ true) ⊎ (eqb id j ≡ true)
-in_more [] id j h = elim (or_cases (eqb id j) false h) [ inl e ↦ inr e | inr none ↦ absurd (false≢true none) ]
-in_more (x ∷ ids) id j h = elim (or_cases (eqb x j) (is_in (ids ++ id ∷ []) j) h) [
-  | inl e ↦ inl (or_left (eqb x j) (is_in ids j) e)
-  | inr r ↦ elim (in_more ids id j r) [ inl k ↦ inl (or_right (eqb x j) (is_in ids j) k) | inr k ↦ inr k ]
-]
+-- what is said to the last one
+pub last_told : (m : Message) (a : ℕ) (rest : List ℕ) → to_last m (a ∷ rest) ≡ (parties.Server (last_of a rest), m) ∷ []
+last_told m a [] = refl
+last_told m a (b ∷ rest) = last_told m b rest
 
-pub in_left : (ids : List ℕ) (id j : ℕ) → is_in ids j ≡ true → is_in (ids ++ id ∷ []) j ≡ true
-in_left [] id j h = absurd (false≢true h)
-in_left (x ∷ ids) id j h = elim (or_cases (eqb x j) (is_in ids j) h) [ inl e ↦ or_left (eqb x j) (is_in (ids ++ id ∷ []) j) e | inr r ↦ or_right (eqb x j) (is_in (ids ++ id ∷ []) j) (in_left ids id j r) ]
+pub last_top : (a : ℕ) (rest : List ℕ) → is_last (a ∷ rest) (last_of a rest) ≡ true
+last_top a [] = eq-eqb a a refl
+last_top a (b ∷ rest) = last_top b rest
 
-pub in_end : (ids : List ℕ) (id : ℕ) → is_in (ids ++ id ∷ []) id ≡ true
-in_end [] id = or_left (eqb id id) false (eq-eqb id id refl)
-in_end (x ∷ ids) id = or_right (eqb x id) (is_in (ids ++ id ∷ []) id) (in_end ids id)
-
--- what isn't among more is neither
-pub out_more : (ids : List ℕ) (id j : ℕ) → is_in (ids ++ id ∷ []) j ≡ false → (is_in ids j ≡ false) × (eqb id j ≡ false)
-out_more [] id j h = (refl, (or_parts (eqb id j) false h).0)
-out_more (x ∷ ids) id j h = let parts = or_parts (eqb x j) (is_in (ids ++ id ∷ []) j) h in let rest = out_more ids id j parts.1 in (ap (λ b. b || is_in ids j) parts.0 ∙ rest.0, rest.1)
+pub last_among : (a : ℕ) (rest : List ℕ) → is_in (a ∷ rest) (last_of a rest) ≡ true
+last_among a [] = or_left (eqb a a) false (eq-eqb a a refl)
+last_among a (b ∷ rest) = or_right (eqb a (last_of b rest)) (is_in (b ∷ rest) (last_of b rest)) (last_among b rest)
 
 -- a line that goes on with one that has the last one as predecessor
 linked_more : (v : Sight) (m : Master) (out : List (Party × Message)) (a : ℕ) (rest : List ℕ) (id : ℕ) → ((s : ℕ) → Among s rest → reports (told_to s out) ≡ []) → Linked v a rest → is_last (ups (said v m out) id) (last_of a rest) ≡ true → Linked (said v m out) a (rest ++ id ∷ [])
@@ -388,12 +543,16 @@ linked_more v m out a [] id none l last = (last, tt)
 linked_more v m out a (s ∷ rest) id none l last = (ap (λ us. is_last us a) (ups_silent v m out s (none s (inl refl))) ∙ l.0, linked_more v m out s rest id (λ r among. none r (inr among)) l.1 last)
 
 -- A join of a number that wasn't used keeps all sentences.
-pub joined-said : (v : Sight) (id a : ℕ) (rest : List ℕ) → Prefixes v → is_in v.master.used id ≡ false → v.master.chain ≡ a ∷ rest → Said v (joined id v.master).master (joined id v.master).said
+pub joined-said : (v : Sight) (id a : ℕ) (rest : List ℕ) → Prefixes v → is_in v.master.used id ≡ false → v.master.chain ≡ a ∷ rest → Said (record v { master = alone v.master }) (joined id v.master).master (joined id v.master).said
 unfolding joined
-joined-said v id a rest h unused is = subst (λ os. Said v m os) (sym (ap (λ us. said_of_join id us) is ∙ join_told id a rest)) (record {
-  apart = pairwise-push (λ x y. eqb x y ≡ false) (line v.master) id h.apart (λ x among. member_other x (among_in (line v.master) x among));
-  members = λ j member. elim (in_more (line v.master) id j member) [ inl k ↦ in_left v.master.used id j (h.members j k) | inr e ↦ subst (λ i. is_in (v.master.used ++ id ∷ []) i ≡ true) (eqb-true id j e) (in_end v.master.used id) ];
-  away = λ j used out_of. let parts = out_more (line v.master) id j out_of in elim (in_more v.master.used id j used) [ inl k ↦ h.away j k parts.0 | inr e ↦ absurd (both_ways (eqb id j) parts.1 e) ];
+joined-said v id a rest was_all unused is = subst (λ os. Said (record v { master = alone v.master }) m os) (sym (ap (λ us. said_of_join id us) is ∙ join_told id a rest)) (record {
+  apart = pairwise-push (λ x y. eqb x y ≡ false) v.master.chain id h.apart (λ x among. member_other x (among_in v.master.chain x among));
+  members = λ j member. elim (in_more v.master.chain id j member) [ inl k ↦ in_left v.master.used id j (h.members j k) | inr e ↦ subst (λ i. is_in (v.master.used ++ id ∷ []) i ≡ true) (eqb-true id j e) (in_end v.master.used id) ];
+  away = λ j used out_of. let parts = out_more v.master.chain id j out_of in elim (in_more v.master.used id j used) [
+    | inl k ↦ still_away (v.server j) (v.channel parties.Master (parties.Server j)) (told_to j out) (one_told j id (Report t) false (eqb_turned id j parts.1)) (h.away j k parts.0)
+    | inr e ↦ absurd (both_ways (eqb id j) parts.1 e)
+  ];
+  aside = λ j joins. stands_aside j (eqb-true id j joins);
   unused = λ j un. let parts = out_more v.master.used id j un in (parts.0, one_told j id (Report t) false (eqb_turned id j parts.1));
   climbs = λ j. climb j (eqb j id) refl;
   linked = subst (λ us. LinkedLine (said v m out) (us ++ id ∷ [])) (sym is) (linked_more v m out a rest id (λ s among. ap reports (one_told s id (Report t) false (member_other s (ap (λ us. is_in us s) is ∙ or_right (eqb a s) (is_in rest s) (among_in rest s among)))))
@@ -410,13 +569,16 @@ joined-said v id a rest h unused is = subst (λ os. Said v m os) (sym (ap (λ us
   m : Master
   m = (joined id v.master).master
 
+  h : Prefixes (record v { master = alone v.master })
+  h = dropped-keeps v was_all
+
   fresh : (v.server id ≡ joining) × (v.channel parties.Master (parties.Server id) ≡ [])
-  fresh = h.fresh id unused
+  fresh = was_all.fresh id unused
 
   none_before : ups v id ≡ []
   none_before = ap (λ s. one s.pred ++ reports (v.channel parties.Master (parties.Server id))) fresh.0 ∙ ap reports fresh.1
 
-  member_other : (s : ℕ) → is_in (line v.master) s ≡ true → eqb s id ≡ false
+  member_other : (s : ℕ) → is_in v.master.chain s ≡ true → eqb s id ≡ false
   member_other s member = ne_eqb s id (λ e. both_ways (is_in v.master.used id) unused (subst (λ i. is_in v.master.used i ≡ true) e (h.members s member)))
 
   among_in : (ids : List ℕ) (s : ℕ) → Among s ids → is_in ids s ≡ true
@@ -427,32 +589,44 @@ joined-said v id a rest h unused is = subst (λ os. Said v m os) (sym (ap (λ us
       (subst (λ us. Climbs v.server j (us ++ last_of a rest ∷ [])) (sym (ap (λ i. ups v i) (eqb-true j id e) ∙ none_before)) (front-none (v.server j).entries (v.server (last_of a rest)).entries (ap (λ i. (v.server i).entries) (eqb-true j id e) ∙ ap (λ s. s.entries) fresh.0)))
   climb j false e = subst (λ ms. Climbs v.server j (ups v j ++ reports ms)) (sym (one_told j id (Report (last_of a rest)) false e)) (subst (λ us. Climbs v.server j us) (sym (append-nil (ups v j))) (h.climbs j))
 
-  was : (j : ℕ) → is_in (line v.master ++ id ∷ []) j ≡ true → eqb j id ≡ false → is_in (line v.master) j ≡ true
-  was j member other = elim (in_more (line v.master) id j member) [ inl k ↦ k | inr e ↦ absurd (both_ways (eqb j id) other (eq-eqb j id (sym (eqb-true id j e)))) ]
+  was : (j : ℕ) → is_in (v.master.chain ++ id ∷ []) j ≡ true → eqb j id ≡ false → is_in v.master.chain j ≡ true
+  was j member other = elim (in_more v.master.chain id j member) [ inl k ↦ k | inr e ↦ absurd (both_ways (eqb j id) other (eq-eqb j id (sym (eqb-true id j e)))) ]
 
-  row : (j : ℕ) → is_in (line v.master ++ id ∷ []) j ≡ true → (b : Bool) → eqb j id ≡ b → Heads (line v.master ++ id ∷ []) j (v.channel parties.Master (parties.Server j) ++ told_to j ((parties.Server id, Report (last_of a rest)) ∷ []))
-  row j member true e = subst (λ ms. Heads (line v.master ++ id ∷ []) j (v.channel parties.Master (parties.Server j) ++ ms)) (sym (one_told j id (Report (last_of a rest)) true e))
-      (subst (λ ms. Heads (line v.master ++ id ∷ []) j (ms ++ Report (last_of a rest) ∷ [])) (sym (ap (λ i. v.channel parties.Master (parties.Server i)) (eqb-true j id e) ∙ fresh.1)) tt)
-  row j member false e = subst (λ ms. Heads (line v.master ++ id ∷ []) j (v.channel parties.Master (parties.Server j) ++ ms)) (sym (one_told j id (Report (last_of a rest)) false e)) (stays (is_first (line v.master) j) refl) where
-    same_first : is_first (line v.master ++ id ∷ []) j ≡ is_first (line v.master) j
+  row : (j : ℕ) → is_in (v.master.chain ++ id ∷ []) j ≡ true → (b : Bool) → eqb j id ≡ b → Heads (v.master.chain ++ id ∷ []) j (v.channel parties.Master (parties.Server j) ++ told_to j ((parties.Server id, Report (last_of a rest)) ∷ []))
+  row j member true e = subst (λ ms. Heads (v.master.chain ++ id ∷ []) j (v.channel parties.Master (parties.Server j) ++ ms)) (sym (one_told j id (Report (last_of a rest)) true e))
+      (subst (λ ms. Heads (v.master.chain ++ id ∷ []) j (ms ++ Report (last_of a rest) ∷ [])) (sym (ap (λ i. v.channel parties.Master (parties.Server i)) (eqb-true j id e) ∙ fresh.1)) tt)
+  row j member false e = subst (λ ms. Heads (v.master.chain ++ id ∷ []) j (v.channel parties.Master (parties.Server j) ++ ms)) (sym (one_told j id (Report (last_of a rest)) false e)) (stays (is_first v.master.chain j) refl) where
+    same_first : is_first (v.master.chain ++ id ∷ []) j ≡ is_first v.master.chain j
     same_first = ap (λ us. is_first (us ++ id ∷ []) j) is ∙ sym (ap (λ us. is_first us j) is)
 
-    stays : (b : Bool) → is_first (line v.master) j ≡ b → Heads (line v.master ++ id ∷ []) j (v.channel parties.Master (parties.Server j) ++ [])
-    stays true k = heads_first (line v.master) (line v.master ++ id ∷ []) j (v.channel parties.Master (parties.Server j)) [] (same_first ∙ k) (h.heads j (was j member e)) refl tt
-    stays false k = heads_after (line v.master ++ id ∷ []) j (v.channel parties.Master (parties.Server j)) [] (no_head (line v.master) j (v.channel parties.Master (parties.Server j)) k (h.heads j (was j member e))) tt
+    stays : (b : Bool) → is_first v.master.chain j ≡ b → Heads (v.master.chain ++ id ∷ []) j (v.channel parties.Master (parties.Server j) ++ [])
+    stays true k = heads_first v.master.chain (v.master.chain ++ id ∷ []) j (v.channel parties.Master (parties.Server j)) [] (same_first ∙ k) (h.heads j (was j member e)) refl tt
+    stays false k = heads_after (v.master.chain ++ id ∷ []) j (v.channel parties.Master (parties.Server j)) [] (no_head v.master.chain j (v.channel parties.Master (parties.Server j)) k (h.heads j (was j member e))) tt
 
-  headless : (j : ℕ) → is_in (line v.master ++ id ∷ []) j ≡ true → (v.server j).head ≡ true → (b : Bool) → eqb j id ≡ b → ups v j ++ reports (told_to j ((parties.Server id, Report (last_of a rest)) ∷ [])) ≡ []
+  headless : (j : ℕ) → is_in (v.master.chain ++ id ∷ []) j ≡ true → (v.server j).head ≡ true → (b : Bool) → eqb j id ≡ b → ups v j ++ reports (told_to j ((parties.Server id, Report (last_of a rest)) ∷ [])) ≡ []
   headless j member is_head true e = absurd (false≢true (sym (ap (λ i. (v.server i).head) (eqb-true j id e) ∙ ap (λ s. s.head) fresh.0) ∙ is_head))
   headless j member is_head false e = ap (λ ms. ups v j ++ reports ms) (one_told j id (Report (last_of a rest)) false e) ∙ append-nil (ups v j) ∙ h.headless j (was j member e) is_head
 
+  stands_aside : (j : ℕ) → id ≡ j → Bystander (v.server j) (v.channel parties.Master (parties.Server j) ++ told_to j ((parties.Server id, Report (last_of a rest)) ∷ []))
+  stands_aside j e = subst (λ i. Bystander (v.server i) (v.channel parties.Master (parties.Server i) ++ told_to i ((parties.Server id, Report (last_of a rest)) ∷ []))) e (record {
+    full = ap (λ s. s.full) fresh.0;
+    at_least = ap (λ s. s.at_least) fresh.0;
+    head = ap (λ s. s.head) fresh.0;
+    succ = ap (λ s. s.succ) fresh.0;
+    told = subst (λ ms. Each Harmless ms) (sym (ap (λ ms. ms ++ told_to id ((parties.Server id, Report (last_of a rest)) ∷ [])) fresh.1 ∙ one_told id id (Report (last_of a rest)) true (eq-eqb id id refl))) (tt, tt);
+  })
+
 -- ---- messages to the master
 
--- What is said to a server of the line, if it tells of no predecessor and no head, keeps all sentences.
-quiet_said : (v : Sight) (m : Master) (to : ℕ) (word : Message) → Prefixes v → line m ≡ line v.master → m.used ≡ v.master.used → is_in (line v.master) to ≡ true → reports (word ∷ []) ≡ [] → NoHead (word ∷ []) → Said v m ((parties.Server to, word) ∷ [])
-quiet_said v m to word h stays used member told calm = record {
+-- What is said to a member, if it tells of no predecessor and no head, keeps all sentences.
+quiet_said : (v : Sight) (m : Master) (to : ℕ) (word : Message) → Prefixes v → line m ≡ line v.master → m.used ≡ v.master.used → ((j : ℕ) → is_that m.joiner j ≡ true → is_that v.master.joiner j ≡ true) → is_in v.master.chain to ≡ true
+    → reports (word ∷ []) ≡ [] → NoHead (word ∷ []) → Said v m ((parties.Server to, word) ∷ [])
+quiet_said v m to word h stays used joins there told calm = record {
   apart = subst (λ us. Pairwise (λ a b. eqb a b ≡ false) us) (sym stays) h.apart;
   members = λ id k. ap (λ us. is_in us id) used ∙ h.members id (sym (ap (λ us. is_in us id) stays) ∙ k);
-  away = λ id k out_of. h.away id (sym (ap (λ us. is_in us id) used) ∙ k) (sym (ap (λ us. is_in us id) stays) ∙ out_of);
+  away = λ id k out_of. let was = sym (ap (λ us. is_in us id) stays) ∙ out_of in
+      still_away (v.server id) (v.channel parties.Master (parties.Server id)) (told_to id out) (aside_told id (out-line v.master.chain v.master.joiner id was).0) (h.away id (sym (ap (λ us. is_in us id) used) ∙ k) was);
+  aside = λ id is. let was = joins id is in unsaid (v.server id) (v.channel parties.Master (parties.Server id)) (told_to id out) (aside_told id (joiner-out v.master.chain v.master.joiner id h.apart was)) (h.aside id was);
   unused = λ id un. let was = sym (ap (λ us. is_in us id) used) ∙ un in (was, one_told id to word false (ne_eqb id to (λ e. both_ways (is_in v.master.used id) was (h.members id (subst (λ i. is_in (line v.master) i ≡ true) (sym e) member)))));
   climbs = λ id. subst (λ us. Climbs v.server id us) (sym (ap (λ r. ups v id ++ r) (none id) ∙ append-nil (ups v id))) (h.climbs id);
   linked = subst (λ us. LinkedLine (said v m out) us) (sym stays) (linked (line v.master) h.linked);
@@ -461,6 +635,12 @@ quiet_said v m to word h stays used member told calm = record {
 } where
   out : List (Party × Message)
   out = (parties.Server to, word) ∷ []
+
+  member : is_in (line v.master) to ≡ true
+  member = member-line v.master.chain v.master.joiner to there
+
+  aside_told : (j : ℕ) → is_in v.master.chain j ≡ false → told_to j ((parties.Server to, word) ∷ []) ≡ []
+  aside_told j not_member = one_told j to word false (ne_eqb j to (λ e. both_ways (is_in v.master.chain j) not_member (subst (λ i. is_in v.master.chain i ≡ true) (sym e) there)))
 
   none : (j : ℕ) → reports (told_to j ((parties.Server to, word) ∷ [])) ≡ []
   none j = go (eqb j to) where
@@ -477,11 +657,12 @@ quiet_said v m to word h stays used member told calm = record {
   row j k false other = heads_after (line v.master) j (v.channel parties.Master (parties.Server j)) (told_to j ((parties.Server to, word) ∷ [])) (no_head (line v.master) j (v.channel parties.Master (parties.Server j)) other (h.heads j k)) (heads_none (line v.master) j (told_to j ((parties.Server to, word) ∷ [])) (calm_one word (eqb j to) calm))
 
 -- What is said to nobody, where the line stays, changes nothing.
-still_said : (v : Sight) (m : Master) → Prefixes v → line m ≡ line v.master → m.used ≡ v.master.used → Said v m []
-still_said v m h stays used = record {
+pub still_said : (v : Sight) (m : Master) → Prefixes v → line m ≡ line v.master → m.used ≡ v.master.used → ((j : ℕ) → is_that m.joiner j ≡ true → is_that v.master.joiner j ≡ true) → Said v m []
+still_said v m h stays used joins = record {
   apart = subst (λ us. Pairwise (λ a b. eqb a b ≡ false) us) (sym stays) h.apart;
   members = λ id k. ap (λ us. is_in us id) used ∙ h.members id (sym (ap (λ us. is_in us id) stays) ∙ k);
-  away = λ id k out_of. h.away id (sym (ap (λ us. is_in us id) used) ∙ k) (sym (ap (λ us. is_in us id) stays) ∙ out_of);
+  away = λ id k out_of. still_away (v.server id) (v.channel parties.Master (parties.Server id)) [] refl (h.away id (sym (ap (λ us. is_in us id) used) ∙ k) (sym (ap (λ us. is_in us id) stays) ∙ out_of));
+  aside = λ id is. unsaid (v.server id) (v.channel parties.Master (parties.Server id)) [] refl (h.aside id (joins id is));
   unused = λ id un. (sym (ap (λ us. is_in us id) used) ∙ un, refl);
   climbs = λ id. subst (λ us. Climbs v.server id us) (sym (append-nil (ups v id))) (h.climbs id);
   linked = subst (λ us. LinkedLine (said v m []) us) (sym stays) (linked (line v.master) h.linked);
@@ -507,19 +688,33 @@ last_in [] id h = absurd (false≢true h)
 last_in (a ∷ []) id h = or_left (eqb a id) false h
 last_in (a ∷ b ∷ rest) id h = or_right (eqb a id) (is_in (b ∷ rest) id) (last_in (b ∷ rest) id h)
 
+-- The last member is told to feed nobody any more.
+pub dropped-said : (v : Sight) (a : ℕ) (rest : List ℕ) → Prefixes v → v.master.chain ≡ a ∷ rest → Said (record v { master = alone v.master }) (dropped v.master).master (dropped v.master).said
+dropped-said v a rest h is = subst (λ out. Said (record v { master = alone v.master }) (alone v.master) out) (sym (ap (λ us. to_last (Feed None) us) is ∙ last_told (Feed None) a rest))
+    (quiet_said (record v { master = alone v.master }) (alone v.master) (last_of a rest) (Feed None) (dropped-keeps v h) refl refl (λ j joins. joins) (ap (λ us. is_in us (last_of a rest)) is ∙ last_among a rest) refl tt)
+
 -- Whatever the master hears, what it does keeps all sentences.
 pub heard-said : (v : Sight) (from : ℕ) (word : Message) → Prefixes v → Said v (hears from word v.master).master (hears from word v.master).said
 unfolding hears
-heard-said v from (Have p count) h = go (stands_before p from v.master.chain) refl where
-  go : (t : Bool) → stands_before p from v.master.chain ≡ t → Said v (cond t (record { master = v.master; said = (parties.Server p, Adopt from count) ∷ [] }) (no_order v.master)).master (cond t (record { master = v.master; said = (parties.Server p, Adopt from count) ∷ [] }) (no_order v.master)).said
-  go true e = quiet_said v v.master p (Adopt from count) h refl refl (before_in p from v.master.chain e) refl tt
-  go false e = still_said v v.master h refl refl
+heard-said v from (Have p count) h = go (stands_before p from v.master.chain) (joins_behind p from v.master) refl refl where
+  go : (t u : Bool) → stands_before p from v.master.chain ≡ t → joins_behind p from v.master ≡ u
+      → Said v (cond t (record { master = v.master; said = (parties.Server p, Adopt from count) ∷ [] }) (cond u (record { master = v.master; said = (parties.Server p, Feed (Some from)) ∷ [] }) (no_order v.master))).master
+      (cond t (record { master = v.master; said = (parties.Server p, Adopt from count) ∷ [] }) (cond u (record { master = v.master; said = (parties.Server p, Feed (Some from)) ∷ [] }) (no_order v.master))).said
+  go true u e f = quiet_said v v.master p (Adopt from count) h refl refl (λ j joins. joins) (before_in p from v.master.chain e) refl tt
+  go false true e f = quiet_said v v.master p (Feed (Some from)) h refl refl (λ j joins. joins) (last_in v.master.chain p (and_parts (is_that v.master.joiner from) (is_last v.master.chain p) f).1) refl tt
+  go false false e f = still_said v v.master h refl refl (λ j joins. joins)
+heard-said v from (Caught p count) h = go (joins_behind p from v.master) refl where
+  go : (t : Bool) → joins_behind p from v.master ≡ t → Said v (cond t (admitted p from count v.master) (no_order v.master)).master (cond t (admitted p from count v.master) (no_order v.master)).said
+  go true e =
+      let both = and_parts (is_that v.master.joiner from) (is_last v.master.chain p) e in
+      quiet_said v (admitted p from count v.master).master p (Adopt from count) h (sym (ap (λ o. line_of v.master.chain o) (that_some v.master.joiner from both.0))) refl (λ j none. absurd (false≢true none)) (last_in v.master.chain p both.1) refl tt
+  go false e = still_said v v.master h refl refl (λ j joins. joins)
 heard-said v from (Adopted s count) h = go (is_last v.master.chain s && not v.master.told) refl where
   go : (t : Bool) → (is_last v.master.chain s && not v.master.told) ≡ t → Said v (cond t (record { master = record v.master { told = true }; said = (parties.Server s, BeTail count) ∷ [] }) (no_order v.master)).master (cond t (record { master = record v.master { told = true }; said = (parties.Server s, BeTail count) ∷ [] }) (no_order v.master)).said
-  go true e = quiet_said v (record v.master { told = true }) s (BeTail count) h refl refl (last_in v.master.chain s (and_parts (is_last v.master.chain s) (not v.master.told) e).0) refl tt
-  go false e = still_said v v.master h refl refl
+  go true e = quiet_said v (record v.master { told = true }) s (BeTail count) h refl refl (λ j joins. joins) (last_in v.master.chain s (and_parts (is_last v.master.chain s) (not v.master.told) e).0) refl tt
+  go false e = still_said v v.master h refl refl (λ j joins. joins)
 heard-said v from Ready h = go (is_last v.master.chain from) where
   go : (t : Bool) → Said v (cond t (record { master = record v.master { ready = true }; said = [] }) (no_order v.master)).master (cond t (record { master = record v.master { ready = true }; said = [] }) (no_order v.master)).said
-  go true = still_said v (record v.master { ready = true }) h refl refl
-  go false = still_said v v.master h refl refl
-heard-said v from word h = still_said v v.master h refl refl
+  go true = still_said v (record v.master { ready = true }) h refl refl (λ j joins. joins)
+  go false = still_said v v.master h refl refl (λ j joins. joins)
+heard-said v from word h = still_said v v.master h refl refl (λ j joins. joins)

@@ -1,5 +1,5 @@
 -- Each step of a server that lives is a turn that keeps histories fronts of each other.
-use Rattle.std.proofs.Common.{◌≡◌, ℕ, zero, suc, ◌+◌, ◌≤◌, ◌∙◌, ap, sym, List, [], ◌∷◌, ◌++◌, length, drop, take, ◌&&◌, Option, Some, None, is_none, Bool, true, false, cond, eqb, subst, refl, inl, inr, arith, min, max, nat_le, nat_lt, append_assoc, length-append}
+use Rattle.std.proofs.Common.{◌≡◌, ℕ, zero, suc, ◌+◌, ◌≤◌, ◌∙◌, ap, sym, List, [], ◌∷◌, ◌++◌, length, drop, take, ◌&&◌, ◌⊎◌, Option, Some, None, is_none, not, Bool, true, false, cond, eqb, subst, refl, inl, inr, arith, min, max, nat_le, nat_lt, append_assoc, length-append}
 use Rattle.std.proofs.lemmas.Bool.{eqb-true, eq-eqb, both_ways, and_parts, cases_Bool, leb-true, leb-false}
 use Rattle.std.proofs.lemmas.List.{take-append-drop}
 use Rattle.cq_base.specs.declared.ask.Entry.{Entry}
@@ -10,24 +10,82 @@ use Rattle.cq_base.specs.declared.party.Party.TheVariants as parties
 use Rattle.cq_base.specs.History.{last_moment}
 use Rattle.cq_base.specs.Relations.{Front}
 use Rattle.cq_chain.specs.Masters.{is_in, is_last}
-use Rattle.cq_chain.specs.Messages.{Message, Fwd, Snap, Ack, BeHead, Report, Adopt, BeTail, Adopted, Ready, Answers}
-use Rattle.cq_chain.specs.Servers.{Server, acts, is_that}
-use Rattle.cq_chain.specs.Steps.{silent, to_server, when, appended, settled, begins_to_act, answer_to, passed_on, tail_news, stamped, arrived, asked, is_next, forwarded, is_restoring, with_history, restored, forwards, repair, as_tail, tailed, takes}
+use Rattle.cq_chain.specs.Messages.{Message, Fwd, Snap, Ack, BeHead, Report, Adopt, BeTail, Feed, Adopted, Caught, Ready, Answers}
+use Rattle.cq_chain.specs.Servers.{Server, acts, reaches, is_that}
+use Rattle.cq_chain.specs.Steps.{silent, to_server, when, appended, settled, begins_to_act, answer_to, passed_on, tail_news, stamped, arrived, asked, is_next, forwarded, is_restoring, with_history, restored, forwards, repair, feeding, as_tail, tailed, takes}
 use Rattle.cq_world.specs.Laws.{Speaks}
 use Rattle.cq_world.specs.Worlds.{set_at}
 use Rattle.cq_world.proofs.Prefixes.Climbing.{reports, one, ups, Climbs, Grows, climbs-own, climbs-same, climbs-next}
 use Rattle.cq_world.proofs.Eaches.{Each, each-append, each-when, each-to_server, front-refl, front-more, front-next, cons_nil}
 use Rattle.cq_world.proofs.Settled.{is_settled, that_some}
-use Rattle.cq_world.proofs.Prefixes.{Prefixes, Turn, Heads, is_first, master_after, ups_after}
+use Rattle.cq_world.proofs.Lines.{line-cases, member-line, out-line, joiner-out}
+use Rattle.cq_world.proofs.Prefixes.{Prefixes, Turn, Heads, Harmless, Bystander, is_first, master_after, ups_after, rest_of, each-end}
 use Rattle.cq_world.proofs.Sights.{Sight, line}
 
 -- all that is sent is of that history
 abbrev pub AllSpeak : List Entry → List (Party × Message) → Type 0
 AllSpeak entries sent = Each (λ x. Speaks entries x.1) sent
 
--- a server that lives is in the line
-pub lives-member : (v : Sight) (k : ℕ) → Prefixes v → is_in v.master.used k ≡ true → (v.server k).down ≡ false → is_in (line v.master) k ≡ true
-lives-member v k h known lives = elim (cases_Bool (is_in (line v.master) k)) [ inl member ↦ member | inr out ↦ absurd (both_ways (v.server k).down lives (h.away k known out)) ]
+-- a server is a member, or none and a bystander
+abbrev pub Placed : Sight → ℕ → Type 0
+Placed v k = (is_in v.master.chain k ≡ true) ⊎ ((is_in v.master.chain k ≡ false) × Bystander (v.server k) (v.channel parties.Master (parties.Server k)))
+
+-- so is each that lives
+pub lives-placed : (v : Sight) (k : ℕ) → Prefixes v → is_in v.master.used k ≡ true → (v.server k).down ≡ false → Placed v k
+lives-placed v k h known lives = elim (cases_Bool (is_in (line v.master) k)) [
+  | inl there ↦ elim (line-cases v.master.chain v.master.joiner k there) [ inl member ↦ inl member | inr joins ↦ inr (joiner-out v.master.chain v.master.joiner k h.apart joins, h.aside k joins) ]
+  | inr out ↦ elim (h.away k known out) [ inl down ↦ absurd (both_ways (v.server k).down lives down) | inr b ↦ inr ((out-line v.master.chain v.master.joiner k out).0, b) ]
+]
+
+-- a bystander doesn't act
+pub aside-acts : (s : Server) → s.at_least ≡ None → acts s ≡ false
+aside-acts s none = ap (λ o. reaches (length s.entries) o) none
+
+-- who acts, is full or is the head is a member
+pub acting-member : (v : Sight) (k : ℕ) → Placed v k → acts (v.server k) ≡ true → is_in v.master.chain k ≡ true
+acting-member v k (inl member) does = member
+acting-member v k (inr b) does = absurd (both_ways (acts (v.server k)) (aside-acts (v.server k) b.1.at_least) does)
+
+pub full-member : (v : Sight) (k : ℕ) → Placed v k → (v.server k).full ≡ true → is_in v.master.chain k ≡ true
+full-member v k (inl member) full = member
+full-member v k (inr b) full = absurd (both_ways (v.server k).full b.1.full full)
+
+pub head-member : (v : Sight) (k : ℕ) → Placed v k → (v.server k).head ≡ true → is_in v.master.chain k ≡ true
+head-member v k (inl member) head = member
+head-member v k (inr b) head = absurd (both_ways (v.server k).head b.1.head head)
+
+-- the same, in the line
+head_line : (v : Sight) (k : ℕ) → Prefixes v → is_in v.master.used k ≡ true → (v.server k).down ≡ false → (v.server k).head ≡ true → is_in (line v.master) k ≡ true
+head_line v k h known lives head = member-line v.master.chain v.master.joiner k (head-member v k (lives-placed v k h known lives) head)
+
+-- who is told what no bystander is told is a member
+pub told-member : (v : Sight) (k : ℕ) (m : Message) (rest : List Message) → Placed v k → v.channel parties.Master (parties.Server k) ≡ m ∷ rest → (Harmless m → ⊥) → is_in v.master.chain k ≡ true
+told-member v k m rest (inl member) at word = member
+told-member v k m rest (inr b) at word = absurd (word (subst (λ ms. Each Harmless ms) at b.1.told).0)
+
+-- a bystander that settles stays what it is
+pub aside-settled : (x : Server) → x.at_least ≡ None → settled x ≡ x
+aside-settled x none = ap (λ b. cond b (record x { acked = length x.entries; floor = length x.entries; full = true }) x) (aside-acts x none)
+
+-- a bystander that stays one
+bystands : (v : Sight) (from : Party) (k : ℕ) (front rest : List Message) (s : Server) → v.channel from (parties.Server k) ≡ front ++ rest → s.full ≡ (v.server k).full → s.at_least ≡ (v.server k).at_least → s.head ≡ (v.server k).head → s.succ ≡ (v.server k).succ
+    → Bystander (v.server k) (v.channel parties.Master (parties.Server k)) → Bystander s (master_after v from k rest)
+bystands v from k front rest s taken full least head succ b = let left = rest_of v from k front rest taken in record {
+  full = full ∙ b.full;
+  at_least = least ∙ b.at_least;
+  head = head ∙ b.head;
+  succ = succ ∙ b.succ;
+  told = each-end Harmless left.0 (master_after v from k rest) (subst (λ ms. Each Harmless ms) left.1 b.told);
+}
+
+-- the same, where it settles
+bystands_settled : (v : Sight) (from : Party) (k : ℕ) (front rest : List Message) (x : Server) → v.channel from (parties.Server k) ≡ front ++ rest → x.full ≡ (v.server k).full → x.at_least ≡ (v.server k).at_least → x.head ≡ (v.server k).head → x.succ ≡ (v.server k).succ
+    → Bystander (v.server k) (v.channel parties.Master (parties.Server k)) → Bystander (settled x) (master_after v from k rest)
+bystands_settled v from k front rest x taken full least head succ b = subst (λ y. Bystander y (master_after v from k rest)) (sym (aside-settled x (least ∙ b.at_least))) (bystands v from k front rest x taken full least head succ b)
+
+-- no bystander is told that
+no_bystander : (v : Sight) (k : ℕ) (m : Message) (rest : List Message) (s : Server) → v.channel parties.Master (parties.Server k) ≡ m ∷ rest → (Harmless m → ⊥) → Bystander (v.server k) (v.channel parties.Master (parties.Server k)) → Bystander s rest
+no_bystander v k m rest s taken word b = absurd (word (subst (λ ms. Each Harmless ms) taken b.told).0)
 
 -- the server that has become another, among all
 grows_at : (f : ℕ → Server) (k : ℕ) (s : Server) → Front (f k).entries s.entries → (f k).down ≡ false → Grows f (set_at f k s) k
@@ -44,8 +102,9 @@ own_entries f k s = ap (λ b. (cond b s (f k)).entries) (eq-eqb k k refl)
 
 pub calm-turn : (v : Sight) (from : Party) (k : ℕ) (front rest : List Message) (s : Server) (out : List (Party × Message)) → Prefixes v → is_in v.master.used k ≡ true → (v.server k).down ≡ false
     → v.channel from (parties.Server k) ≡ front ++ rest → reports (master_after v from k rest) ≡ reports (v.channel parties.Master (parties.Server k))
-    → s.entries ≡ (v.server k).entries → s.pred ≡ (v.server k).pred → s.head ≡ (v.server k).head → AllSpeak (v.server k).entries out → Turn v from k rest s out
-calm-turn v from k front rest s out h known lives taken told entries pred head speaks = let grows = subst (λ us. Front (v.server k).entries us) (sym entries) (front-refl (v.server k).entries) in
+    → s.entries ≡ (v.server k).entries → s.pred ≡ (v.server k).pred → s.head ≡ (v.server k).head → AllSpeak (v.server k).entries out
+    → (Bystander (v.server k) (v.channel parties.Master (parties.Server k)) → Bystander s (master_after v from k rest)) → Turn v from k rest s out
+calm-turn v from k front rest s out h known lives taken told entries pred head speaks aside = let grows = subst (λ us. Front (v.server k).entries us) (sym entries) (front-refl (v.server k).entries) in
     let same_ups : ups_after v from k rest s ≡ ups v k = ap (λ p. one p ++ reports (master_after v from k rest)) pred ∙ ap (λ us. one (v.server k).pred ++ us) told in record {
       known = known;
       lives = lives;
@@ -56,6 +115,7 @@ calm-turn v from k front rest s out h known lives taken told entries pred head s
       climbs = subst (λ us. Climbs (set_at v.server k s) k us) (sym same_ups) (climbs-same v.server (set_at v.server k s) k (ups v k) (grows_at v.server k s grows lives) lives (own_entries v.server k s ∙ entries) (h.climbs k));
       last = λ first p last. ap (λ us. is_last us p) same_ups ∙ last;
       head = λ is_head member. same_ups ∙ h.headless k member (sym head ∙ is_head);
+      aside = aside;
     }
 
 -- ---- turns with a longer history
@@ -63,8 +123,9 @@ calm-turn v from k front rest s out h known lives taken told entries pred head s
 -- the server takes what its predecessor has
 pub longer-turn : (v : Sight) (p k : ℕ) (front rest : List Message) (s : Server) (out : List (Party × Message)) → Prefixes v → is_in v.master.used k ≡ true → (v.server k).down ≡ false
     → v.channel (parties.Server p) (parties.Server k) ≡ front ++ rest → (v.server k).pred ≡ Some p → Front (v.server k).entries s.entries → Front s.entries (v.server p).entries
-    → s.pred ≡ (v.server k).pred → s.head ≡ (v.server k).head → AllSpeak s.entries out → Turn v (parties.Server p) k rest s out
-longer-turn v p k front rest s out h known lives taken is_pred grows below pred head speaks =
+    → s.pred ≡ (v.server k).pred → s.head ≡ (v.server k).head → AllSpeak s.entries out
+    → (Bystander (v.server k) (v.channel parties.Master (parties.Server k)) → Bystander s (v.channel parties.Master (parties.Server k))) → Turn v (parties.Server p) k rest s out
+longer-turn v p k front rest s out h known lives taken is_pred grows below pred head speaks aside =
     let told = reports (v.channel parties.Master (parties.Server k)) in
     let same_ups : ups_after v (parties.Server p) k rest s ≡ ups v k = ap (λ o. one o ++ told) pred in record {
       known = known;
@@ -77,6 +138,7 @@ longer-turn v p k front rest s out h known lives taken is_pred grows below pred 
           (climbs-own v.server (set_at v.server k s) k p told (grows_at v.server k s grows lives) lives (subst (λ us. Front us (v.server p).entries) (sym (own_entries v.server k s)) below) (subst (λ o. Climbs v.server k (one o ++ told)) is_pred (h.climbs k)));
       last = λ first q last. ap (λ us. is_last us q) same_ups ∙ last;
       head = λ is_head member. same_ups ∙ h.headless k member (sym head ∙ is_head);
+      aside = aside;
     }
 
 -- ---- what is sent
@@ -92,6 +154,11 @@ tail_speaks : (entries : List Entry) (before now : Server) → AllSpeak entries 
 tail_speaks entries before now = each-append (λ x. Speaks entries x.1) (when (acts now) (to_server before.pred (Ack (length now.entries)))) (when (begins_to_act before now) ((parties.Master, Ready) ∷ []))
     (each-when (λ x. Speaks entries x.1) (acts now) (to_server before.pred (Ack (length now.entries))) (λ h. each-to_server (λ x. Speaks entries x.1) before.pred (Ack (length now.entries)) (λ id. tt)))
     (each-when (λ x. Speaks entries x.1) (begins_to_act before now) ((parties.Master, Ready) ∷ []) (λ h. (tt, tt)))
+
+-- what is told of a snapshot tells of none either
+restored_speaks : (from : ℕ) (entries : List Entry) (s : Server) → AllSpeak entries (restored from entries s).sent
+restored_speaks from entries s = each-append (λ x. Speaks entries x.1) (tail_news s (with_history s entries)) (when (is_none s.at_least) ((parties.Master, Caught from (length entries)) ∷ [])) (tail_speaks entries s (with_history s entries))
+    (each-when (λ x. Speaks entries x.1) (is_none s.at_least) ((parties.Master, Caught from (length entries)) ∷ []) (λ none. (tt, tt)))
 
 -- entries that are sent one by one stand at their places
 forwards_speak : (to : ℕ) (entries before es : List Entry) (place : ℕ) → entries ≡ before ++ es → length before + 1 ≡ place → AllSpeak entries (forwards to place es)
@@ -170,37 +237,40 @@ server_turn v p k (Fwd place e) rest h known lives taken says = go (is_next (v.s
       now.pred now.head
       (subst (λ us. AllSpeak us (passed_on (v.server k) e ++ tail_news (v.server k) (appended (v.server k) e))) (sym now.entries)
       (each-append (λ x. Speaks ((v.server k).entries ++ e ∷ []) x.1) (passed_on (v.server k) e) (tail_news (v.server k) (appended (v.server k) e)) (passed_speaks (v.server k) e) (tail_speaks ((v.server k).entries ++ e ∷ []) (v.server k) (appended (v.server k) e))))
-  go false ignores = calm-turn v (parties.Server p) k (Fwd place e ∷ []) rest (v.server k) [] h known lives taken refl refl refl refl tt
+      (bystands_settled v (parties.Server p) k (Fwd place e ∷ []) rest (appended (v.server k) e) taken refl refl refl refl)
+  go false ignores = calm-turn v (parties.Server p) k (Fwd place e ∷ []) rest (v.server k) [] h known lives taken refl refl refl refl tt (bystands v (parties.Server p) k (Fwd place e ∷ []) rest (v.server k) taken refl refl refl refl)
 server_turn v p k (Snap entries) rest h known lives taken says = go (is_restoring (v.server k) p entries) refl where
-  go : (t : Bool) → is_restoring (v.server k) p entries ≡ t → Turn v (parties.Server p) k rest (cond t (restored entries (v.server k)) (silent (v.server k))).server (cond t (restored entries (v.server k)) (silent (v.server k))).sent
+  go : (t : Bool) → is_restoring (v.server k) p entries ≡ t → Turn v (parties.Server p) k rest (cond t (restored p entries (v.server k)) (silent (v.server k))).server (cond t (restored p entries (v.server k)) (silent (v.server k))).sent
   go true accepts =
       let now = is_settled (with_history (v.server k) entries) in
       let parts = and_parts (is_that (v.server k).pred p && is_none (v.server k).succ) (nat_le (length (v.server k).entries) (length entries)) accepts in
       let is_pred = that_some (v.server k).pred p (and_parts (is_that (v.server k).pred p) (is_none (v.server k).succ) parts.0).0 in
-      longer-turn v p k (Snap entries ∷ []) rest (settled (with_history (v.server k) entries)) (tail_news (v.server k) (with_history (v.server k) entries)) h known lives taken is_pred
+      longer-turn v p k (Snap entries ∷ []) rest (settled (with_history (v.server k) entries)) (restored p entries (v.server k)).sent h known lives taken is_pred
       (subst (λ us. Front (v.server k).entries us) (sym now.entries) (shorter-front (v.server k).entries entries (v.server p).entries (below-pred v k p h is_pred) says (leb-true (length (v.server k).entries) (length entries) parts.1)))
       (subst (λ us. Front us (v.server p).entries) (sym now.entries) says)
       now.pred now.head
-      (subst (λ us. AllSpeak us (tail_news (v.server k) (with_history (v.server k) entries))) (sym now.entries) (tail_speaks entries (v.server k) (with_history (v.server k) entries)))
-  go false ignores = calm-turn v (parties.Server p) k (Snap entries ∷ []) rest (v.server k) [] h known lives taken refl refl refl refl tt
+      (subst (λ us. AllSpeak us (restored p entries (v.server k)).sent) (sym now.entries) (restored_speaks p entries (v.server k)))
+      (bystands_settled v (parties.Server p) k (Snap entries ∷ []) rest (with_history (v.server k) entries) taken refl refl refl refl)
+  go false ignores = calm-turn v (parties.Server p) k (Snap entries ∷ []) rest (v.server k) [] h known lives taken refl refl refl refl tt (bystands v (parties.Server p) k (Snap entries ∷ []) rest (v.server k) taken refl refl refl refl)
 server_turn v p k (Ack n) rest h known lives taken says = go (nat_lt (v.server k).acked (min n (length (v.server k).entries))) where
   go : (t : Bool) → Turn v (parties.Server p) k rest (cond t (record { server = record (v.server k) { acked = min n (length (v.server k).entries); floor = max (v.server k).floor (min n (length (v.server k).entries)) }; sent = to_server (v.server k).pred (Ack (min n (length (v.server k).entries))) }) (silent (v.server k))).server
       (cond t (record { server = record (v.server k) { acked = min n (length (v.server k).entries); floor = max (v.server k).floor (min n (length (v.server k).entries)) }; sent = to_server (v.server k).pred (Ack (min n (length (v.server k).entries))) }) (silent (v.server k))).sent
   go true = calm-turn v (parties.Server p) k (Ack n ∷ []) rest _ (to_server (v.server k).pred (Ack (min n (length (v.server k).entries)))) h known lives taken refl refl refl refl
       (each-to_server (λ x. Speaks (v.server k).entries x.1) (v.server k).pred (Ack (min n (length (v.server k).entries))) (λ i. tt))
-  go false = calm-turn v (parties.Server p) k (Ack n ∷ []) rest (v.server k) [] h known lives taken refl refl refl refl tt
-server_turn v p k m rest h known lives taken says = calm-turn v (parties.Server p) k (m ∷ []) rest (v.server k) [] h known lives taken refl refl refl refl tt
+      (bystands v (parties.Server p) k (Ack n ∷ []) rest _ taken refl refl refl refl)
+  go false = calm-turn v (parties.Server p) k (Ack n ∷ []) rest (v.server k) [] h known lives taken refl refl refl refl tt (bystands v (parties.Server p) k (Ack n ∷ []) rest (v.server k) taken refl refl refl refl)
+server_turn v p k m rest h known lives taken says = calm-turn v (parties.Server p) k (m ∷ []) rest (v.server k) [] h known lives taken refl refl refl refl tt (bystands v (parties.Server p) k (m ∷ []) rest (v.server k) taken refl refl refl refl)
 
 -- ---- messages of the master
 
--- the master has less for the server after it took one of its messages
-heads_of : (v : Sight) (k : ℕ) (ms : List Message) → Prefixes v → is_in v.master.used k ≡ true → (v.server k).down ≡ false → v.channel parties.Master (parties.Server k) ≡ ms → Heads (line v.master) k ms
-heads_of v k ms h known lives taken = subst (λ us. Heads (line v.master) k us) taken (h.heads k (lives-member v k h known lives))
+-- what a server is told that is told to be the head
+heads_of : (v : Sight) (k : ℕ) (rest : List Message) → Prefixes v → is_in v.master.used k ≡ true → (v.server k).down ≡ false → v.channel parties.Master (parties.Server k) ≡ BeHead ∷ rest → Heads (line v.master) k (BeHead ∷ rest)
+heads_of v k rest h known lives taken = subst (λ us. Heads (line v.master) k us) taken (h.heads k (member-line v.master.chain v.master.joiner k (told-member v k BeHead rest (lives-placed v k h known lives) taken (λ word. word))))
 
 -- a server is told that it is the head
 be_head_turn : (v : Sight) (k : ℕ) (rest : List Message) → Prefixes v → is_in v.master.used k ≡ true → (v.server k).down ≡ false → v.channel parties.Master (parties.Server k) ≡ BeHead ∷ rest
     → Turn v parties.Master k rest (record (v.server k) { head = true; pred = None }) []
-be_head_turn v k rest h known lives taken = let told = heads_of v k (BeHead ∷ rest) h known lives taken in record {
+be_head_turn v k rest h known lives taken = let told = heads_of v k rest h known lives taken in record {
   known = known;
   lives = lives;
   front = BeHead ∷ [];
@@ -210,6 +280,7 @@ be_head_turn v k rest h known lives taken = let told = heads_of v k (BeHead ∷ 
   climbs = subst (λ us. Climbs (set_at v.server k (record (v.server k) { head = true; pred = None })) k us) (sym told.1) tt;
   last = λ first p last. absurd (both_ways (is_first (line v.master) k) first told.0);
   head = λ is_head member. told.1;
+  aside = no_bystander v k BeHead rest (record (v.server k) { head = true; pred = None }) taken (λ word. word);
 }
 
 -- a list with an element isn't empty, whatever stands before
@@ -242,6 +313,7 @@ report_turn v k p rest out h known lives taken says =
           (one_less v.server k (v.server k).pred p (reports rest) (subst (λ us. Climbs v.server k us) before (h.climbs k)));
       last = λ first q last. last_less (v.server k).pred p (reports rest) q (sym (ap (λ us. is_last us q) before) ∙ last);
       head = λ is_head member. absurd (more_nil (one (v.server k).pred) p (reports rest) (sym before ∙ h.headless k member is_head));
+      aside = bystands v parties.Master k (Report p ∷ []) rest s taken refl refl refl refl;
     }
 
 -- what a server sends when it becomes the tail
@@ -256,17 +328,25 @@ unfolding takes
 told_turn v k BeHead rest h known lives taken = be_head_turn v k rest h known lives taken
 told_turn v k (Report p) rest h known lives taken = report_turn v k p rest _ h known lives taken (tt, (tt, tt))
 told_turn v k (Adopt succ have) rest h known lives taken = calm-turn v parties.Master k (Adopt succ have ∷ []) rest (record (v.server k) { at_least = None; succ = Some succ }) _ h known lives taken (sym (ap reports taken)) refl refl refl
-    (each-append (λ x. Speaks (v.server k).entries x.1) (repair succ have (v.server k)) ((parties.Master, Adopted succ (length (v.server k).entries)) ∷ []) (repair_speaks succ have (v.server k)) (tt, tt))
+    (each-append (λ x. Speaks (v.server k).entries x.1) (when (not (is_that (v.server k).succ succ)) (repair succ have (v.server k))) ((parties.Master, Adopted succ (length (v.server k).entries)) ∷ [])
+    (each-when (λ x. Speaks (v.server k).entries x.1) (not (is_that (v.server k).succ succ)) (repair succ have (v.server k)) (λ new. repair_speaks succ have (v.server k))) (tt, tt))
+    (no_bystander v k (Adopt succ have) rest (record (v.server k) { at_least = None; succ = Some succ }) taken (λ word. word))
 told_turn v k (BeTail least) rest h known lives taken = let now = is_settled (as_tail least (v.server k)) in
     calm-turn v parties.Master k (BeTail least ∷ []) rest (settled (as_tail least (v.server k))) _ h known lives taken (sym (ap reports taken)) now.entries now.pred now.head (tailed_speaks least (v.server k))
-told_turn v k m rest h known lives taken = calm-turn v parties.Master k (m ∷ []) rest (v.server k) [] h known lives taken (sym (ap reports taken)) refl refl refl tt
+    (no_bystander v k (BeTail least) rest (settled (as_tail least (v.server k))) taken (λ word. word))
+told_turn v k (Feed succ) rest h known lives taken = go (acts (v.server k)) where
+  go : (t : Bool) → Turn v parties.Master k rest (cond t (feeding succ (v.server k)) (silent (v.server k))).server (cond t (feeding succ (v.server k)) (silent (v.server k))).sent
+  go true = calm-turn v parties.Master k (Feed succ ∷ []) rest (record (v.server k) { succ = succ }) (to_server succ (Snap (v.server k).entries)) h known lives taken (sym (ap reports taken)) refl refl refl
+      (each-to_server (λ x. Speaks (v.server k).entries x.1) succ (Snap (v.server k).entries) (λ i. front-refl (v.server k).entries)) (no_bystander v k (Feed succ) rest (record (v.server k) { succ = succ }) taken (λ word. word))
+  go false = calm-turn v parties.Master k (Feed succ ∷ []) rest (v.server k) [] h known lives taken (sym (ap reports taken)) refl refl refl tt (bystands v parties.Master k (Feed succ ∷ []) rest (v.server k) taken refl refl refl refl)
+told_turn v k m rest h known lives taken = calm-turn v parties.Master k (m ∷ []) rest (v.server k) [] h known lives taken (sym (ap reports taken)) refl refl refl tt (bystands v parties.Master k (m ∷ []) rest (v.server k) taken refl refl refl refl)
 
 -- the turn of a server that takes any message
 pub take-turn : (v : Sight) (from : Party) (k : ℕ) (m : Message) (rest : List Message) → Prefixes v → is_in v.master.used k ≡ true → (v.server k).down ≡ false → v.channel from (parties.Server k) ≡ m ∷ rest
     → Turn v from k rest (takes from m (v.server k)).server (takes from m (v.server k)).sent
 unfolding takes
 take-turn v parties.Master k m rest h known lives taken = told_turn v k m rest h known lives taken
-take-turn v parties.Clients k m rest h known lives taken = calm-turn v parties.Clients k (m ∷ []) rest (v.server k) [] h known lives taken refl refl refl refl tt
+take-turn v parties.Clients k m rest h known lives taken = calm-turn v parties.Clients k (m ∷ []) rest (v.server k) [] h known lives taken refl refl refl refl tt (bystands v parties.Clients k (m ∷ []) rest (v.server k) taken refl refl refl refl)
 take-turn v (parties.Server p) k m rest h known lives taken = server_turn v p k m rest h known lives taken (subst (λ ms. Each (Speaks (v.server p).entries) ms) taken (h.speaks p (parties.Server k))).0
 
 -- ---- requests, queries and crashes
@@ -279,7 +359,7 @@ arrive-turn v k clock request h known lives is_head =
     let e : Entry = stamped (v.server k).entries clock request in
     let s : Server = settled (appended (v.server k) e) in
     let now = is_settled (appended (v.server k) e) in
-    let none = h.headless k (lives-member v k h known lives) is_head in
+    let none = h.headless k (head_line v k h known lives is_head) is_head in
     let after : ups_after v parties.Clients k (v.channel parties.Clients (parties.Server k)) s ≡ [] = ap (λ o. one o ++ reports (v.channel parties.Master (parties.Server k))) now.pred ∙ none in record {
       known = known;
       lives = lives;
@@ -290,15 +370,17 @@ arrive-turn v k clock request h known lives is_head =
       climbs = subst (λ us. Climbs (set_at v.server k s) k us) (sym after) tt;
       last = λ first p last. ap (λ us. is_last us p) (after ∙ sym none) ∙ last;
       head = λ is member. after;
+      aside = λ b. absurd (both_ways (v.server k).head b.head is_head);
     }
 
 -- a query
 pub ask-turn : (v : Sight) (k : ℕ) (query : Query) → Prefixes v → is_in v.master.used k ≡ true → (v.server k).down ≡ false
     → Turn v parties.Clients k (v.channel parties.Clients (parties.Server k)) (asked query (v.server k)).server (asked query (v.server k)).sent
 unfolding asked
-ask-turn v k query h known lives = calm-turn v parties.Clients k [] (v.channel parties.Clients (parties.Server k)) (v.server k) _ h known lives refl refl refl refl refl (tt, tt)
+ask-turn v k query h known lives = calm-turn v parties.Clients k [] (v.channel parties.Clients (parties.Server k)) (v.server k) _ h known lives refl refl refl refl refl (tt, tt) (bystands v parties.Clients k [] (v.channel parties.Clients (parties.Server k)) (v.server k) refl refl refl refl refl)
 
 -- a crash
 pub crash-turn : (v : Sight) (k : ℕ) → Prefixes v → is_in v.master.used k ≡ true → (v.server k).down ≡ false
     → Turn v parties.Clients k (v.channel parties.Clients (parties.Server k)) (record (v.server k) { down = true }) []
 crash-turn v k h known lives = calm-turn v parties.Clients k [] (v.channel parties.Clients (parties.Server k)) (record (v.server k) { down = true }) [] h known lives refl refl refl refl refl tt
+    (bystands v parties.Clients k [] (v.channel parties.Clients (parties.Server k)) (record (v.server k) { down = true }) refl refl refl refl refl)

@@ -1,24 +1,26 @@
 -- Detections lose nothing on the way.
-use Rattle.std.proofs.Common.{◌≡◌, ℕ, zero, suc, ◌+◌, ◌∙◌, ap, sym, List, [], ◌∷◌, ◌++◌, length, ◌&&◌, ◌||◌, ◌⊎◌, not, Bool, true, false, cond, eqb, arith, subst, refl, inl, inr}
+use Rattle.std.proofs.Common.{◌≡◌, ℕ, suc, ◌+◌, ◌∙◌, ap, sym, List, [], ◌∷◌, ◌++◌, length, ◌&&◌, ◌||◌, ◌⊎◌, not, Option, Some, None, Bool, true, false, cond, eqb, arith, subst, refl, inl, inr, append-nil, length-append}
 use Rattle.std.proofs.lemmas.Bool.{eqb-true, eq-eqb, false≢true, both_ways, cases_Bool, and_parts, and_left, and_right, or_cases, or_left, or_right}
 use Rattle.cq_base.specs.declared.ask.Entry.{Entry}
 use Rattle.cq_base.specs.declared.party.Party.{Party}
 use Rattle.cq_base.specs.declared.party.Party.TheVariants as parties
-use Rattle.cq_chain.specs.Masters.{Master, is_in, is_last, without, closing, said_of_loss, detected, stands_before}
-use Rattle.cq_chain.specs.Messages.{Message, BeHead, Report, Adopt, BeTail, Have}
-use Rattle.cq_chain.specs.Servers.{is_that}
-use Rattle.cq_world.proofs.Chains.{Apart, apart-out, among-in, before-in}
+use Rattle.cq_chain.specs.Masters.{Master, is_in, is_last, without, closing, said_of_loss, to_last, dropped, closed_up, detected, stands_before}
+use Rattle.cq_chain.specs.Messages.{Message, BeHead, Report, Adopt, BeTail, Feed, Have}
+use Rattle.cq_chain.specs.Parties.{is_that}
+use Rattle.cq_world.proofs.Chains.{Apart, apart-out, among-in, before-in, last-back, chain-apart}
 use Rattle.cq_world.proofs.Commits.Changes.{loss_last, loss_neutral}
 use Rattle.cq_world.proofs.Commits.Orders.{Neutral}
 use Rattle.cq_world.proofs.Commits.{bit}
 use Rattle.cq_world.proofs.Eaches.{Each, each-append, each-follows}
-use Rattle.cq_world.proofs.Prefixes.Orders.{told_to, one_told, in-without, eqb_turned}
+use Rattle.cq_world.proofs.Lines.{member-line, joiner-out, line-before}
+use Rattle.cq_world.proofs.Prefixes.Climbing.{reports, one}
+use Rattle.cq_world.proofs.Prefixes.Orders.{told_to, one_told, in-without, eqb_turned, loss_silent, loss-line, without-line, last_told, last_of, last_top, alone, dropped-keeps}
 use Rattle.cq_world.proofs.Prefixes.{Prefixes}
-use Rattle.cq_world.proofs.Sights.{Sight, line, said}
-use Rattle.cq_world.proofs.Wholes.{Whole, reports_of, haves_of, adopts_of, news, Ends, Known, AdoptIs, links, tokens, before-self}
-use Rattle.cq_world.proofs.Wholes.Orders.{behind-one, linked-token, adopt-token}
+use Rattle.cq_world.proofs.Sights.{Sight, line_of, line, said}
+use Rattle.cq_world.proofs.Wholes.{Whole, reports_of, haves_of, adopts_of, feeds_of, OnlyTo, Ends, FeedsOut, Known, AdoptIs, links, tokens, before-self}
+use Rattle.cq_world.proofs.Wholes.Orders.{behind-one, linked-token, no-token, ends-free, closing-feed, tail_whole}
 use Rattle.cq_world.proofs.Wholes.Steps.{no_haves, no_adopts}
-use Rattle.cq_world.proofs.Wholes.Turns.{reports-append, adopts-append, news-append}
+use Rattle.cq_world.proofs.Wholes.Turns.{reports-append, adopts-append, fed-append}
 
 -- ---- neighbours of one that is gone
 
@@ -240,11 +242,13 @@ Word used m = ⊥
 
 word_known : (used : List ℕ) (m : Message) → Word used m → Known used m
 word_known used (Adopt s n) h = absurd h
+word_known used (Feed succ) h = absurd h
 word_known used (Have p n) h = absurd h
 word_known used (Report p) h = h
 word_known used m h = pass m h where
   pass : (x : Message) → Word used x → Known used x
   pass (Adopt s n) k = absurd k
+  pass (Feed succ) k = absurd k
   pass (Have p n) k = absurd k
   pass (Report p) k = k
   pass x k = tt
@@ -258,6 +262,25 @@ words_adopts used s [] h = refl
 words_adopts used s (m ∷ ms) h = step m h.0 (words_adopts used s ms h.1) where
   step : (x : Message) → Word used x → adopts_of s ms ≡ 0 → adopts_of s (x ∷ ms) ≡ 0
   step (Adopt q n) g e = absurd g
+  step x g e = e
+
+words_feeds : (used : List ℕ) (s : ℕ) (ms : List Message) → Each (Word used) ms → feeds_of s ms ≡ 0
+words_feeds used s [] h = refl
+words_feeds used s (m ∷ ms) h = step m h.0 (words_feeds used s ms h.1) where
+  step : (x : Message) → Word used x → feeds_of s ms ≡ 0 → feeds_of s (x ∷ ms) ≡ 0
+  step (Feed succ) g e = absurd g
+  step x g e = e
+
+words_out : (used chain : List ℕ) (m : Message) → Word used m → FeedsOut chain m
+words_out used chain (Feed succ) h = absurd h
+words_out used chain m h = tt
+
+words_end : (used line : List ℕ) (ms : List Message) → Each (Word used) ms → Ends line ms
+words_end used line [] h = tt
+words_end used line (m ∷ ms) h = step m h.0 (words_end used line ms h.1) where
+  step : (x : Message) → Word used x → Ends line ms → Ends line (x ∷ ms)
+  step (Adopt q n) g e = absurd g
+  step (Feed succ) g e = absurd g
   step x g e = e
 
 word_one : (used : List ℕ) (m : Message) (t : Bool) → Word used m → Each (Word used) (cond t (m ∷ []) [])
@@ -283,63 +306,51 @@ loss_words used j d (a ∷ b ∷ rest) all = go (eqb a d) (closing_words used j 
   go true h = word_one used BeHead (eqb j b) tt
   go false h = h
 
-neutral_news : (ms : List Message) → Each Neutral ms → news ms ≡ 0
-neutral_news [] h = refl
-neutral_news (m ∷ ms) h = step m h.0 (neutral_news ms h.1) where
-  step : (x : Message) → Neutral x → news ms ≡ 0 → news (x ∷ ms) ≡ 0
+neutral_only : (x : ℕ) (m : Message) → Neutral m → OnlyTo x m
+neutral_only x (Adopt q n) h = absurd h
+neutral_only x (Feed succ) h = absurd h
+neutral_only x (BeTail least) h = absurd h
+neutral_only x m h = tt
+
+neutral_end : (line : List ℕ) (ms : List Message) → Each Neutral ms → Ends line ms
+neutral_end line [] h = tt
+neutral_end line (m ∷ ms) h = step m h.0 (neutral_end line ms h.1) where
+  step : (x : Message) → Neutral x → Ends line ms → Ends line (x ∷ ms)
   step (Adopt q n) g e = absurd g
-  step (BeTail least) g e = absurd g
+  step (Feed succ) g e = absurd g
   step x g e = e
 
--- what ends a row, where fewer are in the line
-ends_fewer : (used line less : List ℕ) (xs ys : List Message) → ((s : ℕ) → is_in less s ≡ true → is_in line s ≡ true) → Ends line xs → Each (Word used) ys → news ys ≡ 0 → Ends less (xs ++ ys)
-ends_fewer used line less [] ys sub h words none = all ys words where
-  all : (ms : List Message) → Each (Word used) ms → Ends less ms
-  all [] k = tt
-  all (m ∷ ms) k = step m k.0 (all ms k.1) where
-    step : (x : Message) → Word used x → Ends less ms → Ends less (x ∷ ms)
-    step (Adopt q n) g e = absurd g
-    step x g e = e
-ends_fewer used line less (m ∷ xs) ys sub h words none = step m h (λ k. ends_fewer used line less xs ys sub k words none) where
+-- what ends a row, where fewer are in the line, and words follow that change no successor
+ends_fewer : (line less : List ℕ) (xs ys : List Message) → ((s : ℕ) → is_in less s ≡ true → is_in line s ≡ true) → Ends line xs → Each Neutral ys → Ends less (xs ++ ys)
+ends_fewer line less [] ys sub h calm = neutral_end less ys calm
+ends_fewer line less (m ∷ xs) ys sub h calm = step m h (λ k. ends_fewer line less xs ys sub k calm) where
+  more : (q : ℕ) → Each (OnlyTo q) xs → Each (OnlyTo q) (xs ++ ys)
+  more q k = each-append (OnlyTo q) xs ys k (each-follows Neutral (OnlyTo q) ys (neutral_only q) calm)
+
   step : (x : Message) → Ends line (x ∷ xs) → (Ends line xs → Ends less (xs ++ ys)) → Ends less (x ∷ (xs ++ ys))
-  step (Adopt q n) k later = ((λ there. omega (arith, k.0 (sub q there), none, news-append xs ys)), later k.1)
+  step (Adopt q n) k later = ((λ there. more q (k.0 (sub q there))), later k.1)
+  step (Feed (Some q)) k later = ((λ there. more q (k.0 (sub q there))), later k.1)
   step x k later = later (rest_of x k) where
     rest_of : (y : Message) → Ends line (y ∷ xs) → Ends line xs
     rest_of (Adopt q n) g = g.1
+    rest_of (Feed (Some q)) g = g.1
     rest_of y g = g
-
--- where no server of the line is named, more words may follow
-ends_free : (used less : List ℕ) (xs ys : List Message) → ((s : ℕ) → is_in less s ≡ true → adopts_of s xs ≡ 0) → Each (Word used) ys → Ends less (xs ++ ys)
-ends_free used less [] ys none words = all ys words where
-  all : (ms : List Message) → Each (Word used) ms → Ends less ms
-  all [] k = tt
-  all (m ∷ ms) k = step m k.0 (all ms k.1) where
-    step : (x : Message) → Word used x → Ends less ms → Ends less (x ∷ ms)
-    step (Adopt q n) g e = absurd g
-    step x g e = e
-ends_free used less (m ∷ xs) ys none words = step m none (λ k. ends_free used less xs ys k words) where
-  step : (x : Message) → ((s : ℕ) → is_in less s ≡ true → adopts_of s (x ∷ xs) ≡ 0) → (((s : ℕ) → is_in less s ≡ true → adopts_of s xs ≡ 0) → Ends less (xs ++ ys)) → Ends less (x ∷ (xs ++ ys))
-  step (Adopt q n) k later = (
-    (λ there. absurd (omega (arith, k q there, ap (λ t. cond t (suc (adopts_of q xs)) (adopts_of q xs)) (eq-eqb q q refl)))),
-    later (λ s there. fewer s (eqb q s) (k s there)),
-  ) where
-    fewer : (s : ℕ) (t : Bool) → cond t (suc (adopts_of s xs)) (adopts_of s xs) ≡ 0 → adopts_of s xs ≡ 0
-    fewer s true e = absurd (omega (arith, e))
-    fewer s false e = e
-  step x k later = later k
 
 -- ---- detections
 
 -- A detection keeps all sentences, where what is told changes no successor, or that of one that has no other server of
 -- the line behind it.
-record Leaving (v : Sight) (d : ℕ) (out : List (Party × Message)) : Type 0 where
+record Leaving (v : Sight) (d : ℕ) (m : Master) (out : List (Party × Message)) : Type 0 where
   words : (j : ℕ) → Each (Word v.master.used) (told_to j out)
   told : (p s : ℕ) → eqb p d ≡ false → eqb s d ≡ false → reports_of p (told_to s out) ≡ bit (between p d s (line v.master))
   names : (s : ℕ) → reports_of d (told_to s out) ≡ 0
   neighbours : (p s : ℕ) → eqb p d ≡ false → eqb s d ≡ false → stands_before p s (without d (line v.master)) ≡ (stands_before p s (line v.master) || between p d s (line v.master))
-  calm : (j : ℕ) → is_in (without d (line v.master)) j ≡ true → (news (told_to j out) ≡ 0) ⊎ ((x : ℕ) → is_in (without d (line v.master)) x ≡ true → tokens v j x ≡ 0)
+  calm : (j : ℕ) → is_in (without d (line v.master)) j ≡ true → Each Neutral (told_to j out) ⊎ ((x : ℕ) → is_in (without d (line v.master)) x ≡ true → tokens v j x ≡ 0)
+  joins : (j : ℕ) → is_that m.joiner j ≡ true → is_that v.master.joiner j ≡ true
+  stays_last : (j t : ℕ) → is_that m.joiner j ≡ true → is_last m.chain t ≡ true → is_last v.master.chain t ≡ true
+  silent : (j : ℕ) → is_that m.joiner j ≡ true → told_to j out ≡ []
 
-leaving_whole : (v : Sight) (c : List Entry) (d : ℕ) (m : Master) (out : List (Party × Message)) → Prefixes v → Whole v c → line m ≡ without d (line v.master) → m.chain ≡ without d v.master.chain → m.used ≡ v.master.used → Leaving v d out → Whole (said v m out) c
+leaving_whole : (v : Sight) (c : List Entry) (d : ℕ) (m : Master) (out : List (Party × Message)) → Prefixes v → Whole v c → line m ≡ without d (line v.master) → m.chain ≡ without d v.master.chain → m.used ≡ v.master.used → Leaving v d m out → Whole (said v m out) c
 leaving_whole v c d m out g h stays chain used o = record {
   pred_known = λ id p is. subst (λ us. is_in us p ≡ true) (sym used) (h.pred_known id p is);
   succ_known = λ id s is. subst (λ us. is_in us s ≡ true) (sym used) (h.succ_known id s is);
@@ -348,11 +359,11 @@ leaving_whole v c d m out g h stays chain used o = record {
   unheard = λ p id unused. h.unheard p id (subst (λ us. is_in us id ≡ false) used unused);
   token = λ p s a b. token p s (was p a) (was s b);
   ends = λ p a. subst (λ us. Ends us (row p ++ told_to p out)) (sym stays) (elim (o.calm p (now p a)) [
-    | inl none ↦ ends_fewer v.master.used (line v.master) (without d (line v.master)) (row p) (told_to p out) (λ s there. (in-without d (line v.master) s there).0) (h.ends p (was p a).0) (o.words p) none
-    | inr free ↦ ends_free v.master.used (without d (line v.master)) (row p) (told_to p out) (λ s there. no_adopt p s (free s there)) (o.words p)
+    | inl calm ↦ ends_fewer (line v.master) (without d (line v.master)) (row p) (told_to p out) (λ s there. (in-without d (line v.master) s there).0) (h.ends p (was p a).0) calm
+    | inr free ↦ ends-free (without d (line v.master)) (row p) (told_to p out) (λ s there. no-token v p s (free s there)) (words_end v.master.used (without d (line v.master)) (told_to p out) (o.words p))
   ]);
   follows = λ p s a b link. elim (o.calm p (now p a)) [
-    | inl none ↦ omega (arith, news-append (row p) (told_to p out), none, h.follows p s (was p a).0 (was s b).0 link)
+    | inl calm ↦ each-append (OnlyTo s) (row p) (told_to p out) (h.follows p s (was p a).0 (was s b).0 link) (each-follows Neutral (OnlyTo s) (told_to p out) (neutral_only s) calm)
     | inr free ↦ absurd (omega (arith, free s (now s b), linked-token v p s link))
   ];
   counts = λ p s before. elim (cases p s before) [
@@ -361,7 +372,7 @@ leaving_whole v c d m out g h stays chain used o = record {
   ];
   adopts = λ p s before none. each-append (AdoptIs s (length (v.server s).entries)) (row p) (told_to p out) (elim (cases p s before) [
     | inl old ↦ h.adopts p s old none
-    | inr new ↦ no_adopts s (length (v.server s).entries) (row p) (no_adopt p s (unmade p s new))
+    | inr new ↦ no_adopts s (length (v.server s).entries) (row p) (no-token v p s (unmade p s new)).0
   ]) (each-follows (Word v.master.used) (AdoptIs s (length (v.server s).entries)) (told_to p out) (word_adopt v.master.used s (length (v.server s).entries)) (o.words p));
   data_none = λ p s a none. h.data_none p s (was s a).0 none;
   linked_told = λ p s a link. omega (arith, reports-append p (row s) (told_to s out), h.linked_told p s (was s a).0 link, untold p s (was s a) link (eqb p d) refl);
@@ -371,7 +382,24 @@ leaving_whole v c d m out g h stays chain used o = record {
   acked = h.acked;
   acks = h.acks;
   floors = λ id a full. h.floors id (was_member id a) full;
+  fed_by = λ j t joins last. ap (λ us. one (v.server j).pred ++ reports (row j ++ us)) (o.silent j joins) ∙ ap (λ us. one (v.server j).pred ++ reports us) (append-nil (row j)) ∙ h.fed_by j t (o.joins j joins) (o.stays_last j t joins last);
+  caught = λ j t joins last. h.caught j t (o.joins j joins) (o.stays_last j t joins last);
+  feeds_out = λ p a. subst (λ us. Each (FeedsOut us) (row p ++ told_to p out)) (sym chain) (each-append (FeedsOut (without d v.master.chain)) (row p) (told_to p out)
+      (each-follows (FeedsOut v.master.chain) (FeedsOut (without d v.master.chain)) (row p) still_out (h.feeds_out p (was_member p a))) (each-follows (Word v.master.used) (FeedsOut (without d v.master.chain)) (told_to p out) (words_out v.master.used (without d v.master.chain)) (o.words p)));
 } where
+  still_out : (x : Message) → FeedsOut v.master.chain x → FeedsOut (without d v.master.chain) x
+  still_out (Feed (Some q)) k = elim (cases_Bool (is_in (without d v.master.chain) q)) [
+    | inr outside ↦ outside
+    | inl there ↦ absurd (both_ways (is_in v.master.chain q) k (in-without d v.master.chain q there).0)
+  ]
+  still_out x k = other x k where
+    other : (y : Message) → FeedsOut v.master.chain y → FeedsOut (without d v.master.chain) y
+    other (Feed (Some q)) g = elim (cases_Bool (is_in (without d v.master.chain) q)) [
+      | inr outside ↦ outside
+      | inl there ↦ absurd (both_ways (is_in v.master.chain q) g (in-without d v.master.chain q there).0)
+    ]
+    other y g = tt
+
   row : ℕ → List Message
   row j = v.channel parties.Master (parties.Server j)
 
@@ -383,12 +411,6 @@ leaving_whole v c d m out g h stays chain used o = record {
 
   was_member : (j : ℕ) → is_in m.chain j ≡ true → is_in v.master.chain j ≡ true
   was_member j a = (in-without d v.master.chain j (subst (λ us. is_in us j ≡ true) chain a)).0
-
-  no_adopt : (p s : ℕ) → tokens v p s ≡ 0 → adopts_of s (v.channel parties.Master (parties.Server p)) ≡ 0
-  no_adopt p s none = go (adopts_of s (v.channel parties.Master (parties.Server p))) refl where
-    go : (n : ℕ) → adopts_of s (v.channel parties.Master (parties.Server p)) ≡ n → n ≡ 0
-    go zero e = refl
-    go (suc n) e = absurd (omega (arith, none, adopt-token v p s (omega (arith, e))))
 
   -- neighbours were neighbours, or have become such
   cases : (p s : ℕ) → stands_before p s (line m) ≡ true → (stands_before p s (line v.master) ≡ true) ⊎ (between p d s (line v.master) ≡ true)
@@ -423,10 +445,13 @@ leaving_whole v c d m out g h stays chain used o = record {
       → reports_of p (v.channel parties.Master (parties.Server s) ++ told_to s out) + (haves_of p (v.channel (parties.Server s) parties.Master) + links (v.server p).succ s (v.channel parties.Master (parties.Server p) ++ told_to p out)) ≡ bit (stands_before p s (line m))
   token p s a b =
       let same_links = ap (λ n. cond (is_that (v.server p).succ s) 1 n) (adopts-append s (v.channel parties.Master (parties.Server p)) (told_to p out) ∙ ap (λ n. adopts_of s (v.channel parties.Master (parties.Server p)) + n) (words_adopts v.master.used s (told_to p out) (o.words p)) ∙ plus_none (adopts_of s (v.channel parties.Master (parties.Server p)))) in
+      let same_feeds = fed-append s (v.channel parties.Master (parties.Server p)) (told_to p out) in
       omega (
         arith,
         reports-append p (v.channel parties.Master (parties.Server s)) (told_to s out),
         same_links,
+        same_feeds,
+        words_feeds v.master.used s (told_to p out) (o.words p),
         o.told p s a.1 b.1,
         h.token p s a.0 b.0,
         sum (stands_before p s (line v.master)) (between p d s (line v.master)) (apart_before p s),
@@ -444,33 +469,124 @@ leaving_whole v c d m out g h stays chain used o = record {
     go false f = refl
     go true f = absurd (omega (arith, unmade p s f, linked-token v p s link))
 
--- A detection of a member, while others remain, keeps all sentences.
-pub detected-whole : (v : Sight) (c : List Entry) (d : ℕ) → Prefixes v → Whole v c → is_in v.master.chain d ≡ true → (length v.master.chain ≡ 1 → ⊥) → Whole (said v (detected d v.master).master (detected d v.master).said) c
-unfolding detected
-detected-whole v c d g h there more = leaving_whole v c d (detected d v.master).master (said_of_loss d v.master.chain) g h refl refl refl (record {
-  words = λ j. loss_words v.master.used j d v.master.chain g.members;
-  told = λ p s not_p not_s. (gone-from d p s v.master.chain g.apart not_p not_s there more).1;
-  names = λ s. loss_names d s v.master.chain g.apart there;
-  neighbours = λ p s not_p not_s. (gone-from d p s v.master.chain g.apart not_p not_s there more).0;
-  calm = λ j member. calm j member (is_last v.master.chain d) refl;
-}) where
-  calm : (j : ℕ) → is_in (without d v.master.chain) j ≡ true → (t : Bool) → is_last v.master.chain d ≡ t → (news (told_to j (said_of_loss d v.master.chain)) ≡ 0) ⊎ ((x : ℕ) → is_in (without d v.master.chain) x ≡ true → tokens v j x ≡ 0)
-  calm j member false e = inl (neutral_news (told_to j (said_of_loss d v.master.chain)) (loss_neutral d v.master.chain j e))
-  calm j member true e = let loss = loss_last d v.master.chain g.apart e more in by_one (eqb j loss.0) refl loss where
-    by_one : (t : Bool) → eqb j (loss_last d v.master.chain g.apart e more).0 ≡ t → (q : ℕ) × (stands_before q d v.master.chain ≡ true) × (is_last (without d v.master.chain) q ≡ true) × (said_of_loss d v.master.chain ≡ (parties.Server q, BeTail 0) ∷ [])
-        → (news (told_to j (said_of_loss d v.master.chain)) ≡ 0) ⊎ ((x : ℕ) → is_in (without d v.master.chain) x ≡ true → tokens v j x ≡ 0)
-    by_one true f other = inr (λ x here. alone x here) where
-      q : ℕ
-      q = (loss_last d v.master.chain g.apart e more).0
+-- where another one than the last is lost
+other_whole : (v : Sight) (c : List Entry) (d : ℕ) (m : Master) → Prefixes v → Whole v c → is_in v.master.chain d ≡ true → (length v.master.chain ≡ 1 → ⊥) → is_that v.master.joiner d ≡ false → is_last v.master.chain d ≡ false
+    → m.chain ≡ without d v.master.chain → m.joiner ≡ v.master.joiner → m.used ≡ v.master.used → Whole (said v m (said_of_loss d v.master.chain)) c
+other_whole v c d m g h member more other last chain joiner used = subst (λ out. Whole (said v m out) c) same (leaving_whole v c d m (said_of_loss d (line v.master)) g h stays chain used (record {
+  words = λ j. loss_words v.master.used j d (line v.master) g.members;
+  told = λ p s not_p not_s. (gone-from d p s (line v.master) g.apart not_p not_s there many).1;
+  names = λ s. loss_names d s (line v.master) g.apart there;
+  neighbours = λ p s not_p not_s. (gone-from d p s (line v.master) g.apart not_p not_s there many).0;
+  calm = λ j placed. inl (subst (λ out. Each Neutral (told_to j out)) (sym same) (loss_neutral d v.master.chain j last));
+  joins = λ j is. sym (ap (λ o. is_that o j) joiner) ∙ is;
+  stays_last = λ j t is at. last-back d t v.master.chain last (sym (ap (λ us. is_last us t) chain) ∙ at);
+  silent = λ j is. ap (λ out. told_to j out) same ∙ loss_silent d v.master.chain j (joiner-out v.master.chain v.master.joiner j g.apart (sym (ap (λ o. is_that o j) joiner) ∙ is));
+})) where
+  same : said_of_loss d (line v.master) ≡ said_of_loss d v.master.chain
+  same = loss-line d v.master.chain v.master.joiner last member other
 
-      alone : (x : ℕ) → is_in (without d v.master.chain) x ≡ true → tokens v j x ≡ 0
-      alone x here =
-          let was = in-without d v.master.chain x here in
-          let own = in-without d v.master.chain j member in
-          h.token j x own.0 was.0 ∙ ap (λ t. bit t) (not_before x was) where
-            not_before : (y : ℕ) → (is_in v.master.chain y ≡ true) × (eqb y d ≡ false) → stands_before j y v.master.chain ≡ false
-            not_before y was_y = elim (cases_Bool (stands_before j y v.master.chain)) [
-              | inr none ↦ none
-              | inl before ↦ absurd (both_ways (eqb y d) was_y.1 (eq-eqb y d (behind-one j y d v.master.chain g.apart before (subst (λ i. stands_before i d v.master.chain ≡ true) (sym (eqb-true j (loss_last d v.master.chain g.apart e more).0 f)) (loss_last d v.master.chain g.apart e more).1))))
-            ]
-    by_one false f other = inl (ap (λ us. news (told_to j us)) (loss_last d v.master.chain g.apart e more).3 ∙ ap news (one_told j (loss_last d v.master.chain g.apart e more).0 (BeTail 0) false f))
+  there : is_in (line v.master) d ≡ true
+  there = member-line v.master.chain v.master.joiner d member
+
+  stays : line m ≡ without d (line v.master)
+  stays = ap (λ us. line_of us m.joiner) chain ∙ ap (λ o. line_of (without d v.master.chain) o) joiner ∙ without-line d v.master.chain v.master.joiner other
+
+  many : length (line v.master) ≡ 1 → ⊥
+  many is = longer v.master.chain v.master.joiner more member is where
+    longer : (ids : List ℕ) (o : Option ℕ) → (length ids ≡ 1 → ⊥) → is_in ids d ≡ true → length (line_of ids o) ≡ 1 → ⊥
+    longer ids None few at one_more = few one_more
+    longer [] (Some j) few at one_more = false≢true at
+    longer (a ∷ rest) (Some j) few at one_more = omega (arith, one_more, length-append rest (j ∷ []))
+
+-- where the last one is lost, and no server joins
+last_whole : (v : Sight) (c : List Entry) (d : ℕ) (m : Master) → Prefixes v → Whole v c → is_in v.master.chain d ≡ true → (length v.master.chain ≡ 1 → ⊥) → v.master.joiner ≡ None → is_last v.master.chain d ≡ true
+    → m.chain ≡ without d v.master.chain → m.joiner ≡ None → m.used ≡ v.master.used → Whole (said v m (said_of_loss d v.master.chain)) c
+last_whole v c d m g h member more none last chain none_now used = leaving_whole v c d m (said_of_loss d v.master.chain) g h stays chain used (record {
+  words = λ j. loss_words v.master.used j d v.master.chain (λ x there. g.members x (member-line v.master.chain v.master.joiner x there));
+  told = λ p s not_p not_s. (gone-from d p s v.master.chain (chain-apart v g) not_p not_s member more).1 ∙ ap (λ us. bit (between p d s us)) (sym same);
+  names = λ s. loss_names d s v.master.chain (chain-apart v g) member;
+  neighbours = λ p s not_p not_s. ap (λ us. stands_before p s (without d us)) same ∙ (gone-from d p s v.master.chain (chain-apart v g) not_p not_s member more).0 ∙ ap (λ us. stands_before p s us || between p d s us) (sym same);
+  calm = λ j placed. calm j (subst (λ us. is_in (without d us) j ≡ true) same placed) (eqb j loss.0) refl;
+  joins = λ j is. absurd (false≢true (sym (ap (λ o. is_that o j) none_now) ∙ is));
+  stays_last = λ j t is. absurd (false≢true (sym (ap (λ o. is_that o j) none_now) ∙ is));
+  silent = λ j is. absurd (false≢true (sym (ap (λ o. is_that o j) none_now) ∙ is));
+}) where
+  same : line v.master ≡ v.master.chain
+  same = ap (λ o. line_of v.master.chain o) none
+
+  stays : line m ≡ without d (line v.master)
+  stays = ap (λ o. line_of m.chain o) none_now ∙ chain ∙ ap (λ us. without d us) (sym same)
+
+  loss : (q : ℕ) × (stands_before q d v.master.chain ≡ true) × (is_last (without d v.master.chain) q ≡ true) × (said_of_loss d v.master.chain ≡ (parties.Server q, BeTail 0) ∷ [])
+  loss = loss_last d v.master.chain (chain-apart v g) last more
+
+  calm : (j : ℕ) → is_in (without d v.master.chain) j ≡ true → (t : Bool) → eqb j (loss_last d v.master.chain (chain-apart v g) last more).0 ≡ t
+      → Each Neutral (told_to j (said_of_loss d v.master.chain)) ⊎ ((x : ℕ) → is_in (without d (line v.master)) x ≡ true → tokens v j x ≡ 0)
+  calm j here false f = inl (subst (λ us. Each Neutral us) (sym (ap (λ us. told_to j us) loss.3 ∙ one_told j loss.0 (BeTail 0) false f)) tt)
+  calm j here true f = inr (λ x placed. none_of x (subst (λ us. is_in (without d us) x ≡ true) same placed)) where
+    none_of : (x : ℕ) → is_in (without d v.master.chain) x ≡ true → tokens v j x ≡ 0
+    none_of x at =
+        let was = in-without d v.master.chain x at in
+        let own = in-without d v.master.chain j here in
+        h.token j x (member-line v.master.chain v.master.joiner j own.0) (member-line v.master.chain v.master.joiner x was.0) ∙ ap (λ us. bit (stands_before j x us)) same ∙ ap (λ t. bit t) (not_before x was) where
+          not_before : (y : ℕ) → (is_in v.master.chain y ≡ true) × (eqb y d ≡ false) → stands_before j y v.master.chain ≡ false
+          not_before y was_y = elim (cases_Bool (stands_before j y v.master.chain)) [
+            | inr no_pair ↦ no_pair
+            | inl before ↦ absurd (both_ways (eqb y d) was_y.1 (eq-eqb y d (behind-one j y d v.master.chain (chain-apart v g) before (subst (λ i. stands_before i d v.master.chain ≡ true) (sym (eqb-true j loss.0 f)) loss.1))))
+          ]
+
+-- ---- a server that joins is dropped
+
+ends_sub : (line less : List ℕ) (ms : List Message) → ((s : ℕ) → is_in less s ≡ true → is_in line s ≡ true) → Ends line ms → Ends less ms
+ends_sub line less ms sub h = subst (λ us. Ends less us) (append-nil ms) (ends_fewer line less ms [] sub h tt)
+
+-- The server that joins, if there is one, is dropped.
+pub dropped-whole : (v : Sight) (c : List Entry) → Prefixes v → Whole v c → Whole (record v { master = alone v.master }) c
+dropped-whole v c g h = record {
+  pred_known = h.pred_known;
+  succ_known = h.succ_known;
+  orders_known = h.orders_known;
+  reports_known = h.reports_known;
+  unheard = h.unheard;
+  token = λ p s a b. h.token p s (in_line p a) (in_line s b) ∙ ap (λ t. bit t) (line-before chain v.master.joiner p s g.apart b);
+  ends = λ p a. ends_sub (line v.master) chain (v.channel parties.Master (parties.Server p)) in_line (h.ends p (in_line p a));
+  follows = λ p s a b link. h.follows p s (in_line p a) (in_line s b) link;
+  counts = λ p s before. h.counts p s (in_pair p s before);
+  adopts = λ p s before none. h.adopts p s (in_pair p s before) none;
+  data_none = λ p s b none. h.data_none p s (in_line s b) none;
+  linked_told = λ p s b link. h.linked_told p s (in_line s b) link;
+  feed = λ p s b is_pred link. h.feed p s (in_line s b) is_pred link;
+  snap = h.snap;
+  young_succ = h.young_succ;
+  acked = h.acked;
+  acks = h.acks;
+  floors = h.floors;
+  fed_by = λ j t none. absurd (false≢true none);
+  caught = λ j t none. absurd (false≢true none);
+  feeds_out = h.feeds_out;
+} where
+  chain : List ℕ
+  chain = v.master.chain
+
+  in_line : (j : ℕ) → is_in v.master.chain j ≡ true → is_in (line v.master) j ≡ true
+  in_line j a = member-line v.master.chain v.master.joiner j a
+
+  in_pair : (p s : ℕ) → stands_before p s v.master.chain ≡ true → stands_before p s (line v.master) ≡ true
+  in_pair p s before = line-before v.master.chain v.master.joiner p s g.apart (before-in p s v.master.chain before).1 ∙ before
+
+-- ---- all detections
+
+-- A detection keeps all sentences: of the server that joins, or of a member, while others remain.
+pub detected-whole : (v : Sight) (c : List Entry) (d a : ℕ) (rest : List ℕ) → Prefixes v → Whole v c → v.master.chain ≡ a ∷ rest → (is_that v.master.joiner d ≡ false → (is_in v.master.chain d ≡ true) × (length v.master.chain ≡ 1 → ⊥))
+    → Whole (said v (detected d v.master).master (detected d v.master).said) c
+unfolding detected
+detected-whole v c d a rest g h is parts = by (is_that v.master.joiner d) refl where
+  go : is_that v.master.joiner d ≡ false → (t : Bool) → is_last v.master.chain d ≡ t
+      → Whole (said v (record v.master { chain = without d v.master.chain; told = t || v.master.told; ready = not t && v.master.ready; joiner = cond t None v.master.joiner }) (said_of_loss d v.master.chain)) c
+  go other true e = last_whole (record v { master = alone v.master }) c d (record v.master { chain = without d v.master.chain; told = true; ready = false; joiner = None }) (dropped-keeps v g) (dropped-whole v c g h) (parts other).0 (parts other).1 refl e refl refl refl
+  go other false e = other_whole v c d (record v.master { chain = without d v.master.chain; told = v.master.told; ready = v.master.ready }) g h (parts other).0 (parts other).1 other e refl refl refl
+
+  by : (t : Bool) → is_that v.master.joiner d ≡ t → Whole (said v (cond t (dropped v.master) (closed_up d v.master)).master (cond t (dropped v.master) (closed_up d v.master)).said) c
+  by true joins = subst (λ out. Whole (said v (alone v.master) out) c) (sym (ap (λ us. to_last (Feed None) us) is ∙ last_told (Feed None) a rest))
+      (tail_whole (record v { master = alone v.master }) c (last_of a rest) (Feed None) (alone v.master) (dropped-keeps v g) (dropped-whole v c g h) closing-feed (ap (λ us. is_last us (last_of a rest)) is ∙ last_top a rest) refl refl refl refl)
+  by false other = go other (is_last v.master.chain d) refl

@@ -1,24 +1,26 @@
 -- What a server has to show that takes more entries, so that nothing is lost on the way.
-use Rattle.std.proofs.Common.{◌≡◌, ℕ, ◌+◌, ◌≤◌, ◌<◌, ◌∙◌, ap, sym, List, [], ◌∷◌, ◌++◌, length, Option, Some, None, Bool, true, false, cond, eqb, arith, subst, refl, append-nil}
+use Rattle.std.proofs.Common.{◌≡◌, ℕ, ◌+◌, ◌≤◌, ◌<◌, ◌∙◌, ap, sym, List, [], ◌∷◌, ◌++◌, length, Option, Some, None, is_none, Bool, true, false, cond, eqb, arith, subst, refl, append-nil}
 use Rattle.std.proofs.lemmas.Bool.{eqb-true, eq-eqb, false≢true, both_ways}
 use Rattle.cq_base.specs.declared.ask.Entry.{Entry}
 use Rattle.cq_base.specs.declared.party.Party.{Party}
 use Rattle.cq_base.specs.declared.party.Party.TheVariants as parties
-use Rattle.cq_chain.specs.Masters.{is_in, stands_before}
-use Rattle.cq_chain.specs.Messages.{Message, Fwd, Ack, Ready, Answers}
+use Rattle.cq_chain.specs.Masters.{is_in, is_last, stands_before}
+use Rattle.cq_chain.specs.Messages.{Message, Fwd, Ack, Caught, Ready, Answers}
 use Rattle.cq_chain.specs.Parties.{addressed}
 use Rattle.cq_chain.specs.Servers.{Server, acts, is_that}
-use Rattle.cq_chain.specs.Steps.{to_server, when, appended, settled, begins_to_act, answer_to, passed_on, tail_news}
+use Rattle.cq_chain.specs.Steps.{to_server, when, appended, settled, begins_to_act, answer_to, passed_on, tail_news, with_history, restored}
 use Rattle.cq_world.specs.Runs.{longer, acting_history}
 use Rattle.cq_world.proofs.Commits.{longer-length}
 use Rattle.cq_world.proofs.Commits.Steps.{addressed-append}
 use Rattle.cq_world.proofs.Eaches.{Each, each-append, each-follows}
 use Rattle.cq_world.proofs.Wholes.Feeding.{NoData, NoSnap, OfSnap, Feeds, all-data-snap, feeds-append, no-snap}
+use Rattle.cq_world.proofs.Prefixes.Climbing.{reports, one}
+use Rattle.cq_world.proofs.Prefixes.Steps.{Placed}
 use Rattle.cq_world.proofs.Prefixes.{Prefixes, master_after}
 use Rattle.cq_world.proofs.Settled.{IsSettled, is_settled}
 use Rattle.cq_world.proofs.Sights.{Sight, line}
-use Rattle.cq_world.proofs.Wholes.{Whole, reports_of, haves_of, adopts_of, news, Known, HaveIs, AckWithin, links}
-use Rattle.cq_world.proofs.Wholes.Steps.{Idle, idle_known, idle_have, idle_haves, no_haves, no_adopts, feeds_still, own_link}
+use Rattle.cq_world.proofs.Wholes.{Whole, reports_of, haves_of, adopts_of, OnlyTo, Catches, Known, HaveIs, AckWithin, links}
+use Rattle.cq_world.proofs.Wholes.Steps.{Idle, NoCaught, idle_known, idle_have, idle_haves, no_haves, no_adopts, feeds_still, placed_link, placed_follows, placed_young}
 use Rattle.cq_world.proofs.Wholes.Turns.{Feeding, left_between}
 
 -- ---- what is sent
@@ -96,21 +98,22 @@ pub record Grown (v : Sight) (c : List Entry) (from : Party) (k : ℕ) (rest : L
   pub sent_data : (y : ℕ) → is_that x.succ y ≡ false → Each NoData (addressed (parties.Server y) out)
   pub sent_snaps : (y : ℕ) → Each NoSnap (addressed (parties.Server y) out)
   pub feeds_on : (y : ℕ) → is_that x.succ y ≡ true → Feeds (length (v.server k).entries) (addressed (parties.Server y) out) (length x.entries)
-  pub feeds_behind : (p : ℕ) → eqb p k ≡ false → x.pred ≡ Some p → is_that (v.server p).succ k ≡ true → Feeds (length x.entries) (left_between v from k rest p k) (length (v.server p).entries)
-  pub snaps_behind : (p : ℕ) → x.pred ≡ Some p → Each NoSnap (left_between v from k rest p k)
+  pub feeds_behind : (p : ℕ) → is_in (line v.master) k ≡ true → eqb p k ≡ false → x.pred ≡ Some p → is_that (v.server p).succ k ≡ true → Feeds (length x.entries) (left_between v from k rest p k) (length (v.server p).entries)
+  pub snaps_behind : (p : ℕ) → is_in v.master.chain k ≡ true → x.pred ≡ Some p → Each NoSnap (left_between v from k rest p k)
   pub acks : (y : ℕ) → Each (AckWithin (length (longer c (acting_history (settled x))))) (addressed (parties.Server y) out)
   pub floor : acts x ≡ false → x.full ≡ true → x.floor ≤ length c
+  pub catches : (t : ℕ) → is_that v.master.joiner k ≡ true → is_last v.master.chain t ≡ true → Each (Catches ((is_that (v.server t).succ k ≡ true) × Each NoSnap (left_between v from k rest t k))) (addressed parties.Master out)
 
-pub grown-feeding : (v : Sight) (c : List Entry) (from : Party) (k : ℕ) (rest : List Message) (x : Server) (out : List (Party × Message)) → Prefixes v → Whole v c → is_in v.master.chain k ≡ true → Grown v c from k rest x out → Feeding v c from k rest (settled x) out
-grown-feeding v c from k rest x out g h member t = record {
+pub grown-feeding : (v : Sight) (c : List Entry) (from : Party) (k : ℕ) (rest : List Message) (x : Server) (out : List (Party × Message)) → Prefixes v → Whole v c → Placed v k → Grown v c from k rest x out → Feeding v c from k rest (settled x) out
+grown-feeding v c from k rest x out g h placed t = record {
   pred_known = λ p is. h.pred_known k p (sym (now.pred ∙ t.pred) ∙ is);
   succ_known = λ y is. h.succ_known k y (sym same_succ ∙ is);
   reports_known = each-follows Idle (Known v.master.used) (addressed parties.Master out) (idle_known v.master.used) t.idle;
   behind = λ p m. omega (arith, ap (λ ms. reports_of p ms) t.same_told, idle_haves p (addressed parties.Master out) t.idle);
   ahead = λ y there. ap (λ ms. links (settled x).succ y ms) t.same_told ∙ ap (λ o. links o y (v.channel parties.Master (parties.Server k))) same_succ;
   keeps_succ = λ y there is. ap (λ o. is_that o y) same_succ ∙ is;
-  not_self = ap (λ o. is_that o k) same_succ ∙ own_link v c k g h member;
-  follows = λ y there is. ap news t.same_told ∙ h.follows k y member there (sym (ap (λ o. is_that o y) same_succ) ∙ is);
+  not_self = ap (λ o. is_that o k) same_succ ∙ placed_link v c k g h placed;
+  follows = λ y there is. subst (λ ms. Each (OnlyTo y) ms) (sym t.same_told) (placed_follows v c k y h placed there (sym (ap (λ o. is_that o y) same_succ) ∙ is));
   counts = λ p before. each-append (HaveIs p (length (settled x).entries)) (v.channel (parties.Server k) parties.Master) (addressed parties.Master out) (no_haves p (length (settled x).entries) (v.channel (parties.Server k) parties.Master) (t.alone p before).0)
       (each-follows Idle (HaveIs p (length (settled x).entries)) (addressed parties.Master out) (idle_have p (length (settled x).entries)) t.idle);
   adopts = λ p before not_link. no_adopts k (length (settled x).entries) (v.channel parties.Master (parties.Server p)) ((t.alone p before).1 not_link);
@@ -119,10 +122,13 @@ grown-feeding v c from k rest x out g h member t = record {
   feeds_ahead = λ y there other is_pred link. subst (λ us. Feeds (length (v.server y).entries) (v.channel (parties.Server k) (parties.Server y) ++ addressed (parties.Server y) out) (length us)) (sym now.entries)
       (feeds-append (length (v.server y).entries) (v.channel (parties.Server k) (parties.Server y)) (addressed (parties.Server y) out) (length (v.server k).entries) (length x.entries) (h.feed k y there is_pred (sym (ap (λ o. is_that o y) same_succ) ∙ link))
       (t.sent_snaps y) (t.feeds_on y (sym (ap (λ o. is_that o y) now.succ) ∙ link)));
-  feeds_behind = λ p other is_pred link. subst (λ us. Feeds (length us) (left_between v from k rest p k) (length (v.server p).entries)) (sym now.entries) (t.feeds_behind p other (sym now.pred ∙ is_pred) link);
+  feeds_behind = λ p there other is_pred link. subst (λ us. Feeds (length us) (left_between v from k rest p k) (length (v.server p).entries)) (sym now.entries) (t.feeds_behind p there other (sym now.pred ∙ is_pred) link);
   snaps_ahead = λ y there other is_pred. each-follows NoSnap (OfSnap (length (v.server y).entries < length c)) (addressed (parties.Server y) out) (no-snap (length (v.server y).entries < length c)) (t.sent_snaps y);
-  snaps_behind = λ p is_pred. each-follows NoSnap (OfSnap (length (settled x).entries < length (longer c (acting_history (settled x))))) (left_between v from k rest p k) (no-snap (length (settled x).entries < length (longer c (acting_history (settled x))))) (t.snaps_behind p (sym now.pred ∙ is_pred));
-  young_succ = λ is. same_succ ∙ h.young_succ k member (sym t.full ∙ settled_young x is);
+  snaps_behind = λ p member is_pred. each-follows NoSnap (OfSnap (length (settled x).entries < length (longer c (acting_history (settled x))))) (left_between v from k rest p k) (no-snap (length (settled x).entries < length (longer c (acting_history (settled x))))) (t.snaps_behind p member (sym now.pred ∙ is_pred));
+  young_succ = λ is. same_succ ∙ placed_young v c k h placed (sym t.full ∙ settled_young x is);
+  fed = λ t_last joins last. ap (λ o. one o ++ reports (master_after v from k rest)) (now.pred ∙ t.pred) ∙ ap (λ ms. one (v.server k).pred ++ reports ms) t.same_told ∙ h.fed_by k t_last joins last;
+  snaps_to = λ y joins link. t.sent_snaps y;
+  catches = t.catches;
   acked = settled_acked c x (omega (arith, t.acked, h.acked k)) t.own;
   sent_acks = t.acks;
   floor = settled_floor c x t.floor t.own;
@@ -149,6 +155,40 @@ tail_idle before now = subst (λ ms. Each Idle ms) (sym (addressed-append partie
       first : (t : Bool) → Each Idle (addressed parties.Master (when t (to_server before.pred (Ack (length now.entries)))))
       first true = subst (λ ms. Each Idle ms) (sym (not_told before.pred (Ack (length now.entries)))) tt
       first false = tt
+
+-- of a message that tells of no snapshot
+ready_caught : (t : Bool) → Each NoCaught (addressed parties.Master (when t ((parties.Master, Ready) ∷ [])))
+ready_caught true = (tt, tt)
+ready_caught false = tt
+
+pub tail_caught : (before now : Server) → Each NoCaught (addressed parties.Master (tail_news before now))
+tail_caught before now = subst (λ ms. Each NoCaught ms) (sym (addressed-append parties.Master (when (acts now) (to_server before.pred (Ack (length now.entries)))) (when (begins_to_act before now) ((parties.Master, Ready) ∷ []))))
+    (each-append NoCaught (addressed parties.Master (when (acts now) (to_server before.pred (Ack (length now.entries))))) (addressed parties.Master (when (begins_to_act before now) ((parties.Master, Ready) ∷ []))) (first (acts now)) (ready_caught (begins_to_act before now))) where
+      first : (t : Bool) → Each NoCaught (addressed parties.Master (when t (to_server before.pred (Ack (length now.entries)))))
+      first true = subst (λ ms. Each NoCaught ms) (sym (not_told before.pred (Ack (length now.entries)))) tt
+      first false = tt
+
+pub passed_caught : (s : Server) (e : Entry) → Each NoCaught (addressed parties.Master (passed_on s e))
+passed_caught s e = subst (λ ms. Each NoCaught ms) (sym (addressed-append parties.Master (to_server s.succ (Fwd (length s.entries + 1) e)) (when (acts (appended s e)) ((parties.Clients, Answers (answer_to s.entries e)) ∷ []))))
+    (each-append NoCaught (addressed parties.Master (to_server s.succ (Fwd (length s.entries + 1) e))) (addressed parties.Master (when (acts (appended s e)) ((parties.Clients, Answers (answer_to s.entries e)) ∷ []))) (subst (λ ms. Each NoCaught ms) (sym (not_told s.succ (Fwd (length s.entries + 1) e))) tt) (second (acts (appended s e)))) where
+      second : (t : Bool) → Each NoCaught (addressed parties.Master (when t ((parties.Clients, Answers (answer_to s.entries e)) ∷ [])))
+      second true = tt
+      second false = tt
+
+-- what holds of all that a server says when it takes a snapshot, to another one or to the master
+pub restored_row : (P : Message → Type 0) (from : ℕ) (entries : List Entry) (s : Server) (x : ℕ) → Each P (addressed (parties.Server x) (tail_news s (with_history s entries))) → Each P (addressed (parties.Server x) (restored from entries s).sent)
+restored_row P from entries s x h = subst (λ ms. Each P ms) (sym (addressed-append (parties.Server x) (tail_news s (with_history s entries)) (when (is_none s.at_least) ((parties.Master, Caught from (length entries)) ∷ []))))
+    (each-append P (addressed (parties.Server x) (tail_news s (with_history s entries))) (addressed (parties.Server x) (when (is_none s.at_least) ((parties.Master, Caught from (length entries)) ∷ []))) h (none (is_none s.at_least))) where
+      none : (t : Bool) → Each P (addressed (parties.Server x) (when t ((parties.Master, Caught from (length entries)) ∷ [])))
+      none true = tt
+      none false = tt
+
+pub restored_told : (P : Message → Type 0) (from : ℕ) (entries : List Entry) (s : Server) → Each P (addressed parties.Master (tail_news s (with_history s entries))) → P (Caught from (length entries)) → Each P (addressed parties.Master (restored from entries s).sent)
+restored_told P from entries s h caught = subst (λ ms. Each P ms) (sym (addressed-append parties.Master (tail_news s (with_history s entries)) (when (is_none s.at_least) ((parties.Master, Caught from (length entries)) ∷ []))))
+    (each-append P (addressed parties.Master (tail_news s (with_history s entries))) (addressed parties.Master (when (is_none s.at_least) ((parties.Master, Caught from (length entries)) ∷ []))) h (one (is_none s.at_least))) where
+      one : (t : Bool) → Each P (addressed parties.Master (when t ((parties.Master, Caught from (length entries)) ∷ [])))
+      one true = (caught, tt)
+      one false = tt
 
 pub passed_idle : (s : Server) (e : Entry) → Each Idle (addressed parties.Master (passed_on s e))
 passed_idle s e = subst (λ ms. Each Idle ms) (sym (addressed-append parties.Master (to_server s.succ (Fwd (length s.entries + 1) e)) (when (acts (appended s e)) ((parties.Clients, Answers (answer_to s.entries e)) ∷ []))))

@@ -1,5 +1,5 @@
 -- Nothing is lost on the way, whatever happens.
-use Rattle.std.proofs.Common.{◌≡◌, ℕ, zero, suc, ◌+◌, ◌-◌, ◌≤◌, ◌<◌, ◌∙◌, ap, sym, List, [], ◌∷◌, ◌++◌, drop, length, ◌&&◌, ◌||◌, not, Option, Some, None, Bool, true, false, cond, eqb, arith, subst, refl, inl, inr, nat_lt}
+use Rattle.std.proofs.Common.{◌≡◌, ℕ, zero, suc, ◌+◌, ◌-◌, ◌≤◌, ◌<◌, ◌∙◌, ap, sym, List, [], ◌∷◌, ◌++◌, drop, length, ◌&&◌, ◌||◌, not, Option, Some, None, is_none, Bool, true, false, cond, eqb, arith, subst, refl, inl, inr, nat_lt}
 use Rattle.std.proofs.lemmas.Bool.{eqb-true, eq-eqb, false≢true, both_ways, cases_Bool, and_parts, or_cases}
 use Rattle.cq_base.specs.declared.ask.Entry.{Entry}
 use Rattle.cq_base.specs.declared.party.Party.{Party}
@@ -7,7 +7,7 @@ use Rattle.cq_base.specs.declared.party.Party.TheVariants as parties
 use Rattle.cq_chain.specs.declared.fault.WorldFault.{WorldFault}
 use Rattle.cq_chain.specs.Masters.{is_in, is_last, numbers_from, stands_before, detected, joined, hears, hears_from, no_order, refusal_of_detection, refusal_of_join}
 use Rattle.cq_chain.specs.Messages.{Message}
-use Rattle.cq_chain.specs.Parties.{same}
+use Rattle.cq_chain.specs.Parties.{same, is_that}
 use Rattle.cq_chain.specs.Refusals.{refusal_of_arrival, refusal_of_query}
 use Rattle.cq_chain.specs.Servers.{Server}
 use Rattle.cq_chain.specs.Steps.{arrived, asked, takes, crashed}
@@ -24,14 +24,15 @@ use Rattle.cq_world.proofs.Commits.Orders.{said_nothing}
 use Rattle.cq_world.proofs.Commits.Steps.{take-acting, arrive-acting}
 use Rattle.cq_world.proofs.Commits.{bit, longest-same}
 use Rattle.cq_world.proofs.Eaches.{Each, some_none}
-use Rattle.cq_world.proofs.Wholes.Feeding.{NoData, OfSnap, Feeds}
+use Rattle.cq_world.proofs.Wholes.Feeding.{NoData, NoSnap, OfSnap, Feeds}
 use Rattle.cq_world.proofs.First.{commits-first, in-numbers, numbers_apart, at_first, at_first_full, first_entries, last_size}
 use Rattle.cq_world.proofs.Prefixes.{Turn}
 use Rattle.cq_world.proofs.Running.{Good, onward, list-turned, drained_keeps, sight_ordered, first_speaks, detect_parts, join_parts, chain_some}
 use Rattle.cq_world.proofs.Sights.{Sight, line, sight, turn, said, drained, sight-put, sight-given, sight-step, sight-taken, sight-without}
-use Rattle.cq_world.proofs.Prefixes.Steps.{lives-member, take-turn, arrive-turn, ask-turn, crash-turn}
+use Rattle.cq_world.proofs.Prefixes.Climbing.{reports, one}
+use Rattle.cq_world.proofs.Prefixes.Steps.{lives-placed, head-member, take-turn, arrive-turn, ask-turn, crash-turn}
 use Rattle.cq_world.proofs.Unrefused.{known-parts, lives-parts, server-parts, at-head}
-use Rattle.cq_world.proofs.Wholes.{Whole, reports_of, haves_of, adopts_of, news, Ends, Known, HaveIs, AdoptIs, AckWithin, links}
+use Rattle.cq_world.proofs.Wholes.{Whole, reports_of, haves_of, adopts_of, feeds_of, OnlyTo, Ends, FeedsOut, Catches, Known, HaveIs, AdoptIs, AckWithin, links}
 use Rattle.cq_world.proofs.Wholes.Changes.{detected-whole}
 use Rattle.cq_world.proofs.Wholes.Joins.{joined-whole}
 use Rattle.cq_world.proofs.Wholes.Orders.{heard-whole}
@@ -97,7 +98,7 @@ first_token true size p s some e there = go (eqb p size) refl where
   range : (1 ≤ p) × (p < 1 + size)
   range = below_end size 1 p e
 
-  one_link : (b : Bool) → cond b 1 (adopts_of s []) ≡ bit b
+  one_link : (b : Bool) → feeds_of s [] + cond b 1 (adopts_of s []) ≡ bit b
   one_link true = refl
   one_link false = refl
 
@@ -126,7 +127,7 @@ whole_first size some = record {
   unheard = λ p id unused. tt;
   token = λ p s a b. omega (arith, first_token (known p) size p s some refl a);
   ends = λ p a. tt;
-  follows = λ p s a b link. refl;
+  follows = λ p s a b link. tt;
   counts = λ p s before. tt;
   adopts = λ p s before none. tt;
   data_none = λ p s b none. tt;
@@ -137,6 +138,9 @@ whole_first size some = record {
   acked = λ id. first_acked (known id) size id;
   acks = λ p s. tt;
   floors = λ id b full. first_floor (known id) size id;
+  fed_by = λ j t none. absurd (false≢true none);
+  caught = λ j t none. absurd (false≢true none);
+  feeds_out = λ p a. tt;
 } where
   known : ℕ → Bool
   known id = is_in (numbers_from 1 size) id
@@ -156,7 +160,7 @@ aside_whole v c from to rest orders told between h = record {
       ∙ ap (λ ms. reports_of p (v.channel parties.Master (parties.Server s)) + (haves_of p ms + links (v.server p).succ s ((drained v from to rest).channel parties.Master (parties.Server p)))) (told s)
       ∙ ap (λ ms. reports_of p (v.channel parties.Master (parties.Server s)) + (haves_of p (v.channel (parties.Server s) parties.Master) + links (v.server p).succ s ms)) (orders p) ∙ h.token p s a b;
   ends = λ p a. subst (λ ms. Ends (line v.master) ms) (sym (orders p)) (h.ends p a);
-  follows = λ p s a b link. ap news (orders p) ∙ h.follows p s a b link;
+  follows = λ p s a b link. subst (λ ms. Each (OnlyTo s) ms) (sym (orders p)) (h.follows p s a b link);
   counts = λ p s before. subst (λ ms. Each (HaveIs p (length (v.server s).entries)) ms) (sym (told s)) (h.counts p s before);
   adopts = λ p s before none. subst (λ ms. Each (AdoptIs s (length (v.server s).entries)) ms) (sym (orders p)) (h.adopts p s before none);
   data_none = λ p s b none. subst (λ ms. Each NoData ms) (sym (between p s)) (h.data_none p s b none);
@@ -167,6 +171,10 @@ aside_whole v c from to rest orders told between h = record {
   acked = h.acked;
   acks = λ p s. subst (λ ms. Each (AckWithin (length c)) ms) (sym (between p s)) (h.acks p s);
   floors = h.floors;
+  fed_by = λ j t joins last. ap (λ ms. one (v.server j).pred ++ reports ms) (orders j) ∙ h.fed_by j t joins last;
+  caught = λ j t joins last. subst (λ ms. Each (Catches ((is_that (v.server t).succ j ≡ true) × Each NoSnap ((drained v from to rest).channel (parties.Server t) (parties.Server j)))) ms) (sym (told j))
+      (subst (λ us. Each (Catches ((is_that (v.server t).succ j ≡ true) × Each NoSnap us)) (v.channel (parties.Server j) parties.Master)) (sym (between t j)) (h.caught j t joins last));
+  feeds_out = λ p a. subst (λ ms. Each (FeedsOut v.master.chain) ms) (sym (orders p)) (h.feeds_out p a);
 }
 
 and_none : (b : Bool) (us ws : List Message) → cond (b && false) us ws ≡ ws
@@ -187,7 +195,7 @@ turns w new c from k rest s out good h is t f = subst (λ us. Whole (sight new) 
 
 -- what is known before a turn
 before_turn : (w : World) (c : List Entry) (k : ℕ) → Good w c → Whole (sight w) c → ((id : ℕ) → Stamped (w.server id).entries) → is_in w.master.used k ≡ true → (w.server k).down ≡ false → BeforeTurn (sight w) c k
-before_turn w c k good h stamps known lives = record { prefixes = good.prefixes; commits = good.commits; whole = h; stamps = stamps; member = lives-member (sight w) k good.prefixes known lives }
+before_turn w c k good h stamps known lives = record { prefixes = good.prefixes; commits = good.commits; whole = h; stamps = stamps; placed = lives-placed (sight w) k good.prefixes known lives }
 
 put_whole : (w : World) (c : List Entry) (from to : Party) → Good w c → Whole (sight w) c → Whole (sight (after_put w from to)) (longest_at (after_put w from to) c)
 put_whole w c from parties.Clients good h = stays w (after_put w from parties.Clients) c refl good (subst (λ v. Whole v c) (sym (sight-given w from)) (aside_whole (sight w) c from parties.Clients (w.link from parties.Clients ++ drop 1 (w.outbox from parties.Clients))
@@ -229,28 +237,32 @@ taken_whole w c from (parties.Server k) (m ∷ ms) at known lives good h stamps 
     let step = takes from m (w.server k) in
     let t = take-turn (sight w) from k m rest good.prefixes known lives front in
     turns w (after_take w from (parties.Server k) (m ∷ ms)) c from k rest step.server step.sent good h (sight-taken w from k m ms step at) t
-    (take-feeding (sight w) c from k m rest (before_turn w c k good h stamps known lives) lives front t (take-acting (sight w) c from k m rest good.prefixes good.commits (lives-member (sight w) k good.prefixes known lives) front))
+    (take-feeding (sight w) c from k m rest (before_turn w c k good h stamps known lives) lives front t (take-acting (sight w) c from k m rest good.prefixes good.commits known lives front))
 
 detect_whole : (w : World) (c : List Entry) (id : ℕ) → refusal_of_detect w id ≡ None → Good w c → Whole (sight w) c → Whole (sight (ordered w (detected id w.master))) (longest_at (ordered w (detected id w.master)) c)
 unfolding refusal_of_detection
 detect_whole w c id free good h =
-    let parts = detect_parts (is_in w.master.chain id) (w.server id).down (length w.master.chain) free in
-    let more : length w.master.chain ≡ 1 → ⊥ = λ is. false≢true (sym (ap (λ n. nat_lt 1 n) is) ∙ parts.2) in
-    stays w (ordered w (detected id w.master)) c refl good (subst (λ v. Whole v c) (sym (sight_ordered w (detected id w.master))) (detected-whole (sight w) c id good.prefixes h parts.1 more))
+    let parts = detect_parts (is_that w.master.joiner id) (is_in w.master.chain id) (w.server id).down (length w.master.chain) free in
+    let more = λ (other : is_that w.master.joiner id ≡ false) (is : length w.master.chain ≡ 1). false≢true (sym (ap (λ n. nat_lt 1 n) is) ∙ (parts.1 other).1) in
+    let chain = chain_some (sight w) c good.prefixes good.commits in
+    stays w (ordered w (detected id w.master)) c refl good (subst (λ v. Whole v c) (sym (sight_ordered w (detected id w.master))) (detected-whole (sight w) c id chain.0 chain.1 good.prefixes h chain.2 (λ other. ((parts.1 other).0, more other))))
 
 join_event : (w : World) (c : List Entry) (id : ℕ) → refusal_of_join id w.master ≡ None → Good w c → Whole (sight w) c → Whole (sight (ordered w (joined id w.master))) (longest_at (ordered w (joined id w.master)) c)
 unfolding refusal_of_join
 join_event w c id free good h =
-    let parts = join_parts (is_in w.master.used id) w.master.ready (length w.master.chain) free in
+    let parts = join_parts (is_in w.master.used id) w.master.ready (is_none w.master.joiner) (length w.master.chain) free in
     let chain = chain_some (sight w) c good.prefixes good.commits in
-    stays w (ordered w (joined id w.master)) c refl good (subst (λ v. Whole v c) (sym (sight_ordered w (joined id w.master))) (joined-whole (sight w) c id chain.0 chain.1 good.prefixes good.commits h parts.0 chain.2))
+    stays w (ordered w (joined id w.master)) c refl good (subst (λ v. Whole v c) (sym (sight_ordered w (joined id w.master))) (joined-whole (sight w) c id chain.0 chain.1 good.prefixes good.commits h parts.0 (nobody w.master.joiner parts.2) chain.2)) where
+      nobody : (o : Option ℕ) → is_none o ≡ true → o ≡ None
+      nobody None none = refl
+      nobody (Some j) none = absurd (false≢true none)
 
 next_whole : (w : World) (c : List Entry) (event : Event) → refusal_of w event ≡ None → Good w c → Whole (sight w) c → ((id : ℕ) → Stamped (w.server id).entries) → Whole (sight (next w event)) (longest_at (next w event) c)
 unfolding refusal_of next
 next_whole w c (Arrive at clock request) free good h stamps =
     let parts = server-parts w at (refusal_of_arrival (w.server at)) free in
     let step = arrived clock request (w.server at) in
-    let member = lives-member (sight w) at good.prefixes parts.0 parts.1 in
+    let member = head-member (sight w) at (lives-placed (sight w) at good.prefixes parts.0 parts.1) (at-head (w.server at) parts.2) in
     let t = arrive-turn (sight w) at clock request good.prefixes parts.0 parts.1 (at-head (w.server at) parts.2) in
     turns w (stepped w at step) c parties.Clients at (channel w parties.Clients (parties.Server at)) step.server step.sent good h (sight-step w at step) t
     (arrive-feeding (sight w) c at clock request (before_turn w c at good h stamps parts.0 parts.1) parts.1 (at-head (w.server at) parts.2) t (arrive-acting (sight w) c at clock request good.prefixes good.commits member (at-head (w.server at) parts.2)))

@@ -1,5 +1,5 @@
 -- No step of a server that lives loses anything on the way.
-use Rattle.std.proofs.Common.{◌≡◌, ℕ, zero, suc, ◌+◌, ◌≤◌, ◌<◌, ◌∙◌, ap, sym, List, [], ◌∷◌, ◌++◌, length, take, ◌&&◌, Some, is_none, Bool, true, false, cond, eqb, arith, subst, refl, inl, inr, nat_le, length-append}
+use Rattle.std.proofs.Common.{◌≡◌, ℕ, zero, suc, ◌+◌, ◌≤◌, ◌<◌, ◌∙◌, ap, sym, List, [], ◌∷◌, ◌++◌, length, take, ◌&&◌, Some, None, is_none, Bool, true, false, cond, eqb, arith, subst, refl, inl, inr, nat_le, length-append}
 use Rattle.std.proofs.Math.Seq.{take-append_seam}
 use Rattle.std.specs.List.{fold}
 use Rattle.std.proofs.lemmas.Bool.{eq-eqb, false≢true, both_ways, cases_Bool, and_from, le-leb}
@@ -10,7 +10,7 @@ use Rattle.cq_base.specs.History.{last_moment}
 use Rattle.cq_base.specs.Relations.{Front}
 use Rattle.cq_base.proofs.Among.{among-right}
 use Rattle.cq_chain.specs.Masters.{is_in, is_last, stands_before}
-use Rattle.cq_chain.specs.Messages.{Message, Fwd, Snap, Report, Adopt, Have}
+use Rattle.cq_chain.specs.Messages.{Message, Fwd, Snap, Report, Adopt, Feed, Have, Caught}
 use Rattle.cq_chain.specs.Parties.{addressed}
 use Rattle.cq_chain.specs.Servers.{Server, is_that}
 use Rattle.cq_chain.specs.Steps.{is_next, is_restoring}
@@ -18,14 +18,15 @@ use Rattle.cq_store.specs.Laws.{Stamped}
 use Rattle.cq_world.specs.Laws.{Speaks}
 use Rattle.cq_world.specs.Runs.{longer, acting_history}
 use Rattle.cq_world.proofs.Chains.{before-in}
-use Rattle.cq_world.proofs.Prefixes.Climbing.{reports, one}
+use Rattle.cq_world.proofs.Prefixes.Climbing.{reports, one, ups}
 use Rattle.cq_world.proofs.Commits.{Commits, bit, longer-length}
 use Rattle.cq_world.proofs.Eaches.{Each, each-append, each-follows, cons_nil}
-use Rattle.cq_world.proofs.Wholes.Feeding.{NoData, OfSnap, Feeds, data-snap, all-data-snap, feeds-append, no-snap}
-use Rattle.cq_world.proofs.Prefixes.{Prefixes, master_after}
+use Rattle.cq_world.proofs.Wholes.Feeding.{NoData, NoSnap, OfSnap, Feeds, data-snap, all-data-snap, feeds-append, no-snap}
+use Rattle.cq_world.proofs.Lines.{member-line}
+use Rattle.cq_world.proofs.Prefixes.{Prefixes, master_after, ups_after}
 use Rattle.cq_world.proofs.Sights.{Sight, line}
-use Rattle.cq_world.proofs.Prefixes.Steps.{below-pred}
-use Rattle.cq_world.proofs.Wholes.{Whole, reports_of, haves_of, adopts_of, news, Known, HaveIs, AdoptIs, AckWithin, links, tokens, before-self, last-pred, stage-past}
+use Rattle.cq_world.proofs.Prefixes.Steps.{Placed, below-pred}
+use Rattle.cq_world.proofs.Wholes.{Whole, reports_of, haves_of, adopts_of, OnlyTo, Catches, Known, HaveIs, AdoptIs, AckWithin, links, tokens, before-self, last-pred, stage-past}
 use Rattle.cq_world.proofs.Wholes.Turns.{Feeding, left_between, left_each}
 
 -- ---- words that say nothing of neighbours
@@ -33,14 +34,25 @@ use Rattle.cq_world.proofs.Wholes.Turns.{Feeding, left_between, left_each}
 abbrev pub Idle : Message → Type 0
 Idle (Report p) = ⊥
 Idle (Adopt s n) = ⊥
+Idle (Feed succ) = ⊥
 Idle (Have p n) = ⊥
 Idle m = Unit {0}
 
 pub idle_known : (used : List ℕ) (m : Message) → Idle m → Known used m
 idle_known used (Report p) h = absurd h
 idle_known used (Adopt s n) h = absurd h
+idle_known used (Feed succ) h = absurd h
 idle_known used (Have p n) h = absurd h
 idle_known used m h = tt
+
+-- it doesn't tell of a snapshot
+abbrev pub NoCaught : Message → Type 0
+NoCaught (Caught p n) = ⊥
+NoCaught m = Unit {0}
+
+pub no_catches : (P : Type 0) (m : Message) → NoCaught m → Catches P m
+no_catches P (Caught p n) h = absurd h
+no_catches P m h = tt
 
 pub idle_have : (p count : ℕ) (m : Message) → Idle m → HaveIs p count m
 idle_have p count (Have q n) h = absurd h
@@ -105,6 +117,19 @@ own_link v c k g h member = go (is_that (v.server k).succ k) (stands_before k k 
   go true true e f = absurd (before-self k (line v.master) g.apart f)
   go true false e f = absurd (omega (arith, h.token k k member member, ap (λ x. bit x) f, ap (λ x. cond x 1 (adopts_of k (v.channel parties.Master (parties.Server k)))) e))
 
+-- the same of a member, and of a bystander, which has no successor
+pub placed_link : (v : Sight) (c : List Entry) (k : ℕ) → Prefixes v → Whole v c → Placed v k → is_that (v.server k).succ k ≡ false
+placed_link v c k g h (inl member) = own_link v c k g h (member-line v.master.chain v.master.joiner k member)
+placed_link v c k g h (inr b) = ap (λ o. is_that o k) b.1.succ
+
+pub placed_follows : (v : Sight) (c : List Entry) (k x : ℕ) → Whole v c → Placed v k → is_in (line v.master) x ≡ true → is_that (v.server k).succ x ≡ true → Each (OnlyTo x) (v.channel parties.Master (parties.Server k))
+placed_follows v c k x h (inl member) there is = h.follows k x (member-line v.master.chain v.master.joiner k member) there is
+placed_follows v c k x h (inr b) there is = absurd (false≢true (sym (ap (λ o. is_that o x) b.1.succ) ∙ is))
+
+pub placed_young : (v : Sight) (c : List Entry) (k : ℕ) → Whole v c → Placed v k → (v.server k).full ≡ false → (v.server k).succ ≡ None
+placed_young v c k h (inl member) young = h.young_succ k member young
+placed_young v c k h (inr b) young = b.1.succ
+
 -- a server that grows by what its predecessor sends: its neighbours' numbers say nothing of it
 pub linked_alone : (v : Sight) (c : List Entry) (p k : ℕ) → Prefixes v → Whole v c → is_in (line v.master) k ≡ true → (v.server k).pred ≡ Some p → is_that (v.server p).succ k ≡ true
     → (q : ℕ) → stands_before q k (line v.master) ≡ true → (haves_of q (v.channel (parties.Server k) parties.Master) ≡ 0) × (is_that (v.server q).succ k ≡ false → adopts_of k (v.channel parties.Master (parties.Server q)) ≡ 0)
@@ -134,25 +159,26 @@ no_pred v p k g member is_head is_pred = go (sym (ap (λ o. one o ++ reports (v.
 
 -- ---- steps by which nothing comes to the history
 
-pub calm-feeding : (v : Sight) (c : List Entry) (from : Party) (k : ℕ) (front rest : List Message) (s : Server) (out : List (Party × Message)) → Prefixes v → Whole v c → is_in v.master.chain k ≡ true
+pub calm-feeding : (v : Sight) (c : List Entry) (from : Party) (k : ℕ) (front rest : List Message) (s : Server) (out : List (Party × Message)) → Prefixes v → Whole v c → Placed v k
     → v.channel from (parties.Server k) ≡ front ++ rest
     → s.entries ≡ (v.server k).entries → ((p : ℕ) → s.pred ≡ Some p → (v.server k).pred ≡ Some p) → s.succ ≡ (v.server k).succ → (s.full ≡ false → (v.server k).full ≡ false)
     → ((p : ℕ) → reports_of p (master_after v from k rest) ≡ reports_of p (v.channel parties.Master (parties.Server k)))
-    → ((x : ℕ) → adopts_of x (master_after v from k rest) ≡ adopts_of x (v.channel parties.Master (parties.Server k)))
-    → (news (v.channel parties.Master (parties.Server k)) ≡ 0 → news (master_after v from k rest) ≡ 0)
-    → Each Idle (addressed parties.Master out) → ((x : ℕ) → Each NoData (addressed (parties.Server x) out))
-    → ((p : ℕ) → s.pred ≡ Some p → is_that (v.server p).succ k ≡ true → Feeds (length (v.server k).entries) (v.channel (parties.Server p) (parties.Server k)) (length (v.server p).entries) → Feeds (length (v.server k).entries) (left_between v from k rest p k) (length (v.server p).entries))
+    → ((x : ℕ) → is_in (line v.master) x ≡ true → links (v.server k).succ x (master_after v from k rest) ≡ links (v.server k).succ x (v.channel parties.Master (parties.Server k)))
+    → ((x : ℕ) → Each (OnlyTo x) (v.channel parties.Master (parties.Server k)) → Each (OnlyTo x) (master_after v from k rest))
+    → ((t : ℕ) → is_that v.master.joiner k ≡ true → ups v k ≡ t ∷ [] → ups_after v from k rest s ≡ t ∷ [])
+    → Each Idle (addressed parties.Master out) → Each NoCaught (addressed parties.Master out) → ((x : ℕ) → Each NoData (addressed (parties.Server x) out))
+    → ((p : ℕ) → is_in (line v.master) k ≡ true → s.pred ≡ Some p → is_that (v.server p).succ k ≡ true → Feeds (length (v.server k).entries) (v.channel (parties.Server p) (parties.Server k)) (length (v.server p).entries) → Feeds (length (v.server k).entries) (left_between v from k rest p k) (length (v.server p).entries))
     → s.acked ≤ length (longer c (acting_history s)) → ((x : ℕ) → Each (AckWithin (length (longer c (acting_history s)))) (addressed (parties.Server x) out)) → (s.full ≡ true → s.floor ≤ length (longer c (acting_history s)))
     → Feeding v c from k rest s out
-calm-feeding v c from k front rest s out g h member taken entries pred succ young same_reports same_adopts same_news idle quiet passes acked acks floor = record {
+calm-feeding v c from k front rest s out g h placed taken entries pred succ young same_reports same_links same_news same_ups idle told quiet passes acked acks floor = record {
   pred_known = λ p is. h.pred_known k p (pred p is);
   succ_known = λ x is. h.succ_known k x (sym succ ∙ is);
   reports_known = each-follows Idle (Known v.master.used) (addressed parties.Master out) (idle_known v.master.used) idle;
   behind = λ p m. omega (arith, same_reports p, idle_haves p (addressed parties.Master out) idle);
-  ahead = λ x there. ap (λ n. cond (is_that s.succ x) 1 n) (same_adopts x) ∙ ap (λ o. links o x (v.channel parties.Master (parties.Server k))) succ;
+  ahead = λ x there. ap (λ o. links o x (master_after v from k rest)) succ ∙ same_links x there;
   keeps_succ = λ x there is. ap (λ o. is_that o x) succ ∙ is;
-  not_self = ap (λ o. is_that o k) succ ∙ own_link v c k g h member;
-  follows = λ x there is. same_news (h.follows k x member there (sym (ap (λ o. is_that o x) succ) ∙ is));
+  not_self = ap (λ o. is_that o k) succ ∙ placed_link v c k g h placed;
+  follows = λ x there is. same_news x (placed_follows v c k x h placed there (sym (ap (λ o. is_that o x) succ) ∙ is));
   counts = λ p before. each-append (HaveIs p (length s.entries)) (v.channel (parties.Server k) parties.Master) (addressed parties.Master out) (subst (λ us. Each (HaveIs p (length us)) (v.channel (parties.Server k) parties.Master)) (sym entries) (h.counts p k before))
       (each-follows Idle (HaveIs p (length s.entries)) (addressed parties.Master out) (idle_have p (length s.entries)) idle);
   adopts = λ p before not_link. subst (λ us. Each (AdoptIs k (length us)) (v.channel parties.Master (parties.Server p))) (sym entries) (h.adopts p k before not_link);
@@ -161,11 +187,14 @@ calm-feeding v c from k front rest s out g h member taken entries pred succ youn
   feeds_ahead = λ x there other is_pred link. subst (λ us. Feeds (length (v.server x).entries) (v.channel (parties.Server k) (parties.Server x) ++ addressed (parties.Server x) out) (length us)) (sym entries)
       (feeds-append (length (v.server x).entries) (v.channel (parties.Server k) (parties.Server x)) (addressed (parties.Server x) out) (length (v.server k).entries) (length (v.server k).entries) (h.feed k x there is_pred (sym (ap (λ o. is_that o x) succ) ∙ link))
       (all-data-snap (addressed (parties.Server x) out) (quiet x)) (feeds_still (length (v.server k).entries) (addressed (parties.Server x) out) (quiet x)));
-  feeds_behind = λ p other is_pred link. subst (λ us. Feeds (length us) (left_between v from k rest p k) (length (v.server p).entries)) (sym entries) (passes p is_pred link (h.feed p k member (pred p is_pred) link));
+  feeds_behind = λ p there other is_pred link. subst (λ us. Feeds (length us) (left_between v from k rest p k) (length (v.server p).entries)) (sym entries) (passes p there is_pred link (h.feed p k there (pred p is_pred) link));
   snaps_ahead = λ x there other is_pred. each-follows NoData (OfSnap (length (v.server x).entries < length c)) (addressed (parties.Server x) out) (λ m none. no-snap (length (v.server x).entries < length c) m (data-snap m none)) (quiet x);
-  snaps_behind = λ p is_pred. subst (λ us. Each (OfSnap (length us < length (longer c (acting_history s)))) (left_between v from k rest p k)) (sym entries)
+  snaps_behind = λ p member is_pred. subst (λ us. Each (OfSnap (length us < length (longer c (acting_history s)))) (left_between v from k rest p k)) (sym entries)
       (each-follows (OfSnap (length (v.server k).entries < length c)) (OfSnap (length (v.server k).entries < length (longer c (acting_history s)))) (left_between v from k rest p k) more (left_each v from k front rest (OfSnap (length (v.server k).entries < length c)) p k taken (h.snap p k member (pred p is_pred))));
-  young_succ = λ is. succ ∙ h.young_succ k member (young is);
+  young_succ = λ is. succ ∙ placed_young v c k h placed (young is);
+  fed = λ t joins last. same_ups t joins (h.fed_by k t joins last);
+  snaps_to = λ x joins link. all-data-snap (addressed (parties.Server x) out) (quiet x);
+  catches = λ t joins last. each-follows NoCaught (Catches ((is_that (v.server t).succ k ≡ true) × Each NoSnap (left_between v from k rest t k))) (addressed parties.Master out) (no_catches ((is_that (v.server t).succ k ≡ true) × Each NoSnap (left_between v from k rest t k))) told;
   acked = acked;
   sent_acks = acks;
   floor = floor;
@@ -210,10 +239,13 @@ snap_young v c p k entries rest k_commits h member is_pred at = elim (cases_Bool
 ]
 
 -- a snapshot of a predecessor that is linked is accepted
-pub accepts_snap : (v : Sight) (c : List Entry) (p k : ℕ) (entries : List Entry) (rest : List Message) → Commits v c → Whole v c → is_in v.master.chain k ≡ true → (v.server k).pred ≡ Some p → is_that (v.server p).succ k ≡ true
+pub accepts_snap : (v : Sight) (c : List Entry) (p k : ℕ) (entries : List Entry) (rest : List Message) → Commits v c → Whole v c → Placed v k → is_in (line v.master) k ≡ true → (v.server k).pred ≡ Some p → is_that (v.server p).succ k ≡ true
     → v.channel (parties.Server p) (parties.Server k) ≡ Snap entries ∷ rest → is_restoring (v.server k) p entries ≡ true
-accepts_snap v c p k entries rest k_commits h member is_pred link at =
-    let feed = subst (λ ms. Feeds (length (v.server k).entries) ms (length (v.server p).entries)) at (h.feed p k member is_pred link) in
+accepts_snap v c p k entries rest k_commits h placed there is_pred link at =
+    let feed = subst (λ ms. Feeds (length (v.server k).entries) ms (length (v.server p).entries)) at (h.feed p k there is_pred link) in
     and_from (is_that (v.server k).pred p && is_none (v.server k).succ) (nat_le (length (v.server k).entries) (length entries))
-    (and_from (is_that (v.server k).pred p) (is_none (v.server k).succ) (ap (λ o. is_that o p) is_pred ∙ eq-eqb p p refl) (ap (λ o. is_none o) (h.young_succ k member (snap_young v c p k entries rest k_commits h member is_pred at))))
-    (le-leb (length (v.server k).entries) (length entries) feed.0)
+    (and_from (is_that (v.server k).pred p) (is_none (v.server k).succ) (ap (λ o. is_that o p) is_pred ∙ eq-eqb p p refl) (ap (λ o. is_none o) (alone placed)))
+    (le-leb (length (v.server k).entries) (length entries) feed.0) where
+      alone : Placed v k → (v.server k).succ ≡ None
+      alone (inl member) = h.young_succ k member (snap_young v c p k entries rest k_commits h member is_pred at)
+      alone (inr b) = b.1.succ

@@ -4,23 +4,24 @@ use Rattle.std.proofs.lemmas.Bool.{eqb-true, both_ways, cases_Bool}
 use Rattle.cq_base.specs.declared.ask.Entry.{Entry}
 use Rattle.cq_base.specs.declared.party.Party.{Party}
 use Rattle.cq_base.specs.declared.party.Party.TheVariants as parties
-use Rattle.cq_chain.specs.Masters.{is_in, stands_before}
-use Rattle.cq_chain.specs.Messages.{Message, Snap, Ack, Report, Adopt, BeTail, Have}
+use Rattle.cq_chain.specs.Masters.{is_in, is_last, stands_before}
+use Rattle.cq_chain.specs.Messages.{Message, Snap, Ack, Report, Adopt, Feed, Have, Caught}
 use Rattle.cq_chain.specs.Parties.{same, addressed}
 use Rattle.cq_chain.specs.Servers.{Server, is_that}
 use Rattle.cq_world.specs.Runs.{longer, acting_history}
 use Rattle.cq_world.specs.Worlds.{set_at}
-use Rattle.cq_world.proofs.Chains.{before-in}
+use Rattle.cq_world.proofs.Chains.{last-in, before-in}
 use Rattle.cq_world.proofs.Commits.{longer-length}
-use Rattle.cq_world.proofs.Commits.Turns.{if_true, if_false, report_row, rest_of, by_server, by_told, by_report}
+use Rattle.cq_world.proofs.Commits.Turns.{if_true, if_false, report_row, by_server, by_told, by_report}
 use Rattle.cq_world.proofs.Eaches.{Each, each-append, each-follows}
-use Rattle.cq_world.proofs.Wholes.Feeding.{NoData, OfSnap, Feeds, data-snap, no-snap}
+use Rattle.cq_world.proofs.Wholes.Feeding.{NoData, NoSnap, OfSnap, Feeds, data-snap, no-snap}
 use Rattle.cq_world.proofs.Parties.{same-true}
-use Rattle.cq_world.proofs.Prefixes.{Prefixes, Turn, master_after, row_after, each-end}
+use Rattle.cq_world.proofs.Lines.{joiner-line, joiner-out}
+use Rattle.cq_world.proofs.Prefixes.Climbing.{ups}
+use Rattle.cq_world.proofs.Prefixes.{Prefixes, Turn, master_after, ups_after, ups_own, ups_other, row_after, rest_of, each-end}
 use Rattle.cq_world.proofs.Settled.{that_some}
 use Rattle.cq_world.proofs.Sights.{Sight, line, turn}
-use Rattle.cq_world.proofs.Prefixes.Steps.{lives-member}
-use Rattle.cq_world.proofs.Wholes.{Whole, reports_of, haves_of, adopts_of, news, Ends, Known, HaveIs, AdoptIs, AckWithin, links, tokens, before-self}
+use Rattle.cq_world.proofs.Wholes.{Whole, reports_of, haves_of, adopts_of, feeds_of, OnlyTo, Ends, FeedsOut, Catches, Known, HaveIs, AdoptIs, AckWithin, links, tokens, before-self}
 
 -- what is left on the way from one server to another, before more is sent
 abbrev pub left_between : Sight → Party → ℕ → List Message → ℕ → ℕ → List Message
@@ -36,7 +37,7 @@ pub record Feeding (v : Sight) (c : List Entry) (from : Party) (k : ℕ) (rest :
   pub ahead : (x : ℕ) → is_in (line v.master) x ≡ true → links s.succ x (master_after v from k rest) ≡ links (v.server k).succ x (v.channel parties.Master (parties.Server k))
   pub keeps_succ : (x : ℕ) → is_in (line v.master) x ≡ true → is_that (v.server k).succ x ≡ true → is_that s.succ x ≡ true
   pub not_self : is_that s.succ k ≡ false
-  pub follows : (x : ℕ) → is_in (line v.master) x ≡ true → is_that s.succ x ≡ true → news (master_after v from k rest) ≡ 0
+  pub follows : (x : ℕ) → is_in (line v.master) x ≡ true → is_that s.succ x ≡ true → Each (OnlyTo x) (master_after v from k rest)
   -- numbers
   pub counts : (p : ℕ) → stands_before p k (line v.master) ≡ true → Each (HaveIs p (length s.entries)) (v.channel (parties.Server k) parties.Master ++ addressed parties.Master out)
   pub adopts : (p : ℕ) → stands_before p k (line v.master) ≡ true → is_that (v.server p).succ k ≡ false → Each (AdoptIs k (length s.entries)) (v.channel parties.Master (parties.Server p))
@@ -45,10 +46,14 @@ pub record Feeding (v : Sight) (c : List Entry) (from : Party) (k : ℕ) (rest :
   pub new_link : (x : ℕ) → is_in (line v.master) x ≡ true → is_that s.succ x ≡ true → is_that (v.server k).succ x ≡ false → reports_of k (v.channel parties.Master (parties.Server x)) ≡ 0
   pub feeds_ahead : (x : ℕ) → is_in (line v.master) x ≡ true → eqb x k ≡ false → (v.server x).pred ≡ Some k → is_that s.succ x ≡ true
       → Feeds (length (v.server x).entries) (v.channel (parties.Server k) (parties.Server x) ++ addressed (parties.Server x) out) (length s.entries)
-  pub feeds_behind : (p : ℕ) → eqb p k ≡ false → s.pred ≡ Some p → is_that (v.server p).succ k ≡ true → Feeds (length s.entries) (left_between v from k rest p k) (length (v.server p).entries)
+  pub feeds_behind : (p : ℕ) → is_in (line v.master) k ≡ true → eqb p k ≡ false → s.pred ≡ Some p → is_that (v.server p).succ k ≡ true → Feeds (length s.entries) (left_between v from k rest p k) (length (v.server p).entries)
   pub snaps_ahead : (x : ℕ) → is_in v.master.chain x ≡ true → eqb x k ≡ false → (v.server x).pred ≡ Some k → Each (OfSnap (length (v.server x).entries < length c)) (addressed (parties.Server x) out)
-  pub snaps_behind : (p : ℕ) → s.pred ≡ Some p → Each (OfSnap (length s.entries < length (longer c (acting_history s)))) (left_between v from k rest p k)
+  pub snaps_behind : (p : ℕ) → is_in v.master.chain k ≡ true → s.pred ≡ Some p → Each (OfSnap (length s.entries < length (longer c (acting_history s)))) (left_between v from k rest p k)
   pub young_succ : s.full ≡ false → s.succ ≡ None
+  -- a server that joins
+  pub fed : (t : ℕ) → is_that v.master.joiner k ≡ true → is_last v.master.chain t ≡ true → ups_after v from k rest s ≡ t ∷ []
+  pub snaps_to : (x : ℕ) → is_that v.master.joiner x ≡ true → is_that (v.server k).succ x ≡ true → Each NoSnap (addressed (parties.Server x) out)
+  pub catches : (t : ℕ) → is_that v.master.joiner k ≡ true → is_last v.master.chain t ≡ true → Each (Catches ((is_that (v.server t).succ k ≡ true) × Each NoSnap (left_between v from k rest t k))) (addressed parties.Master out)
   -- acknowledgements
   pub acked : s.acked ≤ length (longer c (acting_history s))
   pub sent_acks : (x : ℕ) → Each (AckWithin (length (longer c (acting_history s)))) (addressed (parties.Server x) out)
@@ -86,12 +91,14 @@ adopts-append s (m ∷ xs) ys = step m (adopts-append s xs ys) where
     go false = h
   step x h = h
 
-pub news-append : (xs ys : List Message) → news (xs ++ ys) ≡ news xs + news ys
-news-append [] ys = omega arith
-news-append (m ∷ xs) ys = step m (news-append xs ys) where
-  step : (x : Message) → news (xs ++ ys) ≡ news xs + news ys → news (x ∷ (xs ++ ys)) ≡ news (x ∷ xs) + news ys
-  step (Adopt q n) h = omega (arith, h)
-  step (BeTail least) h = omega (arith, h)
+pub fed-append : (s : ℕ) (xs ys : List Message) → feeds_of s (xs ++ ys) ≡ feeds_of s xs + feeds_of s ys
+fed-append s [] ys = omega arith
+fed-append s (m ∷ xs) ys = step m (fed-append s xs ys) where
+  step : (x : Message) → feeds_of s (xs ++ ys) ≡ feeds_of s xs + feeds_of s ys → feeds_of s (x ∷ (xs ++ ys)) ≡ feeds_of s (x ∷ xs) + feeds_of s ys
+  step (Feed (Some q)) h = go (eqb q s) where
+    go : (b : Bool) → cond b (suc (feeds_of s (xs ++ ys))) (feeds_of s (xs ++ ys)) ≡ cond b (suc (feeds_of s xs)) (feeds_of s xs) + feeds_of s ys
+    go true = omega (arith, h)
+    go false = h
   step x h = h
 
 -- of the end of a row
@@ -100,6 +107,7 @@ ends-end line [] ys h = h
 ends-end line (m ∷ xs) ys h = ends-end line xs ys (skip m h) where
   skip : (x : Message) → Ends line (x ∷ (xs ++ ys)) → Ends line (xs ++ ys)
   skip (Adopt s n) g = g.1
+  skip (Feed (Some s)) g = g.1
   skip x g = g
 
 -- ---- a turn
@@ -134,7 +142,7 @@ whole_keep v c from k rest s out t = record {
   unheard = λ p id unused. sent_row NoData p id (left_each v from k t.moves.front rest NoData p id t.moves.taken (h.unheard p id unused)) (f.sent_data id (unknown id unused));
   token = λ p x member there. tokens_same p x member there ∙ h.token p x member there;
   ends = λ p. by_told v from k rest s out (λ i x ms. is_in (line v.master) i ≡ true → Ends (line v.master) ms) (λ m. ends-end (line v.master) left.0 (master_after v from k rest) (subst (λ ms. Ends (line v.master) ms) left.1 (h.ends k m))) (λ i other. h.ends i) p;
-  follows = λ p x. by_told v from k rest s out (λ i y ms. is_in (line v.master) i ≡ true → is_in (line v.master) x ≡ true → is_that y.succ x ≡ true → news ms ≡ 0) (λ m. f.follows x) (λ i other. h.follows i x) p;
+  follows = λ p x. by_told v from k rest s out (λ i y ms. is_in (line v.master) i ≡ true → is_in (line v.master) x ≡ true → is_that y.succ x ≡ true → Each (OnlyTo x) ms) (λ m. f.follows x) (λ i other. h.follows i x) p;
   counts = λ p x before. counts p x before (eqb x k) refl;
   adopts = λ p x before. adopts p x before (eqb p k) (eqb x k) refl refl;
   data_none = λ p x there. data_none p x there (eqb p k) refl;
@@ -145,6 +153,9 @@ whole_keep v c from k rest s out t = record {
   acked = λ id. by_server v k s (λ i x. x.acked ≤ length now) f.acked (λ i other. omega (arith, h.acked i, grows)) id;
   acks = λ p x. sent_row (AckWithin (length now)) p x (each-follows (AckWithin (length c)) (AckWithin (length now)) (left_between v from k rest p x) wider (left_each v from k t.moves.front rest (AckWithin (length c)) p x t.moves.taken (h.acks p x))) (f.sent_acks x);
   floors = λ id. by_server v k s (λ i x. is_in v.master.chain i ≡ true → x.full ≡ true → x.floor ≤ length now) (λ m. f.floor) (λ i other m full. omega (arith, h.floors i m full, grows)) id;
+  fed_by = λ j last joins is. fed_by j last joins is (eqb j k) refl;
+  caught = λ j last joins is. caught j last joins is (eqb j k) refl;
+  feeds_out = λ p. by_told v from k rest s out (λ i x ms. is_in v.master.chain i ≡ true → Each (FeedsOut v.master.chain) ms) (λ m. end_of (FeedsOut v.master.chain) (h.feeds_out k m)) (λ i other. h.feeds_out i) p;
 } where
   h : Whole v c
   h = t.whole
@@ -167,9 +178,6 @@ whole_keep v c from k rest s out t = record {
 
   end_of : (P : Message → Type 0) → Each P (v.channel parties.Master (parties.Server k)) → Each P (master_after v from k rest)
   end_of P g = each-end P left.0 (master_after v from k rest) (subst (λ ms. Each P ms) left.1 g)
-
-  member : is_in (line v.master) k ≡ true
-  member = lives-member v k t.prefixes t.moves.known t.moves.lives
 
   -- what is on the way from a server after the turn
   sent_row : (P : Message → Type 0) (a b : ℕ) → Each P (left_between v from k rest a b) → Each P (addressed (parties.Server b) out) → Each P ((turn v from k rest s out).channel (parties.Server a) (parties.Server b))
@@ -269,7 +277,7 @@ whole_keep v c from k rest s out t = record {
   feed p x there false true e g is_pred link = subst (λ ms. Feeds (length (set_at v.server k s x).entries) ms (length (set_at v.server k s p).entries)) (sym (other_row p x e ∙ ap (λ i. left_between v from k rest p i) (eqb-true x k g)))
       (subst (λ y. Feeds (length (set_at v.server k s x).entries) (left_between v from k rest p k) (length y.entries)) (sym (other_server p e))
       (subst (λ y. Feeds (length y.entries) (left_between v from k rest p k) (length (v.server p).entries)) (sym (own_server x g))
-      (t.feeding.feeds_behind p e (sym (ap (λ y. y.pred) (own_server x g)) ∙ is_pred) (subst (λ i. is_that (v.server p).succ i ≡ true) (eqb-true x k g) (sym (ap (λ y. is_that y.succ x) (other_server p e)) ∙ link)))))
+      (t.feeding.feeds_behind p (subst (λ i. is_in (line v.master) i ≡ true) (eqb-true x k g) there) e (sym (ap (λ y. y.pred) (own_server x g)) ∙ is_pred) (subst (λ i. is_that (v.server p).succ i ≡ true) (eqb-true x k g) (sym (ap (λ y. is_that y.succ x) (other_server p e)) ∙ link)))))
   feed p x there false false e g is_pred link = subst (λ ms. Feeds (length (set_at v.server k s x).entries) ms (length (set_at v.server k s p).entries)) (sym (other_row p x e ∙ left_other v from k rest p x g))
       (subst (λ y. Feeds (length (set_at v.server k s x).entries) (v.channel (parties.Server p) (parties.Server x)) (length y.entries)) (sym (other_server p e))
       (subst (λ y. Feeds (length y.entries) (v.channel (parties.Server p) (parties.Server x)) (length (v.server p).entries)) (sym (other_server x g))
@@ -286,7 +294,7 @@ whole_keep v c from k rest s out t = record {
   snap : (p x : ℕ) → is_in v.master.chain x ≡ true → (a b : Bool) → eqb p k ≡ a → eqb x k ≡ b → (set_at v.server k s x).pred ≡ Some p
       → Each (OfSnap (length (set_at v.server k s x).entries < length (longer c (acting_history s)))) ((turn v from k rest s out).channel (parties.Server p) (parties.Server x))
   snap p x there a true e g is_pred = subst (λ y. Each (OfSnap (length y.entries < length now)) ((turn v from k rest s out).channel (parties.Server p) (parties.Server x))) (sym (own_server x g))
-      (sent_row (OfSnap (length s.entries < length now)) p x (subst (λ i. Each (OfSnap (length s.entries < length now)) (left_between v from k rest p i)) (sym (eqb-true x k g)) (t.feeding.snaps_behind p (sym (ap (λ y. y.pred) (own_server x g)) ∙ is_pred)))
+      (sent_row (OfSnap (length s.entries < length now)) p x (subst (λ i. Each (OfSnap (length s.entries < length now)) (left_between v from k rest p i)) (sym (eqb-true x k g)) (t.feeding.snaps_behind p (subst (λ i. is_in v.master.chain i ≡ true) (eqb-true x k g) there) (sym (ap (λ y. y.pred) (own_server x g)) ∙ is_pred)))
       (each-follows NoData (OfSnap (length s.entries < length now)) (addressed (parties.Server x) out) (λ m none. no-snap (length s.entries < length now) m (data-snap m none)) (t.feeding.sent_data x (subst (λ i. is_that s.succ i ≡ false) (sym (eqb-true x k g)) t.feeding.not_self))))
   snap p x there true false e g is_pred = subst (λ y. Each (OfSnap (length y.entries < length now)) ((turn v from k rest s out).channel (parties.Server p) (parties.Server x))) (sym (other_server x g))
       (subst (λ ms. Each (OfSnap (length (v.server x).entries < length now)) ms) (sym (own_row p x e))
@@ -298,6 +306,61 @@ whole_keep v c from k rest s out t = record {
   snap p x there false false e g is_pred = subst (λ y. Each (OfSnap (length y.entries < length now)) ((turn v from k rest s out).channel (parties.Server p) (parties.Server x))) (sym (other_server x g))
       (subst (λ ms. Each (OfSnap (length (v.server x).entries < length now)) ms) (sym (other_row p x e))
       (each-follows (OfSnap (length (v.server x).entries < length c)) (OfSnap (length (v.server x).entries < length now)) (left_between v from k rest p x) (more_snap (length (v.server x).entries)) (left_each v from k t.moves.front rest (OfSnap (length (v.server x).entries < length c)) p x t.moves.taken (t.whole.snap p x there (sym (ap (λ y. y.pred) (other_server x g)) ∙ is_pred)))))
+
+  fed_by : (j last : ℕ) → is_that v.master.joiner j ≡ true → is_last v.master.chain last ≡ true → (b : Bool) → eqb j k ≡ b → ups (turn v from k rest s out) j ≡ last ∷ []
+  fed_by j last joins is true e = ups_own v from k rest s out j e ∙ t.feeding.fed last (subst (λ i. is_that v.master.joiner i ≡ true) (eqb-true j k e) joins) is
+  fed_by j last joins is false e = ups_other v from k rest s out j e ∙ t.whole.fed_by j last joins is
+
+  -- what follows for a list
+  catches_follow : (P Q : Type 0) (ms : List Message) → (P → Q) → Each (Catches P) ms → Each (Catches Q) ms
+  catches_follow P Q [] to h = tt
+  catches_follow P Q (m ∷ ms) to h = (one m h.0, catches_follow P Q ms to h.1) where
+    one : (x : Message) → Catches P x → Catches Q x
+    one (Caught p n) g = to g
+    one x g = tt
+
+  caught : (j last : ℕ) → is_that v.master.joiner j ≡ true → is_last v.master.chain last ≡ true → (b : Bool) → eqb j k ≡ b
+      → Each (Catches ((is_that (set_at v.server k s last).succ j ≡ true) × Each NoSnap ((turn v from k rest s out).channel (parties.Server last) (parties.Server j)))) ((turn v from k rest s out).channel (parties.Server j) parties.Master)
+  caught j last joins is true e = subst (λ ms. Each (Catches Now) ms) (sym (report_row v from k rest s out j ∙ if_true (eqb j k) (v.channel (parties.Server j) parties.Master ++ addressed parties.Master out) (v.channel (parties.Server j) parties.Master) e))
+      (each-append (Catches Now) (v.channel (parties.Server j) parties.Master) (addressed parties.Master out) (catches_follow Was Now (v.channel (parties.Server j) parties.Master) old (t.whole.caught j last joins is))
+      (catches_follow New Now (addressed parties.Master out) new (t.feeding.catches last (subst (λ i. is_that v.master.joiner i ≡ true) (eqb-true j k e) joins) is))) where
+        Was : Type 0
+        Was = (is_that (v.server last).succ j ≡ true) × Each NoSnap (v.channel (parties.Server last) (parties.Server j))
+
+        Now : Type 0
+        Now = (is_that (set_at v.server k s last).succ j ≡ true) × Each NoSnap ((turn v from k rest s out).channel (parties.Server last) (parties.Server j))
+
+        New : Type 0
+        New = (is_that (v.server last).succ k ≡ true) × Each NoSnap (left_between v from k rest last k)
+
+        other : eqb last k ≡ false
+        other = elim (cases_Bool (eqb last k)) [
+          | inr no_same ↦ no_same
+          | inl same ↦ absurd (both_ways (is_in v.master.chain j) (joiner-out v.master.chain v.master.joiner j t.prefixes.apart joins) (subst (λ i. is_in v.master.chain i ≡ true) (eqb-true last k same ∙ sym (eqb-true j k e)) (last-in v.master.chain last is)))
+        ]
+
+        old : Was → Now
+        old h = (ap (λ y. is_that y.succ j) (other_server last other) ∙ h.0, subst (λ ms. Each NoSnap ms) (sym (other_row last j other)) (left_each v from k t.moves.front rest NoSnap last j t.moves.taken h.1))
+
+        new : New → Now
+        new h = (
+          ap (λ y. is_that y.succ j) (other_server last other) ∙ subst (λ i. is_that (v.server last).succ i ≡ true) (sym (eqb-true j k e)) h.0,
+          subst (λ ms. Each NoSnap ms) (sym (other_row last j other)) (subst (λ i. Each NoSnap (left_between v from k rest last i)) (sym (eqb-true j k e)) h.1),
+        )
+  caught j last joins is false e = subst (λ ms. Each (Catches Now) ms) (sym (report_row v from k rest s out j ∙ if_false (eqb j k) (v.channel (parties.Server j) parties.Master ++ addressed parties.Master out) (v.channel (parties.Server j) parties.Master) e))
+      (catches_follow Was Now (v.channel (parties.Server j) parties.Master) (now (eqb last k) refl) (t.whole.caught j last joins is)) where
+        Was : Type 0
+        Was = (is_that (v.server last).succ j ≡ true) × Each NoSnap (v.channel (parties.Server last) (parties.Server j))
+
+        Now : Type 0
+        Now = (is_that (set_at v.server k s last).succ j ≡ true) × Each NoSnap ((turn v from k rest s out).channel (parties.Server last) (parties.Server j))
+
+        now : (b : Bool) → eqb last k ≡ b → Was → Now
+        now true own h = let link = subst (λ i. is_that (v.server i).succ j ≡ true) (eqb-true last k own) h.0 in (
+          ap (λ y. is_that y.succ j) (own_server last own) ∙ t.feeding.keeps_succ j (joiner-line v.master.chain v.master.joiner j joins) link,
+          subst (λ ms. Each NoSnap ms) (sym (own_row last j own)) (each-append NoSnap (left_between v from k rest last j) (addressed (parties.Server j) out) (left_each v from k t.moves.front rest NoSnap last j t.moves.taken h.1) (t.feeding.snaps_to j joins link)),
+        )
+        now false other h = (ap (λ y. is_that y.succ j) (other_server last other) ∙ h.0, subst (λ ms. Each NoSnap ms) (sym (other_row last j other)) (left_each v from k t.moves.front rest NoSnap last j t.moves.taken h.1))
 
 -- A turn keeps all sentences.
 pub turn-whole : (v : Sight) (c : List Entry) (from : Party) (k : ℕ) (rest : List Message) (s : Server) (out : List (Party × Message)) → Prefixes v → Whole v c → Turn v from k rest s out → Feeding v c from k rest s out → Whole (turn v from k rest s out) (longer c (acting_history s))

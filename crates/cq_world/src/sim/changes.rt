@@ -1,10 +1,8 @@
 //! Crashes, detections and joins.
 ghost use Rattle.std.specs.Prelude.{◌≡◌, ◌&&◌, ◌<◌, [], not, Err, IfOk, OnOk};
 ghost use Rattle.indexmap.specs.IndexMap.{spare};
-ghost use Rattle.cq_chain.specs.Masters.{refusal_of_join};
 ghost use Rattle.cq_chain.specs.Servers.{joining};
 ghost use Rattle.cq_chain.specs.Stands as chain;
-ghost use Rattle.cq_chain.specs.Stands.{IsRefusedBy};
 ghost use Rattle.cq_chain.specs.declared.fault.WorldFault.TheVariants as faults;
 ghost use Rattle.cq_world.specs.Events.{another_full};
 ghost use Rattle.cq_world.specs.Stands.{StandsFor, Shows, IsRefused};
@@ -13,7 +11,7 @@ ghost use Rattle.cq_world.specs.Worlds.{is_in};
 ghost use Rattle.cq_world.specs.declared.event.Event.TheVariants as events;
 
 use super::Sim;
-use cq_base::{CHAIN_LIMIT, NoMemory, ServerId};
+use cq_base::{NoMemory, ServerId};
 use cq_chain::{Server, WorldFault};
 
 impl Sim {
@@ -78,22 +76,6 @@ impl Sim {
         }
     }
 
-    /// Why a join is refused, if it is: O(1).
-    fn check_join(&self, id: ServerId) -> Result<(), WorldFault>
-        ensures { Shows self.now (λ w. IsRefusedBy (refusal_of_join id w.master) result) }
-    {
-        if self.servers.contains_key(&id) {
-            return Err(WorldFault::IdUsed);
-        }
-        if usize::from(CHAIN_LIMIT) <= self.master.chain().len() {
-            return Err(WorldFault::ChainFull);
-        }
-        if !self.master.is_ready() {
-            return Err(WorldFault::JoinPending);
-        }
-        Ok(())
-    }
-
     /// A server that joins under that number, with room for it in the map.
     fn make_joining(&mut self, id: ServerId) -> Result<Server, NoMemory>
         ensures same { Shows self.old (λ w. StandsFor self.new w) }
@@ -104,12 +86,12 @@ impl Sim {
         Server::joining(self.alloc, id)
     }
 
-    /// A new server joins. It and its place are made before the master learns of it.
+    /// A new server joins, unless the master refuses. It and its place are made before the master learns of it.
     pub(super) fn join(&mut self, id: ServerId) -> Result<(), WorldFault>
         ensures ok { IsDone self.old self.new (events.Join id) result }
         ensures err { IsRefused self.old self.new (events.Join id) result }
     {
-        self.check_join(id)?;
+        self.master.check_join(id)?;
         let server = self.make_joining(id)?;
         self.master.join(id)?;
         match self.servers.insert(id, server) {

@@ -10,6 +10,7 @@ returns c = master-stands _ (first_master c.args.size) (λ _. []) (record {
   chain = c.in_ok-first_chain.ensures;
   told = refl;
   ready = refl;
+  joiner = refl;
   used = c.in_ok-first_used.ensures;
   waiting = λ to. subst (λ xs. AllMean xs []) (sym (c.new.ensures to)) tt;
   master = refl;

@@ -13,5 +13,5 @@ returns-then-not-is_restoring-clause-ok c = λ es is s outbox h.
     stands-by c.args.self.now outbox _ _ (takes-no_snapshot s c.args.from es other) (nothing-sent c.args.self.now s outbox h)
 
 pub returns-clause-ok : goal.returns-clause-ok
-returns-clause-ok c = λ es is. does-as c.args.self.now c.restore.new.self (restored es) (takes (parties.Server c.args.from) (sent.Snap es)) c.restore.result
+returns-clause-ok c = λ es is. does-as c.args.self.now c.restore.new.self (restored c.args.from es) (takes (parties.Server c.args.from) (sent.Snap es)) c.restore.result
     (λ s outbox h. takes-restoring s c.args.from es (sym (restoring-of s c.args.self.now outbox c.args.from c.args.state.now es h is) ∙ sym c.is_restoring.ensures ∙ c.if-not-is_restoring.false)) (c.restore.ensures.ok es is)
