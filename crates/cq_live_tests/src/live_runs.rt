@@ -57,6 +57,16 @@ fn asks_and_changes(alloc: Global) -> Result<Vec<LiveStep>, Fail> {
     Ok(steps)
 }
 
+/// The same, and a crash of server 5, the last one, once it has ten entries.
+fn asks_and_more_changes(alloc: Global) -> Result<Vec<LiveStep>, Fail> {
+    let mut steps = asks_and_changes(alloc)?;
+    steps.push(LiveStep::Crash {
+        server: ServerId::new(5).ok_or("no server")?,
+        after: 10,
+    })?;
+    Ok(steps)
+}
+
 /// How often a server crashes, is detected and joins, by its number.
 fn changes_of(events: &[Event], number: u32) -> (usize, usize, usize) {
     let mut found = (0_usize, 0_usize, 0_usize);
@@ -103,6 +113,8 @@ struct Findings {
     accepted: u64,
     /// How often server 3 crashes, is detected and joins.
     of_third: (usize, usize, usize),
+    /// How often server 5 does.
+    of_fifth: (usize, usize, usize),
     /// How often server 6 does.
     of_sixth: (usize, usize, usize),
     starved: usize,
@@ -115,6 +127,7 @@ fn told_by(report: &LiveReport) -> Findings {
     Findings {
         accepted: report.accepted,
         of_third: changes_of(&report.events, 3),
+        of_fifth: changes_of(&report.events, 5),
         of_sixth: changes_of(&report.events, 6),
         starved: report.starved.len(),
         arrives_late: arrives(&report.events) && arrive_late(&report.events, 3_000),
@@ -163,6 +176,20 @@ fn servers_run_side_by_side(rt: HostRuntime) -> Result<(), Fail> {
     )?;
     assert_eq!(rt; told.accepted, 40);
     assert_eq!(rt; told.of_third, (1, 1, 0));
+    assert_eq!(rt; told.of_fifth, (0, 0, 0));
+    assert_eq!(rt; told.of_sixth, (0, 0, 1));
+    assert_eq!(rt; told.starved, 0);
+    Ok(())
+}
+
+/// The server behind which another joins crashes, whether or not it has handed over.
+#[test]
+fn the_last_server_crashes_when_another_joins(rt: HostRuntime) -> Result<(), Fail> {
+    let alloc = rt.alloc();
+    let told = told(&rt, alloc, 5, &asks_and_more_changes(alloc)?, &Always)?;
+    assert_eq!(rt; told.accepted, 40);
+    assert_eq!(rt; told.of_third, (1, 1, 0));
+    assert_eq!(rt; told.of_fifth, (1, 1, 0));
     assert_eq!(rt; told.of_sixth, (0, 0, 1));
     assert_eq!(rt; told.starved, 0);
     Ok(())

@@ -7,6 +7,7 @@ use std::process::Abort;
 use std::test::Fail;
 
 mod changes;
+mod joins;
 mod passing;
 mod traces;
 

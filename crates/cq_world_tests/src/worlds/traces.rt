@@ -102,41 +102,47 @@ fn passed(from: Who, to: Who) -> [Row; 2] {
     [Row::Put(from, to), Row::Take(from, to)]
 }
 
-/// A server joins, and the one that is to feed it crashes, so that the one before that feeds it.
+/// Adds the ways of messages, each from one party to another.
+fn pass_all(rows: &mut Vec<Row>, ways: &[(Who, Who)]) -> Result<(), Fail> {
+    for (from, to) in ways {
+        for row in passed(*from, *to) {
+            rows.push(row)?;
+        }
+    }
+    Ok(())
+}
+
+/// A server joins, and the one that fed it crashes with an entry that it lacks, so that the one before that sends its state.
 fn feeder_lost(alloc: Global) -> Result<Vec<Row>, Fail> {
     let mut rows = Vec::new(alloc);
     rows.push(Row::Arrive(1, 1, 1))?;
     rows.push(Row::Arrive(1, 1, 2))?;
-    for (from, to) in [(ONE, TWO), (ONE, TWO), (TWO, ONE), (TWO, ONE)] {
-        for row in passed(from, to) {
-            rows.push(row)?;
-        }
-    }
+    let settled = [(ONE, TWO), (ONE, TWO), (TWO, ONE), (TWO, ONE)];
+    pass_all(&mut rows, &settled)?;
     rows.push(Row::Join(3))?;
-    for (from, to) in [(MASTER, THREE), (THREE, MASTER), (MASTER, TWO)] {
-        for row in passed(from, to) {
-            rows.push(row)?;
-        }
-    }
-    rows.push(Row::Put(TWO, MASTER))?;
+    let fed = [
+        (MASTER, THREE),
+        (THREE, MASTER),
+        (MASTER, TWO),
+        (TWO, THREE),
+    ];
+    pass_all(&mut rows, &fed)?;
+    rows.push(Row::Arrive(1, 1, 3))?;
+    let member = [(ONE, TWO), (TWO, ONE), (THREE, MASTER)];
+    pass_all(&mut rows, &member)?;
     rows.push(Row::Crash(2))?;
-    rows.push(Row::Take(TWO, MASTER))?;
-    for row in passed(MASTER, THREE) {
-        rows.push(row)?;
-    }
     rows.push(Row::Detect(2))?;
-    for (from, to) in [
+    let repaired = [
         (MASTER, THREE),
         (THREE, MASTER),
         (MASTER, ONE),
         (ONE, THREE),
         (ONE, MASTER),
         (THREE, MASTER),
-    ] {
-        for row in passed(from, to) {
-            rows.push(row)?;
-        }
-    }
+        (MASTER, THREE),
+        (THREE, MASTER),
+    ];
+    pass_all(&mut rows, &repaired)?;
     Ok(rows)
 }
 
