@@ -246,9 +246,9 @@ impl<'a, P: PutEnd<Request> + Drop, T: TakeEnd<Message> + Drop> ClientNode<'a, P
         Ok(taken | put)
     }
 
-    /// Whether it is at its end: each ask is closed, memory was wanting, or all nodes are to stop.
+    /// Whether it is at its end: each ask is closed, memory was wanting, or all nodes are to stop or give up.
     fn is_done(&self) -> bool {
-        self.starved || self.asks.len() <= self.closed.len() || self.flags.is_stopped()
+        self.starved || self.asks.len() <= self.closed.len() || self.flags.are_to_end()
     }
 
     /// Tells the other nodes that it has ended.
@@ -257,7 +257,7 @@ impl<'a, P: PutEnd<Request> + Drop, T: TakeEnd<Message> + Drop> ClientNode<'a, P
     }
 
     /// A turn: it takes at most one message from each link, and then puts at most one request. It ends once all its asks
-    /// are closed, once all nodes are to stop, and where memory is wanting.
+    /// are closed, once all nodes are to stop or give up, and where memory is wanting.
     pub fn turn<R: Wait>(&mut self, rt: &R) -> Turn
         ensures { IsSameClient P.link T.link self.old self.new }
     {

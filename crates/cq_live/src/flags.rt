@@ -4,15 +4,16 @@ use std::alloc::Global;
 use std::sync::atomic::AtomicBool;
 use std::sync::atomic::Ordering::SeqCst;
 
-/// Which servers have crashed, which of the two clients have ended, and whether all nodes are to stop. All nodes of a run
-/// share it. No contract says anything of it: a server that is told to be down too early, or too late, changes only what
-/// the nodes do next.
+/// Which servers have crashed, which of the two clients have ended, and whether all nodes are to stop or give up. All
+/// nodes of a run share it. No contract says anything of it: a server that is told to be down too early, or too late,
+/// changes only what the nodes do next.
 #[derive(Drop)]
 pub struct Flags {
     crashed: Vec<AtomicBool>,
     first_ended: AtomicBool,
     second_ended: AtomicBool,
     stopped: AtomicBool,
+    given_up: AtomicBool,
 }
 
 impl Flags {
@@ -27,6 +28,7 @@ impl Flags {
             first_ended: AtomicBool::new(false),
             second_ended: AtomicBool::new(false),
             stopped: AtomicBool::new(false),
+            given_up: AtomicBool::new(false),
         })
     }
 
@@ -35,10 +37,24 @@ impl Flags {
         self.crashed.get((id.get() - 1) as usize)
     }
 
-    /// The server has crashed. It does nothing for a server that isn't one of them.
+    /// Whether all servers have crashed. O(servers).
+    fn have_all_crashed(&self) -> bool {
+        for flag in &self.crashed {
+            if !flag.load(SeqCst) {
+                return false;
+            }
+        }
+        true
+    }
+
+    /// The server has crashed. If it was the last one, all nodes give up. It does nothing for a server that isn't one
+    /// of them. O(servers).
     pub fn crash(&self, id: ServerId) {
         if let Some(flag) = self.flag(id) {
             flag.store(true, SeqCst);
+            if self.have_all_crashed() {
+                self.give_up();
+            }
         }
     }
 
@@ -59,14 +75,26 @@ impl Flags {
         }
     }
 
-    /// Whether the servers and the master have nothing to wait for: both clients have ended, or all nodes are to stop.
+    /// Whether the servers and the master have nothing to wait for: both clients have ended, or all nodes are to stop or
+    /// give up.
     pub fn have_ended(&self) -> bool {
-        self.is_stopped() || self.first_ended.load(SeqCst) && self.second_ended.load(SeqCst)
+        self.are_to_end() || self.first_ended.load(SeqCst) && self.second_ended.load(SeqCst)
     }
 
     /// All nodes are to stop at their next turn.
     pub fn stop(&self) {
         self.stopped.store(true, SeqCst);
+    }
+
+    /// Memory was wanting where no answer can come without it, and all nodes end at their next turn. What they did is
+    /// audited all the same.
+    pub fn give_up(&self) {
+        self.given_up.store(true, SeqCst);
+    }
+
+    /// Whether all nodes are to stop or give up.
+    pub fn are_to_end(&self) -> bool {
+        self.is_stopped() || self.given_up.load(SeqCst)
     }
 
     /// Whether all nodes are to stop.

@@ -265,7 +265,7 @@ impl<'a, P: PutEnd<Message> + Drop, T: TakeEnd<Message> + Drop> MasterNode<'a, P
     }
 
     /// One turn: a take from each server, the crashes and joins of which it is time, and a put to each server. It has
-    /// ended once both clients have, or for want of memory. It takes O(links + joins).
+    /// ended once both clients have, or for want of memory; then all nodes give up. It takes O(links + joins).
     pub fn turn<R: Wait>(&mut self, rt: &R) -> Turn
         ensures { IsSameNode P.link T.link self.old self.new }
     {
@@ -278,6 +278,7 @@ impl<'a, P: PutEnd<Message> + Drop, T: TakeEnd<Message> + Drop> MasterNode<'a, P
             Ok(false) => Turn::Idle,
             Err(NoMemory) => {
                 self.starved = true;
+                self.flags.give_up();
                 Turn::Ended
             }
         }

@@ -276,7 +276,7 @@ type Ran<'a, P, T, I, Q> = (
 );
 
 /// Runs all nodes, each on a thread of its own, for so many turns or until they have ended. Where a thread can't be
-/// started, those that were are stopped. It comes back once all have ended.
+/// started, or there is no memory for the servers' threads, those that were are stopped. It comes back once all have ended.
 pub(crate) fn run_all<
     'a,
     R: Threads + Wait + Sync,
@@ -311,6 +311,9 @@ pub(crate) fn run_all<
             ensures second { IfOk result (λ ran. IsSameClient Q.link T.link second.entry ran.1.1.1) }
         {
             let servers = start_servers(scope, rt, alloc, servers, turns, gate, flags);
+            if servers.is_err() {
+                flags.stop();
+            }
             let master = start_master(scope, rt, master, turns, gate, flags);
             let first = start_client(scope, rt, first, turns, flags);
             let second = start_client(scope, rt, second, turns, flags);
