@@ -161,7 +161,7 @@ fn run_pairs(rt: &HostRuntime, course: &Course, told: &mut Told, all: &[Crash]) 
 }
 
 /// The master, the clients, and so many servers.
-fn parties_of(alloc: Global, servers: u32) -> io::Result<Vec<Party>> {
+pub fn parties_of(alloc: Global, servers: u32) -> io::Result<Vec<Party>> {
     let mut parties = Vec::new(alloc);
     parties.push(Party::Master)?;
     parties.push(Party::Clients)?;

@@ -127,13 +127,16 @@ fn answers(answer: &Answer, client: u32, number: u64) -> bool {
 }
 
 /// Replies of the kinds that the lists have are the same.
-fn is_same(one: &Reply, other: &Reply) -> bool {
+pub fn is_same(one: &Reply, other: &Reply) -> bool {
     match one {
         Reply::Created(number) => matches!(other, Reply::Created(same) if *same == *number),
         Reply::Sent(number) => matches!(other, Reply::Sent(same) if *same == *number),
         Reply::Refused(why) => matches!(other, Reply::Refused(same) if *same == *why),
         Reply::Received(items) => {
             matches!(other, Reply::Received(same) if same.as_slice() == items.as_slice())
+        }
+        Reply::Counts { visible, in_flight } => {
+            matches!(other, Reply::Counts { visible: seen, in_flight: flying } if *seen == *visible && *flying == *in_flight)
         }
         _ => false,
     }

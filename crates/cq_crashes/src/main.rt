@@ -4,15 +4,18 @@
 //! as it was before.
 //!
 //! Each line of standard input is a number of crashes, 0, 1 or 2: so many are put into each run, in all ways. Each run that
-//! ends otherwise is a line of output, and so is the number of runs of each list. The status is 1 where a run ends otherwise.
+//! ends otherwise is a line of output, and so is the number of runs of each list. The line `twins` runs each list in two worlds,
+//! one of which may be refused memory, and compares them. The status is 1 where a run ends otherwise, or two worlds differ.
 #![tactic(auto)]
 
+mod again;
 mod crashes;
 mod ending;
 mod lists;
 mod rows;
 mod running;
 
+use crate::again::run_twins;
 use crate::crashes::{Told, run_all};
 use crate::lists::LISTS;
 use std::io;
@@ -34,6 +37,16 @@ fn run_lists(rt: &HostRuntime, crashes: u8) -> io::Result<bool> {
     Ok(well)
 }
 
+/// All lists, each in two worlds. Whether these stayed alike.
+fn run_all_twins(rt: &HostRuntime) -> io::Result<bool> {
+    let mut well = true;
+    for list in LISTS {
+        let alike = run_twins(rt, list)?;
+        well = well && alike;
+    }
+    Ok(well)
+}
+
 fn number(line: &str) -> io::Result<u8> {
     match line.parse() {
         Ok(number) if number <= 2 => Ok(number),
@@ -41,11 +54,17 @@ fn number(line: &str) -> io::Result<u8> {
     }
 }
 
+fn run_line(rt: &HostRuntime, line: &str) -> io::Result<bool> {
+    if line == "twins" {
+        return run_all_twins(rt);
+    }
+    run_lists(rt, number(line)?)
+}
+
 fn run_lines(rt: &HostRuntime) -> io::Result<bool> {
     let mut well = true;
     for line in BufReader::new(rt.alloc(), rt.reader())?.lines(rt.alloc()) {
-        let crashes = number(line?.as_str())?;
-        let ended = run_lists(rt, crashes)?;
+        let ended = run_line(rt, line?.as_str())?;
         well = well && ended;
     }
     Ok(well)
