@@ -1,4 +1,4 @@
-//! A store that is refused memory. `bench/refused-allocations` runs this test once for each of its allocations, and refuses
+//! A store that is refused memory. `check/refused-allocations` runs this test once for each of its allocations, and refuses
 //! that one; so all that takes memory is tried a second time here.
 use cq_base::{
     Ask, BatchSize, Body, DedupId, Delivery, Entry, GroupId, Moment, NoMemory, Query, QueueName,

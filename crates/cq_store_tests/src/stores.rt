@@ -10,8 +10,8 @@ use std::process::Abort;
 use std::test::Fail;
 
 // Where the store refuses a call for want of memory, the call is made once more. So under
-// `rt try --test --fail-alloc N`, which refuses the Nth allocation of each test, each test passes, or ends
-// with an error where memory for an entry or a text was refused; no assertion fails.
+// `check/refused-allocations`, which refuses each allocation of each test in turn, a test passes, or ends with
+// an error where memory for an entry or a text was refused; no assertion fails.
 
 /// The moment, the client and its number, the ask, and the answer.
 type Line = (u64, u32, u64, Row, &'static str);

@@ -12,8 +12,8 @@ mod passing;
 mod traces;
 
 // Where the world refuses an event for want of memory, the event is tried once more, and a run goes on from there. So under
-// `rt try --test --fail-alloc N`, which refuses the Nth allocation of each test, each test passes, or ends
-// with an error where memory for an event or a text was refused; no assertion fails.
+// `check/refused-allocations`, which refuses each allocation of each test in turn, a test passes, or ends with
+// an error where memory for an event or a text was refused; no assertion fails.
 //
 // Each test makes its world, and leaves the rest to a function that borrows it: a `?` while a world is at hand
 // costs the check much.

@@ -6,8 +6,8 @@ use std::process::Abort;
 use std::test::Fail;
 
 // Where a server refuses a call for want of memory, the call is made once more. So under
-// `rt try --test --fail-alloc N`, which refuses the Nth allocation of each test, each test passes, or ends
-// with an error where memory for a server, an entry or a text was refused; no assertion fails.
+// `check/refused-allocations`, which refuses each allocation of each test in turn, a test passes, or ends with
+// an error where memory for a server, an entry or a text was refused; no assertion fails.
 
 fn id(number: u32) -> Result<ServerId, Fail> {
     Ok(ServerId::new(number).ok_or("no server")?)
