@@ -204,8 +204,8 @@ impl Messages {
         }
     }
 
-    /// Takes out the message of that sequence number. It takes no memory. As `hide`, and O(n) for the place of its
-    /// number among those of its group, which is near the front where groups are received in order.
+    /// Takes out the message of that sequence number. It takes no memory. As `hide`, and O(k) for the k-th message of its
+    /// group: one that was handed out is among the first of its group, as many as a receive hands out.
     pub fn take_out(&mut self, sequence: u64)
         ensures { self.new ≡ filter (is_other sequence) self.old }
     {

@@ -299,7 +299,8 @@ impl Queue {
     }
 
     /// A delete with that receipt, and whether it takes effect. Where it doesn't, or is refused, nothing
-    /// changes. It takes no memory. O(log messages) for each message of its group that was handed out.
+    /// changes. It takes no memory. O(log messages) for each message of its group that was handed out; these are the
+    /// group's first, and never more than the ten that one receive may hand out.
     pub fn delete(&mut self, receipt: &Receipt) -> Result<bool, Refusal>
         ensures stands { StandsAfter (IsDelete receipt.now) self.old self.new }
         ensures ok { IfOk result (λ deleted. IsAnswered (IsDelete receipt.now) self.old (Deleted deleted)) }
@@ -345,7 +346,8 @@ impl Queue {
     }
 
     /// A change of a message's visibility timeout that comes at that moment. Where it is refused, nothing
-    /// changes. It takes no memory. O(log messages) for each message of its group that was handed out.
+    /// changes. It takes no memory. O(log messages) for each message of its group that was handed out; these are the
+    /// group's first, and never more than the ten that one receive may hand out.
     pub fn change(
         &mut self,
         moment: Moment,
