@@ -70,7 +70,10 @@ impl<T: Drop> Taker<T> {
         ensures link { taker_link self.new ≡ taker_link self.old }
         ensures taken { MatchOption result (taken_from self.new ≡ taken_from self.old) (λ item. taken_from self.new ≡ taken_from self.old ++ item ∷ []) }
     {
-        self.consumer.pop().ok()
+        if self.consumer.is_empty() {
+            return None;
+        }
+        Some(self.consumer.pop_known())
     }
 }
 

@@ -16,14 +16,16 @@ use cq_chain::{Master, Message, WorldFault};
 use cq_link::{PutEnd, TakeEnd};
 use std::sync::Wait;
 
-/// The message that was handed back, or else the first that waits in the core's outbox.
-fn first_message(core: &mut Master, to: ServerId, kept: Option<Message>) -> Option<Message>
-    ensures { (back : rust_party.Party → Option rust_message.Message) → back (parties.Server to) ≡ kept
+/// The message that was handed back, which then isn't kept any more, or else the first that waits in the core's outbox.
+fn first_message(core: &mut Master, to: ServerId, kept: &mut Option<Message>) -> Option<Message>
+    ensures passes { (back : rust_party.Party → Option rust_message.Message) → back (parties.Server to) ≡ kept.old
         → PassesFor core.old core.new back to result }
+    ensures kept { kept.new ≡ None }
 {
-    match kept {
-        Some(message) => Some(message),
-        None => core.put(to),
+    if kept.is_some() {
+        kept.take()
+    } else {
+        core.put(to)
     }
 }
 
@@ -41,7 +43,7 @@ fn put_one<R: Wait, P: PutEnd<Message> + Drop>(
     ensures idle { (back : rust_party.Party → Option rust_message.Message) → back (parties.Server to) ≡ out.old.kept → result ≡ false
         → PassesFor core.old core.new back to out.new.kept }
 {
-    match first_message(core, to, out.kept.take()) {
+    match first_message(core, to, &mut out.kept) {
         Some(message) => match out.end.put(rt, message) {
             Ok(()) => true,
             Err(full) => {

@@ -13,14 +13,16 @@ use cq_chain::{Message, Server, WorldFault};
 use cq_link::{PutEnd, TakeEnd};
 use std::sync::Wait;
 
-/// The message that was handed back, or else the first that waits in the core's outbox.
-pub fn first_message(core: &mut Server, to: Party, kept: Option<Message>) -> Option<Message>
-    ensures { (back : rust_party.Party → Option rust_message.Message) → back to ≡ kept
+/// The message that was handed back, which then isn't kept any more, or else the first that waits in the core's outbox.
+pub fn first_message(core: &mut Server, to: Party, kept: &mut Option<Message>) -> Option<Message>
+    ensures passes { (back : rust_party.Party → Option rust_message.Message) → back to ≡ kept.old
         → Passes core.old core.new back to result }
+    ensures kept { kept.new ≡ None }
 {
-    match kept {
-        Some(message) => Some(message),
-        None => core.put(to),
+    if kept.is_some() {
+        kept.take()
+    } else {
+        core.put(to)
     }
 }
 
@@ -38,7 +40,7 @@ pub fn put_one<R: Wait, P: PutEnd<Message> + Drop>(
     ensures idle { (back : rust_party.Party → Option rust_message.Message) → back to ≡ out.old.kept → result ≡ false
         → Passes core.old core.new back to out.new.kept }
 {
-    match first_message(core, to, out.kept.take()) {
+    match first_message(core, to, &mut out.kept) {
         Some(message) => match out.end.put(rt, message) {
             Ok(()) => true,
             Err(full) => {
@@ -66,9 +68,10 @@ pub fn next_message<R: Wait, T: TakeEnd<Message> + Drop>(rt: &R, end: &mut In<T>
     ensures list { (seen : List rust_message.Message) → T.list end.old.end ≡ seen ++ listed end.old.unread
         → T.list end.new.end ≡ seen ++ listed result }
 {
-    match end.unread.take() {
-        Some(message) => Some(message),
-        None => end.end.take(rt),
+    if end.unread.is_some() {
+        end.unread.take()
+    } else {
+        end.end.take(rt)
     }
 }
 

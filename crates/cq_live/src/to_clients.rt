@@ -55,7 +55,7 @@ pub fn put_to_one<R: Wait, P: PutEnd<Message> + Drop>(
         → StandingKept StandsAs (record { core = core.old; back = back_of outs clients.old.kept }) (record { core = core.new; back = back_of outs clients.new.kept }) }
     ensures lists { result ≡ false → (P.list clients.new.first ≡ P.list clients.old.first) × (P.list clients.new.second ≡ P.list clients.old.second) }
 {
-    match first_message(core, Party::Clients, clients.kept.take()) {
+    match first_message(core, Party::Clients, &mut clients.kept) {
         Some(message) => match put_for_one(rt, clients, message) {
             Ok(()) => true,
             Err(full) => {

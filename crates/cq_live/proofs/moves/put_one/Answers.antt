@@ -1,5 +1,5 @@
 -- What came first is put.
-use Rattle.std.proofs.Common.{◌∙◌, sym, subst}
+use Rattle.std.proofs.Common.{sym, subst}
 use Rattle.cq_live.specs.Ends.{with_back}
 use Rattle.cq_live.proofs.Moving.{put-done}
 use Rattle.cq_trace.specs.Deeds.{Put, Does}
@@ -13,6 +13,6 @@ returns-in-Ok-clause-put g c = λ back is ok.
     record {
       message = c.in-Some.message;
       list = c.in-Ok.ensures.ok;
-      done = subst (λ kept. Does (Put to c.in-Some.message) (record { core = old; back = back }) (record { core = new; back = with_back back to kept })) (sym c.take.ensures.after)
-          (put-done old new back to c.in-Some.message (c.in-Some.ensures back (is ∙ sym c.take.ensures.value)));
+      done = subst (λ kept. Does (Put to c.in-Some.message) (record { core = old; back = back }) (record { core = new; back = with_back back to kept })) (sym c.in-Some.ensures.kept)
+          (put-done old new back to c.in-Some.message (c.in-Some.ensures.passes back is));
     }
