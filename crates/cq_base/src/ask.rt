@@ -8,7 +8,7 @@ use crate::receipt::Receipt;
 use crate::text::{Body, DedupId, GroupId, QueueName};
 
 /// What a client asks of a queue.
-#[derive(Debug, PartialEq, Eq, Drop)]
+#[derive(Debug, PartialEq, Eq)]
 pub enum Ask {
     /// Makes the queue, unless it lives already (SQS API Reference, "CreateQueue").
     Create {
@@ -49,6 +49,40 @@ pub enum Ask {
         receipt: Receipt,
         visibility: Seconds,
     },
+}
+
+/// By hand, so that whoever lets one go makes one call, and has no case for each part.
+impl Drop for Ask {
+    fn drop(self) {
+        match self {
+            Ask::Create {
+                queue: _,
+                visibility: _,
+                content: _,
+            } => (),
+            Ask::Remove { queue: _ } => (),
+            Ask::Send {
+                queue: _,
+                group: _,
+                dedup: _,
+                body: _,
+            } => (),
+            Ask::Receive {
+                queue: _,
+                size: _,
+                visibility: _,
+            } => (),
+            Ask::Delete {
+                queue: _,
+                receipt: _,
+            } => (),
+            Ask::Change {
+                queue: _,
+                receipt: _,
+                visibility: _,
+            } => (),
+        }
+    }
 }
 
 impl Ask {

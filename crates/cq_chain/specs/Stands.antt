@@ -4,6 +4,7 @@ use Rattle.cq_base.specs.declared.ask.Entry.{Entry}
 use Rattle.cq_base.specs.declared.party.Party.{Party}
 use Rattle.cq_base.specs.declared.party.Party.TheVariants as parties
 use Rattle.cq_chain.specs.declared.fault.WorldFault.{WorldFault}
+use Rattle.cq_chain.specs.declared.message.Answer.{Answer}
 use Rattle.cq_chain.specs.declared.message.Message as rust
 use Rattle.cq_chain.specs.declared.message.Message.TheVariants as kept
 use Rattle.cq_chain.specs.declared.master.Master as rust_master
@@ -39,6 +40,11 @@ Means (kept.Adopted succ count) m = m ≡ Adopted succ count
 Means (kept.Caught pred count) m = m ≡ Caught pred count
 Means kept.Ready m = m ≡ Ready
 Means (kept.Answer answer) m = m ≡ Answers answer
+
+-- the answer that a message is, if it is one
+abbrev pub answer_of : rust.Message → Option Answer
+answer_of (kept.Answer answer) = Some answer
+answer_of message = None
 
 -- messages stand for messages, each for the one at its place
 abbrev pub AllMean : List rust.Message → List Message → Type 0

@@ -30,7 +30,6 @@ use std::alloc::Global;
 ///
 /// A call makes all the room that it needs before its first change. So after `NoMemory`, as after each other
 /// fault, the master is as it was.
-#[derive(Drop)]
 pub struct Master {
     alloc: Global,
     chain: Vec<ServerId>,
@@ -39,6 +38,21 @@ pub struct Master {
     joiner: Option<ServerId>,
     used: IndexSet<ServerId>,
     outboxes: Outboxes,
+}
+
+/// By hand, so that whoever lets one go makes one call, and has no case for each part.
+impl Drop for Master {
+    fn drop(self) {
+        let Master {
+            alloc: _,
+            chain: _,
+            told: _,
+            ready: _,
+            joiner: _,
+            used: _,
+            outboxes: _,
+        } = self;
+    }
 }
 
 impl Master {

@@ -1,9 +1,12 @@
 //! What servers, the master and the clients tell each other.
+ghost use Rattle.std.specs.Prelude.{◌≡◌};
+ghost use Rattle.cq_chain.specs.Stands.{answer_of};
+
 use crate::snapshot::Snapshot;
 use cq_base::{Entry, Reply, ServerId};
 
 /// What a server answers to a client.
-#[derive(Debug, Drop)]
+#[derive(Debug)]
 pub struct Answer {
     /// The client that asked.
     pub client: u32,
@@ -16,8 +19,21 @@ pub struct Answer {
     pub reply: Reply,
 }
 
+/// By hand, so that whoever lets one go makes one call, and has no case for each part.
+impl Drop for Answer {
+    fn drop(self) {
+        let Answer {
+            client: _,
+            number: _,
+            is_query: _,
+            length: _,
+            reply: _,
+        } = self;
+    }
+}
+
 /// What servers, the master and the clients tell each other.
-#[derive(Debug, Drop)]
+#[derive(Debug)]
 pub enum Message {
     /// To a successor: the entry at that place of the sender's history, from 1.
     Fwd { place: u64, entry: Entry },
@@ -45,4 +61,37 @@ pub enum Message {
     Ready,
     /// To the clients: an answer.
     Answer(Answer),
+}
+
+/// By hand, so that whoever lets one go makes one call, and has no case for each part.
+impl Drop for Message {
+    fn drop(self) {
+        match self {
+            Message::Fwd { place: _, entry: _ } => (),
+            Message::Snap { state: _ } => (),
+            Message::Ack { place: _ } => (),
+            Message::BeHead => (),
+            Message::Report { pred: _ } => (),
+            Message::Adopt { succ: _, have: _ } => (),
+            Message::BeTail { at_least: _ } => (),
+            Message::Feed { succ: _ } => (),
+            Message::Have { pred: _, count: _ } => (),
+            Message::Adopted { succ: _, count: _ } => (),
+            Message::Caught { pred: _, count: _ } => (),
+            Message::Ready => (),
+            Message::Answer(_) => (),
+        }
+    }
+}
+
+impl Message {
+    /// The answer that it is, if it is one; none for each other message, which is dropped. O(1).
+    pub fn into_answer(self) -> Option<Answer>
+        ensures { result ≡ answer_of self }
+    {
+        match self {
+            Message::Answer(answer) => Some(answer),
+            _ => None,
+        }
+    }
 }

@@ -19,9 +19,15 @@ use std::marker::Model;
 const STEP_ROOM: usize = 4;
 
 /// What a server has to send, to each party in order: found by a hash of the party.
-#[derive(Drop)]
 pub struct Outboxes {
     lanes: IndexMap<Party, Lane>,
+}
+
+/// By hand, so that whoever lets one go makes one call, and has no case for each part.
+impl Drop for Outboxes {
+    fn drop(self) {
+        let Outboxes { lanes: _ } = self;
+    }
 }
 
 impl Model for Outboxes {

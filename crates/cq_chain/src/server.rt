@@ -28,7 +28,6 @@ use std::alloc::Global;
 ///
 /// A call makes all the room that it needs before its first change. So after `NoMemory`, as after each other
 /// fault, the server is as it was.
-#[derive(Drop)]
 pub struct Server {
     alloc: Global,
     replica: Replica,
@@ -40,6 +39,24 @@ pub struct Server {
     full: bool,
     down: bool,
     outboxes: Outboxes,
+}
+
+/// By hand, so that whoever lets one go makes one call, and has no case for each part.
+impl Drop for Server {
+    fn drop(self) {
+        let Server {
+            alloc: _,
+            replica: _,
+            acked: _,
+            pred: _,
+            succ: _,
+            head: _,
+            at_least: _,
+            full: _,
+            down: _,
+            outboxes: _,
+        } = self;
+    }
 }
 
 /// The server before that one, in a first chain.

@@ -7,7 +7,10 @@ use Rattle.cq_base.specs.declared.ask.Ask.{Ask}
 use Rattle.cq_base.specs.declared.ask.Request.{Request}
 use Rattle.cq_base.specs.Relations.{Among}
 use Rattle.cq_base.proofs.Among.{among-append, among-left, among-right}
+use Rattle.cq_chain.specs.declared.message.Answer.{Answer}
 use Rattle.cq_chain.specs.declared.message.Message.{Message}
+use Rattle.cq_chain.specs.declared.message.Message.TheVariants as kept
+use Rattle.cq_chain.specs.Stands.{answer_of}
 use Rattle.cq_live.specs.ClientMoves.{IsAskOf, AreAsked, IsTaken}
 use Rattle.cq_live.proofs.Places.{apart_of, at_each}
 
@@ -59,3 +62,21 @@ module _ {T : Type 0} (list : T → List Message) (ins : List T) (i : ℕ) (end 
     go : (b : Bool) → (t.place == i) ≡ b → IsTaken list m (slice_set ins i now)
     go true e = taken_here m (more (subst (λ x. Among m (list x)) (same_Some t.end end (sym t.here ∙ ap (slice_get ins) (eqb-true t.place i e) ∙ is)) t.among))
     go false e = record { place = t.place; end = t.end; here = at_other ins i now t.place (apart_of t.place i e) ∙ t.here; among = t.among }
+
+-- ---- answers
+
+-- what a message is as an answer, it bears
+pub answer_borne : (message : Message) (answer : Answer) → answer_of message ≡ Some answer → message ≡ kept.Answer answer
+answer_borne (kept.Answer a) answer is = cc
+answer_borne (kept.Fwd place entry) answer is = absurd (none-some answer is)
+answer_borne (kept.Snap state) answer is = absurd (none-some answer is)
+answer_borne (kept.Ack place) answer is = absurd (none-some answer is)
+answer_borne kept.BeHead answer is = absurd (none-some answer is)
+answer_borne (kept.Report pred) answer is = absurd (none-some answer is)
+answer_borne (kept.Adopt succ have) answer is = absurd (none-some answer is)
+answer_borne (kept.BeTail least) answer is = absurd (none-some answer is)
+answer_borne (kept.Feed succ) answer is = absurd (none-some answer is)
+answer_borne (kept.Have pred count) answer is = absurd (none-some answer is)
+answer_borne (kept.Adopted succ count) answer is = absurd (none-some answer is)
+answer_borne (kept.Caught pred count) answer is = absurd (none-some answer is)
+answer_borne kept.Ready answer is = absurd (none-some answer is)

@@ -117,14 +117,14 @@ pub fn closing(core: &mut Client, id: u32, message: Message) -> Option<Answer>
     ensures { (asks : List rust_ask.Ask) (closed : List rust_answer.Answer) → IsAlong id asks core.old closed
         → MatchOption result (IsAlong id asks core.new closed) (λ answer. ClosesBy id asks core.new closed message answer) }
 {
-    match message {
-        Message::Answer(answer) => {
+    match message.into_answer() {
+        Some(answer) => {
             if is_closed_by(core, id, &answer) {
                 Some(answer)
             } else {
                 None
             }
         }
-        _other => None,
+        None => None,
     }
 }

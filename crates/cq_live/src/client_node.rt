@@ -19,10 +19,16 @@ const PATIENCE: u64 = 1_000;
 
 /// The ends of a client's links, none of them used yet: for each server, in the order of their numbers, one on which
 /// requests are put, and one from which messages are taken.
-#[derive(Drop)]
 pub struct ClientLinks<P: PutEnd<Request> + Drop, T: TakeEnd<Message> + Drop> {
     outs: Vec<P>,
     ins: Vec<T>,
+}
+
+/// By hand, so that whoever lets one go makes one call, and has no case for each part.
+impl<P: PutEnd<Request> + Drop, T: TakeEnd<Message> + Drop> Drop for ClientLinks<P, T> {
+    fn drop(self) {
+        let ClientLinks { outs: _, ins: _ } = self;
+    }
 }
 
 impl<P: PutEnd<Request> + Drop, T: TakeEnd<Message> + Drop> Model for ClientLinks<P, T> {
@@ -68,7 +74,8 @@ impl<P: PutEnd<Request> + Drop, T: TakeEnd<Message> + Drop> ClientLinks<P, T> {
         ensures ins { result.1.items ≡ self.ins }
         ensures fresh { AreFresh P.list T.list result.0.items result.1.items }
     {
-        (self.outs, self.ins)
+        let ClientLinks { outs, ins } = self;
+        (outs, ins)
     }
 }
 
@@ -122,7 +129,6 @@ impl Pace {
 
 /// One of the two clients, and the ends of its links. It asks the servers, one ask at a time, each once the one before is
 /// answered. Nothing that it does is an event, so it has no trace.
-#[derive(Drop)]
 pub struct ClientNode<'a, P: PutEnd<Request> + Drop, T: TakeEnd<Message> + Drop> {
     id: u32,
     core: Client,
@@ -134,6 +140,24 @@ pub struct ClientNode<'a, P: PutEnd<Request> + Drop, T: TakeEnd<Message> + Drop>
     closed: Vec<Answer>,
     starved: bool,
     flags: &'a Flags,
+}
+
+/// By hand, so that whoever lets one go makes one call, and has no case for each part.
+impl<'a, P: PutEnd<Request> + Drop, T: TakeEnd<Message> + Drop> Drop for ClientNode<'a, P, T> {
+    fn drop(self) {
+        let ClientNode {
+            id: _,
+            core: _,
+            asks: _,
+            outs: _,
+            ins: _,
+            handed_back: _,
+            pace: _,
+            closed: _,
+            starved: _,
+            flags: _,
+        } = self;
+    }
 }
 
 impl<'a, P: PutEnd<Request> + Drop, T: TakeEnd<Message> + Drop> Model for ClientNode<'a, P, T> {
@@ -312,10 +336,18 @@ impl<'a, P: PutEnd<Request> + Drop, T: TakeEnd<Message> + Drop> ClientNode<'a, P
         ensures ins { result.ins.items ≡ self.entry.ins }
         ensures closed { result.closed.items ≡ self.entry.closed }
     {
-        ClientLeft {
-            outs: self.outs,
-            ins: self.ins,
-            closed: self.closed,
-        }
+        let ClientNode {
+            id: _,
+            core: _,
+            asks: _,
+            outs,
+            ins,
+            handed_back: _,
+            pace: _,
+            closed,
+            starved: _,
+            flags: _,
+        } = self;
+        ClientLeft { outs, ins, closed }
     }
 }

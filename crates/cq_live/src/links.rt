@@ -11,10 +11,16 @@ use std::marker::Model;
 
 /// The ends of a node's links that nobody used: nothing was put on them, and nothing was taken from them. They stand in
 /// the order of their places, at each of which is a link to a party and one from it.
-#[derive(Drop)]
 pub struct Links<P: PutEnd<Message> + Drop, T: TakeEnd<Message> + Drop> {
     outs: Vec<Out<P>>,
     ins: Vec<In<T>>,
+}
+
+/// By hand, so that whoever lets one go makes one call, and has no case for each part.
+impl<P: PutEnd<Message> + Drop, T: TakeEnd<Message> + Drop> Drop for Links<P, T> {
+    fn drop(self) {
+        let Links { outs: _, ins: _ } = self;
+    }
 }
 
 impl<P: PutEnd<Message> + Drop, T: TakeEnd<Message> + Drop> Model for Links<P, T> {
@@ -70,6 +76,7 @@ impl<P: PutEnd<Message> + Drop, T: TakeEnd<Message> + Drop> Links<P, T> {
         ensures unput { AreUnput P.list result.0.items }
         ensures untaken { AreUntaken T.list result.1.items }
     {
-        (self.outs, self.ins)
+        let Links { outs, ins } = self;
+        (outs, ins)
     }
 }

@@ -26,7 +26,6 @@ pub struct Join {
 
 /// The master, the ends of its links, and the trace of what it did. At each place stand the ends of the links to and
 /// from the server whose number is one more.
-#[derive(Drop)]
 pub struct MasterNode<'a, P: PutEnd<Message> + Drop, T: TakeEnd<Message> + Drop> {
     size: ChainSize,
     joins: Vec<Join>,
@@ -38,6 +37,24 @@ pub struct MasterNode<'a, P: PutEnd<Message> + Drop, T: TakeEnd<Message> + Drop>
     turns: u64,
     starved: bool,
     flags: &'a Flags,
+}
+
+/// By hand, so that whoever lets one go makes one call, and has no case for each part.
+impl<'a, P: PutEnd<Message> + Drop, T: TakeEnd<Message> + Drop> Drop for MasterNode<'a, P, T> {
+    fn drop(self) {
+        let MasterNode {
+            size: _,
+            joins: _,
+            core: _,
+            outs: _,
+            ins: _,
+            trace: _,
+            servers: _,
+            turns: _,
+            starved: _,
+            flags: _,
+        } = self;
+    }
 }
 
 /// What is left of the master's node after its last turn: the ends at their places, and what it did, in order.
@@ -310,10 +327,18 @@ impl<'a, P: PutEnd<Message> + Drop, T: TakeEnd<Message> + Drop> MasterNode<'a, P
         ensures ins { map (λ end. end.end) result.ins.items ≡ self.entry.ins }
         ensures lived { MasterLived P.list T.list self.entry.size self.entry.joins result.outs.items result.ins.items self.entry.trace }
     {
-        MasterEnds {
-            outs: self.outs,
-            ins: self.ins,
-            trace: self.trace,
-        }
+        let MasterNode {
+            size: _,
+            joins: _,
+            core: _,
+            outs,
+            ins,
+            trace,
+            servers: _,
+            turns: _,
+            starved: _,
+            flags: _,
+        } = self;
+        MasterEnds { outs, ins, trace }
     }
 }

@@ -23,7 +23,6 @@ const TURNS_LIMIT: u64 = 1 << 62;
 
 /// A server, the ends of its links, that of its inbox, and the trace of what it did. The place of an end is that of the
 /// party at the other side of its link: the master at 0, and each server at its number.
-#[derive(Drop)]
 pub struct ServerNode<
     'a,
     P: PutEnd<Message> + Drop,
@@ -43,6 +42,28 @@ pub struct ServerNode<
     turns: u64,
     starved: bool,
     ended: bool,
+}
+
+/// By hand, so that whoever lets one go makes one call, and has no case for each part.
+impl<'a, P: PutEnd<Message> + Drop, T: TakeEnd<Message> + Drop, I: TakeEnd<Request> + Drop> Drop
+    for ServerNode<'a, P, T, I> {
+    fn drop(self) {
+        let ServerNode {
+            size: _,
+            id: _,
+            core: _,
+            outs: _,
+            clients: _,
+            ins: _,
+            inbox: _,
+            trace: _,
+            flags: _,
+            crash_after: _,
+            turns: _,
+            starved: _,
+            ended: _,
+        } = self;
+    }
 }
 
 impl<'a, P: PutEnd<Message> + Drop, T: TakeEnd<Message> + Drop, I: TakeEnd<Request> + Drop> Model
@@ -308,16 +329,31 @@ impl<
         ensures held { held_in result ≡ self.entry }
         ensures tells { Tells P.list T.list I.list result }
     {
+        let ServerNode {
+            size,
+            id,
+            core: _,
+            outs,
+            clients,
+            ins,
+            inbox,
+            trace,
+            flags: _,
+            crash_after,
+            turns: _,
+            starved,
+            ended: _,
+        } = self;
         ServerParts {
-            size: self.size,
-            id: self.id,
-            outs: self.outs,
-            clients: self.clients,
-            ins: self.ins,
-            inbox: self.inbox,
-            trace: self.trace,
-            crash_after: self.crash_after,
-            starved: self.starved,
+            size,
+            id,
+            outs,
+            clients,
+            ins,
+            inbox,
+            trace,
+            crash_after,
+            starved,
         }
     }
 }

@@ -31,7 +31,6 @@ use std::alloc::Global;
 use std::marker::Model;
 
 /// The messages of an incarnation that aren't deleted, in order of sending. Contracts see the list of them.
-#[derive(Drop)]
 pub struct Messages {
     /// In order of sequence numbers. A message that is deleted leaves its slot behind, up to a later push.
     slots: Vec<Slot>,
@@ -42,6 +41,19 @@ pub struct Messages {
     groups: Groups,
     /// How many messages aren't deleted.
     count: u64,
+}
+
+/// By hand, so that whoever lets one go makes one call, and has no case for each part.
+impl Drop for Messages {
+    fn drop(self) {
+        let Messages {
+            slots: _,
+            waits: _,
+            flights: _,
+            groups: _,
+            count: _,
+        } = self;
+    }
 }
 
 impl Model for Messages {

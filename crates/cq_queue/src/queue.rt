@@ -22,7 +22,6 @@ use std::marker::Model;
 
 /// What is kept of one incarnation of a queue. Contracts see it as an `Incarnation`, and say for which
 /// entries it stands. The caller keeps the moments in order and the uses below 2^62.
-#[derive(Drop)]
 pub struct Queue {
     alloc: Global,
     number: u64,
@@ -37,6 +36,23 @@ pub struct Queue {
     window: Window,
     last: Moment,
     used: u64,
+}
+
+/// By hand, so that whoever lets one go makes one call, and has no case for each part.
+impl Drop for Queue {
+    fn drop(self) {
+        let Queue {
+            alloc: _,
+            number: _,
+            visibility: _,
+            content: _,
+            sent: _,
+            messages: _,
+            window: _,
+            last: _,
+            used: _,
+        } = self;
+    }
 }
 
 impl Model for Queue {

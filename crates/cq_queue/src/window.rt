@@ -104,10 +104,19 @@ fn push(
 
 /// Accepted sends in order of their moments, and what is known of each of their ids. Contracts see the list of
 /// them, and for how many more there is room.
-#[derive(Drop)]
 pub struct Window {
     accepted: VecDeque<Accepted>,
     known: HashMap<DedupId, Known>,
+}
+
+/// By hand, so that whoever lets one go makes one call, and has no case for each part.
+impl Drop for Window {
+    fn drop(self) {
+        let Window {
+            accepted: _,
+            known: _,
+        } = self;
+    }
 }
 
 impl Model for Window {

@@ -18,7 +18,6 @@ use std::alloc::Global;
 use std::marker::Model;
 
 /// What is kept of a name of queues.
-#[derive(Drop)]
 pub struct NameKept {
     /// How many creations took effect.
     creations: u64,
@@ -26,6 +25,17 @@ pub struct NameKept {
     removed: Option<Moment>,
     /// The incarnation as which the queue lives.
     living: Option<Queue>,
+}
+
+/// By hand, so that whoever lets one go makes one call, and has no case for each part.
+impl Drop for NameKept {
+    fn drop(self) {
+        let NameKept {
+            creations: _,
+            removed: _,
+            living: _,
+        } = self;
+    }
 }
 
 impl Model for NameKept {

@@ -15,9 +15,15 @@ use std::alloc::Global;
 use std::marker::Model;
 
 /// What is kept of all names, found by a hash of the name, in order of their first creations.
-#[derive(Drop)]
 pub struct Names {
     kept: IndexMap<QueueName, NameKept>,
+}
+
+/// By hand, so that whoever lets one go makes one call, and has no case for each part.
+impl Drop for Names {
+    fn drop(self) {
+        let Names { kept: _ } = self;
+    }
 }
 
 impl Model for Names {

@@ -16,13 +16,25 @@ use std::marker::Model;
 
 /// A store of FIFO queues. It stands for the list of the entries that it was given, and answers each as
 /// the queue object does at its place of the list.
-#[derive(Drop)]
 pub struct Store {
     alloc: Global,
     count: u64,
     last: Moment,
     clients: Clients,
     names: Names,
+}
+
+/// By hand, so that whoever lets one go makes one call, and has no case for each part.
+impl Drop for Store {
+    fn drop(self) {
+        let Store {
+            alloc: _,
+            count: _,
+            last: _,
+            clients: _,
+            names: _,
+        } = self;
+    }
 }
 
 impl Model for Store {

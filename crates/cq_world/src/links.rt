@@ -18,9 +18,15 @@ pub struct Pair {
 }
 
 /// The links between all parties, each found by a hash of its two ends.
-#[derive(Drop)]
 pub struct Links {
     lanes: IndexMap<Pair, Lane>,
+}
+
+/// By hand, so that whoever lets one go makes one call, and has no case for each part.
+impl Drop for Links {
+    fn drop(self) {
+        let Links { lanes: _ } = self;
+    }
 }
 
 impl Model for Links {

@@ -21,10 +21,7 @@ use cq_chain::{Answer, Message, WorldFault};
 fn answer_in(message: Message) -> Option<Answer>
     ensures { (m : told.Message) → Means message m → result ≡ head_of (answers_in (m ∷ [])) }
 {
-    match message {
-        Message::Answer(answer) => Some(answer),
-        _ => None,
-    }
+    message.into_answer()
 }
 
 impl Sim {
