@@ -8,8 +8,6 @@ mod inbox;
 mod link;
 mod memory;
 mod rule;
-#[cfg(test)]
-mod tests;
 
 pub use ends::{Full, PutEnd, TakeEnd};
 pub use fault::LinkFault;

@@ -5,8 +5,6 @@ mod live;
 mod reading;
 mod step;
 mod step_line;
-#[cfg(test)]
-mod tests;
 
 pub use live::read_live;
 pub use step::AFTER_LIMIT;

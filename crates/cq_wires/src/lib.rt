@@ -5,8 +5,6 @@ mod clients;
 mod columns;
 mod ports;
 mod row;
-#[cfg(test)]
-mod tests;
 
 pub use clients::{ClientPorts, ClientWires, ServerPorts, settle_clients, wire_clients};
 pub use ports::{Ports, settle_all, wire};

@@ -186,6 +186,3 @@ pub fn choice_of<'a, S: AsStr>(alloc: Global, words: &'a [S]) -> Result<Choice, 
         "a number is missing, or out of its range",
     )?)
 }
-
-#[cfg(test)]
-mod tests;

@@ -1,7 +1,7 @@
 //! Command lines, and the faults of their words.
-use super::{Choice, choice_of};
 use clap::error::ErrorKind;
 use cq_base::ChainSize;
+use cq_words::{Choice, choice_of};
 use std::test::Fail;
 
 #[test]

@@ -3,11 +3,11 @@ ghost use Rattle.std.specs.Prelude.{◌≡◌};
 ghost use Rattle.cq_link.specs.Links.{putter_link, taker_link};
 ghost use Rattle.cq_link.specs.Inboxes.{put_inbox, take_inbox, is_second};
 
-use crate::{
+use cq_base::{Ask, BaseFault, QueueName, Request};
+use cq_link::{
     InLeft, InPut, InTake, Inbox, Left, Link, LinkFault, Memory, PutEnd, Putter, Tagged, TakeEnd,
     Taker, settle,
 };
-use cq_base::{Ask, BaseFault, QueueName, Request};
 use std::alloc::Global;
 use std::process::Abort;
 use std::sync::Wait;

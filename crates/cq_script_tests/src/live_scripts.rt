@@ -1,6 +1,6 @@
 //! Live scripts by rows.
-use crate::{read_live, step_of};
 use cq_base::{Ask, BaseFault, QueueName, ServerId};
+use cq_live_script::{read_live, step_of};
 use cq_plan::LiveStep;
 use cq_script::{Checked, LineFault, ScriptFault};
 use std::alloc::Global;

@@ -3,9 +3,9 @@ ghost use Rattle.std.specs.Prelude.{◌≡◌};
 ghost use Rattle.cq_wires.specs.Clients.{AreTied};
 ghost use Rattle.cq_wires.specs.Wirings.{wiring};
 
-use crate::{ClientWires, Ports, settle_all, settle_clients, wire, wire_clients};
 use cq_base::{Ask, BaseFault, QueueName, Request};
 use cq_link::LinkFault;
+use cq_wires::{ClientWires, Ports, settle_all, settle_clients, wire, wire_clients};
 use std::alloc::Global;
 use std::sync::Wait;
 use std::test::Fail;
