@@ -1,8 +1,10 @@
-//! A whole chain in one thread: servers, the master and two clients take turns. Each ring between them has one place, and
-//! each message is handed back at least once before it is put.
+//! Whole chains in one thread: servers, the master and two clients. Each message is handed back at least once before it
+//! is put.
 use crate::cast::{Client, Master, Server, Story, changes, nodes, order_of};
-use cq_live::{Flags, Turn};
+use crate::gates::Meeting;
+use cq_live::{Flags, Gate, Stop, Turn};
 use cq_threads::Nodes;
+use std::alloc::Global;
 use std::sync::Wait;
 use std::test::Fail;
 
@@ -23,6 +25,7 @@ fn turns<R: Wait>(
     one == Turn::Ended && other == Turn::Ended
 }
 
+/// Each ring has one place.
 #[test]
 fn a_chain_loses_a_server_and_gets_another(rt: HostRuntime) -> Result<(), Fail> {
     let alloc = rt.alloc();
@@ -50,5 +53,42 @@ fn a_chain_loses_a_server_and_gets_another(rt: HostRuntime) -> Result<(), Fail> 
     assert_eq!(rt; second.closed().len(), 11);
     let order = order_of(alloc, story.size, master, servers)?;
     assert_eq!(rt; changes(&order), 3);
+    Ok(())
+}
+
+/// Five servers, of which the third crashes, and a sixth that joins.
+const STORY: Story = Story {
+    size: 5,
+    crashes: 3,
+    at_entries: 5,
+    joins_at: 1,
+    messages: 20,
+    capacity: 64,
+};
+
+/// The story with its nodes one after the other, as a live run that had one thread would do it. It answers whether a gate
+/// was shut.
+fn is_shut_in_turn<R: Wait, G: Gate>(rt: &R, alloc: Global, gate: &G) -> Result<bool, Fail> {
+    let flags = Flags::new(alloc, 6)?;
+    let Nodes {
+        mut master,
+        mut servers,
+        mut first,
+        mut second,
+    } = nodes(alloc, STORY, &flags)?;
+    let mut shut = false;
+    for server in servers.iter_mut() {
+        shut = shut || server.run(rt, 10, gate) == Stop::Shut;
+    }
+    let _stop = master.run(rt, 10, gate);
+    let _stop = first.run(rt, 10);
+    let _stop = second.run(rt, 10);
+    Ok(shut)
+}
+
+#[test]
+fn one_thread_does_not_pass_the_gate(rt: HostRuntime) -> Result<(), Fail> {
+    let is_shut = is_shut_in_turn(&rt, rt.alloc(), &Meeting::new(1, 5)?.hasty())?;
+    assert!(rt; is_shut);
     Ok(())
 }

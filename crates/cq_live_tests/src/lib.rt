@@ -12,8 +12,6 @@ mod gates;
 #[cfg(test)]
 mod live_runs;
 #[cfg(test)]
-mod on_threads;
-#[cfg(test)]
 mod one_server;
 #[cfg(test)]
 mod wires;

@@ -1,7 +1,7 @@
 //! Live runs, by the function that the program calls.
 use crate::common::{create, send};
 use crate::gates::{Holding, Meeting};
-use cq_base::{ChainSize, ServerId};
+use cq_base::{ChainSize, Party, ServerId};
 use cq_live::{Always, Gate};
 use cq_live_chain::{LiveReport, live};
 use cq_plan::LiveStep;
@@ -150,15 +150,16 @@ fn told<R: Threads + Wait + Sync, G: Gate + Sync>(
 }
 
 /// The number of the fault of a live run of these steps, which has one.
-fn fault_of<R: Threads + Wait + Sync>(
+fn fault_of<R: Threads + Wait + Sync, G: Gate + Sync>(
     rt: &R,
     alloc: Global,
     servers: u8,
     steps: &[LiveStep],
     turns: u64,
+    gate: &G,
 ) -> Result<u16, Fail> {
     let size = ChainSize::new(servers).ok_or("no chain")?;
-    match live(rt, alloc, size, steps, turns, &Always) {
+    match live(rt, alloc, size, steps, turns, gate) {
         Ok(_report) => Err(Fail::from("no fault")),
         Err(fault) => Ok(fault.code()),
     }
@@ -207,7 +208,25 @@ fn events_are_those_of_the_nodes(rt: HostRuntime) -> Result<(), Fail> {
 #[test]
 fn one_turn_is_not_enough(rt: HostRuntime) -> Result<(), Fail> {
     let alloc = rt.alloc();
-    let code = fault_of(&rt, alloc, 5, &asks_and_changes(alloc)?, 1)?;
+    let code = fault_of(&rt, alloc, 5, &asks_and_changes(alloc)?, 1, &Always)?;
+    assert_eq!(rt; code, 71);
+    Ok(())
+}
+
+/// The gate that never lets a turn begin.
+#[derive(Drop)]
+struct Shut;
+
+impl Gate for Shut {
+    fn enter(&self, _party: Party, _turn: u64) -> bool {
+        false
+    }
+}
+
+#[test]
+fn a_shut_gate_stops_all_nodes(rt: HostRuntime) -> Result<(), Fail> {
+    let alloc = rt.alloc();
+    let code = fault_of(&rt, alloc, 5, &asks_and_changes(alloc)?, TURNS, &Shut)?;
     assert_eq!(rt; code, 71);
     Ok(())
 }
@@ -225,7 +244,7 @@ fn crash(alloc: Global) -> Result<Vec<LiveStep>, Fail> {
 #[test]
 fn the_last_server_is_not_crashed(rt: HostRuntime) -> Result<(), Fail> {
     let alloc = rt.alloc();
-    let code = fault_of(&rt, alloc, 1, &crash(alloc)?, 1)?;
+    let code = fault_of(&rt, alloc, 1, &crash(alloc)?, 1, &Always)?;
     assert_eq!(rt; code, 74);
     Ok(())
 }

@@ -44,32 +44,3 @@ fn status_of(fault: &ScriptFault) -> u8
         ScriptFault::ReadFailed | ScriptFault::WriteFailed | ScriptFault::NoMemory => 3,
     }
 }
-
-#[cfg(test)]
-mod tests {
-    use super::*;
-    use std::test::Fail;
-
-    #[test]
-    fn tells_the_fault_and_the_status(rt: HostRuntime) -> Result<(), Fail> {
-        let cases = [
-            (ScriptFault::BadLine(3), 2, "cq: 61 BadLine line 3\n"),
-            (
-                ScriptFault::LineTooLong(1),
-                2,
-                "cq: 62 LineTooLong line 1\n",
-            ),
-            (ScriptFault::TooManyLines, 2, "cq: 63 TooManyLines\n"),
-            (ScriptFault::ReadFailed, 3, "cq: 64 ReadFailed\n"),
-            (ScriptFault::WriteFailed, 3, "cq: 65 WriteFailed\n"),
-            (ScriptFault::NoMemory, 3, "cq: 20 NoMemory\n"),
-        ];
-        for (fault, status, text) in cases {
-            let mut written = Vec::new(rt.alloc());
-            let mut errors = Checked::new(&mut written);
-            assert_eq!(rt; report(&fault, &mut errors), status);
-            assert_eq!(rt; written.as_slice(), text.as_bytes());
-        }
-        Ok(())
-    }
-}

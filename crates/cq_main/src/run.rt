@@ -250,6 +250,3 @@ pub fn tell_unread<E: Write>(error: &io::Error, errors: &mut Checked<E>) -> u8
     errors.tell("error: a word of the command line is not UTF-8\n");
     USAGE
 }
-
-#[cfg(test)]
-mod tests;

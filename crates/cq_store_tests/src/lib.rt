@@ -1,17 +1,9 @@
-//! The tests of values, searches, messages, queues and stores, and of a store that is refused memory, by their public
-//! calls. They stand here since a crate that has tests is proved twice, and what stands on the store need not wait for them.
+//! The tests of values and of stores, and of a store that is refused memory, by their public calls. They stand here since
+//! a crate that has tests is proved twice, and what stands on the store need not wait for them.
 #![tactic(auto)]
 
 #[cfg(test)]
-mod common;
-#[cfg(test)]
 mod memory;
-#[cfg(test)]
-mod messages;
-#[cfg(test)]
-mod queues;
-#[cfg(test)]
-mod searches;
 #[cfg(test)]
 mod stores;
 #[cfg(test)]

@@ -1,8 +1,7 @@
 //! Rows on a store, each an ask and its answer.
-use super::common::{receipt, received, seconds};
 use cq_base::{
-    Ask, BatchSize, Body, DedupId, Entry, GroupId, Moment, NoMemory, Query, QueueName, Reply,
-    Request,
+    Ask, BatchSize, Body, DedupId, Delivery, Entry, GroupId, Moment, NoMemory, Query, QueueName,
+    Receipt, Reply, Request, Seconds,
 };
 use cq_store::Store;
 use std::alloc::Global;
@@ -12,6 +11,27 @@ use std::test::Fail;
 // Where the store refuses a call for want of memory, the call is made once more. So under
 // `check/refused-allocations`, which refuses each allocation of each test in turn, a test passes, or ends with
 // an error where memory for an entry or a text was refused; no assertion fails.
+
+fn seconds(seconds: u32) -> Result<Seconds, Fail> {
+    Ok(Seconds::new(seconds).ok_or("no timeout")?)
+}
+
+/// That message's receipt, of the first incarnation.
+fn receipt(sequence: u64, handing: u64) -> Result<Receipt, Fail> {
+    Ok(Receipt::new(1, sequence, handing).ok_or("no receipt")?)
+}
+
+/// The bodies and receipts.
+fn received(alloc: Global, deliveries: &[Delivery]) -> Result<String, Fail> {
+    let mut text = String::from_str(alloc, "received")?;
+    for delivery in deliveries {
+        let body = delivery.body.as_str();
+        let receipt = delivery.receipt;
+        let one = format!(in alloc; " {body} {receipt}")?;
+        text.push_str(one.as_str())?;
+    }
+    Ok(text)
+}
 
 /// The moment, the client and its number, the ask, and the answer.
 type Line = (u64, u32, u64, Row, &'static str);

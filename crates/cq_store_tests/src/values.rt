@@ -1,7 +1,8 @@
-//! What rows can't compute of values: texts in a loop, copies, faults, and how they are shown.
+//! What rows can't compute of values: long bodies, made ids, the ends of numbers, the texts of receipts, and how faults
+//! are shown.
 use cq_base::{
-    Ask, BaseFault, BatchSize, Body, ChainSize, DedupId, Deliveries, Delivery, Entry, GroupId,
-    Moment, NoMemory, Query, QueueName, Receipt, Refusal, Reply, Request, Seconds, ServerId,
+    BaseFault, BatchSize, Body, ChainSize, DedupId, Moment, NoMemory, Receipt, Refusal, Seconds,
+    ServerId,
 };
 use std::alloc::{AllocError, Global};
 use std::process::Abort;
@@ -15,62 +16,6 @@ fn letters(alloc: Global, count: usize, end: &str) -> Result<String, AllocError>
     }
     text.push_str(end)?;
     Ok(text)
-}
-
-#[test]
-fn names_end_where_the_rule_says(rt: HostRuntime) -> Result<(), Fail> {
-    let alloc = rt.alloc();
-    let longest = letters(alloc, 75, ".fifo")?;
-    let name = QueueName::new(alloc, longest.as_str())?;
-    assert_eq!(rt; name.as_str(), longest.as_str());
-    assert!(rt; QueueName::new(alloc, "a-Z_0.fifo").is_ok());
-    let too_long = letters(alloc, 76, ".fifo")?;
-    for text in [
-        too_long.as_str(),
-        ".fifo",
-        "",
-        "a",
-        "a.fif",
-        "a b.fifo",
-        "a.b.fifo",
-        "a.FIFO",
-    ] {
-        assert_eq!(rt;
-            QueueName::new(alloc, text).err(),
-            Some(BaseFault::BadQueueName),
-            "{text}"
-        );
-    }
-    Ok(())
-}
-
-#[test]
-fn ids_end_where_the_rule_says(rt: HostRuntime) -> Result<(), Fail> {
-    let alloc = rt.alloc();
-    let longest = letters(alloc, 128, "")?;
-    assert_eq!(rt;
-        GroupId::new(alloc, longest.as_str())?.as_str(),
-        longest.as_str()
-    );
-    assert_eq!(rt;
-        DedupId::new(alloc, longest.as_str())?.as_str(),
-        longest.as_str()
-    );
-    assert_eq!(rt; GroupId::new(alloc, "!~")?.as_str(), "!~");
-    let too_long = letters(alloc, 129, "")?;
-    for text in [too_long.as_str(), "", "a b", "\u{7f}", "ä"] {
-        assert_eq!(rt;
-            GroupId::new(alloc, text).err(),
-            Some(BaseFault::BadGroup),
-            "{text}"
-        );
-        assert_eq!(rt;
-            DedupId::new(alloc, text).err(),
-            Some(BaseFault::BadDedup),
-            "{text}"
-        );
-    }
-    Ok(())
 }
 
 #[test]
@@ -232,138 +177,6 @@ fn receipts_are_read(rt: HostRuntime) -> Result<(), Fail> {
         assert_eq!(rt; Receipt::read(text.as_bytes()), None, "{text}");
     }
     assert_eq!(rt; Receipt::read(b"1-\xff-3"), None);
-    Ok(())
-}
-
-fn entry(alloc: Global, kind: u8) -> Result<Entry, Fail> {
-    let moment = Moment::new(7).ok_or("no moment")?;
-    let request = Request {
-        client: 1,
-        number: 2,
-        ask: ask(alloc, kind)?,
-    };
-    Ok(Entry { moment, request })
-}
-
-fn send(alloc: Global, queue: QueueName, dedup: Option<DedupId>) -> Result<Ask, Fail> {
-    Ok(Ask::Send {
-        queue,
-        group: GroupId::new(alloc, "a")?,
-        dedup,
-        body: Body::new(alloc, "hello")?,
-    })
-}
-
-/// An ask of each kind, from 0 to 6; of sends, one with an id and one without.
-fn ask(alloc: Global, kind: u8) -> Result<Ask, Fail> {
-    let queue = QueueName::new(alloc, "q.fifo")?;
-    let visibility = Seconds::new(30).ok_or("no timeout")?;
-    let size = BatchSize::new(3).ok_or("no size")?;
-    let receipt = Receipt::new(1, 2, 3).ok_or("a zero")?;
-    match kind {
-        0 => Ok(Ask::Create {
-            queue,
-            visibility,
-            content: true,
-        }),
-        1 => Ok(Ask::Remove { queue }),
-        2 => send(alloc, queue, Some(DedupId::new(alloc, "d")?)),
-        3 => Ok(Ask::Receive {
-            queue,
-            size,
-            visibility: Some(visibility),
-        }),
-        4 => Ok(Ask::Delete { queue, receipt }),
-        5 => Ok(Ask::Change {
-            queue,
-            receipt,
-            visibility,
-        }),
-        _ => send(alloc, queue, None),
-    }
-}
-
-#[test]
-fn copies_of_asks_are_equal(rt: HostRuntime) -> Result<(), Fail> {
-    let alloc = rt.alloc();
-    for kind in 0..7 {
-        let original = entry(alloc, kind)?;
-        assert_eq!(rt; original.request.ask.queue().as_str(), "q.fifo");
-        assert_eq!(rt; original.try_copy()?, original);
-        let other = ask(alloc, (kind + 1) % 7)?;
-        assert!(rt; original.request.ask != other);
-    }
-    Ok(())
-}
-
-#[test]
-fn a_copy_of_a_query_is_equal(rt: HostRuntime) -> Result<(), Fail> {
-    let query = Query {
-        client: 7,
-        tag: 9,
-        queue: QueueName::new(rt.alloc(), "q.fifo")?,
-    };
-    assert_eq!(rt; query.try_copy()?, query);
-    Ok(())
-}
-
-fn shown(alloc: Global, reply: &Reply) -> Result<String, AllocError> {
-    format!(in alloc; "{reply:?}")
-}
-
-fn delivery(alloc: Global) -> Result<Delivery, Fail> {
-    Ok(Delivery {
-        receipt: Receipt::new(1, 2, 3).ok_or("a zero")?,
-        group: GroupId::new(alloc, "a")?,
-        body: Body::new(alloc, "hello")?,
-    })
-}
-
-/// A reply of each kind, from 0 to 7.
-fn reply(alloc: Global, kind: u8) -> Result<Reply, Fail> {
-    Ok(match kind {
-        0 => Reply::Created(1),
-        1 => Reply::Removed,
-        2 => Reply::Sent(2),
-        3 => Reply::Received(Deliveries::from_vec(Vec::from_array(alloc, [delivery(alloc)?])?)),
-        4 => Reply::Deleted(true),
-        5 => Reply::Changed,
-        6 => Reply::Counts {
-            visible: 1,
-            in_flight: 3,
-        },
-        _ => Reply::Refused(Refusal::StaleNumber),
-    })
-}
-
-fn check_alike(rt: &impl Abort, alloc: Global, copy: &Reply, original: &Reply) -> Result<(), Fail> {
-    assert_eq!(rt; shown(alloc, copy)?, shown(alloc, original)?);
-    Ok(())
-}
-
-fn check_copy(rt: &impl Abort, alloc: Global, original: &Reply) -> Result<(), Fail> {
-    let copy = original.try_copy()?;
-    check_alike(rt, alloc, &copy, original)
-}
-
-#[test]
-fn copies_of_replies_are_equal(rt: HostRuntime) -> Result<(), Fail> {
-    let alloc = rt.alloc();
-    let original = delivery(alloc)?;
-    assert_eq!(rt; original.try_copy()?, original);
-    for kind in 0..8 {
-        let original = reply(alloc, kind)?;
-        check_copy(&rt, alloc, &original)?;
-    }
-    Ok(())
-}
-
-#[test]
-fn deliveries_are_a_vector(rt: HostRuntime) -> Result<(), Fail> {
-    let alloc = rt.alloc();
-    let handed = Deliveries::from_vec(Vec::from_array(alloc, [delivery(alloc)?])?);
-    assert_eq!(rt; handed.as_slice().len(), 1);
-    assert_eq!(rt; handed.into_vec().len(), 1);
     Ok(())
 }
 
