@@ -1,6 +1,8 @@
 -- Worked searches, worked out by hand.
-use Rattle.std.proofs.Common.{ℕ, zero, suc, ◌≤◌, ◌<◌, [], ◌∷◌, get_or, arith}
+use Rattle.std.proofs.Common.{ℕ, zero, suc, ◌≤◌, ◌<◌, [], ◌∷◌, List, get_or, arith, inl, inr}
+use Rattle.cq_least.specs.declared.spans.TheConstants.{LARGEST}
 use Rattle.cq_least.specs.Firsts.{AreAbove, IsFirst}
+use Rattle.cq_least.specs.Spans.{IsSpanBut, IsOutside}
 
 -- a number that equals the limit is at most it
 equal : IsFirst (5 ∷ 3 ∷ 7 ∷ 2 ∷ []) 0 3 1
@@ -20,3 +22,28 @@ later = record { after = omega arith; within = omega arith; found = omega arith;
 -- from behind the last number on there is none
 none : AreAbove (1 ∷ 2 ∷ []) 7 2 2
 none k from end = absurd (omega arith)
+
+-- the second of three numbers is the only one below the largest
+abbrev one_small : List ℕ
+one_small = LARGEST ∷ 5 ∷ LARGEST ∷ []
+
+-- so the span of the first block need have no other place
+short : IsSpanBut one_small 3 0 (record { from = 1; end = 2 })
+short = record {
+  after = omega arith;
+  before = omega arith;
+  within = omega arith;
+  has = λ k other block inside small. one k inside small;
+} where
+  one : (k : ℕ) → k < 3 → get_or one_small k 0 < LARGEST → (1 ≤ k) × (k < 2)
+  one zero inside small = absurd (omega arith)
+  one (suc zero) inside small = (omega arith, omega arith)
+  one (suc (suc zero)) inside small = absurd (omega arith)
+  one (suc (suc (suc k))) inside small = absurd (omega arith)
+
+-- and the places before and behind it are outside
+before : IsOutside (record { from = 1; end = 2 }) 0
+before = inl (omega arith)
+
+behind : IsOutside (record { from = 1; end = 2 }) 2
+behind = inr (omega arith)

@@ -54,29 +54,6 @@ summary-change low high low' high' b was there here = record {
 other_place : (i k b : ℕ) → i / BLOCK ≡ b → k / BLOCK ≢ b → k ≢ i
 other_place i k b e n same = n (subst (λ m. m / BLOCK ≡ b) (sym same) e)
 
--- a number is written, and the least of its block
-pub summary-set : (low high : List ℕ) (i v least from end : ℕ) → IsSummary low high → i < length low → from ≡ BLOCK * (i / BLOCK) → end ≤ from + BLOCK → ((k : ℕ) → k / BLOCK ≡ i / BLOCK → k < length low → k < end)
-    → ((k : ℕ) → from ≤ k → k < end → least ≤ get_or (set low i v) k 0)
-    → ((k : ℕ) × ((from ≤ k) × ((k < end) × (get_or (set low i v) k 0 ≡ least)))) → end ≤ length low
-    → IsSummary (set low i v) (set high (i / BLOCK) least)
-summary-set low high i v least from end was h from_is end_is reach below reached fits =
-    let b = i / BLOCK in
-    let in_high : b < length high = omega (arith, was.long) in
-    let at : get_or (set high b least) b 0 ≡ least = get_or-set_same high b least 0 in_high in
-    summary-change low high (set low i v) (set high b least) b was
-    (record {
-      shorter = λ k n l. omega (arith, length-set low i v);
-      longer = λ k n l. omega (arith, length-set low i v);
-      same_low = λ k n l. get_or-set_other low i k v 0 (other_place i k b refl n);
-      same_high = λ j n. get_or-set_other high b j least 0 n;
-    })
-    (record {
-      long = omega (arith, length-set low i v, length-set high b least, was.long);
-      short = omega (arith, length-set low i v, length-set high b least, was.short);
-      below = λ k e l. let small : k < length low = omega (arith, length-set low i v) in let low_end : k < end = reach k e small in omega (arith, at, below k (omega arith) low_end);
-      reached = λ l. (reached.0, record { inside = omega (arith, reached.1); within = omega (arith, length-set low i v, reached.1); is = reached.1.1.1 ∙ sym at });
-    })
-
 -- what a write leaves as it is
 set-elsewhere : (low high high' : List ℕ) (i v : ℕ) → ((j : ℕ) → j ≢ i / BLOCK → get_or high' j 0 ≡ get_or high j 0) → IsElsewhere low high (set low i v) high' (i / BLOCK)
 set-elsewhere low high high' i v same = record {
@@ -85,6 +62,24 @@ set-elsewhere low high high' i v same = record {
   same_low = λ k n l. get_or-set_other low i k v 0 (other_place i k (i / BLOCK) refl n);
   same_high = same;
 }
+
+-- a number is written, and the least of its block
+pub summary-set : (low high : List ℕ) (i v least : ℕ) → IsSummary low high → i < length low
+    → ((k : ℕ) → k / BLOCK ≡ i / BLOCK → k < length (set low i v) → least ≤ get_or (set low i v) k 0)
+    → ((k : ℕ) × ((k / BLOCK ≡ i / BLOCK) × ((k < length (set low i v)) × (get_or (set low i v) k 0 ≡ least))))
+    → IsSummary (set low i v) (set high (i / BLOCK) least)
+summary-set low high i v least was h below reached =
+    let b = i / BLOCK in
+    let all = length-set low i v in
+    let in_high : b < length high = omega (arith, was.long) in
+    let at : get_or (set high b least) b 0 ≡ least = get_or-set_same high b least 0 in_high in
+    summary-change low high (set low i v) (set high b least) b was (set-elsewhere low high (set high b least) i v (λ j n. get_or-set_other high b j least 0 n))
+    (record {
+      long = omega (arith, all, length-set high b least, was.long);
+      short = omega (arith, all, length-set high b least, was.short);
+      below = λ k e l. omega (arith, at, below k e l);
+      reached = λ l. (reached.0, record { inside = reached.1.0; within = reached.1.1.0; is = reached.1.1.1 ∙ sym at });
+    })
 
 -- a bound of the block's other numbers, and of the new one, is one of all
 bound-set : (low high : List ℕ) (i v bound : ℕ) → IsSummary low high → i < length low → bound ≤ v → bound ≤ get_or high (i / BLOCK) 0 → (k : ℕ) → k / BLOCK ≡ i / BLOCK → k < length low → bound ≤ get_or (set low i v) k 0

@@ -1,9 +1,10 @@
 //! A list in blocks, with the least number of each block in a list above it.
 ghost use Rattle.std.specs.Prelude.{◌≡◌, ℕ, ◌+◌, ◌*◌, ◌/◌, ◌<◌, ◌≤◌, List, [], length, slice_index, OnOk, OnErr};
+ghost use Rattle.cq_least.specs.Spans.{AreSpans};
 ghost use Rattle.cq_least.specs.Summaries.{IsSummary, IsBegun};
 
-use crate::flat::scan;
 use crate::leasts::Leasts;
+use crate::spans::{Span, begin_span, first_in, least_of, narrow, widen};
 use std::alloc::{AllocError, Global};
 use std::marker::Model;
 
@@ -12,10 +13,12 @@ pub const BLOCK: usize = 32;
 
 /// A list in blocks, and above it the least number of each block. A search reads the rest of one block, asks the list
 /// above for the next block that has a number small enough, and reads that one. A write reads its block where it takes
-/// the least number away, and writes one number above where the least of the block changes.
+/// the least number away, and writes one number above where the least of the block changes. What is read of a block is
+/// its span, outside of which nothing but the largest number stands.
 #[derive(Drop)]
 pub struct Blocks<T: Leasts> {
     low: Vec<u64>,
+    spans: Vec<Span>,
     high: T,
 }
 
@@ -24,23 +27,7 @@ impl<T: Leasts> Model for Blocks<T> {
 
     ghost view = { λ b. b.low.items };
 
-    ghost invariant = { λ b. IsSummary b.low.items (T.numbers b.high) };
-}
-
-/// The least of the numbers from `from` up to `end`: O(end - from).
-fn least_of(numbers: &[u64], from: usize, end: usize) -> u64
-    requires order { from < end }
-    requires within { end ≤ length numbers.now }
-    ensures below { (k : ℕ) → from ≤ k → k < end → result ≤ slice_index numbers.now k }
-    ensures reached { (k : ℕ) × ((from ≤ k) × ((k < end) × (slice_index numbers.now k ≡ result))) }
-{
-    let mut least = numbers[from];
-    for i in from + 1..end {
-        if numbers[i] < least {
-            least = numbers[i];
-        }
-    }
-    least
+    ghost invariant = { λ b. IsSummary b.low.items (T.numbers b.high) × AreSpans b.low.items b.spans.items };
 }
 
 /// Writes the first number of a new block above, in a place of its own or in one that stands there already: a push
@@ -67,6 +54,7 @@ impl<T: Leasts> Blocks<T> {
     {
         Blocks {
             low: Vec::new(alloc),
+            spans: Vec::new(alloc),
             high,
         }
     }
@@ -89,14 +77,14 @@ impl<T: Leasts> Leasts for Blocks<T> {
             return;
         }
         self.low[at] = number;
+        widen(&mut self.spans, &self.low, at);
         let block = at / BLOCK;
         let least = self.high.get(block);
         if number < least {
             self.high.set(block, number);
         } else if before == least {
-            let from = block * BLOCK;
-            let end = self.low.len().min(from + BLOCK);
-            let least = least_of(&self.low, from, end);
+            narrow(&mut self.spans, &self.low, at);
+            let least = least_of(&self.low, &self.spans, at);
             self.high.set(block, least);
         }
     }
@@ -106,9 +94,12 @@ impl<T: Leasts> Leasts for Blocks<T> {
         let block = len / BLOCK;
         if len % BLOCK == 0 {
             begin_block(&mut self.high, block, number)?;
+            begin_span(&mut self.spans, &self.low)?;
             self.low.push(number)?;
+            widen(&mut self.spans, &self.low, len);
         } else {
             self.low.push(number)?;
+            widen(&mut self.spans, &self.low, len);
             if number < self.high.get(block) {
                 self.high.set(block, number);
             }
@@ -121,25 +112,21 @@ impl<T: Leasts> Leasts for Blocks<T> {
         if from >= len {
             return None;
         }
-        let next = from / BLOCK + 1;
-        let end = len.min(next * BLOCK);
-        let i = scan(&self.low, from, end, limit);
-        if i < end {
+        if let Some(i) = first_in(&self.low, &self.spans, from, limit) {
             return Some(i);
         }
-        let block = self.high.first_at_most(next, limit)?;
+        let block = self.high.first_at_most(from / BLOCK + 1, limit)?;
         let start = block * BLOCK;
         if start >= len {
             return None;
         }
-        let end = len.min(start + BLOCK);
-        let i = scan(&self.low, start, end, limit);
-        if i < end { Some(i) } else { None }
+        first_in(&self.low, &self.spans, start, limit)
     }
 
     fn try_copy(&self) -> Result<Blocks<T>, AllocError> {
         Ok(Blocks {
             low: self.low.clone()?,
+            spans: self.spans.clone()?,
             high: self.high.try_copy()?,
         })
     }

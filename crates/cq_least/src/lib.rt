@@ -5,6 +5,7 @@
 mod blocks;
 mod flat;
 mod leasts;
+mod spans;
 mod tower;
 
 pub use blocks::Blocks;
