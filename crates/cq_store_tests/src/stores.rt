@@ -1,7 +1,7 @@
-//! Rows on a store, each an ask and its answer.
+//! Rows on a store and on a copy of it, each an ask and its answer.
 use cq_base::{
-    Ask, BatchSize, Body, DedupId, Delivery, Entry, GroupId, Moment, NoMemory, Query, QueueName,
-    Receipt, Reply, Request, Seconds,
+    Ask, BatchSize, Body, DedupId, Delivery, Entry, GroupId, Moment, NoMemory, QueueName, Receipt,
+    Reply, Request, Seconds,
 };
 use cq_store::Store;
 use std::alloc::Global;
@@ -11,10 +11,6 @@ use std::test::Fail;
 // Where the store refuses a call for want of memory, the call is made once more. So under
 // `check/refused-allocations`, which refuses each allocation of each test in turn, a test passes, or ends with
 // an error where memory for an entry or a text was refused; no assertion fails.
-
-fn seconds(seconds: u32) -> Result<Seconds, Fail> {
-    Ok(Seconds::new(seconds).ok_or("no timeout")?)
-}
 
 /// That message's receipt, of the first incarnation.
 fn receipt(sequence: u64, handing: u64) -> Result<Receipt, Fail> {
@@ -41,47 +37,30 @@ type Line = (u64, u32, u64, Row, &'static str);
 enum Row {
     /// With a visibility timeout of 30 s.
     Create,
-    /// The same of a queue that makes deduplication ids.
-    CreateMaking,
     /// Of another queue, with a visibility timeout of 30 s.
     CreateOther(&'static str),
     Remove,
     /// The group and the body, which is the deduplication id too.
     Send(&'static str, &'static str),
-    /// The body of a send in group a without a deduplication id.
-    SendWithout(&'static str),
-    /// The deduplication id and the body of a send in group a.
-    SendAs(&'static str, &'static str),
     /// The queue, and then as `Send`.
     SendTo(&'static str, &'static str, &'static str),
     Receive(u8),
     /// A message of the first incarnation, and the handing of the receipt.
     Delete(u64, u64),
-    /// The same, and the visibility timeout in seconds.
-    Change(u64, u64, u32),
 }
 
-fn create(queue: QueueName, content: bool) -> Result<Ask, Fail> {
-    let visibility = seconds(30)?;
+fn create(queue: QueueName) -> Result<Ask, Fail> {
+    let visibility = Seconds::new(30).ok_or("no timeout")?;
     Ok(Ask::Create {
         queue,
         visibility,
-        content,
+        content: false,
     })
 }
 
-fn send(
-    alloc: Global,
-    queue: QueueName,
-    group: &str,
-    dedup: Option<&'static str>,
-    body: &str,
-) -> Result<Ask, Fail> {
+fn send(alloc: Global, queue: QueueName, group: &str, body: &str) -> Result<Ask, Fail> {
     let group = GroupId::new(alloc, group)?;
-    let dedup = match dedup {
-        Some(dedup) => Some(DedupId::new(alloc, dedup)?),
-        None => None,
-    };
+    let dedup = Some(DedupId::new(alloc, body)?);
     let body = Body::new(alloc, body)?;
     Ok(Ask::Send {
         queue,
@@ -105,32 +84,16 @@ fn delete(queue: QueueName, sequence: u64, handing: u64) -> Result<Ask, Fail> {
     Ok(Ask::Delete { queue, receipt })
 }
 
-fn change(queue: QueueName, sequence: u64, handing: u64, visibility: u32) -> Result<Ask, Fail> {
-    let receipt = receipt(sequence, handing)?;
-    let visibility = seconds(visibility)?;
-    Ok(Ask::Change {
-        queue,
-        receipt,
-        visibility,
-    })
-}
-
 fn ask_of(alloc: Global, row: Row) -> Result<Ask, Fail> {
     let queue = QueueName::new(alloc, "q.fifo")?;
     match row {
-        Row::Create => create(queue, false),
-        Row::CreateMaking => create(queue, true),
-        Row::CreateOther(name) => create(QueueName::new(alloc, name)?, false),
+        Row::Create => create(queue),
+        Row::CreateOther(name) => create(QueueName::new(alloc, name)?),
         Row::Remove => Ok(Ask::Remove { queue }),
-        Row::Send(group, body) => send(alloc, queue, group, Some(body), body),
-        Row::SendWithout(body) => send(alloc, queue, "a", None, body),
-        Row::SendAs(dedup, body) => send(alloc, queue, "a", Some(dedup), body),
-        Row::SendTo(name, group, body) => {
-            send(alloc, QueueName::new(alloc, name)?, group, Some(body), body)
-        }
+        Row::Send(group, body) => send(alloc, queue, group, body),
+        Row::SendTo(name, group, body) => send(alloc, QueueName::new(alloc, name)?, group, body),
         Row::Receive(size) => receive(queue, size),
         Row::Delete(sequence, handing) => delete(queue, sequence, handing),
-        Row::Change(sequence, handing, visibility) => change(queue, sequence, handing, visibility),
     }
 }
 
@@ -153,14 +116,11 @@ fn shown(alloc: Global, reply: &Reply) -> Result<String, Fail> {
         Reply::Sent(sequence) => Ok(format!(in alloc; "sent {sequence}")?),
         Reply::Received(deliveries) => received(alloc, deliveries.as_slice()),
         Reply::Deleted(took_effect) => Ok(format!(in alloc; "deleted {took_effect}")?),
-        Reply::Changed => Ok(String::from_str(alloc, "changed")?),
-        Reply::Counts { visible, in_flight } => {
-            Ok(format!(in alloc; "counts {visible} {in_flight}")?)
-        }
         Reply::Refused(refusal) => {
             let code = refusal.code();
             Ok(format!(in alloc; "refused {code}")?)
         }
+        Reply::Changed | Reply::Counts { .. } => Err(Fail::from("no such reply")),
     }
 }
 
@@ -264,45 +224,6 @@ fn check_copy(rt: &impl Abort, alloc: Global, lines: &[Line], next: &[Line]) -> 
     go_on_twice(rt, alloc, &mut store, next)
 }
 
-fn query_of(alloc: Global, name: &str) -> Result<Query, Fail> {
-    let queue = QueueName::new(alloc, name)?;
-    Ok(Query {
-        client: 1,
-        tag: 1,
-        queue,
-    })
-}
-
-/// What the store answers to a query of the queue.
-fn counted(alloc: Global, store: &Store, name: &str) -> Result<String, Fail> {
-    let query = query_of(alloc, name)?;
-    shown(alloc, &store.query(&query))
-}
-
-fn check_counted(
-    rt: &impl Abort,
-    alloc: Global,
-    store: &Store,
-    name: &str,
-    want: &str,
-) -> Result<(), Fail> {
-    let got = counted(alloc, store, name)?;
-    assert_eq!(rt; got.as_str(), want, "of {name}");
-    Ok(())
-}
-
-/// The counts of the queue after these lines.
-fn check_counts(
-    rt: &impl Abort,
-    alloc: Global,
-    lines: &[Line],
-    name: &str,
-    want: &str,
-) -> Result<(), Fail> {
-    let store = check(rt, alloc, lines)?;
-    check_counted(rt, alloc, &store, name, want)
-}
-
 /// Groups of several messages, of which ten are handed out.
 const GROUPS: [Line; 15] = [
     (0, 1, 1, Row::Create, "created 1"),
@@ -327,67 +248,6 @@ const GROUPS: [Line; 15] = [
     ),
     (1, 1, 15, Row::Receive(10), "received"),
 ];
-
-/// Each ask takes effect once.
-#[test]
-fn each_ask_is_answered(rt: HostRuntime) -> Result<(), Fail> {
-    let rows = [
-        (0, 1, 1, Row::Create, "created 1"),
-        (0, 1, 2, Row::Send("a", "x"), "sent 1"),
-        (1, 1, 3, Row::Receive(1), "received x 1-1-1"),
-        (2, 1, 4, Row::Change(1, 1, 60), "changed"),
-        (60_001, 1, 5, Row::Receive(1), "received"),
-        (60_002, 1, 6, Row::Receive(1), "received x 1-1-2"),
-        (60_003, 1, 7, Row::Delete(1, 2), "deleted true"),
-        (60_004, 1, 8, Row::Remove, "removed"),
-        (60_005, 1, 9, Row::Receive(1), "refused 1"),
-    ];
-    check(&rt, rt.alloc(), &rows)?;
-    Ok(())
-}
-
-/// The SHA-256 of `abc`.
-const ABC: &'static str = "ba7816bf8f01cfea414140de5dae2223b00361a396177a9cb410ff61f20015ad";
-
-/// A queue that makes ids: the same id made and given, another one given, and a body that repeats.
-const MAKING: [Line; 6] = [
-    (0, 1, 1, Row::CreateMaking, "created 1"),
-    (0, 1, 2, Row::SendWithout("abc"), "sent 1"),
-    (1, 1, 3, Row::SendAs(ABC, "abc"), "sent 1"),
-    (2, 1, 4, Row::SendAs("x", "abc"), "sent 2"),
-    (3, 1, 5, Row::SendWithout("abd"), "sent 3"),
-    (300_000, 1, 6, Row::SendWithout("abc"), "sent 4"),
-];
-
-/// A queue keeps both attributes of its creation, and so does a copy.
-#[test]
-fn a_queue_makes_ids(rt: HostRuntime) -> Result<(), Fail> {
-    let next = [
-        (300_000, 1, 7, Row::Create, "refused 2"),
-        (300_000, 1, 8, Row::CreateMaking, "created 1"),
-        (300_000, 1, 9, Row::SendAs(ABC, "x"), "sent 4"),
-    ];
-    check_copy(&rt, rt.alloc(), &MAKING, &next)
-}
-
-/// A send without an id is refused where no queue lives, and where the queue makes none, also where its body's
-/// id was given before. A repeat of the refused send is refused again.
-#[test]
-fn a_missing_id_is_refused(rt: HostRuntime) -> Result<(), Fail> {
-    let rows = [
-        (0, 1, 1, Row::SendWithout("abc"), "refused 1"),
-        (0, 1, 2, Row::Create, "created 1"),
-        (0, 1, 3, Row::SendWithout("abc"), "refused 8"),
-        (0, 1, 4, Row::SendAs(ABC, "abc"), "sent 1"),
-        (1, 1, 5, Row::SendWithout("abc"), "refused 8"),
-        (1, 1, 5, Row::SendAs(ABC, "abc"), "refused 8"),
-        (299_999, 1, 6, Row::SendAs(ABC, "abc"), "sent 1"),
-        (300_000, 1, 7, Row::SendAs(ABC, "abc"), "sent 2"),
-        (300_000, 1, 8, Row::CreateMaking, "refused 2"),
-    ];
-    check(&rt, rt.alloc(), &rows)?;
-    Ok(())
-}
 
 /// A receive whose number comes again, and a smaller number.
 const REPEATS: [Line; 8] = [
@@ -429,29 +289,6 @@ fn a_copy_repeats_as_the_store(rt: HostRuntime) -> Result<(), Fail> {
         (60_001, 1, 4, Row::Send("a", "x"), "sent 1"),
     ];
     check_copy(&rt, rt.alloc(), &REPEATS, &next)
-}
-
-/// A message is in flight or visible.
-#[test]
-fn a_query_counts_the_messages(rt: HostRuntime) -> Result<(), Fail> {
-    let rows = [
-        (0, 1, 1, Row::Create, "created 1"),
-        (0, 1, 2, Row::Send("a", "a1"), "sent 1"),
-        (0, 1, 3, Row::Send("a", "a2"), "sent 2"),
-        (0, 1, 4, Row::Send("a", "a3"), "sent 3"),
-        (0, 1, 5, Row::Send("b", "b1"), "sent 4"),
-        (1, 1, 6, Row::Receive(2), "received a1 1-1-1 a2 1-2-1"),
-        (2, 1, 7, Row::Receive(2), "received b1 1-4-1"),
-        (3, 1, 8, Row::Receive(2), "received"),
-    ];
-    let removed = [
-        (0, 1, 1, Row::Create, "created 1"),
-        (0, 1, 2, Row::Send("a", "x"), "sent 1"),
-        (0, 1, 3, Row::Remove, "removed"),
-    ];
-    check_counts(&rt, rt.alloc(), &rows, "q.fifo", "counts 1 3")?;
-    check_counts(&rt, rt.alloc(), &rows, "r.fifo", "refused 1")?;
-    check_counts(&rt, rt.alloc(), &removed, "q.fifo", "refused 1")
 }
 
 /// The store answers the line, and keeps so many ids then.
