@@ -1,7 +1,7 @@
-//! Scripts that are cut short or too long, and readers and writers that give up.
+//! Scripts and sessions that come in parts, and readers and writers that give up.
 
 use cq_base::ChainSize;
-use cq_script::{Checked, LINE_LIMIT, LINES_LIMIT, ScriptFault, Sink, Source, replay, session};
+use cq_script::{Checked, LINE_LIMIT, ScriptFault, Sink, Source, replay, session};
 use std::alloc::Global;
 use std::cell::Cell;
 use std::io;
@@ -113,24 +113,13 @@ fn replayed(
     room: usize,
     silent: bool,
 ) -> (Result<(), ScriptFault>, Vec<u8>) {
-    replayed_on(alloc, ChainSize::one(), reader, room, silent)
-}
-
-/// The same on so many servers.
-fn replayed_on(
-    alloc: Global,
-    size: ChainSize,
-    reader: Pieces<'_>,
-    room: usize,
-    silent: bool,
-) -> (Result<(), ScriptFault>, Vec<u8>) {
     let mut taken = Vec::new(alloc);
     let mut passed = 0;
     let mut source = Checked::new(reader);
     let mut writer = Room::new(&mut taken, &mut passed, room);
     writer.silent = silent;
     let mut sink = Checked::new(writer);
-    let answer = replay(alloc, size, &mut source, &mut sink);
+    let answer = replay(alloc, ChainSize::one(), &mut source, &mut sink);
     (answer, taken)
 }
 
@@ -315,66 +304,6 @@ fn answers_before_it_reads_on(rt: HostRuntime) {
     }
 }
 
-/// A query at the tail, which crashes once it has answered.
-const TWO_SERVERS: &str = r#"{"op":"ask","at":2,"client":7,"tag":9,"queue":"q.fifo"}
-
-{"op":"put","from":2,"to":"clients"}
-{"op":"crash","server":2}
-{"op":"put","from":2,"to":1}
-"#;
-
-const TWO_SERVERS_TEXT: &str =
-    r#"{"client":7,"length":0,"line":3,"reply":{"code":1,"kind":"refused","name":"QueueDoesNotExist"},"tag":9}
-{"line":5,"name":"ServerDown","refused":32}
-"#;
-
-/// Each event at a place where it is refused, then an entry that goes down the chain.
-const WRONG_PLACES: &str =
-    r#"{"op":"arrive","at":2,"clock":0,"client":1,"number":1,"ask":{"kind":"remove","queue":"q.fifo"}}
-{"op":"ask","at":1,"client":1,"tag":1,"queue":"q.fifo"}
-{"op":"take","from":1,"to":2}
-{"op":"put","from":1,"to":2}
-{"op":"take","from":2,"to":"clients"}
-{"op":"arrive","at":7,"clock":0,"client":1,"number":1,"ask":{"kind":"remove","queue":"q.fifo"}}
-{"op":"arrive","at":7,"clock":0,"client":1,"number":1,"ask":{"kind":"send","queue":"q.fifo","group":"a b","dedup":"d","body":"x"}}
-{"op":"detect","server":2}
-{"op":"join","server":2}
-{"op":"crash","server":9}
-{"op":"arrive","at":1,"clock":5,"client":1,"number":1,"ask":{"kind":"create","queue":"q.fifo"}}
-{"op":"put","from":1,"to":2}
-{"op":"take","from":1,"to":2}
-{"op":"put","from":2,"to":"clients"}
-"#;
-
-const WRONG_PLACES_TEXT: &str = r#"{"line":1,"name":"NotHead","refused":40}
-{"line":2,"name":"NotTail","refused":42}
-{"line":3,"name":"LinkEmpty","refused":33}
-{"line":4,"name":"OutboxEmpty","refused":34}
-{"line":5,"name":"LinkEmpty","refused":33}
-{"line":6,"name":"NoSuchServer","refused":31}
-{"line":7,"name":"BadGroup","refused":12}
-{"line":8,"name":"NotDown","refused":39}
-{"line":9,"name":"IdUsed","refused":37}
-{"line":10,"name":"NoSuchServer","refused":31}
-{"client":1,"length":1,"line":14,"number":1,"reply":{"incarnation":1,"kind":"created"}}
-"#;
-
-#[test]
-fn runs_two_servers(rt: HostRuntime) -> Result<(), Fail> {
-    let two = ChainSize::new(2).ok_or("two servers are a chain")?;
-    let cases = [
-        (TWO_SERVERS, TWO_SERVERS_TEXT),
-        (WRONG_PLACES, WRONG_PLACES_TEXT),
-    ];
-    for (script, text) in cases {
-        let reader = Pieces::new(script.as_bytes(), 65536);
-        let (answer, taken) = replayed_on(rt.alloc(), two, reader, usize::MAX, false);
-        assert_eq!(rt; answer, Ok(()));
-        assert_eq!(rt; taken.as_slice(), text.as_bytes(), "the text of {script:?}");
-    }
-    Ok(())
-}
-
 /// Three lines of 37 bytes with their line feeds, each refused in 45 bytes.
 const PUTS: &str = r#"{"op":"put","from":1,"to":"clients"}
 {"op":"put","from":1,"to":"clients"}
@@ -425,34 +354,6 @@ fn writes_the_front_that_fits(rt: HostRuntime) -> Result<(), Fail> {
         assert_eq!(rt; answer, Err(ScriptFault::BadLine(4)));
         assert_eq!(rt; taken.as_slice(), PUTS_TEXT.as_bytes());
     }
-    Ok(())
-}
-
-#[test]
-fn counts_lines_up_to_the_limit(rt: HostRuntime) -> Result<(), Fail> {
-    let many = vec![in rt.alloc(); b'\n'; LINES_LIMIT as usize]?;
-    let (answer, _) = replayed(rt.alloc(), Pieces::new(many.as_slice(), 65536), 0, false);
-    assert_eq!(rt; answer, Ok(()));
-    for last in [b"\n", b" "] {
-        let mut more = many.clone()?;
-        more.extend_from_slice(last)?;
-        let (answer, _) = replayed(rt.alloc(), Pieces::new(more.as_slice(), 65536), 0, false);
-        assert_eq!(rt; answer, Err(ScriptFault::TooManyLines));
-    }
-    Ok(())
-}
-
-#[test]
-fn takes_lines_up_to_the_limit(rt: HostRuntime) -> Result<(), Fail> {
-    let mut long = vec![in rt.alloc(); b' '; LINE_LIMIT]?;
-    for end in ["", "\n"] {
-        long.extend_from_slice(end.as_bytes())?;
-        let (answer, _) = replayed(rt.alloc(), Pieces::new(long.as_slice(), 65536), 0, false);
-        assert_eq!(rt; answer, Ok(()), "a line that ends with {end:?}");
-    }
-    long.insert(0, b' ')?;
-    let (answer, _) = replayed(rt.alloc(), Pieces::new(long.as_slice(), 65536), 0, false);
-    assert_eq!(rt; answer, Err(ScriptFault::LineTooLong(1)));
     Ok(())
 }
 
