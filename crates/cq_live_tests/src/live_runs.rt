@@ -155,11 +155,10 @@ fn fault_of<R: Threads + Wait + Sync, G: Gate + Sync>(
     alloc: Global,
     servers: u8,
     steps: &[LiveStep],
-    turns: u64,
     gate: &G,
 ) -> Result<u16, Fail> {
     let size = ChainSize::new(servers).ok_or("no chain")?;
-    match live(rt, alloc, size, steps, turns, gate) {
+    match live(rt, alloc, size, steps, TURNS, gate) {
         Ok(_report) => Err(Fail::from("no fault")),
         Err(fault) => Ok(fault.code()),
     }
@@ -205,14 +204,6 @@ fn events_are_those_of_the_nodes(rt: HostRuntime) -> Result<(), Fail> {
     Ok(())
 }
 
-#[test]
-fn one_turn_is_not_enough(rt: HostRuntime) -> Result<(), Fail> {
-    let alloc = rt.alloc();
-    let code = fault_of(&rt, alloc, 5, &asks_and_changes(alloc)?, 1, &Always)?;
-    assert_eq!(rt; code, 71);
-    Ok(())
-}
-
 /// The gate that never lets a turn begin.
 #[derive(Drop)]
 struct Shut;
@@ -226,25 +217,7 @@ impl Gate for Shut {
 #[test]
 fn a_shut_gate_stops_all_nodes(rt: HostRuntime) -> Result<(), Fail> {
     let alloc = rt.alloc();
-    let code = fault_of(&rt, alloc, 5, &asks_and_changes(alloc)?, TURNS, &Shut)?;
+    let code = fault_of(&rt, alloc, 5, &asks_and_changes(alloc)?, &Shut)?;
     assert_eq!(rt; code, 71);
-    Ok(())
-}
-
-/// A crash of server 1.
-fn crash(alloc: Global) -> Result<Vec<LiveStep>, Fail> {
-    let mut steps = Vec::new(alloc);
-    steps.push(LiveStep::Crash {
-        server: ServerId::new(1).ok_or("no server")?,
-        after: 0,
-    })?;
-    Ok(steps)
-}
-
-#[test]
-fn the_last_server_is_not_crashed(rt: HostRuntime) -> Result<(), Fail> {
-    let alloc = rt.alloc();
-    let code = fault_of(&rt, alloc, 1, &crash(alloc)?, 1, &Always)?;
-    assert_eq!(rt; code, 74);
     Ok(())
 }
