@@ -17,7 +17,8 @@ const GROUPS: u32 = 4;
 enum Call {
     Create,
     Remove,
-    /// The message that gets that number, which is its id and its body too. Its group is the rest by `GROUPS`.
+    /// The message that gets that number, which is its body too. Its group is the rest by `GROUPS`. The id is the number
+    /// if that is odd, or else the one that the queue makes.
     Send(u32),
     /// Of ten messages.
     Receive,
@@ -67,10 +68,15 @@ fn send_ask(alloc: Global, queue: QueueName, number: u32) -> Option<Ask> {
     let group = number % GROUPS;
     let group = format!(in alloc; "{group}").ok()?;
     let text = format!(in alloc; "{number}").ok()?;
+    let dedup = if number % 2 == 0 {
+        None
+    } else {
+        Some(DedupId::new(alloc, text.as_str()).ok()?)
+    };
     Some(Ask::Send {
         queue,
         group: GroupId::new(alloc, group.as_str()).ok()?,
-        dedup: Some(DedupId::new(alloc, text.as_str()).ok()?),
+        dedup,
         body: Body::new(alloc, text.as_str()).ok()?,
     })
 }
@@ -81,7 +87,7 @@ fn ask_of(alloc: Global, queue: &QueueName, call: Call) -> Option<Ask> {
         Call::Create => Some(Ask::Create {
             queue,
             visibility: Seconds::new(30)?,
-            content: false,
+            content: true,
         }),
         Call::Remove => Some(Ask::Remove { queue }),
         Call::Send(number) => send_ask(alloc, queue, number),
