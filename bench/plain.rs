@@ -232,7 +232,8 @@ impl Store {
     }
 }
 
-/// A store with one queue, and the requests of one client.
+/// A store with one queue, and the requests of one client. Its calls aren't inlined, so that `bench/store` can count the
+/// instructions of each.
 struct Bench {
     store: Store,
     name: Rc<str>,
@@ -245,11 +246,39 @@ impl Bench {
         self.store.apply(moment, Request { client: 1, number, queue, ask })
     }
 
+    #[inline(never)]
+    fn send(&mut self, moment: u64, number: u64, groups: u64) {
+        let (group, id) = (format!("g{}", number % groups), format!("d{number}"));
+        let body = "a body of thirty-two bytes, or so";
+        self.apply(moment, Ask::Send { group, id, body });
+    }
+
+    #[inline(never)]
     fn receive(&mut self, moment: u64) -> Vec<Delivery> {
         match self.apply(moment, Ask::Receive { size: 10 }) {
             Reply::Received(deliveries) => deliveries,
             _ => panic!("no messages"),
         }
+    }
+
+    #[inline(never)]
+    fn change(&mut self, moment: u64, delivery: &Delivery) {
+        self.apply(moment, Ask::Change { delivery: delivery.clone(), seconds: 60 });
+    }
+
+    #[inline(never)]
+    fn delete(&mut self, moment: u64, delivery: &Delivery) {
+        self.apply(moment, Ask::Delete { delivery: delivery.clone() });
+    }
+
+    #[inline(never)]
+    fn count(&self) -> u64 {
+        (0..COUNTS).map(|_| std::hint::black_box(&self.store).counts("q.fifo").0).sum()
+    }
+
+    #[inline(never)]
+    fn copy(&self) -> Store {
+        self.store.clone()
     }
 }
 
@@ -262,13 +291,11 @@ fn run(messages: u64, groups: u64) {
     bench.apply(0, Ask::Create);
     let start = Instant::now();
     for number in 0..messages {
-        let (group, id) = (format!("g{}", number % groups), format!("d{number}"));
-        let body = "a body of thirty-two bytes, or so";
-        bench.apply(number * SENDING / messages, Ask::Send { group, id, body });
+        bench.send(number * SENDING / messages, number, groups);
     }
     let send = each(start, messages);
     let start = Instant::now();
-    let copy = bench.store.clone();
+    let copy = bench.copy();
     let copied = each(start, messages);
     drop(copy);
     let (mut receive, mut change, mut delete, mut calls, mut handed) = (0, 0, 0, 0, 0);
@@ -279,12 +306,12 @@ fn run(messages: u64, groups: u64) {
         receive += each(start, 1);
         let start = Instant::now();
         for delivery in &deliveries {
-            bench.apply(moment, Ask::Change { delivery: delivery.clone(), seconds: 60 });
+            bench.change(moment, delivery);
         }
         change += each(start, 1);
         let start = Instant::now();
         for delivery in &deliveries {
-            bench.apply(moment, Ask::Delete { delivery: delivery.clone() });
+            bench.delete(moment, delivery);
         }
         delete += each(start, 1);
         calls += 1;
@@ -293,10 +320,7 @@ fn run(messages: u64, groups: u64) {
     let (receive, change, delete) = (receive / calls.max(1), change / handed.max(1), delete / handed.max(1));
     bench.receive(SENDING + RECEIVES);
     let start = Instant::now();
-    let mut sum = 0;
-    for _ in 0..COUNTS {
-        sum += std::hint::black_box(&bench.store).counts("q.fifo").0;
-    }
+    let sum = bench.count();
     let count = each(start, COUNTS);
     std::hint::black_box(sum);
     println!("{messages} messages {groups} groups: send {send} receive {receive} change {change} delete {delete} count {count} copy {copied} each");

@@ -62,7 +62,7 @@ impl Timed {
     }
 }
 
-/// A store with one queue.
+/// A store with one queue. Its calls aren't inlined, so that `bench/store` can count the instructions of each.
 #[derive(Drop)]
 struct Bench {
     store: Store,
@@ -126,6 +126,13 @@ impl Bench {
         })
     }
 
+    #[inline(never)]
+    fn send(&mut self, alloc: Global, moment: u64, number: u64, groups: u64) -> io::Result<()> {
+        let ask = self.send_ask(alloc, number, groups)?;
+        let _ = self.apply(moment, ask)?;
+        Ok(())
+    }
+
     /// Sends so many messages in so many groups, and tells how long one took.
     fn send_all(
         &mut self,
@@ -137,13 +144,13 @@ impl Bench {
         let start = Instant::now(rt)?;
         for number in 0..messages {
             let moment = number.saturating_mul(SENDING) / messages;
-            let ask = self.send_ask(alloc, number, groups)?;
-            let _ = self.apply(moment, ask)?;
+            self.send(alloc, moment, number, groups)?;
         }
         Ok(since(rt, &start)?.checked_div(messages).unwrap_or(0))
     }
 
     /// Receives up to ten messages, and gives their receipts.
+    #[inline(never)]
     fn receive(&mut self, alloc: Global, moment: u64) -> io::Result<Vec<Receipt>> {
         let ask = Ask::Receive {
             queue: self.name()?,
@@ -164,6 +171,7 @@ impl Bench {
         }
     }
 
+    #[inline(never)]
     fn change(&mut self, moment: u64, receipt: Receipt) -> io::Result<()> {
         let ask = Ask::Change {
             queue: self.name()?,
@@ -174,6 +182,7 @@ impl Bench {
         Ok(())
     }
 
+    #[inline(never)]
     fn delete(&mut self, moment: u64, receipt: Receipt) -> io::Result<()> {
         let ask = Ask::Delete {
             queue: self.name()?,
@@ -184,6 +193,7 @@ impl Bench {
     }
 
     /// How long a count takes.
+    #[inline(never)]
     fn count(&self, rt: &HostRuntime) -> io::Result<u64> {
         let query = Query {
             client: 1,
@@ -198,6 +208,7 @@ impl Bench {
     }
 
     /// How long a copy of the store takes.
+    #[inline(never)]
     fn copy(&self, rt: &HostRuntime) -> io::Result<u64> {
         let start = Instant::now(rt)?;
         let copy = self.store.try_copy().map_err(|_| stop("no memory"))?;
