@@ -11,7 +11,7 @@ ghost use Rattle.cq_base.specs.Texts.{is_name_byte, is_queue_name, is_id_byte, i
 use crate::fault::{BaseFault, NoMemory};
 use crate::limits::{BODY_LIMIT, FIRST_ID_BYTE, ID_LIMIT, LAST_ID_BYTE, NAME_LIMIT};
 use sha2::{Digest, Sha256};
-use std::alloc::Global;
+use std::alloc::{AllocError, Global};
 use std::fmt;
 use std::hash::{Hash, Hasher};
 use std::marker::Model;
@@ -188,6 +188,15 @@ impl GroupId {
     pub fn try_copy(&self) -> Result<GroupId, NoMemory>
         ensures { IfOk result (λ copy. copy ≡ self.now) }
     {
+        Ok(self.clone()?)
+    }
+}
+
+/// It shares the text, as `try_copy`.
+impl Clone for GroupId {
+    ghost is_clone = { λ id copy. copy ≡ id };
+
+    fn clone(&self) -> Result<GroupId, AllocError> {
         Ok(GroupId {
             text: self.text.clone()?,
         })
@@ -280,6 +289,15 @@ impl DedupId {
     pub fn try_copy(&self) -> Result<DedupId, NoMemory>
         ensures { IfOk result (λ copy. copy ≡ self.now) }
     {
+        Ok(self.clone()?)
+    }
+}
+
+/// It shares the text, as `try_copy`.
+impl Clone for DedupId {
+    ghost is_clone = { λ id copy. copy ≡ id };
+
+    fn clone(&self) -> Result<DedupId, AllocError> {
         Ok(DedupId {
             text: self.text.clone()?,
         })

@@ -4,7 +4,7 @@ ghost use Rattle.std.specs.Str.{bytes_eq};
 ghost use Rattle.cq_messages.specs.Groups.{group_at, numbers_at, handed_at, without};
 
 use cq_base::{GroupId, NoMemory};
-use std::alloc::Global;
+use std::alloc::{AllocError, Global};
 use std::collections::{HashMap, VecDeque};
 use std::marker::Model;
 
@@ -93,6 +93,18 @@ impl Group {
     }
 }
 
+/// O(messages).
+impl Clone for Group {
+    ghost is_clone = { λ group copy. copy ≡ group };
+
+    fn clone(&self) -> Result<Group, AllocError> {
+        Ok(Group {
+            numbers: self.numbers.clone()?,
+            handed: self.handed,
+        })
+    }
+}
+
 /// The groups that have messages, found by a hash of the id.
 pub struct Groups {
     kept: HashMap<GroupId, Group>,
@@ -129,6 +141,15 @@ impl Groups {
         ensures { option_copied result ≡ group_at self.now group.now }
     {
         self.kept.get(group)
+    }
+
+    /// The same groups. It shares the ids: O(groups and messages).
+    pub fn try_copy(&self) -> Result<Groups, NoMemory>
+        ensures { IfOk result (λ copy. (group : List ℕ) → group_at copy group ≡ group_at self.now group) }
+    {
+        Ok(Groups {
+            kept: self.kept.clone()?,
+        })
     }
 
     /// Adds a message at the end of its group.

@@ -15,7 +15,7 @@ ghost use Rattle.cq_messages.specs.Slots.{live, gone, IsAscending};
 ghost use Rattle.cq_messages.specs.Touched.{retimed};
 
 use crate::compact::compact;
-use crate::copies::{copies, groups_of};
+use crate::copies::copies;
 use crate::counts::count_in_flight;
 use crate::groups::Groups;
 use crate::heads::refresh;
@@ -121,7 +121,7 @@ impl Messages {
             slots: copies(alloc, &self.slots)?,
             waits: self.waits.try_copy()?,
             flights: self.flights.try_copy()?,
-            groups: groups_of(alloc, &self.slots)?,
+            groups: self.groups.try_copy()?,
             count: self.count,
         })
     }

@@ -1,11 +1,11 @@
 -- The accepted sends of a window, as one more comes and the first goes.
-use Rattle.std.proofs.Common.{◌≡◌, ℕ, ◌+◌, ◌<◌, ◌≤◌, ◌∙◌, ◌&&◌, ap, sym, subst, List, [], ◌∷◌, ◌++◌, length, get_or, take, suc, zero, Option, Some, None, Bool, true, false, cond, arith, refl}
+use Rattle.std.proofs.Common.{◌≡◌, ℕ, ◌+◌, ◌<◌, ◌≤◌, ◌∙◌, ◌&&◌, ap, sym, subst, List, [], ◌∷◌, ◌++◌, length, get_or, Option, Some, None, Bool, true, false, cond, arith, refl}
 use Rattle.std.specs.Prelude.{nat_lt}
 use Rattle.std.specs.List.{filter, find, All}
 use Rattle.std.specs.Option.{option_map, option_or}
 use Rattle.std.specs.Str.{bytes_eq}
 use Rattle.std.proofs.lemmas.Bool.Decides.{nat_tests}
-use Rattle.std.proofs.lemmas.List.Elements.{All-nil, All-cons, All-head, All-tail}
+use Rattle.std.proofs.lemmas.List.Elements.{All-head, All-tail}
 use Rattle.std.proofs.lemmas.List.Folds.{find-append}
 use Rattle.std.proofs.lemmas.Slice.Eq.{bytes_eq-Decides}
 use Rattle.cq_base.specs.declared.limits.TheConstants.{DEDUPLICATION_WINDOW}
@@ -150,32 +150,3 @@ new-id id moment (x ∷ xs) none = either (is_recent moment x) (bytes_eq x.dedup
     either true false e h rest = ap (λ c. cond c (Some x) (find (has_id id) (filter (is_recent moment) xs))) e ∙ rest h
     either false true e h rest = rest h
     either false false e h rest = rest h
-
--- where none is found, the one at a place fails
-none_at : (p : Accepted → Bool) (xs : List Accepted) (i : ℕ) (d : Accepted) → i < length xs → find p xs ≡ None → p (get_or xs i d) ≡ false
-none_at p [] i d l none = absurd (omega arith)
-none_at p (x ∷ xs) zero d l none = (none_first (p x) x (find p xs) none).0
-none_at p (x ∷ xs) (suc i) d l none = none_at p xs i d (omega arith) (none_first (p x) x (find p xs) none).1
-
--- the id of one isn't among those before it
-pub distinct-before : (xs : List Accepted) (i : ℕ) (d : Accepted) → i < length xs → AreDistinct xs → find (has_id (get_or xs i d).dedup) (take i xs) ≡ None
-distinct-before [] i d l h = absurd (omega arith)
-distinct-before (x ∷ xs) zero d l h = refl
-distinct-before (x ∷ xs) (suc i) d l h =
-    let one = get_or xs i d in
-    let within : i < length xs = omega arith in
-    ap (λ b. cond b (Some x) (find (has_id one.dedup) (take i xs))) (swapped_id one.dedup x.dedup (none_at (has_id x.dedup) xs i d within h.0)) ∙ distinct-before xs i d within h.1
-
--- each came after the lower bound
-rising_at : (b : ℕ) (xs : List Accepted) (i : ℕ) (d : Accepted) → i < length xs → IsRising b xs → b ≤ (get_or xs i d).moment
-rising_at b [] i d l h = absurd (omega arith)
-rising_at b (x ∷ xs) zero d l h = h.0
-rising_at b (x ∷ xs) (suc i) d l h = let first = h.0 in let later = rising_at x.moment xs i d (omega arith) h.1 in omega arith
-
--- those before one came no later
-pub rising-before : (b : ℕ) (xs : List Accepted) (i : ℕ) (d : Accepted) → i < length xs → IsRising b xs → All (IsBy (get_or xs i d).moment) (take i xs)
-rising-before b [] i d l h = absurd (omega arith)
-rising-before b (x ∷ xs) zero d l h = All-nil (IsBy x.moment)
-rising-before b (x ∷ xs) (suc i) d l h =
-    let within : i < length xs = omega arith in
-    All-cons (IsBy (get_or xs i d).moment) x (take i xs) (rising_at x.moment xs i d within h.1) (rising-before x.moment xs i d within h.1)

@@ -1,10 +1,11 @@
 //! An accepted send, and what is known of its deduplication id.
-ghost use Rattle.std.specs.Prelude.{◌≡◌, ◌+◌, nat_lt, Some, IfOk};
+ghost use Rattle.std.specs.Prelude.{◌≡◌, ◌+◌, nat_lt, Some};
 ghost use Rattle.cq_base.specs.declared.limits.TheConstants.{DEDUPLICATION_WINDOW};
 ghost use Rattle.cq_base.specs.Incarnations.{is_recent};
 ghost use Rattle.cq_queue.specs.within.Windows.{known_of, answered};
 
-use cq_base::{DEDUPLICATION_WINDOW, DedupId, Moment, NoMemory};
+use cq_base::{DEDUPLICATION_WINDOW, DedupId, Moment};
+use std::alloc::AllocError;
 use std::marker::Model;
 
 /// Whether the five minutes that begin at `sent` aren't over at that moment.
@@ -67,13 +68,15 @@ impl Accepted {
     {
         is_within(self.moment, moment)
     }
+}
 
-    /// The same. It shares the id: O(1).
-    pub fn try_copy(&self) -> Result<Accepted, NoMemory>
-        ensures { IfOk result (λ copy. copy ≡ self.now) }
-    {
+/// It shares the id: O(1).
+impl Clone for Accepted {
+    ghost is_clone = { λ one copy. copy ≡ one };
+
+    fn clone(&self) -> Result<Accepted, AllocError> {
         Ok(Accepted {
-            dedup: self.dedup.try_copy()?,
+            dedup: self.dedup.clone()?,
             moment: self.moment,
             sequence: self.sequence,
         })

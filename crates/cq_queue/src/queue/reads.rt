@@ -77,7 +77,7 @@ impl Queue {
             content: self.content,
             sent: self.sent,
             messages: self.messages.try_copy()?,
-            window: self.window.try_copy(self.alloc)?,
+            window: self.window.try_copy()?,
             last: self.last,
             used: self.used,
         })
