@@ -1,2 +1,4 @@
+pub mod Counting
+pub mod Packing
 mod Rows
 pub mod Summaries

@@ -1,7 +1,8 @@
 -- Worked searches, worked out by hand.
-use Rattle.std.proofs.Common.{ℕ, zero, suc, ◌≤◌, ◌<◌, [], ◌∷◌, List, get_or, arith, inl, inr}
+use Rattle.std.proofs.Common.{◌≡◌, ℕ, zero, suc, ◌≤◌, ◌<◌, [], ◌∷◌, List, get_or, map, true, false, refl, arith, inl, inr}
 use Rattle.cq_least.specs.declared.spans.TheConstants.{LARGEST}
 use Rattle.cq_least.specs.Firsts.{AreAbove, IsFirst}
+use Rattle.cq_least.specs.Packing.{upto, by_place, is_counted}
 use Rattle.cq_least.specs.Spans.{IsSpanBut, IsOutside}
 
 -- a number that equals the limit is at most it
@@ -47,3 +48,38 @@ before = inl (omega arith)
 
 behind : IsOutside (record { from = 1; end = 2 }) 2
 behind = inr (omega arith)
+
+-- two of four numbers are below the largest, those of the places 1 and 3, and they stand at the positions 1 and 0
+abbrev packed : List ℕ
+packed = 7 ∷ 5 ∷ LARGEST ∷ LARGEST ∷ []
+
+abbrev places : List ℕ
+places = 3 ∷ 1 ∷ 2 ∷ 0 ∷ []
+
+abbrev positions : List ℕ
+positions = 3 ∷ 1 ∷ 2 ∷ 0 ∷ []
+
+listed : by_place packed positions ≡ LARGEST ∷ 5 ∷ LARGEST ∷ 7 ∷ []
+listed = refl
+
+first_of_four : upto 4 ≡ 0 ∷ 1 ∷ 2 ∷ 3 ∷ []
+first_of_four = refl
+
+-- the number of the place 3 is at most 7, and at most 6 is that of the place 1 alone
+within_limit : map (is_counted packed places 7 4) (upto 4) ≡ true ∷ true ∷ false ∷ false ∷ []
+within_limit = refl
+
+below_limit : map (is_counted packed places 6 4) (upto 4) ≡ false ∷ true ∷ false ∷ false ∷ []
+below_limit = refl
+
+-- before the place 3 it isn't
+before_end : map (is_counted packed places 7 3) (upto 4) ≡ false ∷ true ∷ false ∷ false ∷ []
+before_end = refl
+
+-- no number but the largest stands from the position 2 on
+two_small : (j : ℕ) → 2 ≤ j → j < 4 → get_or packed j 0 ≡ LARGEST
+two_small zero past inside = absurd (omega arith)
+two_small (suc zero) past inside = absurd (omega arith)
+two_small (suc (suc zero)) past inside = refl
+two_small (suc (suc (suc zero))) past inside = refl
+two_small (suc (suc (suc (suc j)))) past inside = absurd (omega arith)

@@ -4,6 +4,7 @@ ghost use Rattle.cq_least.specs.Spans.{AreSpans};
 ghost use Rattle.cq_least.specs.Summaries.{IsSummary, IsBegun};
 
 use crate::leasts::Leasts;
+use crate::number_list::NumberList;
 use crate::spans::{Span, begin_span, first_in, least_of, narrow, widen};
 use std::alloc::{AllocError, Global};
 use std::marker::Model;
@@ -60,7 +61,7 @@ impl<T: Leasts> Blocks<T> {
     }
 }
 
-impl<T: Leasts> Leasts for Blocks<T> {
+impl<T: Leasts> NumberList for Blocks<T> {
     ghost numbers = { λ b. b };
 
     fn len(&self) -> usize {
@@ -107,6 +108,16 @@ impl<T: Leasts> Leasts for Blocks<T> {
         Ok(())
     }
 
+    fn try_copy(&self) -> Result<Blocks<T>, AllocError> {
+        Ok(Blocks {
+            low: self.low.clone()?,
+            spans: self.spans.clone()?,
+            high: self.high.try_copy()?,
+        })
+    }
+}
+
+impl<T: Leasts> Leasts for Blocks<T> {
     fn first_at_most(&self, from: usize, limit: u64) -> Option<usize> {
         let len = self.low.len();
         if from >= len {
@@ -121,13 +132,5 @@ impl<T: Leasts> Leasts for Blocks<T> {
             return None;
         }
         first_in(&self.low, &self.spans, start, limit)
-    }
-
-    fn try_copy(&self) -> Result<Blocks<T>, AllocError> {
-        Ok(Blocks {
-            low: self.low.clone()?,
-            spans: self.spans.clone()?,
-            high: self.high.try_copy()?,
-        })
     }
 }

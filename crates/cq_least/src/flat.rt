@@ -3,6 +3,7 @@ ghost use Rattle.std.specs.Prelude.{◌≡◌, ℕ, ◌<◌, ◌≤◌, List, []
 ghost use Rattle.cq_least.specs.Firsts.{AreAbove, IsFirst};
 
 use crate::leasts::Leasts;
+use crate::number_list::NumberList;
 use std::alloc::{AllocError, Global};
 use std::marker::Model;
 
@@ -46,7 +47,7 @@ impl Flat {
     }
 }
 
-impl Leasts for Flat {
+impl NumberList for Flat {
     ghost numbers = { λ f. f };
 
     fn len(&self) -> usize {
@@ -66,6 +67,14 @@ impl Leasts for Flat {
         Ok(())
     }
 
+    fn try_copy(&self) -> Result<Flat, AllocError> {
+        Ok(Flat {
+            numbers: self.numbers.clone()?,
+        })
+    }
+}
+
+impl Leasts for Flat {
     fn first_at_most(&self, from: usize, limit: u64) -> Option<usize> {
         let len = self.numbers.len();
         if from >= len {
@@ -73,11 +82,5 @@ impl Leasts for Flat {
         }
         let i = scan(&self.numbers, from, len, limit);
         if i < len { Some(i) } else { None }
-    }
-
-    fn try_copy(&self) -> Result<Flat, AllocError> {
-        Ok(Flat {
-            numbers: self.numbers.clone()?,
-        })
     }
 }

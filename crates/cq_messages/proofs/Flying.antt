@@ -1,14 +1,17 @@
 -- Which messages are in flight, by what stands beside them.
-use Rattle.std.proofs.Common.{◌≡◌, ℕ, ◌-◌, ◌<◌, ◌≤◌, ◌∙◌, ◌⊎◌, ap, sym, List, length, get_or, true, false, nat_lt, nat_le, Option, Some, None, inl, inr, arith}
+use Rattle.std.proofs.Common.{◌≡◌, ℕ, ◌-◌, ◌<◌, ◌≤◌, ◌∙◌, ◌⊎◌, ap, sym, subst, refl, List, [], ◌∷◌, length, get_or, take, Bool, true, false, cond, nat_lt, nat_le, Option, Some, None, inl, inr, arith, suc, zero, add-one}
+use Rattle.std.specs.List.{filter}
 use Rattle.std.proofs.lemmas.Bool.{cases_lt}
+use Rattle.std.proofs.lemmas.List.{length-append, take_all}
+use Rattle.std.proofs.lemmas.List.Elements.{filter_more}
 use Rattle.cq_base.specs.Messages.{Message}
 use Rattle.cq_base.specs.Receiving.{is_in_flight}
-use Rattle.cq_least.specs.Firsts.{AreAbove, IsFirst}
 use Rattle.cq_messages.specs.declared.slot.Slot.{Slot}
 use Rattle.cq_messages.specs.declared.slot.TheConstants.{NEVER}
 use Rattle.cq_messages.specs.Indexed.{AreFlights}
-use Rattle.cq_messages.specs.Passing.{NonePasses, IsNext}
-use Rattle.cq_messages.specs.Slots.{gone, passes, flight_of}
+use Rattle.cq_messages.specs.Passing.{passing_upto}
+use Rattle.cq_messages.specs.Slots.{live, kept_before, gone, passes, flight_of}
+use Rattle.cq_messages.proofs.Passing.{passing-more}
 
 flies : (t u : ℕ) → t < NEVER → nat_lt t u ≡ nat_le (NEVER - u) (NEVER - 1 - t)
 flies t u small = by (cases_lt t u)
@@ -30,24 +33,32 @@ flies-at : (t : ℕ) (o : Option Message) → t < NEVER → passes (is_in_flight
 flies-at t None small = let past : nat_le NEVER (NEVER - 1 - t) ≡ false = grind arith in sym past
 flies-at t (Some m) small = flies t m.until small
 
-not_le : (a t : ℕ) → t < a → nat_le a t ≡ false
-not_le a t h = grind arith
+-- where two answer alike, one of each is left, or none
+alike : {X Y : Type 0} (b c : Bool) (x : X) (y : Y) → b ≡ c → length (cond b (x ∷ []) []) ≡ length (cond c (y ∷ []) [])
+alike true true x y e = refl
+alike false false x y e = refl
+alike true false x y e = absurd cc
+alike false true x y e = absurd cc
 
-is_le : (a t : ℕ) → a ≤ t → nat_le a t ≡ true
-is_le a t h = grind arith
+-- the message of a slot is in flight where what stands beside it is small
+one : (t x : ℕ) (o : Option Message) → t < NEVER → x ≡ flight_of o → length (cond (nat_le x (NEVER - 1 - t)) (x ∷ []) []) ≡ length (filter (is_in_flight t) (kept_before o []))
+one t x None small e = ap length (ap (λ n. cond (nat_le n (NEVER - 1 - t)) (x ∷ []) []) e ∙ ap (λ b. cond b (x ∷ []) []) (sym (flies-at t None small)))
+one t x (Some m) small e = alike (nat_le x (NEVER - 1 - t)) (is_in_flight t m) x m (ap (λ n. nat_le n (NEVER - 1 - t)) e ∙ sym (flies-at t (Some m) small))
 
--- where all that stands beside the slots is above, none is in flight
-pub above-landed : (ss : List Slot) (flights : List ℕ) (t from end : ℕ) → AreFlights ss flights → t < NEVER → end ≤ length ss → AreAbove flights (NEVER - 1 - t) from end → NonePasses (is_in_flight t) ss from end
-above-landed ss flights t from end are small l above k a b =
+flying_upto : (ss : List Slot) (flights : List ℕ) (t k : ℕ) → AreFlights ss flights → t < NEVER → k ≤ length ss → length (filter (λ n. nat_le n (NEVER - 1 - t)) (take k flights)) ≡ length (passing_upto (is_in_flight t) ss k)
+flying_upto ss flights t zero are small l = refl
+flying_upto ss flights t (suc k) are small l =
     let inside : k < length ss = omega arith in
-    flies-at t (get_or ss k gone).message small
-    ∙ ap (λ f. nat_le f (NEVER - 1 - t)) (sym (are.is k inside))
-    ∙ not_le (get_or flights k 0) (NEVER - 1 - t) (above k a b)
+    let beside : k < length flights = let long = are.long in omega arith in
+    let p : ℕ → Bool = λ n. nat_le n (NEVER - 1 - t) in
+    let x = get_or flights k 0 in
+    let m = (get_or ss k gone).message in
+    let last = one t x m small (are.is k inside) in
+    let before = flying_upto ss flights t k are small (omega arith) in
+    let a = ap length (filter_more p flights k 0 beside) ∙ length-append (filter p (take k flights)) (cond (p x) (x ∷ []) []) in
+    let b = ap length (passing-more (is_in_flight t) ss k inside) ∙ length-append (passing_upto (is_in_flight t) ss k) (filter (is_in_flight t) (kept_before m [])) in
+    subst (λ n. length (filter p (take n flights)) ≡ length (passing_upto (is_in_flight t) ss n)) (add-one k) (omega (arith, a, b, before, last))
 
-pub found-flying : (ss : List Slot) (flights : List ℕ) (t from i : ℕ) → AreFlights ss flights → t < NEVER → i < length ss → IsFirst flights from (NEVER - 1 - t) i → IsNext (is_in_flight t) ss from i
-found-flying ss flights t from i are small inside first = record {
-  after = first.after;
-  within = inside;
-  passing = flies-at t (get_or ss i gone).message small ∙ ap (λ f. nat_le f (NEVER - 1 - t)) (sym (are.is i inside)) ∙ is_le (get_or flights i 0) (NEVER - 1 - t) first.found;
-  before = above-landed ss flights t from i are small (omega arith) first.before;
-}
+-- as many messages are in flight as small numbers stand beside the slots
+pub flying-count : (ss : List Slot) (flights : List ℕ) (t : ℕ) → AreFlights ss flights → t < NEVER → length (filter (λ n. nat_le n (NEVER - 1 - t)) (take (length ss) flights)) ≡ length (filter (is_in_flight t) (live ss))
+flying-count ss flights t are small = flying_upto ss flights t (length ss) are small (omega arith) ∙ ap (λ xs. length (filter (is_in_flight t) (live xs))) (take_all (length ss) ss (omega arith))

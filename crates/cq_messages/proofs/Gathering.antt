@@ -37,6 +37,10 @@ full-count ss i l e = ap length (full_next ss i l e) ∙ length_push (full_slots
 pub full-upto : (ss : List Slot) (i : ℕ) → i ≤ length ss → length (full_slots (take i ss)) ≤ i
 full-upto ss i l = let a = full-short (take i ss) in let b = length-take-le i ss l in omega arith
 
+-- a write behind them leaves what stands beside them
+pub beside-apart : (f : Slot → ℕ) (xs : List Slot) (from v : ℕ) (tree : List ℕ) → length xs ≤ from → IsBeside f xs tree → IsBeside f xs (set tree from v)
+beside-apart f xs from v tree past front k inside = let other : k ≢ from = λ e. omega arith in get_or-set_other tree from k v 0 other ∙ front k inside
+
 -- what stands beside one more is moved behind the others
 pub beside-next : (f : Slot → ℕ) (ss : List Slot) (i to v : ℕ) (tree : List ℕ) → i < length ss → is_full (get_or ss i gone) ≡ true → to ≡ length (full_slots (take i ss)) → to < length tree
     → v ≡ f (get_or ss i gone) → IsBeside f (full_slots (take i ss)) tree → IsBeside f (full_slots (take (i + 1) ss)) (set tree to v)

@@ -1,7 +1,7 @@
 -- The messages of the numbers that are handed out are those that are handed out.
-use Rattle.std.proofs.Common.{◌≡◌, ℕ, ◌<◌, ◌∙◌, ◌++◌, ap, sym, refl, List, [], ◌∷◌, Option, Some, None, Bool, true, false, cond, eqb, inl, inr, arith, take, get_or, length}
+use Rattle.std.proofs.Common.{◌≡◌, ℕ, ◌∙◌, ◌++◌, ap, sym, refl, List, [], ◌∷◌, Some, true, false, eqb, inl, inr, arith}
 use Rattle.std.specs.Prelude.{option_to_list}
-use Rattle.std.specs.List.{filter, find, flat_map}
+use Rattle.std.specs.List.{filter}
 use Rattle.cq_base.specs.Effects.{message_at}
 use Rattle.cq_base.specs.Messages.{Message}
 use Rattle.cq_base.specs.Receiving.{in_turn, to_hand, leads, group_with}

@@ -1,11 +1,11 @@
 -- The messages that pass a test, from slot to slot.
-use Rattle.std.proofs.Common.{◌≡◌, ℕ, ◌+◌, ◌-◌, ◌<◌, ◌≤◌, ◌∙◌, ap, sym, subst, List, [], ◌∷◌, ◌++◌, length, get_or, take, Bool, true, false, cond, Option, Some, None, arith, suc, zero, refl}
+use Rattle.std.proofs.Common.{◌≡◌, ℕ, ◌+◌, ◌-◌, ◌<◌, ◌≤◌, ◌∙◌, ap, subst, List, [], ◌∷◌, ◌++◌, length, get_or, take, Bool, false, cond, Option, Some, None, arith, suc, zero, refl}
 use Rattle.std.specs.List.{filter}
-use Rattle.std.proofs.lemmas.List.{take_more, append-nil, length-append, take_all}
+use Rattle.std.proofs.lemmas.List.{take_more, append-nil}
 use Rattle.std.proofs.lemmas.List.Elements.{filter-append}
 use Rattle.cq_base.specs.Messages.{Message}
 use Rattle.cq_messages.specs.declared.slot.Slot.{Slot}
-use Rattle.cq_messages.specs.Passing.{NonePasses, IsNext, passing_upto}
+use Rattle.cq_messages.specs.Passing.{NonePasses, passing_upto}
 use Rattle.cq_messages.specs.Slots.{live, kept_before, gone, passes}
 
 kept_append : (o : Option Message) (xs ys : List Message) → kept_before o (xs ++ ys) ≡ kept_before o xs ++ ys
@@ -33,11 +33,6 @@ filter_failing : (p : Message → Bool) (o : Option Message) → passes p o ≡ 
 filter_failing p None h = refl
 filter_failing p (Some m) h = ap (λ b. cond b (m ∷ []) []) h
 
--- and one that passes is one more
-filter_passing : (p : Message → Bool) (o : Option Message) → passes p o ≡ true → length (filter p (kept_before o [])) ≡ 1
-filter_passing p None h = absurd cc
-filter_passing p (Some m) h = ap (λ b. length (cond b (m ∷ []) [])) h
-
 pub passing-more : (p : Message → Bool) (ss : List Slot) (k : ℕ) → k < length ss → passing_upto p ss (k + 1) ≡ passing_upto p ss k ++ filter p (kept_before (get_or ss k gone).message [])
 passing-more p ss k h = ap (filter p) (live-more ss k h) ∙ filter-append p (live (take k ss)) (kept_before (get_or ss k gone).message [])
 
@@ -57,16 +52,3 @@ pub passing-skip : (p : Message → Bool) (ss : List Slot) (from i : ℕ) → fr
 passing-skip p ss from i o l none =
     let e : from + (i - from) ≡ i = omega arith in
     subst (λ j. passing_upto p ss j ≡ passing_upto p ss from) e (skipped p ss from (i - from) (omega arith) (λ k a b. none k a (omega arith)))
-
--- the next that passes is one more
-pub passing-next : (p : Message → Bool) (ss : List Slot) (from i : ℕ) → IsNext p ss from i → length (passing_upto p ss (i + 1)) ≡ length (passing_upto p ss from) + 1
-passing-next p ss from i n =
-    let w = n.within in
-    let one = filter_passing p (get_or ss i gone).message n.passing in
-    let both = ap length (passing-more p ss i n.within) ∙ length-append (passing_upto p ss i) (filter p (kept_before (get_or ss i gone).message [])) in
-    let same = ap length (passing-skip p ss from i n.after (omega arith) n.before) in
-    omega arith
-
--- none passes from `from` on
-pub passing-rest : (p : Message → Bool) (ss : List Slot) (from : ℕ) → from ≤ length ss → NonePasses p ss from (length ss) → filter p (live ss) ≡ passing_upto p ss from
-passing-rest p ss from l none = ap (λ xs. filter p (live xs)) (sym (take_all (length ss) ss (omega arith))) ∙ passing-skip p ss from (length ss) l (omega arith) none

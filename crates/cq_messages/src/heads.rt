@@ -10,7 +10,7 @@ use crate::groups::Groups;
 use crate::places::place_of;
 use crate::slot::Slot;
 use cq_base::GroupId;
-use cq_least::{Leasts, Tower};
+use cq_least::{NumberList, Tower};
 
 /// The place of the oldest message of a group. O(log places).
 pub fn head_of(slots: &[Slot], groups: &Groups, group: &GroupId) -> Option<usize>

@@ -26,7 +26,7 @@ use crate::places::place_of;
 use crate::retime::retime;
 use crate::slot::{NEVER, Slot};
 use cq_base::{BatchSize, Delivery, GroupId, Moment, NoMemory};
-use cq_least::{Leasts, Tower, new_tower};
+use cq_least::{NumberList, Packed, Tower, new_tower};
 use std::alloc::Global;
 use std::marker::Model;
 
@@ -37,7 +37,7 @@ pub struct Messages {
     /// Beside each slot the moment from which its message is the oldest of an open group, if it can be.
     waits: Tower,
     /// Beside each slot a number that is the smaller, the later its message's timeout ends.
-    flights: Tower,
+    flights: Packed,
     groups: Groups,
     /// How many messages aren't deleted.
     count: u64,
@@ -89,7 +89,7 @@ impl Messages {
         Messages {
             slots: Vec::new(alloc),
             waits: new_tower(alloc),
-            flights: new_tower(alloc),
+            flights: Packed::new(alloc),
             groups: Groups::new(alloc),
             count: 0,
         }
@@ -302,7 +302,7 @@ fn trim(slots: &mut Vec<Slot>)
 fn empty(
     slots: &mut Vec<Slot>,
     waits: &mut Tower,
-    flights: &mut Tower,
+    flights: &mut Packed,
     groups: &mut Groups,
     place: usize,
 ) -> bool
@@ -324,15 +324,15 @@ fn empty(
     false
 }
 
-/// Makes the tree longer than that place. What stands at earlier places stays, with memory or without.
-fn make_room(tree: &mut Tower, place: usize) -> Result<(), NoMemory>
-    requires { place ≤ length tree.old }
-    ensures ok { OnOk result (place < length tree.new) }
-    ensures long { place ≤ length tree.new }
-    ensures same { (k : ℕ) → k < place → get_or tree.new k 0 ≡ get_or tree.old k 0 }
+/// Makes the list longer than that place. What stands at earlier places stays, with memory or without.
+fn make_room<T: NumberList>(beside: &mut T, place: usize) -> Result<(), NoMemory>
+    requires { place ≤ length (T.numbers beside.old) }
+    ensures ok { OnOk result (place < length (T.numbers beside.new)) }
+    ensures long { place ≤ length (T.numbers beside.new) }
+    ensures same { (k : ℕ) → k < place → get_or (T.numbers beside.new) k 0 ≡ get_or (T.numbers beside.old) k 0 }
 {
-    if tree.len() == place {
-        tree.push(NEVER)?;
+    if beside.len() == place {
+        beside.push(NEVER)?;
     }
     Ok(())
 }

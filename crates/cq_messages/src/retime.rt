@@ -10,7 +10,7 @@ use crate::groups::Groups;
 use crate::heads::refresh_after;
 use crate::slot::Slot;
 use cq_base::Moment;
-use cq_least::{Leasts, Tower};
+use cq_least::{NumberList, Packed, Tower};
 
 /// Gives the message at that place other handings and another timeout, and answers when the timeout ended before.
 fn write_times(
@@ -41,7 +41,7 @@ fn write_times(
 pub fn retime(
     slots: &mut Vec<Slot>,
     waits: &mut Tower,
-    flights: &mut Tower,
+    flights: &mut Packed,
     groups: &mut Groups,
     place: usize,
     handings: u64,

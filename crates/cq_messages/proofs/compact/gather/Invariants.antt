@@ -5,9 +5,9 @@ use Rattle.cq_messages.specs.Gathered.{IsBeside, full_slots}
 use Rattle.cq_messages.proofs.compact.gather.Given as goal
 
 abbrev pub invariant-loop-from : goal.invariant-loop-from
-invariant-loop-from l = record {
-  long : length l.tree ≡ length l.initial.tree;
+invariant-loop-from g l = record {
+  long : length (g.T.NumberList.numbers l.beside) ≡ length (g.T.NumberList.numbers l.initial.beside);
   to : l.to ≡ length (full_slots (take l.from l.slots));
-  front : (f : Slot → ℕ) → IsBeside f l.slots l.initial.tree → IsBeside f (full_slots (take l.from l.slots)) l.tree;
-  rest : (k : ℕ) → l.from ≤ k → get_or l.tree k 0 ≡ get_or l.initial.tree k 0;
+  front : (f : Slot → ℕ) → IsBeside f l.slots (g.T.NumberList.numbers l.initial.beside) → IsBeside f (full_slots (take l.from l.slots)) (g.T.NumberList.numbers l.beside);
+  rest : (k : ℕ) → l.from ≤ k → get_or (g.T.NumberList.numbers l.beside) k 0 ≡ get_or (g.T.NumberList.numbers l.initial.beside) k 0;
 }

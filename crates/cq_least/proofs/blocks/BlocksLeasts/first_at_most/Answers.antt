@@ -8,7 +8,7 @@ use Rattle.cq_least.proofs.blocks.BlocksLeasts.first_at_most.Goals as goal
 pub returns-clause-none : goal.returns-clause-none
 returns-clause-none g c = λ no.
     let low = c.self.inside.low.items in
-    let high = g.T.Leasts.numbers c.self.inside.high in
+    let high = g.T.NumberList.numbers c.self.inside.high in
     let j = c.in_ok-block.block in
     let f : IsFirst high (c.args.from / BLOCK + 1) c.args.limit j = c.in_ok-block.ensures.found in
     let is_len : c.len-len.result ≡ length low = omega arith in

@@ -32,7 +32,7 @@ invariant_of-self-in_err-make_room c =
     subst (λ xs. IsIndexed xs c.self.inside.waits c.self.inside.flights c.self.inside.groups) (sym c.reserve.ensures.items)
     (front-indexed ss c.trim.new.slots.items c.self.inside.waits c.self.inside.flights c.self.inside.groups c.trim.ensures.front c.trim.ensures.same c.self.invariant.0) in
     let place : c.len-place.result ≡ length left = omega arith in (
-      indexed-grown left c.self.inside.waits c.make_room.new.tree c.self.inside.flights c.self.inside.flights c.self.inside.groups base
+      indexed-grown left c.self.inside.waits c.make_room.new.beside c.self.inside.flights c.self.inside.flights c.self.inside.groups base
           (omega (arith, c.make_room.ensures.long)) (λ k l. c.make_room.ensures.same k (omega arith)) base.are_flights.long (λ k l. refl),
       counted,
     )
@@ -46,7 +46,7 @@ invariant_of-self-in_err-make_room-2 c =
     subst (λ xs. IsIndexed xs c.self.inside.waits c.self.inside.flights c.self.inside.groups) (sym c.reserve.ensures.items)
     (front-indexed ss c.trim.new.slots.items c.self.inside.waits c.self.inside.flights c.self.inside.groups c.trim.ensures.front c.trim.ensures.same c.self.invariant.0) in
     let place : c.len-place.result ≡ length left = omega arith in
-    let grown : IsIndexed left c.make_room.new.tree c.make_room-2.new.tree c.self.inside.groups = indexed-grown left c.self.inside.waits c.make_room.new.tree c.self.inside.flights c.make_room-2.new.tree c.self.inside.groups base
+    let grown : IsIndexed left c.make_room.new.beside c.make_room-2.new.beside c.self.inside.groups = indexed-grown left c.self.inside.waits c.make_room.new.beside c.self.inside.flights c.make_room-2.new.beside c.self.inside.groups base
     (omega (arith, c.make_room.ensures.long)) (λ k l. c.make_room.ensures.same k (omega arith)) (omega (arith, c.make_room-2.ensures.long)) (λ k l. c.make_room-2.ensures.same k (omega arith)) in
     (grown, counted)
 
@@ -59,9 +59,9 @@ invariant_of-self-in_err-add c =
     subst (λ xs. IsIndexed xs c.self.inside.waits c.self.inside.flights c.self.inside.groups) (sym c.reserve.ensures.items)
     (front-indexed ss c.trim.new.slots.items c.self.inside.waits c.self.inside.flights c.self.inside.groups c.trim.ensures.front c.trim.ensures.same c.self.invariant.0) in
     let place : c.len-place.result ≡ length left = omega arith in
-    let grown : IsIndexed left c.make_room.new.tree c.make_room-2.new.tree c.self.inside.groups = indexed-grown left c.self.inside.waits c.make_room.new.tree c.self.inside.flights c.make_room-2.new.tree c.self.inside.groups base
+    let grown : IsIndexed left c.make_room.new.beside c.make_room-2.new.beside c.self.inside.groups = indexed-grown left c.self.inside.waits c.make_room.new.beside c.self.inside.flights c.make_room-2.new.beside c.self.inside.groups base
     (omega (arith, c.make_room.ensures.long)) (λ k l. c.make_room.ensures.same k (omega arith)) (omega (arith, c.make_room-2.ensures.long)) (λ k l. c.make_room-2.ensures.same k (omega arith)) in
-    (indexed-regrouped left c.make_room.new.tree c.make_room-2.new.tree c.self.inside.groups c.add.new.self grown c.in_err-add.ensures.err, counted)
+    (indexed-regrouped left c.make_room.new.beside c.make_room-2.new.beside c.self.inside.groups c.add.new.self grown c.in_err-add.ensures.err, counted)
 
 pub invariant_of-self-2 : goal.invariant_of-self-2
 invariant_of-self-2 c =
@@ -72,7 +72,7 @@ invariant_of-self-2 c =
     subst (λ xs. IsIndexed xs c.self.inside.waits c.self.inside.flights c.self.inside.groups) (sym c.reserve.ensures.items)
     (front-indexed ss c.trim.new.slots.items c.self.inside.waits c.self.inside.flights c.self.inside.groups c.trim.ensures.front c.trim.ensures.same c.self.invariant.0) in
     let place : c.len-place.result ≡ length left = omega arith in
-    let grown : IsIndexed left c.make_room.new.tree c.make_room-2.new.tree c.self.inside.groups = indexed-grown left c.self.inside.waits c.make_room.new.tree c.self.inside.flights c.make_room-2.new.tree c.self.inside.groups base
+    let grown : IsIndexed left c.make_room.new.beside c.make_room-2.new.beside c.self.inside.groups = indexed-grown left c.self.inside.waits c.make_room.new.beside c.self.inside.flights c.make_room-2.new.beside c.self.inside.groups base
     (omega (arith, c.make_room.ensures.long)) (λ k l. c.make_room.ensures.same k (omega arith)) (omega (arith, c.make_room-2.ensures.long)) (λ k l. c.make_room-2.ensures.same k (omega arith)) in
     let m = c.args.message in
     let is = c.message.view_is in
@@ -84,8 +84,8 @@ invariant_of-self-2 c =
     let count : length (numbers_at c.self.inside.groups c.message.inside.group) ≡ length (in_group m.group (live left)) = ap length (base.are_numbers c.message.inside.group) ∙ length-map (in_group c.message.inside.group (live left)) (λ x. x.sequence) ∙ ap (λ g. length (in_group g (live left))) group in
     let wait : c.first_wait-wait.result ≡ cond (length (in_group m.group (live left)) == 0) 0 NEVER = c.first_wait-wait.ensures ∙ ap (λ b. cond b 0 NEVER) (c.has_none.ensures ∙ ap (λ n. n == 0) count) in
     let positive : 0 < m.sequence = subst (λ n. 0 < n) number c.message.invariant.0 in
-    let waits = c.make_room.new.tree in
-    let flights = c.make_room-2.new.tree in
+    let waits = c.make_room.new.beside in
+    let flights = c.make_room-2.new.beside in
     let at = c.len-place.result in
     let w = c.first_wait-wait.result in
     let more : length (live c.push_reserved.new.self.items) ≡ length (live left) + 1 = ap (λ xs. length (live xs)) c.push_reserved.ensures.items ∙ ap length (live-append left (s' ∷ [])) ∙ length_push (live left) m in (

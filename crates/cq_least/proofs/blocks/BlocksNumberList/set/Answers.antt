@@ -3,12 +3,12 @@ use Rattle.std.proofs.Common.{◌<◌, length, arith, sym, subst}
 use Rattle.std.proofs.lemmas.List.{get_or_default}
 use Rattle.cq_least.specs.Spans.{AreSpans}
 use Rattle.cq_least.proofs.Summaries.{summary-lower, summary-keep, summary-set}
-use Rattle.cq_least.proofs.blocks.BlocksLeasts.set.Goals as goal
+use Rattle.cq_least.proofs.blocks.BlocksNumberList.set.Goals as goal
 
 pub invariant_of-self : goal.invariant_of-self
 invariant_of-self g c =
     let h : c.args.at < length c.self.inside.low.items = subst (λ xs. c.args.at < length xs) (sym c.self.view_is) c.requires in (
-      rw c.set.ensures (summary-lower c.self.inside.low.items (g.T.Leasts.numbers c.self.inside.high) c.args.at c.args.number c.self.invariant.0 h (omega arith)),
+      rw c.set.ensures (summary-lower c.self.inside.low.items (g.T.NumberList.numbers c.self.inside.high) c.args.at c.args.number c.self.invariant.0 h (omega arith)),
       subst (λ xs. AreSpans xs c.widen.new.spans.items) c.deref.ensures.value c.widen.ensures,
     )
 
@@ -16,7 +16,7 @@ pub invariant_of-self-then-before-least : goal.invariant_of-self-then-before-lea
 invariant_of-self-then-before-least g c =
     let low = c.self.inside.low.items in
     let h : c.args.at < length low = subst (λ xs. c.args.at < length xs) (sym c.self.view_is) c.requires in (
-      rw c.set-then-before-least.ensures (summary-set low (g.T.Leasts.numbers c.self.inside.high) c.args.at c.args.number c.least_of-least.result c.self.invariant.0 h
+      rw c.set-then-before-least.ensures (summary-set low (g.T.NumberList.numbers c.self.inside.high) c.args.at c.args.number c.least_of-least.result c.self.invariant.0 h
           (rw c.deref-then-before-least-2.ensures.value at c.least_of-least.ensures.below)
           (rw c.deref-then-before-least-2.ensures.value at c.least_of-least.ensures.reached)),
       subst (λ xs. AreSpans xs c.narrow.new.spans.items) c.deref-then-before-least.ensures.value c.narrow.ensures,
@@ -25,6 +25,6 @@ invariant_of-self-then-before-least g c =
 pub invariant_of-self-else-before-least : goal.invariant_of-self-else-before-least
 invariant_of-self-else-before-least g c =
     let h : c.args.at < length c.self.inside.low.items = subst (λ xs. c.args.at < length xs) (sym c.self.view_is) c.requires in (
-      summary-keep c.self.inside.low.items (g.T.Leasts.numbers c.self.inside.high) c.args.at c.args.number c.self.invariant.0 h (omega arith) (λ same. c.if-before-least.false (let is = get_or_default c.self.inside.low.items c.args.at c.index-before.result.now 0 h in omega (arith, is, same))),
+      summary-keep c.self.inside.low.items (g.T.NumberList.numbers c.self.inside.high) c.args.at c.args.number c.self.invariant.0 h (omega arith) (λ same. c.if-before-least.false (let is = get_or_default c.self.inside.low.items c.args.at c.index-before.result.now 0 h in omega (arith, is, same))),
       subst (λ xs. AreSpans xs c.widen.new.spans.items) c.deref.ensures.value c.widen.ensures,
     )

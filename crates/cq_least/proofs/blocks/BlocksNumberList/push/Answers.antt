@@ -4,12 +4,12 @@ use Rattle.cq_least.specs.declared.blocks.TheConstants.{BLOCK}
 use Rattle.cq_least.specs.Spans.{AreSpans}
 use Rattle.std.proofs.lemmas.List.{length-set, get_or-set_same, get_or-set_other}
 use Rattle.cq_least.proofs.Summaries.{summary-start, summary-first, summary-next}
-use Rattle.cq_least.proofs.blocks.BlocksLeasts.push.Goals as goal
+use Rattle.cq_least.proofs.blocks.BlocksNumberList.push.Goals as goal
 
 pub invariant_of-self-then-number-get : goal.invariant_of-self-then-number-get
 invariant_of-self-then-number-get g c =
     let low = c.self.inside.low.items in
-    let high = g.T.Leasts.numbers c.self.inside.high in
+    let high = g.T.NumberList.numbers c.self.inside.high in
     let n = c.args.number in
     let b = c.len-len.result / BLOCK in
     let is_len : c.len-len.result ≡ length low = omega arith in
@@ -22,7 +22,7 @@ invariant_of-self-then-number-get g c =
 pub invariant_of-self-else-number-get : goal.invariant_of-self-else-number-get
 invariant_of-self-else-number-get g c =
     let low = c.self.inside.low.items in
-    let high = g.T.Leasts.numbers c.self.inside.high in
+    let high = g.T.NumberList.numbers c.self.inside.high in
     let n = c.args.number in
     let b = c.len-len.result / BLOCK in
     let is_len : c.len-len.result ≡ length low = omega arith in
@@ -34,7 +34,7 @@ invariant_of-self-else-number-get g c =
 pub invariant_of-self-then-len-eq0 : goal.invariant_of-self-then-len-eq0
 invariant_of-self-then-len-eq0 g c =
     let low = c.self.inside.low.items in
-    let high = g.T.Leasts.numbers c.self.inside.high in
+    let high = g.T.NumberList.numbers c.self.inside.high in
     let n = c.args.number in
     let b = c.len-len.result / BLOCK in
     let is_len : c.len-len.result ≡ length low = omega arith in (
@@ -45,7 +45,7 @@ invariant_of-self-then-len-eq0 g c =
 pub invariant_of-self-in_err-push : goal.invariant_of-self-in_err-push
 invariant_of-self-in_err-push g c =
     let low = c.self.inside.low.items in
-    let high = g.T.Leasts.numbers c.self.inside.high in
+    let high = g.T.NumberList.numbers c.self.inside.high in
     let n = c.args.number in
     let b = c.len-len.result / BLOCK in
     let is_len : c.len-len.result ≡ length low = omega arith in (
@@ -56,7 +56,7 @@ invariant_of-self-in_err-push g c =
 pub invariant_of-self-in_err-begin_span : goal.invariant_of-self-in_err-begin_span
 invariant_of-self-in_err-begin_span g c =
     let low = c.self.inside.low.items in
-    let high = g.T.Leasts.numbers c.self.inside.high in
+    let high = g.T.NumberList.numbers c.self.inside.high in
     let n = c.args.number in
     let b = c.len-len.result / BLOCK in
     let is_len : c.len-len.result ≡ length low = omega arith in (
