@@ -192,19 +192,33 @@ impl Bench {
         Ok(())
     }
 
-    /// How long a count takes.
-    #[inline(never)]
-    fn count(&self, rt: &HostRuntime) -> io::Result<u64> {
-        let query = Query {
+    fn query(&self) -> io::Result<Query> {
+        Ok(Query {
             client: 1,
             tag: 1,
             queue: self.name()?,
-        };
+        })
+    }
+
+    /// How long a count takes. What was counted so far chooses the next query, so that no compiler can leave counts out.
+    #[inline(never)]
+    fn count(&self, rt: &HostRuntime) -> io::Result<u64> {
+        let even = self.query()?;
+        let odd = self.query()?;
+        let mut sum: u64 = 0;
         let start = Instant::now(rt)?;
         for _ in 0..COUNTS {
-            let _ = self.store.query(&query);
+            let query = if sum % 2 == 0 { &even } else { &odd };
+            match self.store.query(query) {
+                Reply::Counts { visible, .. } => sum = sum.saturating_add(visible),
+                _ => return Err(stop("no counts")),
+            }
         }
-        Ok(since(rt, &start)? / COUNTS)
+        let took = since(rt, &start)?;
+        if sum == 0 {
+            return Err(stop("no messages"));
+        }
+        Ok(took / COUNTS)
     }
 
     /// How long a copy of the store takes.
