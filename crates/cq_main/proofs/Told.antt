@@ -1,11 +1,11 @@
--- The text by which a fault is told, which writers have failed, and which kinds of error ask for help.
+-- The text by which a fault is told, which writers have failed, and which kinds of error ask for help or for the version.
 use Rattle.std.proofs.Common.{ℕ, List, [], ◌∷◌, ◌++◌, Bool, true, false, Option, refl, codes, sym, ◌≡◌, ◌∙◌}
 use Rattle.std.specs.Prelude.{decimal, ◌||◌}
 use Rattle.clap.specs.declared.error.kind.ErrorKind.{ErrorKind}
 use Rattle.clap.specs.declared.error.kind.ErrorKind.TheVariants.{DisplayHelp, DisplayVersion}
 use Rattle.cq_script.specs.Faults.{code_of, name_of}
 use Rattle.cq_script.specs.declared.fault.ScriptFault.{ScriptFault}
-use Rattle.cq_words.specs.WordFaults.{is_help}
+use Rattle.cq_words.specs.WordFaults.{is_help, is_version}
 use Rattle.cq_main.specs.Statuses.{fault_line, fault_text, line_text}
 
 pub is_told : (fault : ScriptFault) (code : ℕ) (name : List ℕ) (line : Option ℕ) → code ≡ code_of fault → name ≡ name_of fault → fault_line fault ≡ line
@@ -20,7 +20,10 @@ pub not_failed_before : (before error after : Bool) → after ≡ (before || err
 not_failed_before true error after after_is kept = cc
 not_failed_before false error after after_is kept = refl
 
-pub no_help : (kind : ErrorKind) → (kind ≡ DisplayHelp → ⊥) → (kind ≡ DisplayVersion → ⊥) → is_help kind ≡ true → ⊥
-no_help DisplayHelp not_help not_version is = not_help refl
-no_help DisplayVersion not_help not_version is = not_version refl
-no_help _ not_help not_version is = cc
+pub no_help : (kind : ErrorKind) → (kind ≡ DisplayHelp → ⊥) → is_help kind ≡ true → ⊥
+no_help DisplayHelp not_help is = not_help refl
+no_help _ not_help is = cc
+
+pub no_version : (kind : ErrorKind) → (kind ≡ DisplayVersion → ⊥) → is_version kind ≡ true → ⊥
+no_version DisplayVersion not_version is = not_version refl
+no_version _ not_version is = cc

@@ -32,6 +32,16 @@ Helps guide status output_failed written output failed old new =
     ((output_failed ≡ false) × (status ≡ 0) × (new ≡ old) × ((text : List ℕ) × Appends written output (text ++ 10 ∷ (guide ++ 10 ∷ []))))
     ⊎ ((output_failed ≡ true) × EndsAt WriteFailed status failed old new)
 
+-- the line that names a version
+abbrev pub version_text : List ℕ → List ℕ
+version_text version = codes "cq " ++ (version ++ 10 ∷ [])
+
+-- that line was written; or the writer failed, which is a fault
+abbrev pub TellsVersion : List ℕ → ℕ → Bool → Option (List ℕ) → Option (List ℕ) → Bool → Option (List ℕ) → Option (List ℕ) → Type 0
+TellsVersion version status output_failed written output failed old new =
+    ((output_failed ≡ false) × (status ≡ 0) × (new ≡ old) × Appends written output (version_text version))
+    ⊎ ((output_failed ≡ true) × EndsAt WriteFailed status failed old new)
+
 -- the words were refused: a text says why, unless the writer failed
 abbrev pub Refuses : ℕ → Bool → Option (List ℕ) → Option (List ℕ) → Type 0
 Refuses status failed old new = (status ≡ 2) × ((text : List ℕ) × (failed ≡ false → Appends old new text))

@@ -6,8 +6,8 @@ ghost use Rattle.clap.specs.Words.{fault_of, kind_of};
 ghost use Rattle.cq_script.specs.Checks.{inner_of, is_failed, is_flushed};
 ghost use Rattle.cq_words.specs.CommandLine.{asked_choice, program_app};
 ghost use Rattle.cq_main.specs.Choices.{Runs};
-ghost use Rattle.cq_main.specs.Outcomes.{Ends, EndsAt, Helps, Refuses, unread_text};
-ghost use Rattle.cq_words.specs.WordFaults.{all_are, is_help, is_usage};
+ghost use Rattle.cq_main.specs.Outcomes.{Ends, EndsAt, Helps, Refuses, TellsVersion, unread_text};
+ghost use Rattle.cq_words.specs.WordFaults.{all_are, is_help, is_usage, is_version};
 ghost use Rattle.cq_words.specs.declared.choice.Choice.{Choice};
 ghost use Rattle.cq_script.specs.declared.fault.ScriptFault.TheVariants.{NoMemory};
 ghost use Rattle.std.specs.declared.io.ErrorKind.TheVariants.{OutOfMemory as NoRoom};
@@ -17,7 +17,7 @@ use crate::report::report;
 use clap::Error;
 use clap::error::ErrorKind;
 use cq_script::{Checked, ScriptFault, Sink, replay, session};
-use cq_words::{Choice, choice_of};
+use cq_words::{Choice, VERSION, choice_of};
 use std::alloc::Global;
 use std::io;
 use std::io::{Read, Write};
@@ -94,9 +94,9 @@ A fault is told by one line on standard error, such as "cq: 61 BadLine line 3"."
 /// The status after a command line that is not understood.
 const USAGE: u8 = 2;
 
-/// Does what the words ask for. It replays the script of the reader, runs a session with it, runs it live, or writes help, on
-/// `output`; a fault, or what is wrong with the words, goes to `errors`. Gives the status with which the program ends. A live
-/// run waits for its threads.
+/// Does what the words ask for. It replays the script of the reader, runs a session with it, runs it live, or writes help or
+/// the version, on `output`; a fault, or what is wrong with the words, goes to `errors`. Gives the status with which the
+/// program ends. A live run waits for its threads.
 pub fn run<H: Threads + Wait + Sync, R: Read, W: Write, E: Write>(
     rt: &H,
     alloc: Global,
@@ -115,6 +115,12 @@ pub fn run<H: Threads + Wait + Sync, R: Read, W: Write, E: Write>(
         (E.contents (inner_of errors.new)) }
     ensures help { all_are is_help (fault_of program_app (map string_bytes words.now)) ≡ true
         → Helps GUIDE.now result (is_failed output.new) (W.contents (inner_of output.old))
+        (W.contents (inner_of output.new)) (is_failed errors.new) (E.contents (inner_of errors.old))
+        (E.contents (inner_of errors.new))
+        ⊎ EndsAt NoMemory result (is_failed errors.new) (E.contents (inner_of errors.old))
+        (E.contents (inner_of errors.new)) }
+    ensures version { all_are is_version (fault_of program_app (map string_bytes words.now)) ≡ true
+        → TellsVersion VERSION.now result (is_failed output.new) (W.contents (inner_of output.old))
         (W.contents (inner_of output.new)) (is_failed errors.new) (E.contents (inner_of errors.old))
         (E.contents (inner_of errors.new))
         ⊎ EndsAt NoMemory result (is_failed errors.new) (E.contents (inner_of errors.old))
@@ -167,7 +173,7 @@ fn end<E: Write>(answer: &Result<(), ScriptFault>, errors: &mut Checked<E>) -> u
     }
 }
 
-/// Tells what the words could not be taken for: help, a fault of the words, or want of memory.
+/// Tells what the words could not be taken for: help, the version, a fault of the words, or want of memory.
 fn tell_error<W: Write, E: Write>(
     alloc: Global,
     error: &Error,
@@ -184,6 +190,10 @@ fn tell_error<W: Write, E: Write>(
         (E.contents (inner_of errors.new))
         ⊎ EndsAt NoMemory result (is_failed errors.new) (E.contents (inner_of errors.old))
         (E.contents (inner_of errors.new)) }
+    ensures version { is_version (kind_of error.now) ≡ true
+        → TellsVersion VERSION.now result (is_failed output.new) (W.contents (inner_of output.old))
+        (W.contents (inner_of output.new)) (is_failed errors.new) (E.contents (inner_of errors.old))
+        (E.contents (inner_of errors.new)) }
     ensures usage { is_usage (kind_of error.now) ≡ true
         → Refuses result (is_failed errors.new) (E.contents (inner_of errors.old)) (E.contents (inner_of errors.new))
         ⊎ EndsAt NoMemory result (is_failed errors.new) (E.contents (inner_of errors.old))
@@ -193,7 +203,8 @@ fn tell_error<W: Write, E: Write>(
 {
     match error.kind() {
         ErrorKind::OutOfMemory => report(&ScriptFault::NoMemory, errors),
-        ErrorKind::DisplayHelp | ErrorKind::DisplayVersion => help(alloc, error, output, errors),
+        ErrorKind::DisplayHelp => help(alloc, error, output, errors),
+        ErrorKind::DisplayVersion => tell_version(output, errors),
         _ => refuse(alloc, error, errors),
     }
 }
@@ -216,6 +227,20 @@ fn help<W: Write, E: Write>(
         return report(&ScriptFault::NoMemory, errors);
     };
     output.tell(format_args!("{text}\n{GUIDE}\n"));
+    if output.flush().is_err() || output.failed() {
+        return report(&ScriptFault::WriteFailed, errors);
+    }
+    0
+}
+
+/// Writes the program's name and the number of this version. Where that can't be written, it is a fault of the writer.
+fn tell_version<W: Write, E: Write>(output: &mut Checked<W>, errors: &mut Checked<E>) -> u8
+    requires { is_failed output.old ≡ false }
+    ensures { TellsVersion VERSION.now result (is_failed output.new) (W.contents (inner_of output.old))
+        (W.contents (inner_of output.new)) (is_failed errors.new) (E.contents (inner_of errors.old))
+        (E.contents (inner_of errors.new)) }
+{
+    output.tell(format_args!("cq {VERSION}\n"));
     if output.flush().is_err() || output.failed() {
         return report(&ScriptFault::WriteFailed, errors);
     }

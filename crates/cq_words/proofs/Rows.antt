@@ -5,7 +5,7 @@ use Rattle.clap.specs.declared.error.kind.ErrorKind.TheVariants.{OutOfMemory}
 use Rattle.clap.proofs.OnLiterals.{clap_on_literals}
 use Rattle.cq_words.specs.declared.choice.Choice.TheVariants.{Live, Replay, Session}
 use Rattle.cq_words.specs.CommandLine.{asked_choice, program_app, text_in, turns_text}
-use Rattle.cq_words.specs.WordFaults.{all_are, is_help, is_usage}
+use Rattle.cq_words.specs.WordFaults.{all_are, is_help, is_usage, is_version}
 
 good_words :
     map asked_choice (
@@ -71,21 +71,37 @@ servers_found = refl
 help_words :
     map (λ words. all_are is_help (fault_of program_app words)) (
     (codes "--help" ∷ []) ∷ (codes "replay" ∷ codes "-h" ∷ []) ∷ (codes "session" ∷ codes "-h" ∷ []) ∷ (codes "live" ∷ codes "--help" ∷ [])
-    ∷ [] ∷ (codes "live" ∷ []) ∷ (codes "alive" ∷ []) ∷ []
+    ∷ [] ∷ (codes "live" ∷ []) ∷ (codes "alive" ∷ []) ∷ (codes "--version" ∷ []) ∷ []
     )
     ≡ true ∷ true ∷ true ∷ true
-    ∷ false ∷ false ∷ false ∷ []
+    ∷ false ∷ false ∷ false ∷ false ∷ []
 unfolding clap_on_literals
 help_words = refl
+
+-- the version is asked for in front of a command alone
+version_words :
+    map (λ words. all_are is_version (fault_of program_app words)) (
+    (codes "--version" ∷ []) ∷ (codes "-V" ∷ []) ∷ (codes "--version" ∷ codes "replay" ∷ [])
+    ∷ [] ∷ (codes "--help" ∷ []) ∷ (codes "replay" ∷ []) ∷ (codes "version" ∷ [])
+    ∷ (codes "replay" ∷ codes "--version" ∷ []) ∷ (codes "session" ∷ codes "-V" ∷ []) ∷ (codes "live" ∷ codes "--version" ∷ []) ∷ []
+    )
+    ≡ true ∷ true ∷ true
+    ∷ false ∷ false ∷ false ∷ false
+    ∷ false ∷ false ∷ false ∷ []
+unfolding clap_on_literals
+version_words = refl
 
 bad_words :
     map (λ words. all_are is_usage (fault_of program_app words)) (
     (codes "alive" ∷ []) ∷ (codes "replay" ∷ codes "--servers" ∷ codes "9" ∷ []) ∷ (codes "replay" ∷ codes "--servers" ∷ codes "0" ∷ [])
     ∷ (codes "replay" ∷ codes "--server" ∷ codes "3" ∷ []) ∷ (codes "--servers" ∷ codes "3" ∷ []) ∷ (codes "replay" ∷ codes "extra" ∷ [])
     ∷ (codes "session" ∷ codes "--servers" ∷ codes "9" ∷ []) ∷ (codes "session" ∷ codes "replay" ∷ [])
-    ∷ [] ∷ (codes "--help" ∷ []) ∷ []
+    ∷ (codes "version" ∷ []) ∷ (codes "replay" ∷ codes "--version" ∷ []) ∷ (codes "session" ∷ codes "-V" ∷ [])
+    ∷ [] ∷ (codes "--help" ∷ []) ∷ (codes "--version" ∷ []) ∷ []
     )
-    ≡ true ∷ true ∷ true ∷ true ∷ true ∷ true ∷ true ∷ true ∷ false ∷ false ∷ []
+    ≡ true ∷ true ∷ true ∷ true ∷ true ∷ true ∷ true ∷ true
+    ∷ true ∷ true ∷ true
+    ∷ false ∷ false ∷ false ∷ []
 unfolding clap_on_literals
 bad_words = refl
 

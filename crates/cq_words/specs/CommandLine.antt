@@ -50,9 +50,9 @@ turns_rule = record (new_rule (codes "turns")) {
 abbrev pub live_app : App
 live_app = with_rule (command_app (codes "live") (codes "3")) turns_rule
 
--- the program without its commands; its words begin behind its name
+-- the program without its commands; its words begin behind its name, and it has a version to tell
 abbrev pub bare_app : App
-bare_app = on_top (λ s. record s { no_binary_name = true }) (new_app (codes "cq"))
+bare_app = on_top (λ s. record s { no_binary_name = true; has_version = true }) (new_app (codes "cq"))
 
 -- a program with that command added
 abbrev pub with_command : App → App → App

@@ -1,4 +1,4 @@
--- Which faults of the words ask for help, and which say that the words are at fault.
+-- Which faults of the words ask for help or for the version, and which say that the words are at fault.
 use Rattle.std.specs.Prelude.{Bool, true, false, [], ◌∷◌}
 use Rattle.std.specs.List.{list_all}
 use Rattle.clap.specs.Kinds.{Kinds}
@@ -8,8 +8,12 @@ use Rattle.clap.specs.declared.error.kind.ErrorKind.TheVariants.{DisplayHelp, Di
 -- help was asked for, and not what the words may else be taken for
 abbrev pub is_help : ErrorKind → Bool
 is_help DisplayHelp = true
-is_help DisplayVersion = true
 is_help _ = false
+
+-- the version was asked for
+abbrev pub is_version : ErrorKind → Bool
+is_version DisplayVersion = true
+is_version _ = false
 
 -- the words are at fault
 abbrev pub is_usage : ErrorKind → Bool

@@ -14,6 +14,9 @@ use cq_base::{CHAIN_LIMIT, ChainSize};
 use std::alloc::{AllocError, Global};
 use std::convert::AsStr;
 
+/// The number of this version of Hobbychair, which `--version` tells. CHANGELOG.md says what came with it.
+pub const VERSION: &str = "0.1.0";
+
 /// The first digit, as a byte.
 const ZERO_DIGIT: u8 = b'0';
 
@@ -117,6 +120,7 @@ fn program<'a>(alloc: Global) -> Result<Command<'a>, AllocError>
     Command::new(alloc, "cq")
         .no_binary_name(true)
         .bin_name("cq")?
+        .version(VERSION)
         .about(
             "Runs scripts of what happens to a FIFO message queue that a chain of servers keeps.\nWithout a command it does what 'cq replay' does.",
         )
@@ -168,7 +172,7 @@ fn choice_in(matches: &ArgMatches<'_>) -> Option<Choice>
 }
 
 /// What the words behind the program's name ask for; no words ask for a replay on one server. An error is
-/// a request for help, a fault of the words, or want of memory.
+/// a request for help or for the version, a fault of the words, or want of memory.
 pub fn choice_of<'a, S: AsStr>(alloc: Global, words: &'a [S]) -> Result<Choice, Error>
     ensures asked { IfOk result (IsAsked (subcommand_of program_app (map S.text words.entry.now))) }
     ensures good { (choice : Choice) → asked_choice (map S.text words.entry.now) ≡ Some choice

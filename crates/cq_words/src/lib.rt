@@ -4,4 +4,4 @@
 
 mod choice;
 
-pub use choice::{Choice, choice_of};
+pub use choice::{Choice, VERSION, choice_of};

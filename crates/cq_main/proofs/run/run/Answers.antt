@@ -3,7 +3,7 @@ use Rattle.std.proofs.Common.{inl, inr, map}
 use Rattle.std.specs.Prelude.{string_bytes}
 use Rattle.clap.specs.Words.{fault_of}
 use Rattle.cq_words.specs.CommandLine.{program_app}
-use Rattle.cq_words.specs.WordFaults.{is_help, is_usage}
+use Rattle.cq_words.specs.WordFaults.{is_help, is_usage, is_version}
 use Rattle.cq_words.proofs.Asked.{all_are_some, has_such}
 use Rattle.cq_main.proofs.run.run.Goals as goal
 
@@ -13,6 +13,14 @@ returns-in-Err-clause-help g c = λ all.
     elim (has_such is_help kinds c.in-Err.error all (c.in-Err.ensures.faults (all_are_some is_help kinds all))) [
       | inl memory ↦ inr (c.tell_error.ensures.memory memory)
       | inr such ↦ c.tell_error.ensures.help such
+    ]
+
+pub returns-in-Err-clause-version : goal.returns-in-Err-clause-version
+returns-in-Err-clause-version g c = λ all.
+    let kinds = fault_of program_app (map string_bytes c.args.words.now) in
+    elim (has_such is_version kinds c.in-Err.error all (c.in-Err.ensures.faults (all_are_some is_version kinds all))) [
+      | inl memory ↦ inr (c.tell_error.ensures.memory memory)
+      | inr such ↦ inl (c.tell_error.ensures.version such)
     ]
 
 pub returns-in-Err-clause-usage : goal.returns-in-Err-clause-usage
