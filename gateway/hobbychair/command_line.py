@@ -6,6 +6,7 @@ import argparse
 import asyncio
 import os
 import shutil
+import subprocess
 import sys
 from collections.abc import Sequence
 from pathlib import Path
@@ -16,6 +17,8 @@ from hobbychair.gateway import Gateway, NotStarted, Settings
 from hobbychair.journal import JournalDamaged, JournalNotOpened, Records
 
 PROGRAM = "HOBBYCHAIR_CQ"
+NOT_BUILT = 126
+"""The status of a checkout's script `cq` where it would have to prove and build the program first."""
 
 
 def main(words: Sequence[str] | None = None) -> int:
@@ -83,7 +86,8 @@ def _serve(arguments: argparse.Namespace) -> int:
     if program is None:
         raise NotStarted(f"there is no cq: give it by --cq or {PROGRAM}, or put it on the path")
     if shutil.which(program) is None:
-        raise NotStarted(f"{program} is no program")
+        raise NotStarted(f"{program} is no program: ./cq --build at the top of the repository builds cq")
+    _refuse_unbuilt(program)
     settings = Settings(
         program=program,
         host=arguments.host,
@@ -100,6 +104,16 @@ def _serve(arguments: argparse.Namespace) -> int:
         return await Gateway(settings).run()
 
     return 0 if asyncio.run(run()) is None else 1
+
+
+def _refuse_unbuilt(program: str) -> None:
+    """Nobody wants to wait for a proof here. The script `cq` says what to type; the program knows no such word."""
+    try:
+        asked = subprocess.run([program, "--built"], stdin=subprocess.DEVNULL, capture_output=True, text=True, timeout=60)
+    except (OSError, subprocess.TimeoutExpired):
+        return
+    if asked.returncode == NOT_BUILT:
+        raise NotStarted(asked.stderr.strip().removeprefix("cq: "))
 
 
 def _dump(path: Path) -> int:

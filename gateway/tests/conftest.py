@@ -4,12 +4,13 @@ from __future__ import annotations
 
 import itertools
 import re
+import shutil
 from collections.abc import Callable
 from typing import Any
 
 import pytest
 
-from started import START, ByBoto3, ByJson, ByQuery, Refused, Started, boto3_client
+from started import START, ByBoto3, ByJson, ByQuery, Refused, Started, boto3_client, program
 
 try:
     import moto
@@ -20,6 +21,11 @@ except ImportError:
 ONE = ["--servers", "1"]
 CHAIN = ["--servers", "3", "--lose", "0.2"]
 _names = itertools.count(1)
+
+
+def pytest_sessionstart() -> None:
+    if shutil.which(program()) is None:
+        pytest.exit(f"{program()} isn't built. To prove and build it: ./cq --build", returncode=3)
 
 
 def _started(words: list[str], room):

@@ -3,6 +3,7 @@
 from __future__ import annotations
 
 import os
+import shutil
 import signal
 import subprocess
 import time
@@ -10,7 +11,7 @@ import urllib.error
 
 import pytest
 
-from started import ByJson, Started, command, environment
+from started import TOP, ByJson, Started, command, environment
 
 
 def run(*words: str, **variables: str) -> subprocess.CompletedProcess:
@@ -36,7 +37,15 @@ def test_help_names_the_commands():
 def test_a_missing_program_is_told():
     for words, variables in ([["--cq", "/nowhere/cq"], {}], [[], {"HOBBYCHAIR_CQ": "/nowhere/cq"}]):
         ended = run("--port", "0", *words, **variables)
-        assert ended.returncode == 1 and ended.stderr == "hobbychair-sqs: /nowhere/cq is no program\n"
+        said = "hobbychair-sqs: /nowhere/cq is no program: ./cq --build at the top of the repository builds cq\n"
+        assert ended.returncode == 1 and ended.stderr == said
+
+
+def test_a_checkout_whose_program_is_not_built_is_told(tmp_path):
+    script = shutil.copy(TOP / "cq", tmp_path)
+    ended = run("--port", "0", "--cq", script)
+    said = f"hobbychair-sqs: the program isn't built. To prove and build it: {script} --build\n"
+    assert ended.returncode == 1 and ended.stderr == said
 
 
 def test_a_program_that_ends_at_once_is_told(tmp_path):
