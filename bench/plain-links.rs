@@ -1,7 +1,7 @@
 //! A ring and a channel in plain Rust, to measure our links and inboxes against. The ring has the design of `rtrb`: a
 //! place in a ring of slots for each end, each kept by its end and read by the other only when the own copy says full or
 //! empty. The channel is `std::sync::mpsc::sync_channel`, which is built on the list and array channels of
-//! `crossbeam-channel`. It reads the same lines as `cq_bench_link` and writes the same ones.
+//! `crossbeam-channel`. It reads the same lines as `cq_bench links` and writes the same ones.
 use std::cell::UnsafeCell;
 use std::io::BufRead;
 use std::sync::atomic::{AtomicUsize, Ordering};

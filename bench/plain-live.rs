@@ -3,7 +3,7 @@
 //! put. A node takes turns as ours do, and each server keeps a store made of the collections that come to mind.
 //!
 //! What it lacks: servers don't crash and none joins, so the master has nothing to say and no client asks twice; no trace
-//! of what was done is kept, and nothing is audited. It reads the same lines as `cq_bench_live`, without crashes and joins,
+//! of what was done is kept, and nothing is audited. It reads the same lines as `cq_bench live`, without crashes and joins,
 //! and writes the same ones.
 use std::cell::UnsafeCell;
 use std::collections::{BTreeMap, HashMap, VecDeque};

@@ -1,5 +1,5 @@
 //! A store of FIFO queues in plain Rust with the collections that come to mind, to measure ours against. It keeps the same
-//! rules as far as the benchmark asks for them, with a kept reply for each client, reads the same lines as `cq_bench_store`
+//! rules as far as the benchmark asks for them, with a kept reply for each client, reads the same lines as `cq_bench store`
 //! and writes the same ones.
 use std::collections::{BTreeMap, BTreeSet, HashMap, VecDeque};
 use std::io::BufRead;

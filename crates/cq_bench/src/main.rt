@@ -1,37 +1,38 @@
-//! Reads lines of JSON on standard input and writes them again, by `serde_json` alone. What `cq replay` takes for the
-//! same lines is measured against this.
+//! What the programs of `bench/` measure, by the first word of the command line: `store`, the calls of a store; `links`,
+//! items from one thread to another; `live`, live runs; and `json`, lines read and written by `serde_json` alone. Each
+//! reads lines of standard input; its file says which.
 #![tactic(auto)]
 
-use serde_json::Value;
-use std::alloc::Global;
-use std::io;
-use std::io::{BufRead, BufReader, BufWriter, Write};
+mod common;
+mod json;
+mod links;
+mod live;
+mod store;
+
+use crate::common::stop;
 use std::process::ExitCode;
+use std::{env, io};
 
-/// The line again, as `serde_json` writes it. None: it is no JSON, or there was no memory.
-fn written_again(alloc: Global, line: &str) -> Option<Vec<u8>> {
-    let value = Value::from_slice(alloc, line.as_bytes()).ok()?;
-    let mut text = value.to_vec(alloc).ok()?;
-    text.push(b'\n').ok()?;
-    Some(text)
-}
-
-fn copy_lines(rt: &HostRuntime) -> io::Result<()> {
-    let mut writer = BufWriter::new(rt.alloc(), io::writer(rt))?;
-    for line in BufReader::new(rt.alloc(), rt.reader())?.lines(rt.alloc()) {
-        match written_again(rt.alloc(), line?.as_str()) {
-            Some(text) => writer.write_all(text.as_slice())?,
-            None => return Err(io::Error::other("a line is no JSON, or memory ran out")),
-        }
-    }
-    writer.flush()
+/// The words of the command line, behind the program's name.
+fn words_of(rt: &HostRuntime) -> io::Result<Vec<String>> {
+    Ok(env::args(rt)?.skip(1).collect(rt.alloc())?)
 }
 
 fn main(rt: HostRuntime) -> ExitCode {
-    match copy_lines(&rt) {
+    let done = match words_of(&rt) {
+        Ok(words) => match words.first().map(|word| word.as_str()) {
+            Some("store") => store::run_lines(&rt),
+            Some("links") => links::run_lines(&rt, rt.alloc()),
+            Some("live") => live::run_lines(&rt, rt.alloc()),
+            Some("json") => json::copy_lines(&rt),
+            _ => Err(stop("the first word is none of store, links, live and json")),
+        },
+        Err(error) => Err(error),
+    };
+    match done {
         Ok(()) => ExitCode::SUCCESS,
-        Err(_) => {
-            let _ = rt.eprintln("cq_bench: a line is no JSON, or it can't be read or written");
+        Err(error) => {
+            let _ = eprintln!(rt; "cq_bench: {error}");
             ExitCode::FAILURE
         }
     }

@@ -1,12 +1,10 @@
 //! How long items take from one thread to another, numbers through a link and requests through an inbox. Each line of
 //! standard input has the places of both, and how many items go; each line of output has the nanoseconds of one item.
-#![tactic(auto)]
-
+use crate::common::{since, stop};
 use cq_base::{Ask, NoMemory, QueueName, Request};
 use cq_link::{InPut, InTake, Inbox, Link, Putter, Taker};
 use std::alloc::Global;
 use std::io::{BufRead, BufReader};
-use std::process::ExitCode;
 use std::rt::Clock;
 use std::sync::Wait;
 use std::thread::Threads;
@@ -15,15 +13,6 @@ use std::{io, thread};
 
 /// How often each thread tries before it gives up.
 const TRIES: u64 = 1_000_000_000_000;
-
-fn stop(what: &'static str) -> io::Error {
-    io::Error::other(what)
-}
-
-/// The nanoseconds since then.
-fn since(rt: &impl Clock, start: &Instant) -> io::Result<u64> {
-    Ok(u64::try_from(start.elapsed(rt)?.as_nanos()).unwrap_or(u64::MAX))
-}
 
 /// Puts the numbers from 0 to below `count`. Answers how many it put.
 fn put_on_link(mut end: Putter<u64>, count: u64) -> u64 {
@@ -165,7 +154,7 @@ fn numbers(line: &str) -> Option<(usize, u64)> {
     Some((places.parse().ok()?, count.parse().ok()?))
 }
 
-fn run_lines(
+pub fn run_lines(
     rt: &(impl Threads + Wait + Clock + Sync + Print + Input),
     alloc: Global,
 ) -> io::Result<()> {
@@ -174,14 +163,4 @@ fn run_lines(
         run(rt, alloc, places, count)?;
     }
     Ok(())
-}
-
-fn main(rt: HostRuntime) -> ExitCode {
-    match run_lines(&rt, rt.alloc()) {
-        Ok(()) => ExitCode::SUCCESS,
-        Err(error) => {
-            let _ = eprintln!(rt; "cq_bench_link: {error}");
-            ExitCode::FAILURE
-        }
-    }
 }

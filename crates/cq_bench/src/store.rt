@@ -1,7 +1,6 @@
 //! How long the calls of a store take, by the number of messages that a queue holds and of its groups. Each line of
 //! standard input has these two numbers; each line of output has the nanoseconds of a call of each kind.
-#![tactic(auto)]
-
+use crate::common::{since, stop};
 use cq_base::{
     Ask, BatchSize, Body, DedupId, Entry, GroupId, HISTORY_LIMIT, Moment, Query, QueueName,
     Receipt, Reply, Request, Seconds,
@@ -10,7 +9,6 @@ use cq_store::Store;
 use std::alloc::Global;
 use std::io;
 use std::io::{BufRead, BufReader};
-use std::process::ExitCode;
 use std::time::Instant;
 
 /// How many receives are timed, each of ten messages.
@@ -21,15 +19,6 @@ const COUNTS: u64 = 1_000;
 
 /// The sends come within so many milliseconds, so that all of their deduplication ids are kept.
 const SENDING: u64 = 299_000;
-
-fn stop(what: &'static str) -> io::Error {
-    io::Error::other(what)
-}
-
-/// The nanoseconds since then.
-fn since(rt: &HostRuntime, start: &Instant) -> io::Result<u64> {
-    Ok(u64::try_from(start.elapsed(rt)?.as_nanos()).unwrap_or(u64::MAX))
-}
 
 /// The nanoseconds of all calls of a kind, and how many calls there were.
 #[derive(Clone, Copy)]
@@ -303,20 +292,10 @@ fn numbers(line: &str) -> Option<(u64, u64)> {
     Some((messages.parse().ok()?, groups.parse().ok()?))
 }
 
-fn run_lines(rt: &HostRuntime) -> io::Result<()> {
+pub fn run_lines(rt: &HostRuntime) -> io::Result<()> {
     for line in BufReader::new(rt.alloc(), rt.reader())?.lines(rt.alloc()) {
         let (messages, groups) = numbers(line?.as_str()).ok_or(stop("no two numbers"))?;
         run(rt, messages, groups)?;
     }
     Ok(())
-}
-
-fn main(rt: HostRuntime) -> ExitCode {
-    match run_lines(&rt) {
-        Ok(()) => ExitCode::SUCCESS,
-        Err(error) => {
-            let _ = eprintln!(rt; "cq_bench_store: {error}");
-            ExitCode::FAILURE
-        }
-    }
 }

@@ -6,8 +6,7 @@
 //! Each line of output has how many sends were accepted, how many events the run had, the highest number of a turn that a
 //! server began, and the microseconds of it all: of the whole call, audit and all, and up to the last turns alone. Where
 //! there is no report it has the fault.
-#![tactic(auto)]
-
+use crate::common::stop;
 use cq_base::{Ask, Body, ChainSize, DedupId, GroupId, Party, QueueName, Seconds, ServerId};
 use cq_live::Gate;
 use cq_live_chain::live;
@@ -18,7 +17,6 @@ use std::alloc::Global;
 use std::fmt::Write;
 use std::io;
 use std::io::{BufRead, BufReader};
-use std::process::ExitCode;
 use std::rt::Clock;
 use std::sync::Wait;
 use std::sync::atomic::AtomicU64;
@@ -34,10 +32,6 @@ const GROUPS: u64 = 16;
 
 /// The gate reads the clock once in so many turns of a server.
 const READINGS: u64 = 64;
-
-fn stop(what: &'static str) -> io::Error {
-    io::Error::other(what)
-}
 
 /// The gate that lets each turn begin, and knows how many turns a server has begun at most, and when the last ones were.
 #[derive(Drop)]
@@ -246,7 +240,7 @@ fn run(
     }
 }
 
-fn run_lines(
+pub fn run_lines(
     rt: &(impl Threads + Wait + Clock + Sync + Print + Input),
     alloc: Global,
 ) -> io::Result<()> {
@@ -254,14 +248,4 @@ fn run_lines(
         run(rt, alloc, &plan_of(alloc, line?.as_str())?)?;
     }
     Ok(())
-}
-
-fn main(rt: HostRuntime) -> ExitCode {
-    match run_lines(&rt, rt.alloc()) {
-        Ok(()) => ExitCode::SUCCESS,
-        Err(error) => {
-            let _ = eprintln!(rt; "cq_bench_live: {error}");
-            ExitCode::FAILURE
-        }
-    }
 }
