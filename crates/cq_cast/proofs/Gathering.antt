@@ -17,8 +17,8 @@ use Rattle.cq_wires.specs.Clients.{requests_in}
 use Rattle.cq_wires.specs.declared.clients.ClientPorts.{ClientPorts}
 use Rattle.cq_wires.specs.declared.clients.ServerPorts.{ServerPorts}
 use Rattle.cq_wires.specs.declared.ports.Ports.{Ports}
-use Rattle.cq_world.specs.declared.event.Event.{Event}
-use Rattle.cq_trace.specs.declared.trace.Trace.{Trace}
+use Rattle.cq_events.specs.declared.event.Event.{Event}
+use Rattle.cq_events.specs.declared.trace.Trace.{Trace}
 use Rattle.cq_cast.specs.Aparts.{Server, Parts, Master, Ends, Client, Own, starved_part, starved_in, LeavesMaster, LeavesServers, LeavesClient, AreGathered, IsApart}
 use Rattle.cq_cast.specs.declared.apart.Apart.{Apart}
 use Rattle.cq_cast.specs.declared.apart.Piece.{Piece}

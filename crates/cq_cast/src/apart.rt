@@ -8,9 +8,9 @@ use crate::bare_ends::{own_port_of, port_of};
 use crate::casting::{Client, Master, Server};
 use cq_base::{NoMemory, Party, ServerId};
 use cq_chain::{Answer, Message};
+use cq_events::Trace;
 use cq_link::{InPut, InTake, Putter, Taker};
 use cq_live::{ClientLeft, MasterEnds, ServerParts, ToClients};
-use cq_trace::Trace;
 use cq_wires::{ClientPorts, ClientWires, Ports, ServerPorts};
 use std::alloc::Global;
 

@@ -9,7 +9,7 @@ use Rattle.cq_live.specs.declared.ends.ToClients.{ToClients}
 use Rattle.cq_live.specs.Ends.{with_back, back_of, if_for}
 use Rattle.cq_live.specs.Moves.{Passes, PutsToOne}
 use Rattle.cq_live.proofs.Moving.{put-done}
-use Rattle.cq_trace.specs.Deeds.{Put, StandsAs, Keeps, Does}
+use Rattle.cq_events.specs.Deeds.{Put, StandsAs, Keeps, Does}
 
 -- what is kept for the clients takes the place of what was
 back_clients : {P : Type 0} (outs : List (Out P)) (before after : Option rust.Message) (p : Party) → with_back (back_of outs before) parties.Clients after p ≡ back_of outs after p

@@ -14,8 +14,8 @@ use Rattle.cq_live.specs.Ends.{back_of, kept_at, listed}
 use Rattle.cq_live.specs.FreshLinks.{AreUnput, AreUntaken}
 use Rattle.cq_live.specs.Moves.{ArePut, AreTaken}
 use Rattle.cq_live.specs.Nodes.{ServerRan}
-use Rattle.cq_trace.specs.Deeds.{Standing, StandsAs}
-use Rattle.cq_world.specs.Worlds.{first_world}
+use Rattle.cq_events.specs.Deeds.{Standing, StandsAs}
+use Rattle.cq_events.specs.Worlds.{first_world}
 
 -- what holds of all holds of the one at a place
 all_at : {X : Type 0} (Q : X → Type 0) (xs : List X) (place : ℕ) (x : X) → All Q xs → slice_get xs place ≡ Some x → Q x

@@ -5,7 +5,7 @@ use Rattle.cq_base.specs.declared.ask.Request.{Request}
 use Rattle.cq_base.specs.Relations.{Among}
 use Rattle.cq_live.specs.Moves.{Part}
 use Rattle.cq_live.specs.Nodes.{IsBound, MayDo, request_in, requests_in}
-use Rattle.cq_trace.specs.Deeds.{Deed, Arrived, Asked, Put, Took, Crashed, Detected, Joined}
+use Rattle.cq_events.specs.Deeds.{Deed, Arrived, Asked, Put, Took, Crashed, Detected, Joined}
 
 -- a list of which something is left out, with one element more
 pub part_end : {X : Type 0} (xs ys : List X) (y : X) → Part xs ys → Part xs (ys ++ y ∷ [])

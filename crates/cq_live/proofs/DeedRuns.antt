@@ -12,8 +12,8 @@ use Rattle.cq_chain.specs.Servers.{Server, first_member, joining}
 use Rattle.cq_chain.specs.Stands as chain
 use Rattle.cq_chain.specs.Stands.{Means, IsFirst, posted, drained}
 use Rattle.cq_chain.specs.Steps.{arrived, takes, crashed}
-use Rattle.cq_trace.specs.Deeds.{Deed, Arrived, Asked, Put, Took, Crashed, Detected, Joined, Standing, behind, StandsAs, IsMasterAs, Keeps, Does, DoesMaster, Run, ServerRun, MasterRun, put_in, put_to, taken_in, taken_from}
-use Rattle.cq_world.specs.Worlds.{is_in, numbers_from, first_world}
+use Rattle.cq_events.specs.Deeds.{Deed, Arrived, Asked, Put, Took, Crashed, Detected, Joined, Standing, behind, StandsAs, IsMasterAs, Keeps, Does, DoesMaster, Run, ServerRun, MasterRun, put_in, put_to, taken_in, taken_from}
+use Rattle.cq_events.specs.Worlds.{is_in, numbers_from, first_world}
 use Rattle.cq_live.proofs.Standings.{set_back, as-first, as-put, as-drawn, server-step}
 
 -- ---- runs

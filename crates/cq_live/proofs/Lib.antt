@@ -12,4 +12,3 @@ pub mod ClientAsks
 pub mod ClientSteps
 pub mod MasterMoving
 pub mod MasterSteps
-pub mod Living

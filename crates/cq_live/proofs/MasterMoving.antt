@@ -21,8 +21,8 @@ use Rattle.cq_live.proofs.DeedRuns.{orders-after}
 use Rattle.cq_live.proofs.Moving.{back_same}
 use Rattle.cq_live.proofs.Places.{itself, apart_of, is_apart, get_same, get_other, at_each, empty_end}
 use Rattle.cq_live.proofs.Standings.{as-put, as-drawn, master-order}
-use Rattle.cq_trace.specs.Deeds.{Put, IsMasterAs, Keeps, DoesMaster, behind}
-use Rattle.cq_world.proofs.Parties.{same-true, same-refl}
+use Rattle.cq_events.specs.Deeds.{Put, IsMasterAs, Keeps, DoesMaster, behind}
+use Rattle.cq_events.proofs.Parties.{same-true, same-refl}
 
 -- ---- calls
 

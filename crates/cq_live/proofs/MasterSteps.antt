@@ -23,9 +23,9 @@ use Rattle.cq_live.proofs.DeedRuns.{master-more, run-kept, put-more, taken-more,
 use Rattle.cq_live.proofs.NodeSteps.{events_more}
 use Rattle.cq_live.proofs.Places.{empty_end, is_apart}
 use Rattle.cq_live.proofs.Standings.{as-kept}
-use Rattle.cq_trace.specs.Deeds.{Deed, Put, Took, Detected, Joined, IsMasterAs, Keeps, DoesMaster, event_of, put_to, put_in, taken_from, taken_in}
-use Rattle.cq_world.specs.declared.event.Event.{Event}
-use Rattle.cq_world.specs.declared.event.Event.TheVariants as events
+use Rattle.cq_events.specs.Deeds.{Deed, Put, Took, Detected, Joined, IsMasterAs, Keeps, DoesMaster, event_of, put_to, put_in, taken_from, taken_in}
+use Rattle.cq_events.specs.declared.event.Event.{Event}
+use Rattle.cq_events.specs.declared.event.Event.TheVariants as events
 
 -- ---- what was done
 

@@ -11,9 +11,9 @@ use Rattle.cq_chain.specs.Stands.{Means, IsFirst, drained}
 use Rattle.cq_chain.specs.Steps.{takes}
 use Rattle.cq_live.specs.Ends.{with_back}
 use Rattle.cq_live.specs.Moves.{Passes, TakesOne}
-use Rattle.cq_trace.specs.Deeds.{Put, StandsAs, Keeps, Does, behind}
+use Rattle.cq_events.specs.Deeds.{Put, StandsAs, Keeps, Does, behind}
 use Rattle.cq_live.proofs.DeedRuns.{does-after, server-put, server-drawn, server-took}
-use Rattle.cq_world.proofs.Parties.{same-true, same-refl}
+use Rattle.cq_events.proofs.Parties.{same-true, same-refl}
 
 -- what was handed back stays so
 pub back_same : (back : Party → Option rust.Message) (to : Party) (o : Option rust.Message) → back to ≡ o → (p : Party) → back p ≡ with_back back to o p

@@ -18,9 +18,9 @@ use Rattle.cq_live.proofs.Bounds.{bound_more, bound_starved, part_both}
 use Rattle.cq_live.proofs.DeedRuns.{server-more, run-kept, put-more, taken-more}
 use Rattle.cq_live.proofs.Places.{both_no, itself, apart_of, is_apart, empty_end}
 use Rattle.cq_live.proofs.Standings.{as-kept}
-use Rattle.cq_trace.specs.Deeds.{Deed, Put, Took, Arrived, Crashed, StandsAs, Keeps, Does, event_of, put_in, put_to, taken_in, taken_from}
-use Rattle.cq_world.specs.declared.event.Event.{Event}
-use Rattle.cq_world.specs.declared.event.Event.TheVariants as events
+use Rattle.cq_events.specs.Deeds.{Deed, Put, Took, Arrived, Crashed, StandsAs, Keeps, Does, event_of, put_in, put_to, taken_in, taken_from}
+use Rattle.cq_events.specs.declared.event.Event.{Event}
+use Rattle.cq_events.specs.declared.event.Event.TheVariants as events
 
 pub events_more : (f : Deed → Event) (deeds : List Deed) (d : Deed) → map f (deeds ++ d ∷ []) ≡ map f deeds ++ f d ∷ []
 events_more f [] d = refl

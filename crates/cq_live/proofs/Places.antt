@@ -11,8 +11,8 @@ use Rattle.cq_live.specs.declared.ends.In.{In}
 use Rattle.cq_live.specs.declared.ends.Out.{Out}
 use Rattle.cq_live.specs.Ends.{party_at, listed, with_back, kept_at, back_of}
 use Rattle.cq_live.specs.Moves.{Passes, PutsOne, Reads, ArePut, PutsAt, AreTaken, TakesAt}
-use Rattle.cq_trace.specs.Deeds.{Put, StandsAs, Keeps, Does}
-use Rattle.cq_world.proofs.Parties.{same-refl}
+use Rattle.cq_events.specs.Deeds.{Put, StandsAs, Keeps, Does}
+use Rattle.cq_events.proofs.Parties.{same-refl}
 
 -- ---- numbers
 

@@ -11,8 +11,8 @@ use Rattle.cq_chain.specs.Servers.{Server}
 use Rattle.cq_chain.specs.Stands as chain
 use Rattle.cq_chain.specs.Stands.{Means, IsFirst, posted, drained}
 use Rattle.cq_chain.specs.Steps.{Step}
-use Rattle.cq_trace.specs.Deeds.{Standing, behind, Heads, Keeps, Puts, Steps, Orders}
-use Rattle.cq_world.proofs.Parties.{same-true, same-turned}
+use Rattle.cq_events.specs.Deeds.{Standing, behind, Heads, Keeps, Puts, Steps, Orders}
+use Rattle.cq_events.proofs.Parties.{same-true, same-turned}
 
 -- what a core and what was handed back stand for, by what the core stands for
 abbrev pub As : {C S : Type 0} → (C → S → (Party → List Message) → Type 0) → Standing C → S → (Party → List Message) → Type 0

@@ -6,4 +6,3 @@ pub mod Moves
 pub mod Nodes
 pub mod ClientMoves
 pub mod ClientNodes
-pub mod Lives

@@ -8,7 +8,7 @@ use Rattle.cq_live.specs.declared.ends.In.{In}
 use Rattle.cq_live.specs.declared.ends.Out.{Out}
 use Rattle.cq_live.specs.Ends.{listed, with_back, kept_at}
 use Rattle.cq_live.specs.Moves.{ArePut, AreTaken}
-use Rattle.cq_trace.specs.Deeds.{Put, Took, IsMasterAs, Keeps, DoesMaster}
+use Rattle.cq_events.specs.Deeds.{Put, Took, IsMasterAs, Keeps, DoesMaster}
 
 -- nothing is done, but the first message for that server may have left the core's outbox and be kept
 abbrev pub PassesFor : Master → Master → (Party → Option Message) → ℕ → Option Message → Type 0

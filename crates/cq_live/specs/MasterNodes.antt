@@ -10,9 +10,9 @@ use Rattle.cq_live.specs.declared.ends.Out.{Out}
 use Rattle.cq_live.specs.declared.master_node.Join.{Join}
 use Rattle.cq_live.specs.MasterMoves.{back_of_servers}
 use Rattle.cq_live.specs.Moves.{ArePut, AreTaken}
-use Rattle.cq_trace.specs.Deeds.{Deed, Joined, Standing, IsMasterAs, Lived, MasterRun, event_of, put_to, taken_from}
-use Rattle.cq_world.specs.Worlds.{first_world}
-use Rattle.cq_world.specs.declared.event.Event.{Event}
+use Rattle.cq_events.specs.Deeds.{Deed, Joined, Standing, IsMasterAs, Lived, MasterRun, event_of, put_to, taken_from}
+use Rattle.cq_events.specs.Worlds.{first_world}
+use Rattle.cq_events.specs.declared.event.Event.{Event}
 
 -- From the first world of that size on the master did this by its core, which stands there now with what was handed back.
 -- Its trace is the events of these deeds.

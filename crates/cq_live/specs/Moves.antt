@@ -9,7 +9,7 @@ use Rattle.cq_live.specs.declared.ends.In.{In}
 use Rattle.cq_live.specs.declared.ends.Out.{Out}
 use Rattle.cq_live.specs.declared.ends.ToClients.{ToClients}
 use Rattle.cq_live.specs.Ends.{party_at, listed, with_back, back_of, if_for}
-use Rattle.cq_trace.specs.Deeds.{Put, Took, Arrived, StandsAs, Keeps, Does}
+use Rattle.cq_events.specs.Deeds.{Put, Took, Arrived, StandsAs, Keeps, Does}
 
 -- nothing is done, but the first message for that party may have left the core's outbox and be kept
 abbrev pub Passes : Server → Server → (Party → Option Message) → Party → Option Message → Type 0

@@ -13,9 +13,9 @@ use Rattle.cq_live.specs.declared.server_ends.ServerEnds.{ServerEnds}
 use Rattle.cq_live.specs.declared.server_ends.ServerParts.{ServerParts}
 use Rattle.cq_live.specs.Ends.{party_at, back_of, of_client, ends_of, in_ends_of}
 use Rattle.cq_live.specs.Moves.{ArePut, AreTaken, Part}
-use Rattle.cq_trace.specs.Deeds.{Deed, Arrived, Asked, Crashed, Standing, StandsAs, ServerRun, event_of, put_to, taken_from}
-use Rattle.cq_world.specs.Worlds.{first_world}
-use Rattle.cq_world.specs.declared.event.Event.{Event}
+use Rattle.cq_events.specs.Deeds.{Deed, Arrived, Asked, Crashed, Standing, StandsAs, ServerRun, event_of, put_to, taken_from}
+use Rattle.cq_events.specs.Worlds.{first_world}
+use Rattle.cq_events.specs.declared.event.Event.{Event}
 
 -- the request that arrived, if one did
 abbrev pub request_in : Deed → List Request

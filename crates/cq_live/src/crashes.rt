@@ -3,11 +3,11 @@ ghost use Rattle.std.specs.Prelude.{◌≡◌, ◌++◌, ◌∷◌, ◌<◌, [],
 ghost use Rattle.cq_chain.specs.Stands.{Does};
 ghost use Rattle.cq_chain.specs.Steps.{crashed};
 ghost use Rattle.cq_live.specs.Nodes.{IsDue};
-ghost use Rattle.cq_world.specs.declared.event.Event.TheVariants as events;
+ghost use Rattle.cq_events.specs.declared.event.Event.TheVariants as events;
 
 use cq_base::ServerId;
 use cq_chain::Server;
-use cq_world::Event;
+use cq_events::Event;
 
 /// Whether a server with so many entries is to crash.
 pub fn is_due(crash_after: Option<u64>, count: u64) -> bool

@@ -1,8 +1,8 @@
 //! The servers of the first world.
 ghost use Rattle.std.specs.Prelude.{◌≡◌, None, IfOk};
 ghost use Rattle.cq_base.specs.declared.party.Party.TheVariants as parties;
-ghost use Rattle.cq_trace.specs.Deeds.{StandsAs};
-ghost use Rattle.cq_world.specs.Worlds.{first_world};
+ghost use Rattle.cq_events.specs.Deeds.{StandsAs};
+ghost use Rattle.cq_events.specs.Worlds.{first_world};
 
 use cq_base::{ChainSize, NoMemory, ServerId};
 use cq_chain::Server;

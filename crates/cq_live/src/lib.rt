@@ -9,7 +9,6 @@ mod crashes;
 mod ends;
 mod first_core;
 mod flags;
-pub mod laws;
 mod links;
 mod master_moves;
 mod master_node;

@@ -7,7 +7,7 @@ ghost use Rattle.cq_chain.specs.Stands.{KeepsMaster};
 ghost use Rattle.cq_live.specs.Ends.{listed};
 ghost use Rattle.cq_live.specs.Moves.{ArePut, AreTaken};
 ghost use Rattle.cq_live.specs.MasterMoves.{PassesFor, PutsOneFor, TakesOneOf, ReadsOf, back_of_servers, PutsFor, TakesOf};
-ghost use Rattle.cq_trace.specs.Deeds.{IsMasterAs, Keeps, DoesMaster, Detected, Joined};
+ghost use Rattle.cq_events.specs.Deeds.{IsMasterAs, Keeps, DoesMaster, Detected, Joined};
 
 use crate::ends::{In, Out};
 use crate::moves::next_message;

@@ -4,7 +4,7 @@ ghost use Rattle.cq_base.specs.declared.party.Party as rust_party;
 ghost use Rattle.cq_chain.specs.declared.message.Message as rust_message;
 ghost use Rattle.cq_chain.specs.Stands.{Keeps};
 ghost use Rattle.cq_live.specs.Ends.{listed, back_of, ends_of, in_ends_of};
-ghost use Rattle.cq_trace.specs.Deeds.{StandsAs, Keeps as StandingKept};
+ghost use Rattle.cq_events.specs.Deeds.{StandsAs, Keeps as StandingKept};
 ghost use Rattle.cq_live.specs.Moves.{Passes, PutsOne, TakesOne, Reads, ArePut, PutsAt, AreTaken, TakesAt};
 
 use crate::ends::{In, Out, party_at};

@@ -3,8 +3,8 @@ use crate::ends::{In, Out, ToClients};
 use crate::links::Links;
 use cq_base::{ChainSize, Request, ServerId};
 use cq_chain::Message;
+use cq_events::Event;
 use cq_link::{PutEnd, TakeEnd};
-use cq_world::Event;
 
 /// The ends that a server's node gets.
 #[derive(Drop)]

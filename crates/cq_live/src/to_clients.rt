@@ -4,7 +4,7 @@ ghost use Rattle.cq_chain.specs.declared.message.Message as rust_message;
 ghost use Rattle.cq_live.specs.declared.ends.Out.{Out};
 ghost use Rattle.cq_live.specs.Ends.{is_for_second, if_for, back_of};
 ghost use Rattle.cq_live.specs.Moves.{PutsToOne};
-ghost use Rattle.cq_trace.specs.Deeds.{StandsAs, Keeps as StandingKept};
+ghost use Rattle.cq_events.specs.Deeds.{StandsAs, Keeps as StandingKept};
 
 use crate::ends::ToClients;
 use crate::moves::first_message;

@@ -32,13 +32,13 @@ use Rattle.cq_live_run.proofs.Mapped.{fused, through, together, same_length}
 use Rattle.cq_live_run.proofs.Wired.{row_of, have_delivered}
 use Rattle.cq_live_run.specs.Ended.{Nodes, server_row, rows, server_events, events_of, AreOf, HaveDelivered, AreWhole, IsServer, IsMaster, IsClientNode, HaveServed, HaveEnded, requests_in}
 use Rattle.cq_plan.specs.declared.step.LiveStep.{LiveStep}
-use Rattle.cq_trace.specs.declared.trace.Trace.{Trace}
+use Rattle.cq_events.specs.declared.trace.Trace.{Trace}
 use Rattle.cq_wires.specs.Clients as clients
 use Rattle.cq_wires.specs.Clients.{seat_of}
 use Rattle.cq_wires.specs.Wirings.{Wiring, AreCrossed, wiring}
 use Rattle.cq_wires.specs.declared.clients.ServerPorts.{ServerPorts}
 use Rattle.cq_wires.specs.declared.ports.Ports.{Ports}
-use Rattle.cq_world.specs.declared.event.Event.{Event}
+use Rattle.cq_events.specs.declared.event.Event.{Event}
 
 -- the ends of a party
 abbrev Row : Type 0

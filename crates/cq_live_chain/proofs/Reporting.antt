@@ -4,8 +4,8 @@ use Rattle.cq_base.specs.declared.ask.Ask.{Ask}
 use Rattle.cq_chain.specs.declared.message.Answer.{Answer}
 use Rattle.cq_link.specs.Inboxes.{put_in}
 use Rattle.cq_link.specs.Links.{taken_from}
-use Rattle.cq_live.specs.Lives.{IsClientId, IsLive, deeds_of, is_send, is_sent, sends_closed}
-use Rattle.cq_live.proofs.Living.{audits_order, nodes_live}
+use Rattle.cq_live_run.specs.Lives.{IsClientId, IsLive, deeds_of, is_send, is_sent, sends_closed}
+use Rattle.cq_live_run.proofs.Living.{audits_order, nodes_live}
 use Rattle.cq_live_chain.specs.declared.settle.Ended.{Ended}
 use Rattle.cq_live_chain.specs.within.Runs.{HasEnded}
 use Rattle.cq_live_run.proofs.Showing.{nodes_show}
@@ -14,7 +14,7 @@ use Rattle.cq_live_run.specs.Plans.{plan_of}
 use Rattle.cq_plan.specs.Steps.{asks_of}
 use Rattle.cq_plan.specs.declared.step.LiveStep.{LiveStep}
 use Rattle.cq_trace.specs.Audits.{IsMerge}
-use Rattle.cq_world.specs.declared.event.Event.{Event}
+use Rattle.cq_events.specs.declared.event.Event.{Event}
 
 -- at most as many sends are accepted as there are answers
 pub sends_few : (asks : List Ask) (answers : List Answer) → sends_closed asks answers ≤ length answers

@@ -1,7 +1,7 @@
 -- What a live run reports.
 use Rattle.std.specs.Prelude.{ℕ, List}
 use Rattle.cq_chain.specs.declared.message.Answer.{Answer}
-use Rattle.cq_live.specs.Lives.{IsLive}
+use Rattle.cq_live_run.specs.Lives.{IsLive}
 use Rattle.cq_live_chain.specs.declared.report.LiveReport.{LiveReport}
 use Rattle.cq_live_run.specs.Plans.{plan_of}
 use Rattle.cq_plan.specs.declared.step.LiveStep.{LiveStep}

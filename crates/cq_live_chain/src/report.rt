@@ -1,6 +1,6 @@
 //! What a live run reports.
 ghost use Rattle.std.specs.Prelude.{◌≡◌, ◌+◌, IfOk, IfErr, false};
-ghost use Rattle.cq_live.specs.Lives.{sends_closed};
+ghost use Rattle.cq_live_run.specs.Lives.{sends_closed};
 ghost use Rattle.cq_live_run.specs.Faults.{is_of_steps};
 ghost use Rattle.cq_live_chain.specs.Reports.{IsReport};
 ghost use Rattle.cq_live_chain.specs.within.Runs.{HasEnded};

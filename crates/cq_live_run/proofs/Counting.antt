@@ -2,7 +2,7 @@
 use Rattle.std.proofs.Common.{◌≡◌, ℕ, ◌+◌, ◌⊎◌, inl, inr, refl, List, [], ◌∷◌, length, arith}
 use Rattle.cq_base.specs.declared.ask.Ask.{Ask}
 use Rattle.cq_chain.specs.declared.message.Answer.{Answer}
-use Rattle.cq_live.specs.Lives.{sends_closed}
+use Rattle.cq_live_run.specs.Lives.{sends_closed}
 
 -- where there are no asks, or no answers, there are no sends
 none_left : (asks : List Ask) (answers : List Answer) → (length asks ≡ 0) ⊎ (length answers ≡ 0) → sends_closed asks answers ≡ 0

@@ -17,7 +17,7 @@ use Rattle.cq_live_run.proofs.Elements.{item_at, image_at}
 use Rattle.cq_live_run.proofs.Known.{HasNoNode, Known, by_party}
 use Rattle.cq_live_run.specs.Ended.{Nodes, AreWhole, HaveDelivered, rows, server_row, master_row}
 use Rattle.cq_plan.specs.declared.step.LiveStep.{LiveStep}
-use Rattle.cq_trace.specs.Deeds.{Deed, put_to, taken_from}
+use Rattle.cq_events.specs.Deeds.{Deed, put_to, taken_from}
 
 -- ---- places and parties
 

@@ -8,7 +8,7 @@ use Rattle.cq_chain.specs.Masters.{Master}
 use Rattle.cq_chain.specs.Messages.{Message}
 use Rattle.cq_base.specs.declared.party.Party.{Party}
 use Rattle.cq_live.specs.Nodes.{request_in, requests_in}
-use Rattle.cq_trace.specs.Deeds.{Deed, Arrived, Standing, Run, DoesMaster, MasterLives}
+use Rattle.cq_events.specs.Deeds.{Deed, Arrived, Standing, Run, DoesMaster, MasterLives}
 
 -- each deed of a run is done by a step
 pub run_does : {A : Type 0} (does : Deed → A → A → Type 0) (keeps : A → A → Type 0) (a : A) (deeds : List Deed) (b : A) (d : Deed) → Run does keeps a deeds b → Among d deeds → (x y : A) × does d x y

@@ -16,8 +16,8 @@ use Rattle.cq_live_run.specs.Ended.{Nodes}
 use Rattle.cq_live_run.specs.Plans.{joins_of}
 use Rattle.cq_plan.specs.declared.step.LiveStep.{LiveStep}
 use Rattle.cq_plan.specs.Steps.{crash_of}
-use Rattle.cq_trace.specs.Deeds.{Deed, Joined, Lived, put_to, taken_from}
-use Rattle.cq_world.specs.Worlds.{first_world}
+use Rattle.cq_events.specs.Deeds.{Deed, Joined, Lived, put_to, taken_from}
+use Rattle.cq_events.specs.Worlds.{first_world}
 
 module _ {P T I : Type 0} (put : P → List Message) (taken : T → List Message) (got : I → List Request) where
   -- The server of that number did this, by what its node handed out.

@@ -11,3 +11,4 @@ pub mod Wired
 pub mod Joining
 pub mod Counting
 pub mod Mapped
+pub mod Living

@@ -8,14 +8,14 @@ use Rattle.cq_base.specs.declared.party.Party.TheVariants as parties
 use Rattle.cq_chain.specs.declared.message.Message.{Message}
 use Rattle.cq_chain.specs.Parties.{same}
 use Rattle.cq_live.specs.declared.server_ends.ServerParts.{ServerParts}
-use Rattle.cq_live.specs.Lives.{Life, AreTraces, deeds_of}
+use Rattle.cq_live_run.specs.Lives.{Life, AreTraces, deeds_of}
 use Rattle.cq_live.specs.Nodes.{Tells}
 use Rattle.cq_live.proofs.Places.{is_apart}
 use Rattle.cq_live_run.proofs.Known.{HasNoNode, Known, ServerKnown}
 use Rattle.cq_live_run.proofs.Telling.{server_deeds, server_known, master_known}
 use Rattle.cq_live_run.specs.Ended.{Nodes, IsMaster, IsServer, AreOf, events_in, server_events}
 use Rattle.cq_plan.specs.declared.step.LiveStep.{LiveStep}
-use Rattle.cq_trace.specs.declared.trace.Trace.{Trace}
+use Rattle.cq_events.specs.declared.trace.Trace.{Trace}
 
 -- ---- lists
 

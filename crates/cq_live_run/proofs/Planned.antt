@@ -13,7 +13,7 @@ use Rattle.cq_chain.specs.declared.message.Message.{Message}
 use Rattle.cq_live.specs.declared.server_ends.ServerParts.{ServerParts}
 use Rattle.cq_live.specs.ClientMoves.{IsAskOf}
 use Rattle.cq_live.specs.ClientNodes.{ClientHeld}
-use Rattle.cq_live.specs.Lives.{Closed, IsClient, IsClientId, MayCrash}
+use Rattle.cq_live_run.specs.Lives.{Closed, IsClient, IsClientId, MayCrash}
 use Rattle.cq_live.specs.Nodes.{IsDue}
 use Rattle.cq_live_run.proofs.Doing.{master_does}
 use Rattle.cq_live_run.proofs.Elements.{place_of, among_at, among_flat}
@@ -23,7 +23,7 @@ use Rattle.cq_live_run.specs.Plans.{crashes_of, plan_of}
 use Rattle.cq_plan.specs.declared.step.LiveStep.{LiveStep}
 use Rattle.cq_plan.specs.declared.step.LiveStep.TheVariants.{Client, Crash, Join}
 use Rattle.cq_plan.specs.Steps.{asks_of, crash_of}
-use Rattle.cq_trace.specs.Deeds.{Deed, Asked, Crashed, number_of}
+use Rattle.cq_events.specs.Deeds.{Deed, Asked, Crashed, number_of}
 use Rattle.std.specs.List.{flat_map}
 
 -- ---- crashes

@@ -9,13 +9,13 @@ use Rattle.cq_base.specs.Relations.{Among, Front}
 use Rattle.cq_chain.specs.declared.message.Message.{Message}
 use Rattle.cq_live.specs.declared.server_ends.ServerParts.{ServerParts}
 use Rattle.cq_live.specs.Ends.{of_client}
-use Rattle.cq_live.specs.Lives.{IsClientId}
+use Rattle.cq_live_run.specs.Lives.{IsClientId}
 use Rattle.cq_live_run.proofs.Doing.{master_does, request_among}
 use Rattle.cq_live_run.proofs.Elements.{place_of, among_at, item_at, among_flat, among_front, among_part, among_clients}
 use Rattle.cq_live_run.proofs.Known.{Known, by_party}
 use Rattle.cq_live_run.specs.Ended.{Nodes, AreWhole, HaveServed, put_by, taken_by}
 use Rattle.cq_plan.specs.declared.step.LiveStep.{LiveStep}
-use Rattle.cq_trace.specs.Deeds.{Deed, Arrived, put_to}
+use Rattle.cq_events.specs.Deeds.{Deed, Arrived, put_to}
 
 module _ {P T I Q : Type 0} (put : P → List Message) (taken : T → List Message) (got : I → List Request) (asked : Q → List Request) (count size : ℕ) (steps : List LiveStep) (nodes : Nodes P T I Q) (deeds : Party → List Deed)
     (whole : AreWhole count nodes) (served : HaveServed put taken got asked nodes) (known : Known put taken got size steps nodes deeds) where

@@ -6,7 +6,7 @@ use Rattle.cq_base.specs.declared.party.Party.TheVariants as parties
 use Rattle.cq_chain.specs.declared.message.Message.{Message}
 use Rattle.cq_link.specs.Inboxes.{put_in}
 use Rattle.cq_link.specs.Links.{put_on, taken_from}
-use Rattle.cq_live.specs.Lives.{AreNodes, deeds_of}
+use Rattle.cq_live_run.specs.Lives.{AreNodes, deeds_of}
 use Rattle.cq_live_run.proofs.Delivering.{delivers}
 use Rattle.cq_live_run.proofs.Known.{HasNoNode, Known, by_party}
 use Rattle.cq_live_run.proofs.Lives.{lives_of, lives_known, lives_told}
@@ -15,9 +15,9 @@ use Rattle.cq_live_run.proofs.Serving.{arrivals, answers}
 use Rattle.cq_live_run.specs.Ended.{Nodes, HaveEnded, AreOf, Show, Shows, put_by, taken_by, closed_of, requests_in}
 use Rattle.cq_live_run.specs.Plans.{plan_of}
 use Rattle.cq_plan.specs.declared.step.LiveStep.{LiveStep}
-use Rattle.cq_trace.specs.Deeds.{Deed, Lived, AreDeeds}
-use Rattle.cq_trace.specs.declared.trace.Trace.{Trace}
-use Rattle.cq_world.specs.Worlds.{first_world}
+use Rattle.cq_events.specs.Deeds.{Deed, Lived, AreDeeds}
+use Rattle.cq_events.specs.declared.trace.Trace.{Trace}
+use Rattle.cq_events.specs.Worlds.{first_world}
 
 -- who has no node has no life
 idle_lived : (size count : ℕ) (p : Party) → HasNoNode count p → Lived (first_world size) p []

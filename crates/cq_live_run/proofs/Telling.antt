@@ -17,9 +17,9 @@ use Rattle.cq_live_run.specs.Ended.{IsMaster, IsServer}
 use Rattle.cq_plan.specs.Steps.{crash_of}
 use Rattle.cq_live_run.specs.Plans.{joins_of}
 use Rattle.cq_plan.specs.declared.step.LiveStep.{LiveStep}
-use Rattle.cq_trace.specs.Deeds.{Deed, Lived, put_to, taken_from}
-use Rattle.cq_world.specs.Worlds.{first_world}
-use Rattle.cq_world.specs.declared.event.Event.{Event}
+use Rattle.cq_events.specs.Deeds.{Deed, Lived, put_to, taken_from}
+use Rattle.cq_events.specs.Worlds.{first_world}
+use Rattle.cq_events.specs.declared.event.Event.{Event}
 
 -- ---- one node
 

@@ -19,14 +19,14 @@ use Rattle.cq_live.specs.declared.server_ends.ServerParts.{ServerParts}
 use Rattle.cq_live.specs.ClientNodes.{ClientHeld, ClientDid}
 use Rattle.cq_live.specs.Ends.{ends_of, in_ends_of}
 use Rattle.cq_live.specs.FreshLinks.{Ends}
-use Rattle.cq_live.specs.Lives.{Life, AreNodes, AreTraces, deeds_of}
+use Rattle.cq_live_run.specs.Lives.{Life, AreNodes, AreTraces, deeds_of}
 use Rattle.cq_live.specs.MasterNodes.{MasterLived}
 use Rattle.cq_live.specs.Nodes.{Tells}
 use Rattle.cq_live_run.specs.Plans.{joins_of, plan_of}
 use Rattle.cq_plan.specs.declared.step.LiveStep.{LiveStep}
 use Rattle.cq_plan.specs.Steps.{asks_of, crash_of}
-use Rattle.cq_trace.specs.declared.trace.Trace.{Trace}
-use Rattle.cq_world.specs.declared.event.Event.{Event}
+use Rattle.cq_events.specs.declared.trace.Trace.{Trace}
+use Rattle.cq_events.specs.declared.event.Event.{Event}
 
 -- What the nodes of a live run handed out: the master's, with the ends that it has of a link to itself, those of the
 -- servers in the order of their numbers, and what callers see of those of the two clients.

@@ -1,3 +1,4 @@
 pub mod Faults
+pub mod Lives
 pub mod Plans
 pub mod Ended

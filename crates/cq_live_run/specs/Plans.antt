@@ -1,6 +1,6 @@
 -- What the steps of a live run ask of it.
 use Rattle.std.specs.Prelude.{ℕ, List, [], ◌∷◌}
-use Rattle.cq_live.specs.Lives.{Plan}
+use Rattle.cq_live_run.specs.Lives.{Plan}
 use Rattle.cq_plan.specs.declared.step.LiveStep.{LiveStep}
 use Rattle.cq_plan.specs.declared.step.LiveStep.TheVariants.{Client, Crash, Join}
 use Rattle.cq_plan.specs.Steps.{asks_of}

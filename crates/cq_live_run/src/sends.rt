@@ -1,6 +1,6 @@
 //! How many sends were accepted.
 ghost use Rattle.std.specs.Prelude.{◌≡◌, ◌&&◌};
-ghost use Rattle.cq_live.specs.Lives.{is_send, is_sent, sends_closed};
+ghost use Rattle.cq_live_run.specs.Lives.{is_send, is_sent, sends_closed};
 
 use cq_base::{Ask, Reply};
 use cq_chain::Answer;

@@ -3,7 +3,7 @@ use Rattle.std.specs.Io.KnownBytes.{IsAtEnd}
 use Rattle.std.proofs.Common.{◌≡◌, ℕ, ◌+◌, ◌-◌, ◌<◌, ◌≤◌, Bool, true, false, cond, List, [], ◌++◌, length, Option, None, Some, Result, Ok, Err, refl, sym, ap, ◌∙◌, append_assoc, append-nil, length-append, arith}
 use Rattle.cq_base.specs.Relations.{Front}
 use Rattle.cq_world.specs.Stands.{StandsFor}
-use Rattle.cq_world.specs.Worlds.{first_world}
+use Rattle.cq_events.specs.Worlds.{first_world}
 use Rattle.cq_world.specs.declared.sim.Sim.{Sim}
 use Rattle.cq_script.specs.declared.lines.Item.{Item}
 use Rattle.cq_script.specs.declared.session_reading.TheConstants.{BYTES_LIMIT}

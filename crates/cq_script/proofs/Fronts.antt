@@ -4,7 +4,7 @@ use Rattle.cq_script.specs.declared.fault.ScriptFault.{ScriptFault}
 use Rattle.cq_script.specs.declared.fault.ScriptFault.TheVariants.{BadLine, LineTooLong, TooManyLines, ReadFailed, WriteFailed, NoMemory}
 use Rattle.cq_script.specs.declared.lines.Item.{Item}
 use Rattle.cq_script.specs.Output.{after_said, output, text_from, text_of}
-use Rattle.cq_world.specs.Worlds.{World, first_world}
+use Rattle.cq_events.specs.Worlds.{World, first_world}
 use Rattle.cq_base.specs.Relations.{Front}
 use Rattle.cq_script.specs.Runs.{WritesFront, EndsWriting}
 

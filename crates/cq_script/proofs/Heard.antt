@@ -7,7 +7,7 @@ use Rattle.cq_script.specs.declared.event_line.Line.{Line}
 use Rattle.cq_script.specs.declared.event_line.Line.TheVariants as lines
 use Rattle.cq_script.specs.declared.fault.LineRefusal.{LineRefusal}
 use Rattle.cq_script.specs.declared.fault.LineRefusal.TheVariants.{TooLong}
-use Rattle.cq_world.specs.declared.event.Event.{Event}
+use Rattle.cq_events.specs.declared.event.Event.{Event}
 use Rattle.cq_script.specs.Line.{line_of}
 use Rattle.cq_script.specs.Lines.{put_first, lines_of, has_line_feed, ended_part}
 use Rattle.cq_script.specs.Sessions.{refused_item, judged_items, session_item, session_from, session_items}

@@ -8,10 +8,10 @@ use Rattle.cq_answers.specs.Answers.{refused_text}
 use Rattle.cq_script.specs.Output.{after_said, event_text, given_text, output, text_from}
 use Rattle.cq_script.specs.declared.lines.Item.{Item}
 use Rattle.cq_script.specs.within.Played.{after_items}
-use Rattle.cq_world.specs.Events.{refusal_of, given_by, next, after}
+use Rattle.cq_events.specs.Events.{refusal_of, given_by, next, after}
 use Rattle.cq_world.specs.Stands.{StandsFor}
-use Rattle.cq_world.specs.Worlds.{World}
-use Rattle.cq_world.specs.declared.event.Event.{Event}
+use Rattle.cq_events.specs.Worlds.{World}
+use Rattle.cq_events.specs.declared.event.Event.{Event}
 use Rattle.cq_world.specs.declared.sim.Sim.{Sim}
 use Rattle.cq_world.proofs.OfSim.RunSteps.{after-done, after-refused}
 

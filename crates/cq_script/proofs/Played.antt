@@ -3,7 +3,7 @@ use Rattle.std.specs.Io.KnownBytes.{IsAtEnd}
 use Rattle.std.proofs.Common.{◌≡◌, ℕ, ◌+◌, ◌-◌, ◌<◌, ◌≤◌, subst, Bool, true, false, cond, List, [], ◌∷◌, ◌++◌, length, Option, None, Some, Result, Ok, Err, nat_eq, nat_le, refl, sym, ap, ◌∙◌, append_assoc, append-nil}
 use Rattle.cq_base.specs.Relations.{Front}
 use Rattle.cq_world.specs.Stands.{StandsFor}
-use Rattle.cq_world.specs.Worlds.{World, first_world}
+use Rattle.cq_events.specs.Worlds.{World, first_world}
 use Rattle.cq_world.specs.declared.sim.Sim.{Sim}
 use Rattle.cq_script.specs.declared.lines.TheConstants.{LINE_LIMIT, LINES_LIMIT}
 use Rattle.cq_script.specs.declared.lines.Item.{Item}

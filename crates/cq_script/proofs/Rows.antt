@@ -14,10 +14,10 @@ use Rattle.cq_base.specs.declared.fault.BaseFault.TheVariants.{BadQueueName, Bad
 use Rattle.cq_base.specs.declared.party.Party.TheVariants.{Master, Clients, Server}
 use Rattle.cq_chain.specs.Refusals.{refusal_of_query}
 use Rattle.cq_chain.specs.Steps.{asked}
-use Rattle.cq_world.specs.declared.event.Event.{Event as WorldEvent}
-use Rattle.cq_world.specs.declared.event.Event.TheVariants as events
-use Rattle.cq_world.specs.Events.{refusal_of, next, after, given_by}
-use Rattle.cq_world.specs.Worlds.{first_world, numbers_from}
+use Rattle.cq_events.specs.declared.event.Event.{Event as WorldEvent}
+use Rattle.cq_events.specs.declared.event.Event.TheVariants as events
+use Rattle.cq_events.specs.Events.{refusal_of, next, after, given_by}
+use Rattle.cq_events.specs.Worlds.{first_world, numbers_from}
 use Rattle.cq_answers.specs.Answers.{answer_data, refused_data}
 use Rattle.cq_json.specs.Asks.{create_in, remove_in, send_in, receive_in, delete_in, change_in, ask_in}
 use Rattle.cq_script.specs.Events.{arrive_in, query_in, ends_in, server_in, event_in}

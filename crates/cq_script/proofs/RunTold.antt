@@ -3,10 +3,10 @@ use Rattle.std.proofs.Common.{◌≡◌, ℕ, ◌+◌, ◌<◌, ◌≤◌, ◌==
 use borrow.Author.Tests.{ne_eqb, eq-eqb}
 use Rattle.cq_chain.specs.declared.fault.WorldFault.{WorldFault}
 use Rattle.cq_chain.specs.declared.message.Answer.{Answer}
-use Rattle.cq_world.specs.Events.{refusal_of, after}
-use Rattle.cq_world.specs.Runs.{numbered, given_if, given_from, refused_from}
-use Rattle.cq_world.specs.Worlds.{World, first_world}
-use Rattle.cq_world.specs.declared.event.Event.{Event}
+use Rattle.cq_events.specs.Events.{refusal_of, after}
+use Rattle.cq_events.specs.Runs.{numbered, given_if, given_from, refused_from}
+use Rattle.cq_events.specs.Worlds.{World, first_world}
+use Rattle.cq_events.specs.declared.event.Event.{Event}
 use Rattle.cq_script.specs.Laws.{of_number, outcome_text, said_by_run, number_after, told_by_run, TextIsOfTheRun}
 use Rattle.cq_script.specs.Output.{event_text, events_in, events_of, said_text, after_said, output, text_from, text_of}
 use Rattle.cq_script.specs.declared.fault.LineRefusal.{LineRefusal}

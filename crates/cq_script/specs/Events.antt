@@ -7,8 +7,8 @@ use Rattle.cq_base.specs.declared.limits.TheConstants.{MOMENT_LIMIT, PARTY_LIMIT
 use Rattle.cq_base.specs.declared.party.Party.{Party}
 use Rattle.cq_json.specs.Fields.{Reason, bad, ◌>>=◌, has_only, member_at, text_at, number_at, party_at, queue_name}
 use Rattle.cq_json.specs.Asks.{ask_in}
-use Rattle.cq_world.specs.declared.event.Event.{Event}
-use Rattle.cq_world.specs.declared.event.Event.TheVariants as events
+use Rattle.cq_events.specs.declared.event.Event.{Event}
+use Rattle.cq_events.specs.declared.event.Event.TheVariants as events
 
 -- A request of a client reaches a server. Servers count from 1, and moments go up to 2^60 (choices of
 -- this project).

@@ -3,9 +3,9 @@ use Rattle.std.specs.Prelude.{◌≡◌, ℕ, ◌+◌, ◌==◌, if◌then◌els
 use Rattle.cq_chain.specs.declared.fault.WorldFault.{WorldFault}
 use Rattle.cq_chain.specs.declared.message.Answer.{Answer}
 use Rattle.cq_chain.specs.Faults as worlds
-use Rattle.cq_world.specs.Runs.{given_from, refused_from}
-use Rattle.cq_world.specs.Worlds.{first_world}
-use Rattle.cq_world.specs.declared.event.Event.{Event}
+use Rattle.cq_events.specs.Runs.{given_from, refused_from}
+use Rattle.cq_events.specs.Worlds.{first_world}
+use Rattle.cq_events.specs.declared.event.Event.{Event}
 use Rattle.cq_script.specs.Faults.{line_code_of, line_name_of}
 use Rattle.cq_answers.specs.Answers.{refused_text}
 use Rattle.cq_script.specs.Output.{events_of, given_text, text_of}

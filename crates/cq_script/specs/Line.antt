@@ -3,7 +3,7 @@ use Rattle.std.specs.Prelude.{ℕ, ◌≡◌, ◌||◌, ◌==◌, List, Bool, if
 use Rattle.std.specs.List.{list_all}
 use Rattle.cq_script.specs.Events.{event_in}
 use Rattle.cq_json.specs.Fields.{Reason, bad, refused, ◌>>=◌, or_bad, json_of}
-use Rattle.cq_world.specs.declared.event.Event.{Event}
+use Rattle.cq_events.specs.declared.event.Event.{Event}
 use Rattle.cq_script.specs.declared.event_line.Line.{Line}
 use Rattle.cq_script.specs.declared.event_line.Line.TheVariants as lines
 use Rattle.cq_script.specs.declared.event_line.LineFault.{LineFault}

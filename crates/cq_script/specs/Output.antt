@@ -3,9 +3,9 @@ use Rattle.std.specs.Prelude.{ℕ, List, [], ◌∷◌, ◌++◌, Option, None, 
 use Rattle.cq_chain.specs.declared.fault.WorldFault.{WorldFault}
 use Rattle.cq_chain.specs.declared.message.Answer.{Answer}
 use Rattle.cq_chain.specs.Faults as worlds
-use Rattle.cq_world.specs.Events.{refusal_of, given_by, after}
-use Rattle.cq_world.specs.Worlds.{World, first_world}
-use Rattle.cq_world.specs.declared.event.Event.{Event}
+use Rattle.cq_events.specs.Events.{refusal_of, given_by, after}
+use Rattle.cq_events.specs.Worlds.{World, first_world}
+use Rattle.cq_events.specs.declared.event.Event.{Event}
 use Rattle.cq_script.specs.Faults.{line_code_of, line_name_of}
 use Rattle.cq_answers.specs.Answers.{answer_text, refused_text}
 use Rattle.cq_script.specs.declared.fault.LineRefusal.{LineRefusal}

@@ -8,8 +8,8 @@ use Rattle.cq_script.specs.Laws.{told_by_run}
 use Rattle.cq_script.specs.Output.{events_of, text_of}
 use Rattle.cq_base.specs.Relations.{Front}
 use Rattle.cq_world.specs.Laws.{Headline}
-use Rattle.cq_world.specs.Runs.{given_from, refused_from}
-use Rattle.cq_world.specs.Worlds.{first_world}
+use Rattle.cq_events.specs.Runs.{given_from, refused_from}
+use Rattle.cq_events.specs.Worlds.{first_world}
 use Rattle.cq_script.specs.declared.lines.Item.{Item}
 
 -- the script has this fault first, if any, and exactly the text of its items on so many servers was written

@@ -4,7 +4,7 @@ ghost use Rattle.cq_script.specs.Runs.{Takes};
 ghost use Rattle.cq_script.specs.declared.fault.ScriptFault.TheVariants.{ReadFailed, WriteFailed};
 ghost use Rattle.cq_script.specs.within.Played.{after_items};
 ghost use Rattle.cq_script.specs.Output.{after_said, event_text, output, text_from};
-ghost use Rattle.cq_world.specs.Events.{after, refusal_of};
+ghost use Rattle.cq_events.specs.Events.{after, refusal_of};
 ghost use Rattle.cq_world.specs.Stands.{Shows, StandsFor};
 
 use crate::fault::ScriptFault;

@@ -12,16 +12,16 @@ use Rattle.cq_chain.specs.Parties.{same}
 use Rattle.cq_chain.specs.Refusals.{refusal_of_arrival, refusal_of_taking}
 use Rattle.cq_chain.specs.Steps.{arrived}
 use Rattle.cq_trace.specs.Audits.{is_foreign, first_bad, IsStuck}
-use Rattle.cq_trace.specs.Orders.{of_party, AreEnabled, put_by}
-use Rattle.cq_trace.specs.declared.trace.Trace.{Trace}
+use Rattle.cq_events.specs.Orders.{of_party, AreEnabled, put_by}
+use Rattle.cq_events.specs.declared.trace.Trace.{Trace}
 use Rattle.cq_world.proofs.Eaches.{some_none}
-use Rattle.cq_world.proofs.Parties.{same-true}
-use Rattle.cq_world.specs.Events.{refusal_of, next, after}
-use Rattle.cq_world.specs.Owners.{party_of}
-use Rattle.cq_world.specs.Runs.{world_after}
-use Rattle.cq_world.specs.Worlds.{numbers_from, first_world}
-use Rattle.cq_world.specs.declared.event.Event.{Event}
-use Rattle.cq_world.specs.declared.event.Event.TheVariants as events
+use Rattle.cq_events.proofs.Parties.{same-true}
+use Rattle.cq_events.specs.Events.{refusal_of, next, after}
+use Rattle.cq_events.specs.Owners.{party_of}
+use Rattle.cq_events.specs.Runs.{world_after}
+use Rattle.cq_events.specs.Worlds.{numbers_from, first_world}
+use Rattle.cq_events.specs.declared.event.Event.{Event}
+use Rattle.cq_events.specs.declared.event.Event.TheVariants as events
 
 -- the trace of a party, whose events that vector has
 abbrev trace : Party → Vec Event → Trace

@@ -4,15 +4,15 @@ use Rattle.std.specs.List.{list_any}
 use Rattle.cq_base.specs.declared.party.Party.{Party}
 use Rattle.cq_base.specs.Relations.{Among}
 use Rattle.cq_chain.specs.Parties.{same}
-use Rattle.cq_trace.specs.Orders.{of_party, AreEnabled}
+use Rattle.cq_events.specs.Orders.{of_party, AreEnabled}
 use Rattle.cq_trace.specs.declared.fault.AuditFault.{AuditFault}
 use Rattle.cq_trace.specs.declared.fault.AuditFault.TheVariants.{NoNextEvent, BadTrace, NoMemory}
-use Rattle.cq_trace.specs.declared.trace.Trace.{Trace}
-use Rattle.cq_world.specs.Events.{refusal_of}
-use Rattle.cq_world.specs.Owners.{party_of}
-use Rattle.cq_world.specs.Runs.{world_after}
-use Rattle.cq_world.specs.Worlds.{first_world}
-use Rattle.cq_world.specs.declared.event.Event.{Event}
+use Rattle.cq_events.specs.declared.trace.Trace.{Trace}
+use Rattle.cq_events.specs.Events.{refusal_of}
+use Rattle.cq_events.specs.Owners.{party_of}
+use Rattle.cq_events.specs.Runs.{world_after}
+use Rattle.cq_events.specs.Worlds.{first_world}
+use Rattle.cq_events.specs.declared.event.Event.{Event}
 
 -- ---- bad traces
 

@@ -9,9 +9,8 @@ use crate::bad_traces::first_bad_trace;
 use crate::fault::AuditFault;
 use crate::order::Order;
 use crate::rounds::merge;
-use crate::trace::Trace;
 use cq_base::ChainSize;
-use cq_world::Event;
+use cq_events::{Event, Trace};
 use std::alloc::Global;
 
 /// The audit of traces of which none is bad.

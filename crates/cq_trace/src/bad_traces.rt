@@ -4,9 +4,8 @@ ghost use Rattle.std.specs.List.{list_any};
 ghost use Rattle.cq_chain.specs.Parties.{same};
 ghost use Rattle.cq_trace.specs.Audits.{is_foreign, is_bad, first_bad};
 
-use crate::trace::Trace;
 use cq_base::Party;
-use cq_world::Event;
+use cq_events::{Event, Trace};
 
 /// Whether two parties are the same.
 fn is_same(a: Party, b: Party) -> bool

@@ -7,8 +7,7 @@ mod fault;
 pub mod laws;
 mod order;
 mod rounds;
-mod trace;
 
 pub use auditing::audit;
+pub use cq_events::Trace;
 pub use fault::AuditFault;
-pub use trace::Trace;

@@ -2,7 +2,7 @@
 ghost use Rattle.std.specs.Prelude.{◌≡◌, ◌≢◌, ◌≤◌, ◌++◌, ◌∷◌, [], Some, true, false, drop, take, length, slice_get, IfOk, IfErr, OnOk, if◌then◌else◌};
 ghost use Rattle.cq_trace.specs.within.Along.{Leads, IsNext};
 ghost use Rattle.cq_trace.specs.declared.fault.AuditFault.TheVariants as faults;
-ghost use Rattle.cq_world.specs.declared.event.Event as rust_event;
+ghost use Rattle.cq_events.specs.declared.event.Event as rust_event;
 
 use crate::fault::AuditFault;
 use cq_base::{ChainSize, NoMemory, Party};

@@ -2,11 +2,11 @@
 ghost use Rattle.std.specs.Prelude.{◌≡◌, ◌≢◌, ◌<◌, [], Some, None, true, false, ℕ, length, slice_get, IfOk, OnOk};
 ghost use Rattle.cq_trace.specs.Audits.{first_bad, IsMerge, IsStuck};
 ghost use Rattle.cq_trace.specs.within.Along.{Leads, IsNext, IsAlong, event_at, left_count, unfinished};
-ghost use Rattle.cq_world.specs.declared.event.Event as rust_event;
+ghost use Rattle.cq_events.specs.declared.event.Event as rust_event;
 
 use crate::order::Order;
-use crate::trace::Trace;
 use cq_base::{NoMemory, Party};
+use cq_events::Trace;
 use std::alloc::Global;
 
 /// Follows each trace from its place on, as far as its events are enabled, and gives whether an event came.

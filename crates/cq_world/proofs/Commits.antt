@@ -12,8 +12,8 @@ use Rattle.cq_base.specs.Relations.{Front}
 use Rattle.cq_chain.specs.Masters.{is_in, is_last, stands_before}
 use Rattle.cq_chain.specs.Messages.{Message, Adopt, BeTail, Adopted, Ready}
 use Rattle.cq_chain.specs.Servers.{Server, acts, reaches, is_that}
-use Rattle.cq_world.specs.Runs.{longer, acting_history, longest_at}
-use Rattle.cq_world.specs.Worlds.{World, set_at}
+use Rattle.cq_events.specs.Runs.{longer, acting_history, longest_at}
+use Rattle.cq_events.specs.Worlds.{World, set_at}
 use Rattle.cq_world.proofs.Chains.{Before, before-either, before-not-last, before-only, last-some, chain-apart}
 use Rattle.cq_world.proofs.Eaches.{Each}
 use Rattle.cq_world.proofs.Prefixes.{Prefixes, Harmless}

@@ -4,7 +4,8 @@ use Rattle.std.proofs.lemmas.Bool.{eqb-true, eq-eqb, ne_eqb, false≢true, both_
 use Rattle.cq_base.specs.Relations.{Among, Pairwise}
 use Rattle.cq_chain.specs.Masters.{is_in, is_last, numbers_from}
 use Rattle.cq_chain.specs.Servers.{Server, acts, reaches, first_member, joining}
-use Rattle.cq_world.specs.Worlds.{first_world}
+use Rattle.cq_events.proofs.Numbers.{in-numbers}
+use Rattle.cq_events.specs.Worlds.{first_world}
 use Rattle.cq_world.proofs.Chains.{last-one}
 use Rattle.cq_world.proofs.Prefixes.Climbing.{one, ups, Climbs}
 use Rattle.cq_world.proofs.Commits.{Commits, bit, waits}
@@ -13,17 +14,6 @@ use Rattle.cq_world.proofs.Prefixes.{Prefixes, Linked, LinkedLine}
 use Rattle.cq_world.proofs.Sights.{Sight, sight}
 
 -- ---- numbers
-
--- a number of so many from one on is among them
-pub in-numbers : (n k id : ℕ) → k ≤ id → id < k + n → is_in (numbers_from k n) id ≡ true
-unfolding numbers_from
-in-numbers zero k id low high = absurd (omega (arith, low, high))
-in-numbers (suc n) k id low high = elim (cases_Bool (eqb k id)) [
-  | inl here ↦ or_left (eqb k id) (is_in (numbers_from (k + 1) n) id) here
-  | inr there ↦ or_right (eqb k id) (is_in (numbers_from (k + 1) n) id) (in-numbers n (k + 1) id (above there) (omega (arith, high)))
-] where
-  above : eqb k id ≡ false → k + 1 ≤ id
-  above there = omega (arith, low, λ (same : k ≡ id). both_ways (eqb k id) there (eq-eqb k id same))
 
 -- numbers from one on are above it
 pub above_first : (n k : ℕ) (b : ℕ) → Among b (numbers_from k n) → k ≤ b

@@ -1,6 +1,5 @@
 pub mod Rows
 pub mod Eaches
-pub mod Parties
 pub mod Settled
 pub mod Unrefused
 pub mod Sights

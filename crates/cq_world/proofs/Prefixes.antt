@@ -14,9 +14,9 @@ use Rattle.cq_chain.specs.Messages.{Message, Fwd, Snap, BeHead, Adopt, BeTail, F
 use Rattle.cq_chain.specs.Parties.{same, addressed, is_that}
 use Rattle.cq_chain.specs.Servers.{Server, joining}
 use Rattle.cq_world.specs.Laws.{Speaks}
-use Rattle.cq_world.specs.Worlds.{set_at, set_pair}
+use Rattle.cq_events.specs.Worlds.{set_at, set_pair}
 use Rattle.cq_world.proofs.Eaches.{Each, each-append, each-follows, each-addressed, front-trans}
-use Rattle.cq_world.proofs.Parties.{same-true}
+use Rattle.cq_events.proofs.Parties.{same-true}
 use Rattle.cq_world.proofs.Prefixes.Climbing.{reports, one, ups, Climbs, Grows, climbs-other}
 use Rattle.cq_world.proofs.Sights.{Sight, line, turn}
 

@@ -20,12 +20,12 @@ use Rattle.cq_chain.specs.Masters.{detected, joined, hears, refusal_of_detection
 use Rattle.cq_chain.specs.Refusals.{refusal_of_arrival, refusal_of_query, refusal_of_taking}
 use Rattle.cq_chain.specs.Servers.{acts, kept}
 use Rattle.cq_chain.specs.Steps.{arrived, asked, takes, forwards}
-use Rattle.cq_world.specs.Events.{refusal_of, next, after, given_by}
-use Rattle.cq_world.specs.Runs.{world_after, given_from, refused_from, made_from, made, longest_at, longest_from, committed}
+use Rattle.cq_events.specs.Events.{refusal_of, next, after, given_by}
+use Rattle.cq_events.specs.Runs.{world_after, given_from, refused_from, made_from, made, longest_at, longest_from, committed}
 use Rattle.cq_world.specs.Laws.{arrivals_from}
-use Rattle.cq_world.specs.Worlds.{World, numbers_from, first_world, channel}
-use Rattle.cq_world.specs.declared.event.Event.{Event}
-use Rattle.cq_world.specs.declared.event.Event.TheVariants as events
+use Rattle.cq_events.specs.Worlds.{World, numbers_from, first_world, channel}
+use Rattle.cq_events.specs.declared.event.Event.{Event}
+use Rattle.cq_events.specs.declared.event.Event.TheVariants as events
 
 abbrev name : List ℕ
 name = codes "q.fifo"

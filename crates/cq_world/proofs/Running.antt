@@ -14,12 +14,12 @@ use Rattle.cq_chain.specs.Parties.{same, addressed, is_that}
 use Rattle.cq_chain.specs.Refusals.{refusal_of_arrival, refusal_of_query}
 use Rattle.cq_chain.specs.Servers.{Server}
 use Rattle.cq_chain.specs.Steps.{arrived, asked, takes, crashed}
-use Rattle.cq_world.specs.Events.{knows, unless_down, is_down, another_full, refusal_of_crash, refusal_of_detect, refusal_of, refusal_of_take, after, next, unless_refused, after_take, without_first, after_put}
+use Rattle.cq_events.specs.Events.{knows, unless_down, is_down, another_full, refusal_of_crash, refusal_of_detect, refusal_of, refusal_of_take, after, next, unless_refused, after_take, without_first, after_put}
 use Rattle.cq_world.specs.Laws.{Speaks}
-use Rattle.cq_world.specs.Runs.{world_after, longer, acting_history, longest_at, longest_from}
-use Rattle.cq_world.specs.Worlds.{World, first_world, channel, stepped, ordered}
-use Rattle.cq_world.specs.declared.event.Event.{Event}
-use Rattle.cq_world.specs.declared.event.Event.TheVariants.{Arrive, Ask, Put, Take, Crash, Detect, Join}
+use Rattle.cq_events.specs.Runs.{world_after, longer, acting_history, longest_at, longest_from}
+use Rattle.cq_events.specs.Worlds.{World, first_world, channel, stepped, ordered}
+use Rattle.cq_events.specs.declared.event.Event.{Event}
+use Rattle.cq_events.specs.declared.event.Event.TheVariants.{Arrive, Ask, Put, Take, Crash, Detect, Join}
 use Rattle.cq_world.proofs.Prefixes.Climbing.{reports, one, Climbs}
 use Rattle.cq_world.proofs.Commits.Changes.{detected-commits, joined-commits}
 use Rattle.cq_world.proofs.Commits.Orders.{heard-commits, said_nothing}
@@ -29,7 +29,7 @@ use Rattle.cq_world.proofs.Commits.{Commits, Names, Pairs, Retires, HandsOver, E
 use Rattle.cq_world.proofs.Eaches.{Each, each-append, each-drop, front-refl, front-trans, some_none}
 use Rattle.cq_world.proofs.First.{prefixes-first, commits-first}
 use Rattle.cq_world.proofs.Prefixes.Orders.{alone, said-keeps, dropped-keeps, dropped-said, detected-said, joined-said, heard-said}
-use Rattle.cq_world.proofs.Parties.{same-true}
+use Rattle.cq_events.proofs.Parties.{same-true}
 use Rattle.cq_world.proofs.Prefixes.{Prefixes, Linked, LinkedLine, Heads, Bystander, Turn, turn-keeps}
 use Rattle.cq_world.proofs.Sights.{Sight, line, sight, turn, said, drained, same_channels}
 use Rattle.cq_world.proofs.Sights.{sight-put, sight-given, sight-step, sight-taken, sight-without}

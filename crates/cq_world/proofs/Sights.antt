@@ -8,9 +8,9 @@ use Rattle.cq_chain.specs.Messages.{Message}
 use Rattle.cq_chain.specs.Parties.{same, addressed}
 use Rattle.cq_chain.specs.Servers.{Server}
 use Rattle.cq_chain.specs.Steps.{Step}
-use Rattle.cq_world.specs.Events.{first_of, put_on, after_put, without_first}
-use Rattle.cq_world.proofs.Parties.{same-true}
-use Rattle.cq_world.specs.Worlds.{World, set_at, set_pair, sends, stepped, channel}
+use Rattle.cq_events.specs.Events.{first_of, put_on, after_put, without_first}
+use Rattle.cq_events.proofs.Parties.{same-true}
+use Rattle.cq_events.specs.Worlds.{World, set_at, set_pair, sends, stepped, channel}
 
 -- servers, channels, and what the master knows
 pub record Sight : Type 0 where

@@ -4,8 +4,8 @@ use Rattle.cq_chain.specs.declared.fault.WorldFault.{WorldFault}
 use Rattle.cq_chain.specs.declared.fault.WorldFault.TheVariants.{NoSuchServer, ServerDown, NotHead, NotTail}
 use Rattle.cq_chain.specs.Refusals.{refusal_of_arrival, refusal_of_query, unless_full}
 use Rattle.cq_chain.specs.Servers.{Server, acts}
-use Rattle.cq_world.specs.Events.{if_known, unless_down, if_lives}
-use Rattle.cq_world.specs.Worlds.{World, is_in}
+use Rattle.cq_events.specs.Events.{if_known, unless_down, if_lives}
+use Rattle.cq_events.specs.Worlds.{World, is_in}
 use Rattle.cq_world.proofs.Eaches.{some_none}
 
 -- what isn't refused where a server may be unknown names a known one, and isn't refused by it

@@ -13,11 +13,11 @@ use Rattle.cq_chain.specs.Messages.{Message, Fwd, Snap}
 use Rattle.cq_chain.specs.Servers.{acts}
 use Rattle.cq_chain.specs.Steps.{answer_to, answer_to_query}
 use Rattle.cq_store.specs.Laws.{Stamped, FreshOnceIn, RepeatsAreAnsweredAt, OthersDoNothingAt, HandsWhatWasSentAt, NoneInFlightAt, NoneDeletedAt, NoneRemovedAt, OneAcceptancePerWindowAt, FirstHandingsInOrderIn}
-use Rattle.cq_world.specs.Events.{refusal_of, after}
-use Rattle.cq_world.specs.Runs.{world_after, given_from, committed, made}
-use Rattle.cq_world.specs.Worlds.{World, first_world, is_in, channel}
-use Rattle.cq_world.specs.declared.event.Event.{Event}
-use Rattle.cq_world.specs.declared.event.Event.TheVariants.{Arrive, Ask}
+use Rattle.cq_events.specs.Events.{refusal_of, after}
+use Rattle.cq_events.specs.Runs.{world_after, given_from, committed, made}
+use Rattle.cq_events.specs.Worlds.{World, first_world, is_in, channel}
+use Rattle.cq_events.specs.declared.event.Event.{Event}
+use Rattle.cq_events.specs.declared.event.Event.TheVariants.{Arrive, Ask}
 
 -- ---- what is answered
 

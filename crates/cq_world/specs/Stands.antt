@@ -11,10 +11,10 @@ use Rattle.cq_chain.specs.Messages.{Message}
 use Rattle.cq_chain.specs.Servers.{Server, joining}
 use Rattle.cq_chain.specs.Stands as chain
 use Rattle.cq_chain.specs.Stands.{AllMean}
-use Rattle.cq_world.specs.Events.{refusal_of, next, given_by}
+use Rattle.cq_events.specs.Events.{refusal_of, next, given_by}
 use Rattle.cq_world.specs.within.Kept.{server_at, messages_at}
-use Rattle.cq_world.specs.Worlds.{World, is_in}
-use Rattle.cq_world.specs.declared.event.Event.{Event}
+use Rattle.cq_events.specs.Worlds.{World, is_in}
+use Rattle.cq_events.specs.declared.event.Event.{Event}
 use Rattle.cq_world.specs.declared.ran.Ran.{Ran}
 use Rattle.cq_world.specs.declared.sim.Sim.{Sim}
 

@@ -2,7 +2,7 @@
 ghost use Rattle.std.specs.Prelude.{◌≡◌, ◌<◌, ◌++◌, ◌∷◌, [], drop, length, slice_get, option_map, OnOk};
 ghost use Rattle.cq_base.specs.declared.party.Party as rust_party;
 ghost use Rattle.cq_world.specs.within.Kept.{messages_at, room_at};
-ghost use Rattle.cq_world.specs.Worlds.{set_pair};
+ghost use Rattle.cq_events.specs.Worlds.{set_pair};
 
 use cq_base::{NoMemory, Party};
 use cq_chain::{Lane, Message};

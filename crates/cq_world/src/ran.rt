@@ -2,7 +2,7 @@
 ghost use Rattle.std.specs.Prelude.{◌≡◌, ◌<◌, ◌≤◌, ◌+◌, ◌++◌, [], ◌∷◌, None, IsOk, OnOk, OnErr};
 ghost use Rattle.std.specs.Vec.{vec_len, vec_capacity};
 ghost use Rattle.cq_base.specs.declared.limits.TheConstants.{SLICE_LIMIT};
-ghost use Rattle.cq_world.specs.Runs.{numbered};
+ghost use Rattle.cq_events.specs.Runs.{numbered};
 
 use cq_base::NoMemory;
 use cq_chain::{Answer, WorldFault};

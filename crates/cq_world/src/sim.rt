@@ -6,23 +6,23 @@ ghost use Rattle.cq_base.specs.Relations.{Among};
 ghost use Rattle.cq_chain.specs.Stands.{MasterStandsFor};
 ghost use Rattle.cq_chain.specs.declared.fault.WorldFault.TheVariants as faults;
 ghost use Rattle.cq_chain.specs.declared.message.Answer.{Answer};
-ghost use Rattle.cq_world.specs.Events.{knows, is_down, refusal_of, after};
+ghost use Rattle.cq_events.specs.Events.{knows, is_down, refusal_of, after};
 ghost use Rattle.cq_world.specs.Laws.{Headline, IsOfTheObject};
-ghost use Rattle.cq_world.specs.Runs.{world_after, given_from, refused_from, given_if, numbered};
+ghost use Rattle.cq_events.specs.Runs.{world_after, given_from, refused_from, given_if, numbered};
 ghost use Rattle.cq_world.specs.Stands.{StandsFor, Shows, Happens, Gives, IsRefused, IsFound, HasRoomFor, WantsMemory};
-ghost use Rattle.cq_world.specs.Worlds.{first_world};
-ghost use Rattle.cq_world.specs.declared.event.Event.{Event};
-ghost use Rattle.cq_world.specs.declared.event.Event.TheVariants.{Crash};
+ghost use Rattle.cq_events.specs.Worlds.{first_world};
+ghost use Rattle.cq_events.specs.declared.event.Event.{Event};
+ghost use Rattle.cq_events.specs.declared.event.Event.TheVariants.{Crash};
 
 mod changes;
 mod passing;
 mod requests;
 
-use crate::event::Event;
 use crate::links::{Links, Pair};
 use crate::ran::Ran;
 use cq_base::{ChainSize, NoMemory, Party, ServerId};
 use cq_chain::{Answer, Master, Server, WorldFault};
+use cq_events::Event;
 use indexmap::IndexMap;
 use std::alloc::Global;
 

@@ -1,8 +1,8 @@
 -- A session that is being read, byte by byte, and run as it is read.
 use Rattle.std.specs.Prelude.{◌≡◌, ℕ, ◌+◌, ◌≤◌, ◌==◌, ◌||◌, nat_lt, if◌then◌else◌, Bool, true, false, List, [], ◌∷◌, ◌++◌, length, Option, None, Some, Result, Ok, Err}
 use Rattle.cq_world.specs.Stands.{StandsFor}
-use Rattle.cq_world.specs.Worlds.{first_world}
-use Rattle.cq_world.specs.declared.event.Event.{Event}
+use Rattle.cq_events.specs.Worlds.{first_world}
+use Rattle.cq_events.specs.declared.event.Event.{Event}
 use Rattle.cq_world.specs.declared.sim.Sim.{Sim}
 use Rattle.cq_script.specs.declared.event_line.Line.{Line}
 use Rattle.cq_script.specs.declared.event_line.Line.TheVariants as lines

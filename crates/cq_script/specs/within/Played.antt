@@ -1,7 +1,7 @@
 -- A script that is run as it is read.
 use Rattle.std.specs.Prelude.{◌≡◌, ℕ, List, [], ◌∷◌, ◌++◌, Option, Result, Ok, Err}
 use Rattle.cq_world.specs.Stands.{StandsFor}
-use Rattle.cq_world.specs.Worlds.{World, first_world}
+use Rattle.cq_events.specs.Worlds.{World, first_world}
 use Rattle.cq_world.specs.declared.sim.Sim.{Sim}
 use Rattle.cq_script.specs.declared.fault.ScriptFault.{ScriptFault}
 use Rattle.cq_script.specs.declared.lines.Item.{Item}

@@ -4,10 +4,10 @@ use Rattle.std.proofs.Math.ListN.{set}
 use Rattle.cq_chain.specs.Parties.{same}
 use Rattle.cq_trace.specs.within.Along.{Leads, left_count, IsAlong}
 use Rattle.cq_trace.specs.Audits.{is_foreign}
-use Rattle.cq_world.specs.Owners.{party_of}
-use Rattle.cq_trace.specs.Orders.{of_party}
+use Rattle.cq_events.specs.Owners.{party_of}
+use Rattle.cq_events.specs.Orders.{of_party}
 use Rattle.cq_trace.specs.declared.order.Order.{Order}
-use Rattle.cq_trace.specs.declared.trace.Trace.{Trace}
+use Rattle.cq_events.specs.declared.trace.Trace.{Trace}
 use Rattle.std.proofs.lemmas.List.{length-set}
 use Rattle.cq_trace.proofs.OfAudit.Lists.{none_some, some_same, no_any_take, no_any_drop, take_more, set_cases, one_of}
 use Rattle.cq_trace.proofs.OfAudit.GoodTraces.{Good}

@@ -4,8 +4,8 @@ use Rattle.std.specs.List.{list_any}
 use Rattle.std.proofs.lemmas.Bool.{ltb-true, ltb-false}
 use Rattle.cq_chain.specs.Parties.{same}
 use Rattle.cq_trace.specs.Audits.{is_foreign, is_bad, first_bad}
-use Rattle.cq_trace.specs.declared.trace.Trace.{Trace}
-use Rattle.cq_world.proofs.Parties.{same-turned}
+use Rattle.cq_events.specs.declared.trace.Trace.{Trace}
+use Rattle.cq_events.proofs.Parties.{same-turned}
 use Rattle.std.proofs.lemmas.List.{drop_all, length-take-le}
 use Rattle.std.proofs.lemmas.Option.{slice_get_within}
 use Rattle.cq_trace.proofs.OfAudit.Lists.{none_some, some_same, or_none, no_any_at, take_at, drop_at, take_at_end}

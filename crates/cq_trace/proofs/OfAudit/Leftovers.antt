@@ -6,15 +6,15 @@ use Rattle.cq_base.specs.Relations.{Among}
 use Rattle.cq_chain.specs.Parties.{same}
 use Rattle.cq_trace.specs.within.Along.{IsNext, event_at, unfinished, IsAlong}
 use Rattle.cq_trace.specs.Audits.{trace_of, IsMerge, IsStuck}
-use Rattle.cq_world.specs.Events.{refusal_of}
-use Rattle.cq_trace.specs.Orders.{of_party}
-use Rattle.cq_world.specs.Runs.{world_after}
-use Rattle.cq_world.specs.Worlds.{first_world}
+use Rattle.cq_events.specs.Events.{refusal_of}
+use Rattle.cq_events.specs.Orders.{of_party}
+use Rattle.cq_events.specs.Runs.{world_after}
+use Rattle.cq_events.specs.Worlds.{first_world}
 use Rattle.cq_trace.specs.declared.order.Order.{Order}
-use Rattle.cq_world.specs.declared.event.Event.{Event}
-use Rattle.cq_trace.specs.declared.trace.Trace.{Trace}
+use Rattle.cq_events.specs.declared.event.Event.{Event}
+use Rattle.cq_events.specs.declared.trace.Trace.{Trace}
 use Rattle.cq_world.proofs.Eaches.{cons_nil}
-use Rattle.cq_world.proofs.Parties.{same-true, same-refl}
+use Rattle.cq_events.proofs.Parties.{same-true, same-refl}
 use Rattle.std.proofs.lemmas.List.{take-append-drop, drop_all}
 use Rattle.cq_trace.proofs.OfAudit.Lists.{none_some, some_same, drop_some, drop_first, one_of, drop_at}
 use Rattle.cq_trace.proofs.OfAudit.GoodTraces.{Good, good}

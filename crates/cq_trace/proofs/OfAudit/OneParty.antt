@@ -4,10 +4,10 @@ use Rattle.std.proofs.lemmas.Bool.{false≢true}
 use Rattle.cq_base.specs.declared.party.Party.{Party}
 use Rattle.cq_chain.specs.Parties.{same}
 use Rattle.cq_trace.specs.Audits.{is_foreign}
-use Rattle.cq_world.specs.Owners.{party_of}
-use Rattle.cq_trace.specs.Orders.{of_party}
-use Rattle.cq_world.specs.declared.event.Event.{Event}
-use Rattle.cq_world.proofs.Parties.{same-true}
+use Rattle.cq_events.specs.Owners.{party_of}
+use Rattle.cq_events.specs.Orders.{of_party}
+use Rattle.cq_events.specs.declared.event.Event.{Event}
+use Rattle.cq_events.proofs.Parties.{same-true}
 use Rattle.cq_trace.proofs.OfAudit.Lists.{or_none}
 
 -- of two lists joined

@@ -4,15 +4,15 @@ use Rattle.std.proofs.Math.ListN.{set, replicate}
 use Rattle.std.proofs.lemmas.Bool.{false≢true, ltb-true, ltb-false}
 use Rattle.cq_chain.specs.Parties.{same}
 use Rattle.cq_trace.specs.within.Along.{Leads, IsNext, event_at, left_count, IsAlong}
-use Rattle.cq_world.specs.Events.{refusal_of, next, after}
-use Rattle.cq_trace.specs.Orders.{of_party, AreEnabled}
-use Rattle.cq_world.specs.Runs.{world_after}
+use Rattle.cq_events.specs.Events.{refusal_of, next, after}
+use Rattle.cq_events.specs.Orders.{of_party, AreEnabled}
+use Rattle.cq_events.specs.Runs.{world_after}
 use Rattle.cq_world.specs.Stands.{StandsFor}
-use Rattle.cq_world.specs.Worlds.{World, first_world}
+use Rattle.cq_events.specs.Worlds.{World, first_world}
 use Rattle.cq_trace.specs.declared.order.Order.{Order}
-use Rattle.cq_world.specs.declared.event.Event.{Event}
+use Rattle.cq_events.specs.declared.event.Event.{Event}
 use Rattle.cq_world.specs.declared.sim.Sim.{Sim}
-use Rattle.cq_trace.specs.declared.trace.Trace.{Trace}
+use Rattle.cq_events.specs.declared.trace.Trace.{Trace}
 use Rattle.cq_world.proofs.OfSim.RunSteps.{after-done, world-more}
 use Rattle.cq_trace.proofs.OfAudit.Lists.{none_some, some_same, or_none, drop_taken, set_cases, take_suc, set_same}
 use Rattle.cq_trace.proofs.OfAudit.Following.{Followed, along-more, count-set}

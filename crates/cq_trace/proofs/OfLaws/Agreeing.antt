@@ -5,12 +5,12 @@ use Rattle.cq_base.specs.declared.party.Party.TheVariants as parties
 use Rattle.cq_base.specs.Relations.{Among}
 use Rattle.cq_base.proofs.Among.{among-right}
 use Rattle.cq_chain.specs.Parties.{same}
-use Rattle.cq_trace.specs.Deeds.{Deed, Arrived, Asked, Put, Took, Crashed, Detected, Joined, event_of, put_to, AreDeeds, IsOrder, OrdersAgree}
-use Rattle.cq_trace.specs.Orders.{of_party, AreEnabled, put_by}
-use Rattle.cq_world.specs.Runs.{world_after}
-use Rattle.cq_world.specs.Worlds.{first_world}
-use Rattle.cq_world.specs.declared.event.Event.{Event}
-use Rattle.cq_world.specs.declared.event.Event.TheVariants as events
+use Rattle.cq_events.specs.Deeds.{Deed, Arrived, Asked, Put, Took, Crashed, Detected, Joined, event_of, put_to, AreDeeds, IsOrder, OrdersAgree}
+use Rattle.cq_events.specs.Orders.{of_party, AreEnabled, put_by}
+use Rattle.cq_events.specs.Runs.{world_after}
+use Rattle.cq_events.specs.Worlds.{first_world}
+use Rattle.cq_events.specs.declared.event.Event.{Event}
+use Rattle.cq_events.specs.declared.event.Event.TheVariants as events
 use Rattle.cq_trace.proofs.OfLaws.DeedLists.{first_deed}
 use Rattle.cq_trace.proofs.OfLaws.Casts.{Cast, server_goes}
 use Rattle.cq_trace.proofs.OfLaws.Moments.{own_events, agree, moment}

@@ -13,12 +13,12 @@ use Rattle.cq_chain.specs.Parties.{same, addressed}
 use Rattle.cq_chain.specs.Servers.{Server}
 use Rattle.cq_chain.specs.Stands.{AllMean, posted, drained}
 use Rattle.cq_chain.specs.Steps.{Step}
-use Rattle.cq_trace.specs.Deeds.{Deed, put_in, put_to, taken_from, Standing, StandsAs, IsMasterAs, ServerRun, MasterRun, Does, DoesMaster, ServerLives, MasterLives, Lived}
-use Rattle.cq_trace.specs.Orders.{put_by_event}
-use Rattle.cq_world.specs.Worlds.{World, set_pair, stepped, ordered}
-use Rattle.cq_world.specs.declared.event.Event.{Event}
+use Rattle.cq_events.specs.Deeds.{Deed, put_in, put_to, taken_from, Standing, StandsAs, IsMasterAs, ServerRun, MasterRun, Does, DoesMaster, ServerLives, MasterLives, Lived}
+use Rattle.cq_events.specs.Orders.{put_by_event}
+use Rattle.cq_events.specs.Worlds.{World, set_pair, stepped, ordered}
+use Rattle.cq_events.specs.declared.event.Event.{Event}
 use Rattle.cq_world.proofs.Eaches.{cons_nil}
-use Rattle.cq_world.proofs.Parties.{same-true, same-refl, same-turned}
+use Rattle.cq_events.proofs.Parties.{same-true, same-refl, same-turned}
 use Rattle.cq_trace.proofs.OfLaws.DeedLists.{left}
 
 -- What parties have still to do from a world on, and what stands in the real links then.

@@ -2,10 +2,10 @@
 use Rattle.std.proofs.Common.{◌≡◌, ◌∙◌, ap, sym, refl, cond, List, [], ◌∷◌, ◌++◌, map, Bool, true, false}
 use Rattle.cq_base.specs.declared.party.Party.{Party}
 use Rattle.cq_chain.specs.Parties.{same}
-use Rattle.cq_trace.specs.Deeds.{Deed, put_in, taken_in, put_to, taken_from}
-use Rattle.cq_world.specs.declared.event.Event.{Event}
+use Rattle.cq_events.specs.Deeds.{Deed, put_in, taken_in, put_to, taken_from}
+use Rattle.cq_events.specs.declared.event.Event.{Event}
 use Rattle.cq_world.proofs.Eaches.{cons_nil}
-use Rattle.cq_world.proofs.Parties.{same-true}
+use Rattle.cq_events.proofs.Parties.{same-true}
 
 -- what is left to do, after a party did the first of it
 abbrev pub left : (Party → List Deed) → Party → List Deed → Party → List Deed

@@ -11,13 +11,13 @@ use Rattle.cq_chain.specs.declared.message.Message.TheVariants as kept
 use Rattle.cq_chain.specs.Messages.{Message, Snap, Answers}
 use Rattle.cq_chain.specs.Parties.{same}
 use Rattle.cq_chain.specs.Stands.{Means, AllMean}
-use Rattle.cq_world.specs.Events.{refusal_of, given_by, answers_in, head_of, next, after, first_of}
-use Rattle.cq_trace.specs.Orders.{AreEnabled, put_by_event, put_by}
-use Rattle.cq_world.specs.Runs.{given_from, given_if, numbered}
-use Rattle.cq_world.specs.Worlds.{World}
-use Rattle.cq_world.specs.declared.event.Event.{Event}
-use Rattle.cq_world.specs.declared.event.Event.TheVariants as events
-use Rattle.cq_world.proofs.Parties.{same-refl}
+use Rattle.cq_events.specs.Events.{refusal_of, given_by, answers_in, head_of, next, after, first_of}
+use Rattle.cq_events.specs.Orders.{AreEnabled, put_by_event, put_by}
+use Rattle.cq_events.specs.Runs.{given_from, given_if, numbered}
+use Rattle.cq_events.specs.Worlds.{World}
+use Rattle.cq_events.specs.declared.event.Event.{Event}
+use Rattle.cq_events.specs.declared.event.Event.TheVariants as events
+use Rattle.cq_events.proofs.Parties.{same-refl}
 use Rattle.cq_trace.proofs.OfLaws.Moments.{enabled_parts, put_none, put_first}
 
 -- the answers that mean the same

@@ -5,9 +5,9 @@ use Rattle.cq_base.specs.declared.party.Party.TheVariants as parties
 use Rattle.cq_base.specs.Relations.{Front}
 use Rattle.cq_chain.specs.declared.message.Message as rust
 use Rattle.cq_chain.specs.Parties.{same}
-use Rattle.cq_trace.specs.Deeds.{Deed, Put, Took, put_in, taken_in, put_to, taken_from}
-use Rattle.cq_world.specs.Worlds.{World, set_pair}
-use Rattle.cq_world.proofs.Parties.{same-true, same-refl}
+use Rattle.cq_events.specs.Deeds.{Deed, Put, Took, put_in, taken_in, put_to, taken_from}
+use Rattle.cq_events.specs.Worlds.{World, set_pair}
+use Rattle.cq_events.proofs.Parties.{same-true, same-refl}
 use Rattle.cq_trace.proofs.OfLaws.DeedLists.{left, put_left, taken_left}
 use Rattle.cq_trace.proofs.OfLaws.Casts.{Cast}
 

@@ -4,15 +4,15 @@ use Rattle.cq_base.specs.declared.party.Party.{Party}
 use Rattle.cq_chain.specs.declared.message.Message as rust
 use Rattle.cq_chain.specs.Parties.{same}
 use Rattle.cq_chain.specs.Stands.{AllMean}
-use Rattle.cq_trace.specs.Deeds.{Deed, event_of, put_in, put_to}
-use Rattle.cq_world.specs.Events.{refusal_of, next, after}
-use Rattle.cq_world.specs.Owners.{party_of}
-use Rattle.cq_trace.specs.Orders.{of_party, AreEnabled, put_by_event, put_by}
-use Rattle.cq_world.specs.Runs.{world_after}
-use Rattle.cq_world.specs.Worlds.{World}
-use Rattle.cq_world.specs.declared.event.Event.{Event}
+use Rattle.cq_events.specs.Deeds.{Deed, event_of, put_in, put_to}
+use Rattle.cq_events.specs.Events.{refusal_of, next, after}
+use Rattle.cq_events.specs.Owners.{party_of}
+use Rattle.cq_events.specs.Orders.{of_party, AreEnabled, put_by_event, put_by}
+use Rattle.cq_events.specs.Runs.{world_after}
+use Rattle.cq_events.specs.Worlds.{World}
+use Rattle.cq_events.specs.declared.event.Event.{Event}
 use Rattle.cq_world.proofs.OfSim.Meanings.{all-append}
-use Rattle.cq_world.proofs.Parties.{same-true, same-refl}
+use Rattle.cq_events.proofs.Parties.{same-true, same-refl}
 use Rattle.cq_world.proofs.OfSim.RunSteps.{after-done}
 use Rattle.cq_trace.proofs.OfLaws.DeedLists.{left, first_deed, no_deeds, put_left}
 use Rattle.cq_trace.proofs.OfLaws.Casts.{Cast, Next}

@@ -10,12 +10,12 @@ use Rattle.cq_chain.specs.Messages.{Message}
 use Rattle.cq_chain.specs.Parties.{same}
 use Rattle.cq_chain.specs.Stands.{Means, AllMean, IsFirst, posted}
 use Rattle.cq_chain.specs.Steps.{Step, arrived, asked, takes, crashed}
-use Rattle.cq_trace.specs.Deeds.{Deed, Arrived, Asked, Put, Took, Crashed, Detected, Joined, event_of, put_in, taken_in, put_to, taken_from, ServerLives, MasterLives, Lived}
-use Rattle.cq_world.specs.Events.{refusal_of, refusal_of_take, next, first_of, after_put, after_take, knows, is_down, unless_down}
-use Rattle.cq_trace.specs.Orders.{put_by_event}
-use Rattle.cq_world.specs.Worlds.{World, set_pair, stepped, ordered}
-use Rattle.cq_world.specs.declared.event.Event.{Event}
-use Rattle.cq_world.specs.declared.event.Event.TheVariants as events
+use Rattle.cq_events.specs.Deeds.{Deed, Arrived, Asked, Put, Took, Crashed, Detected, Joined, event_of, put_in, taken_in, put_to, taken_from, ServerLives, MasterLives, Lived}
+use Rattle.cq_events.specs.Events.{refusal_of, refusal_of_take, next, first_of, after_put, after_take, knows, is_down, unless_down}
+use Rattle.cq_events.specs.Orders.{put_by_event}
+use Rattle.cq_events.specs.Worlds.{World, set_pair, stepped, ordered}
+use Rattle.cq_events.specs.declared.event.Event.{Event}
+use Rattle.cq_events.specs.declared.event.Event.TheVariants as events
 use Rattle.cq_world.proofs.Eaches.{some_none, cons_nil}
 use Rattle.cq_world.proofs.OfSim.Meanings.{all-append, all-drop, first-alone}
 use Rattle.cq_world.proofs.OfSim.Refused.{next-arrive, next-ask, next-crash, next-detect, next-join, next-put, next-take}

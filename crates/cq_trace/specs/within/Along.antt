@@ -3,16 +3,16 @@ use Rattle.std.specs.Prelude.{◌≡◌, ◌≤◌, ℕ, zero, suc, ◌+◌, ◌
 use Rattle.cq_base.specs.declared.party.Party.{Party}
 use Rattle.cq_chain.specs.Parties.{same}
 use Rattle.cq_trace.specs.Audits.{IsStuck}
-use Rattle.cq_trace.specs.Orders.{of_party, AreEnabled}
+use Rattle.cq_events.specs.Orders.{of_party, AreEnabled}
 use Rattle.cq_trace.specs.declared.fault.AuditFault.{AuditFault}
 use Rattle.cq_trace.specs.declared.fault.AuditFault.TheVariants.{NoNextEvent, BadTrace, NoMemory}
 use Rattle.cq_trace.specs.declared.order.Order.{Order}
-use Rattle.cq_trace.specs.declared.trace.Trace.{Trace}
-use Rattle.cq_world.specs.Events.{refusal_of}
-use Rattle.cq_world.specs.Runs.{world_after}
+use Rattle.cq_events.specs.declared.trace.Trace.{Trace}
+use Rattle.cq_events.specs.Events.{refusal_of}
+use Rattle.cq_events.specs.Runs.{world_after}
 use Rattle.cq_world.specs.Stands.{StandsFor}
-use Rattle.cq_world.specs.Worlds.{first_world}
-use Rattle.cq_world.specs.declared.event.Event.{Event}
+use Rattle.cq_events.specs.Worlds.{first_world}
+use Rattle.cq_events.specs.declared.event.Event.{Event}
 
 -- the events so far were enabled, and the world in memory is the one to which they lead
 abbrev pub Leads : Order → Type 0

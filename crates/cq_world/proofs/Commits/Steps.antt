@@ -11,7 +11,7 @@ use Rattle.cq_chain.specs.Messages.{Message, Fwd, Snap, Ack, BeHead, Report, Ado
 use Rattle.cq_chain.specs.Parties.{same, addressed}
 use Rattle.cq_chain.specs.Servers.{Server, acts, reaches, is_that}
 use Rattle.cq_chain.specs.Steps.{silent, to_server, when, appended, settled, begins_to_act, answer_to, passed_on, tail_news, stamped, arrived, asked, is_next, forwarded, is_restoring, with_history, restored, forwards, repair, adopting, feeding, as_tail, tailed, takes, crashed}
-use Rattle.cq_world.specs.Worlds.{set_at}
+use Rattle.cq_events.specs.Worlds.{set_at}
 use Rattle.cq_world.proofs.Chains.{Before, among-in, last-in, before-last, before-either, before-not-last, before-only, before-front, chain-apart}
 use Rattle.cq_world.proofs.Commits.{Commits, harmless_tails, tails, readies, Names, Pairs, Retires, HandsOver, Enough, Zero, NotOn, bit, waits, Free, acts-least, least-none, some-least}
 use Rattle.cq_world.proofs.Commits.Turns.{Acting, by_server, readies-append, stage_one}

@@ -9,8 +9,8 @@ use Rattle.cq_chain.specs.Masters.{is_in, is_last, stands_before}
 use Rattle.cq_chain.specs.Messages.{Message, Adopt, BeTail, Adopted, Ready}
 use Rattle.cq_chain.specs.Parties.{same, addressed}
 use Rattle.cq_chain.specs.Servers.{Server, acts, reaches, is_that}
-use Rattle.cq_world.specs.Runs.{longer, acting_history}
-use Rattle.cq_world.specs.Worlds.{set_at}
+use Rattle.cq_events.specs.Runs.{longer, acting_history}
+use Rattle.cq_events.specs.Worlds.{set_at}
 use Rattle.cq_world.proofs.Chains.{Before, last-in, last-one, last-some, before-either, before-not-last, before-only, chain-order, chain-apart}
 use Rattle.cq_world.proofs.Commits.{Commits, tails, readies, Names, Pairs, Retires, HandsOver, Enough, Zero, NotOn, bit, waits, busy, Free, acts-least, acts-none, some-least, longer-front, longer-still, longer-length}
 use Rattle.cq_world.proofs.Eaches.{Each, each-append, each-follows, some_none, front-refl, front-trans}

@@ -15,12 +15,12 @@ use Rattle.cq_chain.specs.Parties.{addressed}
 use Rattle.cq_chain.specs.Refusals.{refusal_of_arrival, refusal_of_query}
 use Rattle.cq_chain.specs.Servers.{Server, acts, reaches, is_that}
 use Rattle.cq_chain.specs.Steps.{silent, to_server, when, appended, settled, begins_to_act, answer_to, passed_on, tail_news, stamped, arrived, asked, is_next, forwarded, is_restoring, with_history, restored, feeding, forwards, repair, as_tail, tailed, takes}
-use Rattle.cq_world.specs.Worlds.{World, is_in, channel, stepped}
-use Rattle.cq_world.specs.Events.{knows, unless_down, is_down, refusal_of, refusal_of_take, after, next, unless_refused, answers_in, after_take}
+use Rattle.cq_events.specs.Worlds.{World, is_in, channel, stepped}
+use Rattle.cq_events.specs.Events.{knows, unless_down, is_down, refusal_of, refusal_of_take, after, next, unless_refused, answers_in, after_take}
 use Rattle.cq_world.specs.Laws.{IsAnswered}
-use Rattle.cq_world.specs.Runs.{world_after, longer, acting_history, longest_at, longest_from, sent_by, sent_by_taking, made_if, made_from}
-use Rattle.cq_world.specs.declared.event.Event.{Event}
-use Rattle.cq_world.specs.declared.event.Event.TheVariants.{Arrive, Ask, Put, Take, Crash, Detect, Join}
+use Rattle.cq_events.specs.Runs.{world_after, longer, acting_history, longest_at, longest_from, sent_by, sent_by_taking, made_if, made_from}
+use Rattle.cq_events.specs.declared.event.Event.{Event}
+use Rattle.cq_events.specs.declared.event.Event.TheVariants.{Arrive, Ask, Put, Take, Crash, Detect, Join}
 use Rattle.cq_world.proofs.Commits.Steps.{take-acting, arrive-acting, ask-acting}
 use Rattle.cq_world.proofs.Commits.Turns.{Acting, turn-own}
 use Rattle.cq_world.proofs.Eaches.{Each, each-append, each-among, each-follows, each-when, each-to_server, front-trans}

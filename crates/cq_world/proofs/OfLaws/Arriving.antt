@@ -14,12 +14,12 @@ use Rattle.cq_chain.specs.Messages.{Message, Fwd, Snap, Ack, BeHead, Report, Ado
 use Rattle.cq_chain.specs.Servers.{Server, acts, is_that, first_member, joining}
 use Rattle.cq_chain.specs.Steps.{Step, silent, to_server, stamped, arrived, asked, appended, is_next, forwarded, is_restoring, with_history, restored, feeding, as_tail, takes, crashed}
 use Rattle.cq_store.specs.Laws.{Stamped}
-use Rattle.cq_world.specs.Worlds.{World, is_in, numbers_from, first_world, stepped}
-use Rattle.cq_world.specs.Events.{refusal_of, after, next, unless_refused, after_take, without_first}
+use Rattle.cq_events.specs.Worlds.{World, is_in, numbers_from, first_world, stepped}
+use Rattle.cq_events.specs.Events.{refusal_of, after, next, unless_refused, after_take, without_first}
 use Rattle.cq_world.specs.Laws.{Arrival, arrival_if, arrivals_from, AreArrivals, Speaks}
-use Rattle.cq_world.specs.Runs.{world_after, longest_at}
-use Rattle.cq_world.specs.declared.event.Event.{Event}
-use Rattle.cq_world.specs.declared.event.Event.TheVariants.{Arrive, Ask, Put, Take, Crash, Detect, Join}
+use Rattle.cq_events.specs.Runs.{world_after, longest_at}
+use Rattle.cq_events.specs.declared.event.Event.{Event}
+use Rattle.cq_events.specs.declared.event.Event.TheVariants.{Arrive, Ask, Put, Take, Crash, Detect, Join}
 use Rattle.cq_world.proofs.Eaches.{Each, by_id}
 use Rattle.cq_world.proofs.Prefixes.{Prefixes}
 use Rattle.cq_world.proofs.Running.{Good, onward}

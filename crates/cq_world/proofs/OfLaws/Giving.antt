@@ -10,13 +10,13 @@ use Rattle.cq_chain.specs.Messages.{Message, BeHead, Report, Adopt, BeTail, Feed
 use Rattle.cq_chain.specs.Masters.{Master, Order, is_last, stands_before, closing, said_of_loss, said_of_join, to_last, dropped, closed_up, no_order, detected, joined, joins_behind, admitted, hears, hears_from}
 use Rattle.cq_chain.specs.Parties.{same, addressed, is_that}
 use Rattle.cq_chain.specs.Steps.{Step, takes, arrived, asked, crashed}
-use Rattle.cq_world.specs.Worlds.{World, first_world, stepped, ordered}
-use Rattle.cq_world.specs.Events.{refusal_of, after, next, unless_refused, answers_in, first_of, head_of, given_to, given_by, after_put, after_take, without_first}
-use Rattle.cq_world.specs.Runs.{world_after, numbered, given_if, given_from, sent_by_taking, made_if, made_from, made}
-use Rattle.cq_world.specs.declared.event.Event.{Event}
-use Rattle.cq_world.specs.declared.event.Event.TheVariants.{Arrive, Ask, Put, Take, Crash, Detect, Join}
+use Rattle.cq_events.specs.Worlds.{World, first_world, stepped, ordered}
+use Rattle.cq_events.specs.Events.{refusal_of, after, next, unless_refused, answers_in, first_of, head_of, given_to, given_by, after_put, after_take, without_first}
+use Rattle.cq_events.specs.Runs.{world_after, numbered, given_if, given_from, sent_by_taking, made_if, made_from, made}
+use Rattle.cq_events.specs.declared.event.Event.{Event}
+use Rattle.cq_events.specs.declared.event.Event.TheVariants.{Arrive, Ask, Put, Take, Crash, Detect, Join}
 use Rattle.cq_world.proofs.Eaches.{Each, each-append, each-follows, each-drop, some_none}
-use Rattle.cq_world.proofs.Parties.{by_pair, same-true}
+use Rattle.cq_events.proofs.Parties.{by_pair, same-true}
 
 -- an answer that waits is one of these
 abbrev pub IsOf : List Answer → Message → Type 0

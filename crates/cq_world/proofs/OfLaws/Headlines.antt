@@ -14,11 +14,11 @@ use Rattle.cq_store.proofs.OfLaws.Lives.{none_removed}
 use Rattle.cq_store.proofs.OfLaws.OneQueue.{others_do_nothing}
 use Rattle.cq_store.proofs.OfLaws.Repeats.{fresh_once, repeats_answered}
 use Rattle.cq_store.proofs.OfLaws.Windows.{one_acceptance}
-use Rattle.cq_world.specs.Events.{refusal_of, after}
+use Rattle.cq_events.specs.Events.{refusal_of, after}
 use Rattle.cq_world.specs.Laws.{AnswersAreOfTheObject, IsOfTheObject, CommittedIsOfTheHead, CommittedIsOfFullServers, CommittedGrows, CommittedIsOfArrivals, MessagesAreOfTheHistory, HistoriesAreFronts, HistoriesFallAlongTheChain, OneActs, LengthsNeverFall, LaterArrivalsStandAbove, LaterQueriesSeeAsMuch, HeadlineHolds, Speaks, arrivals_from, AreArrivals}
-use Rattle.cq_world.specs.Runs.{world_after, given_from, made_from, made, committed, longest_at, longest_from}
-use Rattle.cq_world.specs.Worlds.{World, first_world, channel}
-use Rattle.cq_world.specs.declared.event.Event.{Event}
+use Rattle.cq_events.specs.Runs.{world_after, given_from, made_from, made, committed, longest_at, longest_from}
+use Rattle.cq_events.specs.Worlds.{World, first_world, channel}
+use Rattle.cq_events.specs.declared.event.Event.{Event}
 use Rattle.cq_world.proofs.OfLaws.Answering.{all-answered, all-rising, all-within, front_length}
 use Rattle.cq_world.proofs.OfLaws.Arriving.{arrivals-below, arrivals-stamped, all-arrived, first-arrived}
 use Rattle.cq_world.proofs.Chains.{Before, chain-order}

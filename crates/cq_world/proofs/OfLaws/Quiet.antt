@@ -8,8 +8,8 @@ use Rattle.cq_base.specs.Relations.{Front}
 use Rattle.cq_chain.specs.Masters.{is_in, is_last, stands_before}
 use Rattle.cq_chain.specs.Servers.{acts, is_that}
 use Rattle.cq_world.specs.Laws.{IsOfChain, IsQuiet, QuietMembersAgree, QuietTailActs}
-use Rattle.cq_world.specs.Runs.{world_after, longest_from}
-use Rattle.cq_world.specs.Worlds.{World, first_world, channel}
+use Rattle.cq_events.specs.Runs.{world_after, longest_from}
+use Rattle.cq_events.specs.Worlds.{World, first_world, channel}
 use Rattle.cq_world.proofs.Chains.{last-in, before-in, before-behind, before-first}
 use Rattle.cq_world.proofs.Commits.{Commits, tails, bit, waits}
 use Rattle.cq_world.proofs.Wholes.Feeding.{Feeds}

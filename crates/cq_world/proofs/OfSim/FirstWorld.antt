@@ -8,7 +8,7 @@ use Rattle.cq_chain.specs.Servers.{first_member, joining}
 use Rattle.cq_chain.specs.Stands as chain
 use Rattle.cq_world.specs.within.Kept.{server_at, messages_at}
 use Rattle.cq_world.specs.Stands.{IsKeptAs, StandsFor}
-use Rattle.cq_world.specs.Worlds.{is_in, numbers_from, first_world}
+use Rattle.cq_events.specs.Worlds.{is_in, numbers_from, first_world}
 use Rattle.cq_world.specs.declared.sim.Sim.{Sim}
 use Rattle.cq_world.proofs.OfSim.Stands.{stands}
 

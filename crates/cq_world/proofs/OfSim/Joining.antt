@@ -13,7 +13,7 @@ use Rattle.cq_chain.specs.Stands as chain
 use Rattle.cq_chain.specs.Stands.{posted}
 use Rattle.cq_world.specs.within.Kept.{server_at, messages_at}
 use Rattle.cq_world.specs.Stands.{IsKeptAs, Holds}
-use Rattle.cq_world.specs.Worlds.{World, is_in, ordered}
+use Rattle.cq_events.specs.Worlds.{World, is_in, ordered}
 use Rattle.cq_world.specs.declared.sim.Sim.{Sim}
 use Rattle.cq_world.proofs.OfSim.Stands.{ordered-stands}
 

@@ -6,10 +6,10 @@ use Rattle.cq_chain.specs.declared.message.Message.{Message}
 use Rattle.cq_chain.specs.Lanes.{Lane, messages_of, room_of}
 use Rattle.cq_chain.specs.Parties.{same}
 use Rattle.cq_world.specs.within.Kept.{lane_at, messages_at}
-use Rattle.cq_world.specs.Worlds.{set_pair}
+use Rattle.cq_events.specs.Worlds.{set_pair}
 use Rattle.cq_world.specs.declared.links.Pair.{Pair}
 use Rattle.cq_world.proofs.OfSim.PairKeys.{IsWritten}
-use Rattle.cq_world.proofs.Parties.{same-true, both}
+use Rattle.cq_events.proofs.Parties.{same-true, both}
 
 -- what is found then
 pub written : (old new : List (Pair × Lane)) (from to : Party) (lane : Lane) (ms : List Message) → IsWritten old new from to lane → lane.messages ≡ ms → (x y : Party) → messages_at new x y ≡ set_pair (messages_at old) from to ms x y

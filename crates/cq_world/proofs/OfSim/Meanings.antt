@@ -3,7 +3,7 @@ use Rattle.std.proofs.Common.{◌≡◌, ap, refl, subst, List, [], ◌∷◌, �
 use Rattle.cq_chain.specs.declared.message.Message as rust
 use Rattle.cq_chain.specs.Messages.{Message}
 use Rattle.cq_chain.specs.Stands.{Means, AllMean, IsFirst}
-use Rattle.cq_world.specs.Events.{first_of, refusal_of_put}
+use Rattle.cq_events.specs.Events.{first_of, refusal_of_put}
 use Rattle.cq_world.specs.within.Kept.{IsFilled}
 
 -- one list after the other

@@ -9,7 +9,7 @@ use Rattle.cq_chain.specs.Parties.{same}
 use Rattle.cq_world.specs.within.Kept.{is_between, lane_at}
 use Rattle.cq_world.specs.contracts.links.PairPartialEq.TheImpl as pair_impl
 use Rattle.cq_world.specs.declared.links.Pair.{Pair}
-use Rattle.cq_world.proofs.Parties.{same-turned}
+use Rattle.cq_events.proofs.Parties.{same-turned}
 
 pub party-eq : (a b : Party) → party_impl.ghosts.eq a b ≡ same a b
 party-eq Master Master = refl

@@ -15,15 +15,15 @@ use Rattle.cq_chain.specs.Messages.{Message}
 use Rattle.cq_chain.specs.Stands.{Means, IsFirst}
 use Rattle.cq_chain.specs.Refusals.{refusal_of_arrival, refusal_of_query}
 use Rattle.cq_chain.specs.Steps.{arrived, asked, crashed}
-use Rattle.cq_world.specs.Events.{knows, if_known, if_lives, unless_down, is_down, refusal_of, refusal_of_crash, refusal_of_detect, refusal_of_put, refusal_of_take, next, after_put, after_take, given_by, given_to, first_of, without_first, answers_in, head_of}
+use Rattle.cq_events.specs.Events.{knows, if_known, if_lives, unless_down, is_down, refusal_of, refusal_of_crash, refusal_of_detect, refusal_of_put, refusal_of_take, next, after_put, after_take, given_by, given_to, first_of, without_first, answers_in, head_of}
 use Rattle.cq_world.specs.within.Kept.{IsFilled, after_posting, after_drawing}
-use Rattle.cq_world.specs.Runs.{given_if}
+use Rattle.cq_events.specs.Runs.{given_if}
 use Rattle.cq_world.specs.Stands.{StandsFor}
 use Rattle.cq_world.specs.declared.sim.Sim.{Sim}
-use Rattle.cq_world.specs.declared.event.Event.{Event}
-use Rattle.cq_world.specs.Worlds.{World, is_in, stepped, ordered}
+use Rattle.cq_events.specs.declared.event.Event.{Event}
+use Rattle.cq_events.specs.Worlds.{World, is_in, stepped, ordered}
 use Rattle.cq_world.proofs.OfSim.Stands.{unordered}
-use Rattle.cq_world.specs.declared.event.Event.TheVariants.{Arrive, Ask, Put, Take, Crash, Detect, Join}
+use Rattle.cq_events.specs.declared.event.Event.TheVariants.{Arrive, Ask, Put, Take, Crash, Detect, Join}
 
 -- ---- a server that is asked for something
 

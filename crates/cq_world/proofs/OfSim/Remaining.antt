@@ -8,10 +8,10 @@ use Rattle.std.proofs.lemmas.Map.Keys.{any_passes_from_place}
 use Rattle.std.proofs.lemmas.Map.Made.{is_some-lookup}
 use Rattle.cq_base.specs.declared.party.Party.TheVariants as parties
 use Rattle.cq_chain.specs.declared.fault.WorldFault.TheVariants.{LastFull}
-use Rattle.cq_world.specs.Events.{another_full, refusal_of_crash}
+use Rattle.cq_events.specs.Events.{another_full, refusal_of_crash}
 use Rattle.cq_world.specs.within.Kept.{server_at}
 use Rattle.cq_world.specs.Stands.{Holds, StandsFor}
-use Rattle.cq_world.specs.Worlds.{World, is_in}
+use Rattle.cq_events.specs.Worlds.{World, is_in}
 use Rattle.cq_world.specs.declared.sim.Sim.{Sim}
 use Rattle.cq_world.proofs.OfSim.Stands.{holds, kept-known}
 

@@ -8,12 +8,12 @@ use Rattle.cq_chain.specs.declared.fault.WorldFault.{WorldFault}
 use Rattle.cq_chain.specs.declared.fault.WorldFault.TheVariants.{NoSuchServer, ServerDown, LinkEmpty, OutboxEmpty, LastFull, JoinPending, IdUsed, ChainFull, NotDown, NotHead, HistoryFull, NotTail, NoMemory}
 use Rattle.cq_chain.specs.declared.message.Answer.{Answer}
 use Rattle.cq_chain.specs.Faults.{IsRefusal}
-use Rattle.cq_world.specs.Events.{refusal_of, next, after, unless_refused}
-use Rattle.cq_world.specs.Runs.{world_after, given_from, refused_from, given_if, numbered}
+use Rattle.cq_events.specs.Events.{refusal_of, next, after, unless_refused}
+use Rattle.cq_events.specs.Runs.{world_after, given_from, refused_from, given_if, numbered}
 use Rattle.cq_world.specs.Stands.{StandsFor, HasRoomFor}
 use Rattle.cq_world.specs.declared.ran.Ran.{Ran}
-use Rattle.cq_world.specs.Worlds.{World}
-use Rattle.cq_world.specs.declared.event.Event.{Event}
+use Rattle.cq_events.specs.Worlds.{World}
+use Rattle.cq_events.specs.declared.event.Event.{Event}
 use Rattle.cq_world.specs.declared.sim.Sim.{Sim}
 
 -- ---- one event

@@ -15,15 +15,15 @@ use Rattle.cq_chain.specs.Servers.{Server, joining}
 use Rattle.cq_chain.specs.Stands as chain
 use Rattle.cq_chain.specs.Stands.{AllMean, IsFirst, posted, drained}
 use Rattle.cq_chain.specs.Steps.{Step}
-use Rattle.cq_world.specs.Events.{without_first, first_of}
+use Rattle.cq_events.specs.Events.{without_first, first_of}
 use Rattle.cq_world.specs.within.Kept.{server_at, messages_at, after_drawing, after_posting}
 use Rattle.cq_world.specs.Stands.{IsKeptAs, Holds, StandsFor, IsFound}
-use Rattle.cq_world.specs.Worlds.{World, is_in, set_pair, stepped, ordered}
+use Rattle.cq_events.specs.Worlds.{World, is_in, set_pair, stepped, ordered}
 use Rattle.cq_world.specs.declared.links.Pair.{Pair}
 use Rattle.cq_world.specs.declared.sim.Sim.{Sim}
 use Rattle.cq_world.proofs.OfSim.LinksKept.{set-same}
 use Rattle.cq_world.proofs.OfSim.Meanings.{all-append, all-drop, first-alone}
-use Rattle.cq_world.proofs.Parties.{same-true, same-turned, eqb-turned}
+use Rattle.cq_events.proofs.Parties.{same-true, same-turned, eqb-turned}
 
 pub holds : (sim : Sim) (w : World) → StandsFor sim w → Holds sim w
 unfolding StandsFor

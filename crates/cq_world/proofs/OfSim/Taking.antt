@@ -13,10 +13,10 @@ use Rattle.cq_chain.specs.Servers.{Server}
 use Rattle.cq_chain.specs.Stands as chain
 use Rattle.cq_chain.specs.Stands.{Means, AllMean, IsFirst, Does, Keeps, Orders}
 use Rattle.cq_chain.specs.Steps.{takes}
-use Rattle.cq_world.specs.Events.{refusal_of_take, after_take, without_first}
+use Rattle.cq_events.specs.Events.{refusal_of_take, after_take, without_first}
 use Rattle.cq_world.specs.within.Kept.{messages_at}
 use Rattle.cq_world.specs.Stands.{Holds}
-use Rattle.cq_world.specs.Worlds.{World, is_in, set_pair}
+use Rattle.cq_events.specs.Worlds.{World, is_in, set_pair}
 use Rattle.cq_world.specs.declared.sim.Sim.{Sim}
 use Rattle.cq_world.proofs.OfSim.Meanings.{all-drop}
 use Rattle.cq_world.proofs.OfSim.Stands.{IsAt, stepped-stands, restands, links-set, ordered-same, hears-used}

@@ -14,7 +14,7 @@ use Rattle.cq_chain.specs.Messages.{Message, Fwd, Snap, Ack, BeHead, Report, Ado
 use Rattle.cq_chain.specs.Servers.{Server, acts, reaches, is_that}
 use Rattle.cq_chain.specs.Steps.{silent, to_server, when, appended, settled, begins_to_act, answer_to, passed_on, tail_news, stamped, arrived, asked, is_next, forwarded, is_restoring, with_history, restored, forwards, repair, feeding, as_tail, tailed, takes}
 use Rattle.cq_world.specs.Laws.{Speaks}
-use Rattle.cq_world.specs.Worlds.{set_at}
+use Rattle.cq_events.specs.Worlds.{set_at}
 use Rattle.cq_world.proofs.Prefixes.Climbing.{reports, one, ups, Climbs, Grows, climbs-own, climbs-same, climbs-next}
 use Rattle.cq_world.proofs.Eaches.{Each, each-append, each-when, each-to_server, front-refl, front-more, front-next, cons_nil}
 use Rattle.cq_world.proofs.Settled.{is_settled, that_some}

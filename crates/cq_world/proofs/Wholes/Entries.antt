@@ -9,7 +9,7 @@ use Rattle.cq_chain.specs.Parties.{addressed}
 use Rattle.cq_chain.specs.Servers.{Server, acts, is_that}
 use Rattle.cq_chain.specs.Steps.{appended, settled, passed_on, tail_news, with_history, restored}
 use Rattle.cq_store.specs.Laws.{Stamped}
-use Rattle.cq_world.specs.Runs.{longer, acting_history}
+use Rattle.cq_events.specs.Runs.{longer, acting_history}
 use Rattle.cq_world.proofs.Commits.{Commits, longer-length}
 use Rattle.cq_world.proofs.Commits.Steps.{addressed-append}
 use Rattle.cq_world.proofs.Eaches.{Each, each-append, each-follows}

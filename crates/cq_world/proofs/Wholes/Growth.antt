@@ -9,7 +9,7 @@ use Rattle.cq_chain.specs.Messages.{Message, Fwd, Ack, Caught, Ready, Answers}
 use Rattle.cq_chain.specs.Parties.{addressed}
 use Rattle.cq_chain.specs.Servers.{Server, acts, is_that}
 use Rattle.cq_chain.specs.Steps.{to_server, when, appended, settled, begins_to_act, answer_to, passed_on, tail_news, with_history, restored}
-use Rattle.cq_world.specs.Runs.{longer, acting_history}
+use Rattle.cq_events.specs.Runs.{longer, acting_history}
 use Rattle.cq_world.proofs.Commits.{longer-length}
 use Rattle.cq_world.proofs.Commits.Steps.{addressed-append}
 use Rattle.cq_world.proofs.Eaches.{Each, each-append, each-follows}

@@ -12,7 +12,7 @@ use Rattle.cq_chain.specs.Messages.{Message, Fwd, Snap, Ack, BeHead, Report, Ado
 use Rattle.cq_chain.specs.Parties.{addressed}
 use Rattle.cq_chain.specs.Servers.{Server, acts, reaches, is_that}
 use Rattle.cq_chain.specs.Steps.{silent, to_server, when, appended, settled, passed_on, tail_news, stamped, arrived, asked, is_next, forwarded, is_restoring, with_history, restored, forwards, repair, adopting, feeding, as_tail, tailed, reported, takes, crashed}
-use Rattle.cq_world.specs.Runs.{longer, acting_history}
+use Rattle.cq_events.specs.Runs.{longer, acting_history}
 use Rattle.cq_world.proofs.Chains.{before-last, chain-apart}
 use Rattle.cq_world.proofs.Commits.{Pairs, Enough, NotOn, bit, longer-length}
 use Rattle.cq_world.proofs.Commits.Steps.{addressed-append, new_repair_news}

@@ -12,12 +12,12 @@ use Rattle.cq_chain.specs.Refusals.{refusal_of_arrival, refusal_of_query}
 use Rattle.cq_chain.specs.Servers.{Server}
 use Rattle.cq_chain.specs.Steps.{arrived, asked, takes, crashed}
 use Rattle.cq_store.specs.Laws.{Stamped}
-use Rattle.cq_world.specs.Events.{knows, unless_down, is_down, refusal_of_crash, refusal_of_detect, refusal_of, refusal_of_take, after, next, unless_refused, after_take, without_first, after_put}
+use Rattle.cq_events.specs.Events.{knows, unless_down, is_down, refusal_of_crash, refusal_of_detect, refusal_of, refusal_of_take, after, next, unless_refused, after_take, without_first, after_put}
 use Rattle.cq_world.specs.Laws.{Arrival, arrival_if}
-use Rattle.cq_world.specs.Runs.{world_after, longer, acting_history, longest_at, longest_from}
-use Rattle.cq_world.specs.Worlds.{World, first_world, channel, stepped, ordered}
-use Rattle.cq_world.specs.declared.event.Event.{Event}
-use Rattle.cq_world.specs.declared.event.Event.TheVariants.{Arrive, Ask, Put, Take, Crash, Detect, Join}
+use Rattle.cq_events.specs.Runs.{world_after, longer, acting_history, longest_at, longest_from}
+use Rattle.cq_events.specs.Worlds.{World, first_world, channel, stepped, ordered}
+use Rattle.cq_events.specs.declared.event.Event.{Event}
+use Rattle.cq_events.specs.declared.event.Event.TheVariants.{Arrive, Ask, Put, Take, Crash, Detect, Join}
 use Rattle.cq_world.proofs.OfLaws.Arriving.{Arrived, arrivals-stamped, after-arrived, first-arrived}
 use Rattle.cq_world.proofs.Chains.{before-in, before-last}
 use Rattle.cq_world.proofs.Commits.Orders.{said_nothing}
@@ -25,7 +25,8 @@ use Rattle.cq_world.proofs.Commits.Steps.{take-acting, arrive-acting}
 use Rattle.cq_world.proofs.Commits.{bit, longest-same}
 use Rattle.cq_world.proofs.Eaches.{Each, some_none}
 use Rattle.cq_world.proofs.Wholes.Feeding.{NoData, NoSnap, OfSnap, Feeds}
-use Rattle.cq_world.proofs.First.{commits-first, in-numbers, numbers_apart, at_first, at_first_full, first_entries, last_size}
+use Rattle.cq_events.proofs.Numbers.{in-numbers}
+use Rattle.cq_world.proofs.First.{commits-first, numbers_apart, at_first, at_first_full, first_entries, last_size}
 use Rattle.cq_world.proofs.Prefixes.{Turn}
 use Rattle.cq_world.proofs.Running.{Good, onward, list-turned, drained_keeps, sight_ordered, first_speaks, detect_parts, join_parts, chain_some}
 use Rattle.cq_world.proofs.Sights.{Sight, line, sight, turn, said, drained, sight-put, sight-given, sight-step, sight-taken, sight-without}

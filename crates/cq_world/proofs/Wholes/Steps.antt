@@ -16,7 +16,7 @@ use Rattle.cq_chain.specs.Servers.{Server, is_that}
 use Rattle.cq_chain.specs.Steps.{is_next, is_restoring}
 use Rattle.cq_store.specs.Laws.{Stamped}
 use Rattle.cq_world.specs.Laws.{Speaks}
-use Rattle.cq_world.specs.Runs.{longer, acting_history}
+use Rattle.cq_events.specs.Runs.{longer, acting_history}
 use Rattle.cq_world.proofs.Chains.{before-in}
 use Rattle.cq_world.proofs.Prefixes.Climbing.{reports, one, ups}
 use Rattle.cq_world.proofs.Commits.{Commits, bit, longer-length}

@@ -8,14 +8,14 @@ use Rattle.cq_chain.specs.Masters.{is_in, is_last, stands_before}
 use Rattle.cq_chain.specs.Messages.{Message, Snap, Ack, Report, Adopt, Feed, Have, Caught}
 use Rattle.cq_chain.specs.Parties.{same, addressed}
 use Rattle.cq_chain.specs.Servers.{Server, is_that}
-use Rattle.cq_world.specs.Runs.{longer, acting_history}
-use Rattle.cq_world.specs.Worlds.{set_at}
+use Rattle.cq_events.specs.Runs.{longer, acting_history}
+use Rattle.cq_events.specs.Worlds.{set_at}
 use Rattle.cq_world.proofs.Chains.{last-in, before-in}
 use Rattle.cq_world.proofs.Commits.{longer-length}
 use Rattle.cq_world.proofs.Commits.Turns.{if_true, if_false, report_row, by_server, by_told, by_report}
 use Rattle.cq_world.proofs.Eaches.{Each, each-append, each-follows}
 use Rattle.cq_world.proofs.Wholes.Feeding.{NoData, NoSnap, OfSnap, Feeds, data-snap, no-snap}
-use Rattle.cq_world.proofs.Parties.{same-true}
+use Rattle.cq_events.proofs.Parties.{same-true}
 use Rattle.cq_world.proofs.Lines.{joiner-line, joiner-out}
 use Rattle.cq_world.proofs.Prefixes.Climbing.{ups}
 use Rattle.cq_world.proofs.Prefixes.{Prefixes, Turn, master_after, ups_after, ups_own, ups_other, row_after, rest_of, each-end}

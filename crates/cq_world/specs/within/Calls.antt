@@ -3,13 +3,13 @@ use Rattle.std.specs.Prelude.{◌≡◌, Option, None, Result, IfOk, IfErr, OnOk
 use Rattle.cq_chain.specs.declared.fault.WorldFault.{WorldFault}
 use Rattle.cq_chain.specs.declared.message.Answer.{Answer}
 use Rattle.cq_chain.specs.Faults.{IsRefusal}
-use Rattle.cq_world.specs.declared.event.Event.{Event}
-use Rattle.cq_world.specs.declared.event.Event.TheVariants.{Put, Take}
+use Rattle.cq_events.specs.declared.event.Event.{Event}
+use Rattle.cq_events.specs.declared.event.Event.TheVariants.{Put, Take}
 use Rattle.cq_world.specs.declared.links.Pair.{Pair}
 use Rattle.cq_world.specs.declared.sim.Sim.{Sim}
-use Rattle.cq_world.specs.Events.{refusal_of, refusal_of_put, refusal_of_take, next, given_by}
+use Rattle.cq_events.specs.Events.{refusal_of, refusal_of_put, refusal_of_take, next, given_by}
 use Rattle.cq_world.specs.Stands.{StandsFor}
-use Rattle.cq_world.specs.Worlds.{World}
+use Rattle.cq_events.specs.Worlds.{World}
 
 -- Where the call succeeds, nothing refused the event, and the sim stands for the next world.
 abbrev pub IsDone : Sim → Sim → Event → Result (Unit {0}) WorldFault → Type 0

@@ -8,8 +8,8 @@ use Rattle.cq_chain.specs.declared.server.Server.{Server}
 use Rattle.cq_chain.specs.Lanes.{Lane, messages_of, room_of}
 use Rattle.cq_chain.specs.Parties.{same}
 use Rattle.cq_chain.specs.Messages as told
-use Rattle.cq_world.specs.Events.{first_of}
-use Rattle.cq_world.specs.Worlds.{World, set_pair}
+use Rattle.cq_events.specs.Events.{first_of}
+use Rattle.cq_events.specs.Worlds.{World, set_pair}
 use Rattle.cq_world.specs.declared.links.Pair.{Pair}
 
 -- the server of that number, if it is kept

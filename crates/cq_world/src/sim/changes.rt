@@ -4,11 +4,11 @@ ghost use Rattle.indexmap.specs.IndexMap.{spare};
 ghost use Rattle.cq_chain.specs.Servers.{joining};
 ghost use Rattle.cq_chain.specs.Stands as chain;
 ghost use Rattle.cq_chain.specs.declared.fault.WorldFault.TheVariants as faults;
-ghost use Rattle.cq_world.specs.Events.{another_full};
+ghost use Rattle.cq_events.specs.Events.{another_full};
 ghost use Rattle.cq_world.specs.Stands.{StandsFor, Shows, IsRefused};
 ghost use Rattle.cq_world.specs.within.Calls.{IsDone};
-ghost use Rattle.cq_world.specs.Worlds.{is_in};
-ghost use Rattle.cq_world.specs.declared.event.Event.TheVariants as events;
+ghost use Rattle.cq_events.specs.Worlds.{is_in};
+ghost use Rattle.cq_events.specs.declared.event.Event.TheVariants as events;
 
 use super::Sim;
 use cq_base::{NoMemory, ServerId};

@@ -5,12 +5,12 @@ ghost use Rattle.cq_chain.specs.Faults.{IsRefusal};
 ghost use Rattle.cq_chain.specs.Messages as told;
 ghost use Rattle.cq_chain.specs.declared.fault.WorldFault.TheVariants as faults;
 ghost use Rattle.cq_chain.specs.Stands.{IsFirst, Means};
-ghost use Rattle.cq_world.specs.Events.{refusal_of, refusal_of_take, without_first, answers_in, head_of};
+ghost use Rattle.cq_events.specs.Events.{refusal_of, refusal_of_take, without_first, answers_in, head_of};
 ghost use Rattle.cq_world.specs.within.Kept.{IsFilled, after_drawing};
 ghost use Rattle.cq_world.specs.Stands.{StandsFor, Shows, Happens, Gives, IsRefused};
 ghost use Rattle.cq_world.specs.within.Calls.{IsDone, IsPut, IsPutRefused, IsTaken, IsTakeRefused};
-ghost use Rattle.cq_world.specs.Worlds.{is_in};
-ghost use Rattle.cq_world.specs.declared.event.Event.TheVariants as events;
+ghost use Rattle.cq_events.specs.Worlds.{is_in};
+ghost use Rattle.cq_events.specs.declared.event.Event.TheVariants as events;
 
 use super::Sim;
 use crate::links::Pair;

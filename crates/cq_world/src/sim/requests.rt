@@ -1,7 +1,7 @@
 //! Requests and queries that come to servers.
 ghost use Rattle.cq_world.specs.Stands.{IsRefused};
 ghost use Rattle.cq_world.specs.within.Calls.{IsDone};
-ghost use Rattle.cq_world.specs.declared.event.Event.TheVariants as events;
+ghost use Rattle.cq_events.specs.declared.event.Event.TheVariants as events;
 
 use super::Sim;
 use cq_base::{Moment, Query, Request, ServerId};

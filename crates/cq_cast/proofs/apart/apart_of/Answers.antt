@@ -2,7 +2,7 @@
 use Rattle.std.proofs.Common.{◌∙◌, ap, refl, map, [], ◌∷◌, ◌++◌}
 use Rattle.cq_base.specs.declared.party.Party.TheVariants as parties
 use Rattle.cq_chain.specs.declared.message.Message.{Message}
-use Rattle.cq_trace.specs.declared.trace.Trace.{Trace}
+use Rattle.cq_events.specs.declared.trace.Trace.{Trace}
 use Rattle.cq_wires.specs.declared.ports.Ports.{Ports}
 use Rattle.cq_cast.proofs.apart.apart_of.Goals as goal
 

@@ -5,9 +5,9 @@ use Rattle.cq_chain.specs.Servers.{first_member, joining}
 use Rattle.cq_chain.specs.Stands.{StandsFor}
 use Rattle.cq_live.proofs.DeedRuns.{first-member, first-joining}
 use Rattle.cq_live.proofs.FirstCores.{not_in, if_ok}
-use Rattle.cq_trace.specs.Deeds.{StandsAs}
-use Rattle.cq_world.specs.Worlds.{first_world}
-use Rattle.cq_world.proofs.First.{in-numbers}
+use Rattle.cq_events.specs.Deeds.{StandsAs}
+use Rattle.cq_events.specs.Worlds.{first_world}
+use Rattle.cq_events.proofs.Numbers.{in-numbers}
 use Rattle.cq_live.proofs.first_core.first_core.Goals as goal
 
 pub returns-then-get-from : goal.returns-then-get-from

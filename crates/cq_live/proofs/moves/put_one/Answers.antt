@@ -2,7 +2,7 @@
 use Rattle.std.proofs.Common.{sym, subst}
 use Rattle.cq_live.specs.Ends.{with_back}
 use Rattle.cq_live.proofs.Moving.{put-done}
-use Rattle.cq_trace.specs.Deeds.{Put, Does}
+use Rattle.cq_events.specs.Deeds.{Put, Does}
 use Rattle.cq_live.proofs.moves.put_one.Goals as goal
 
 pub returns-in-Ok-clause-put : goal.returns-in-Ok-clause-put

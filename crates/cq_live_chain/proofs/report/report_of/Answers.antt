@@ -1,11 +1,11 @@
 -- What an audit answered of the traces, with all asks closed, is what was promised.
 use Rattle.std.proofs.Common.{◌+◌, ◌∙◌, ap, sym, subst, List, length}
-use Rattle.cq_live.specs.Lives.{sends_closed}
+use Rattle.cq_live_run.specs.Lives.{sends_closed}
 use Rattle.cq_live_chain.proofs.Reporting.{is_live}
 use Rattle.cq_live_run.specs.Ended.{closed_of}
 use Rattle.cq_plan.specs.Steps.{asks_of}
 use Rattle.cq_trace.specs.Audits.{IsMerge}
-use Rattle.cq_trace.specs.declared.trace.Trace.{Trace}
+use Rattle.cq_events.specs.declared.trace.Trace.{Trace}
 use Rattle.cq_live_chain.proofs.report.report_of.Goals as goal
 
 pub returns-clause-live : goal.returns-clause-live

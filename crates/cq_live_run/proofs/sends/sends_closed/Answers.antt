@@ -1,6 +1,6 @@
 -- Nothing is left of the one or of the other.
 use Rattle.std.proofs.Common.{◌≡◌, length}
-use Rattle.cq_live.specs.Lives.{sends_closed}
+use Rattle.cq_live_run.specs.Lives.{sends_closed}
 use Rattle.cq_live_run.proofs.Counting.{all_counted, one_ended}
 use Rattle.cq_live_run.proofs.sends.sends_closed.Goals as goal
 

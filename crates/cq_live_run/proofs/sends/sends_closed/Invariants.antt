@@ -1,6 +1,6 @@
 -- The sends so far and those of what is left are all; there are at most as many as asks.
 use Rattle.std.proofs.Common.{◌≡◌, ◌+◌, ◌≤◌, length}
-use Rattle.cq_live.specs.Lives.{sends_closed}
+use Rattle.cq_live_run.specs.Lives.{sends_closed}
 use Rattle.cq_live_run.proofs.sends.sends_closed.Given as goal
 
 abbrev pub invariant-loop-ask : goal.invariant-loop-ask

@@ -1,7 +1,7 @@
 -- By what the step gave.
 use Rattle.std.proofs.Common.{Some, None, sym, ◌∙◌}
 use Rattle.std.proofs.lemmas.Result.{IfOk-weaker}
-use Rattle.cq_world.specs.Events.{refusal_of}
+use Rattle.cq_events.specs.Events.{refusal_of}
 use Rattle.cq_world.proofs.OfSim.RunSteps.{refusal-told}
 use Rattle.cq_script.proofs.Outcomes.{told_given, told_refused}
 use Rattle.cq_script.proofs.outcome.event_line.Goals as goal

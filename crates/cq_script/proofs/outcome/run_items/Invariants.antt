@@ -3,7 +3,7 @@
 use Rattle.std.proofs.Common.{◌≡◌, ◌++◌, List, ℕ, drop}
 use Rattle.std.specs.Io.KnownBytes.{Appends}
 use Rattle.cq_world.specs.Stands.{StandsFor}
-use Rattle.cq_world.specs.Worlds.{World}
+use Rattle.cq_events.specs.Worlds.{World}
 use Rattle.cq_script.specs.Output.{text_from}
 use Rattle.cq_script.specs.within.Played.{after_items}
 use Rattle.cq_script.proofs.outcome.run_items.Given as goal

@@ -2,7 +2,7 @@
 use Rattle.std.proofs.Common.{◌≡◌, true, false, [], Err}
 use Rattle.std.proofs.lemmas.Result.{err_from_is_err_and}
 use Rattle.std.proofs.KnownBytes.{Appends-nil}
-use Rattle.cq_world.specs.Worlds.{first_world}
+use Rattle.cq_events.specs.Worlds.{first_world}
 use Rattle.cq_script.specs.Output.{text_from}
 use Rattle.cq_script.specs.Runs.{WritesFront, ends_by_memory}
 use Rattle.cq_script.specs.within.Played.{after_items}

@@ -2,8 +2,8 @@
 use Rattle.std.proofs.Common.{◌≡◌, ◌∙◌, ap, sym, subst, refl, drop, take, length, ◌++◌, ◌<◌, ◌≤◌, ℕ, List, Some, slice_get, slice_index_or, arith}
 use Rattle.std.proofs.lemmas.Option.{slice_get_read, slice_get-get_or, slice_get_within}
 use Rattle.cq_trace.specs.within.Along.{IsNext}
-use Rattle.cq_world.specs.declared.event.Event.{Event}
-use Rattle.cq_trace.specs.declared.trace.Trace.{Trace}
+use Rattle.cq_events.specs.declared.event.Event.{Event}
+use Rattle.cq_events.specs.declared.trace.Trace.{Trace}
 use Rattle.cq_trace.proofs.OfAudit.Following.{Followed}
 use Rattle.cq_trace.proofs.OfAudit.GoodTraces.{good}
 use Rattle.cq_trace.proofs.OfAudit.Rounds.{rounded}

@@ -1,5 +1,5 @@
 -- Groups keep their order.
-use Rattle.cq_world.specs.Runs.{committed}
+use Rattle.cq_events.specs.Runs.{committed}
 use Rattle.cq_store.proofs.OfLaws.FirstHandings.{first_in_order}
 use Rattle.cq_world.proofs.laws.first_handings_in_order.Goals as goal
 

@@ -1,5 +1,5 @@
 -- A client's number takes effect once.
-use Rattle.cq_world.specs.Runs.{committed}
+use Rattle.cq_events.specs.Runs.{committed}
 use Rattle.cq_store.proofs.OfLaws.OneQueue.{others_do_nothing}
 use Rattle.cq_store.proofs.OfLaws.Repeats.{fresh_once, repeats_answered}
 use Rattle.cq_world.proofs.laws.one_effect_per_number.Goals as goal

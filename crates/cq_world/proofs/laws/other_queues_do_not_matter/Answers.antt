@@ -1,5 +1,5 @@
 -- Each queue goes by its own entries.
-use Rattle.cq_world.specs.Runs.{committed}
+use Rattle.cq_events.specs.Runs.{committed}
 use Rattle.cq_store.proofs.OfLaws.OneQueue.{queues_alone, replies_alone}
 use Rattle.cq_world.proofs.laws.other_queues_do_not_matter.Goals as goal
 

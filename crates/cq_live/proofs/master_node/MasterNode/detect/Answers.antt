@@ -3,7 +3,7 @@ use Rattle.std.proofs.Common.{◌∙◌, ap, refl, Ok}
 use Rattle.cq_live.specs.MasterMoves.{back_of_servers}
 use Rattle.cq_live.proofs.MasterSteps.{noted, master_detected, master_waiting}
 use Rattle.cq_live.proofs.NodeSteps.{not_taken, none_taken}
-use Rattle.cq_world.specs.declared.event.Event.TheVariants as events
+use Rattle.cq_events.specs.declared.event.Event.TheVariants as events
 use Rattle.cq_live.proofs.master_node.MasterNode.detect.Goals as goal
 
 pub invariant_of-self-in_err-detected : goal.invariant_of-self-in_err-detected

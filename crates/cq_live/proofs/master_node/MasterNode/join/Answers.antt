@@ -5,7 +5,7 @@ use Rattle.cq_live.specs.declared.master_node.Join.{Join}
 use Rattle.cq_live.specs.MasterMoves.{back_of_servers}
 use Rattle.cq_live.proofs.MasterSteps.{noted, master_joined, master_waiting}
 use Rattle.cq_live.proofs.NodeSteps.{not_taken, none_taken}
-use Rattle.cq_world.specs.declared.event.Event.TheVariants as events
+use Rattle.cq_events.specs.declared.event.Event.TheVariants as events
 use Rattle.cq_live.proofs.master_node.MasterNode.join.Goals as goal
 
 pub invariant_of-self-in_err-joined-in-Some : goal.invariant_of-self-in_err-joined-in-Some

@@ -2,8 +2,8 @@
 use Rattle.std.proofs.Common.{◌+◌}
 use Rattle.cq_base.specs.declared.party.Party.TheVariants as parties
 use Rattle.cq_live.proofs.MasterSteps.{noted, master_put, master_idle}
-use Rattle.cq_trace.specs.Deeds.{put_to}
-use Rattle.cq_world.specs.declared.event.Event.TheVariants as events
+use Rattle.cq_events.specs.Deeds.{put_to}
+use Rattle.cq_events.specs.declared.event.Event.TheVariants as events
 use Rattle.cq_live.proofs.master_node.MasterNode.put_on.Goals as goal
 
 pub invariant_of-self-then-put : goal.invariant_of-self-then-put

@@ -4,8 +4,8 @@ use Rattle.cq_base.specs.declared.party.Party.TheVariants as parties
 use Rattle.cq_live.specs.MasterMoves.{back_of_servers}
 use Rattle.cq_live.proofs.MasterSteps.{noted, same_count, master_took, master_waiting}
 use Rattle.cq_live.proofs.NodeSteps.{not_taken, none_taken}
-use Rattle.cq_trace.specs.Deeds.{taken_from}
-use Rattle.cq_world.specs.declared.event.Event.TheVariants as events
+use Rattle.cq_events.specs.Deeds.{taken_from}
+use Rattle.cq_events.specs.declared.event.Event.TheVariants as events
 use Rattle.cq_live.proofs.master_node.MasterNode.take_from.Goals as goal
 
 pub invariant_of-self-in_err-taken : goal.invariant_of-self-in_err-taken

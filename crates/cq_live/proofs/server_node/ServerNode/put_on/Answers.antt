@@ -3,8 +3,8 @@ use Rattle.std.proofs.Common.{arith, ◌∙◌, ◌++◌, ◌∷◌, [], ap}
 use Rattle.cq_base.specs.declared.party.Party.TheVariants as parties
 use Rattle.cq_live.specs.Ends.{party_at}
 use Rattle.cq_live.proofs.NodeSteps.{ran_put, ran_idle, room_if}
-use Rattle.cq_trace.specs.Deeds.{put_to}
-use Rattle.cq_world.specs.declared.event.Event.TheVariants as events
+use Rattle.cq_events.specs.Deeds.{put_to}
+use Rattle.cq_events.specs.declared.event.Event.TheVariants as events
 use Rattle.cq_live.proofs.server_node.ServerNode.put_on.Goals as goal
 
 pub invariant_of-self-then-put : goal.invariant_of-self-then-put

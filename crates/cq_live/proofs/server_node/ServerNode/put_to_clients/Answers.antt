@@ -2,7 +2,7 @@
 use Rattle.std.proofs.Common.{arith, ◌∙◌, ◌++◌, ◌∷◌, [], ap}
 use Rattle.cq_base.specs.declared.party.Party.TheVariants as parties
 use Rattle.cq_live.proofs.NodeSteps.{ran_answered, ran_silent, room_if}
-use Rattle.cq_world.specs.declared.event.Event.TheVariants as events
+use Rattle.cq_events.specs.declared.event.Event.TheVariants as events
 use Rattle.cq_live.proofs.server_node.ServerNode.put_to_clients.Goals as goal
 
 pub invariant_of-self-then-put : goal.invariant_of-self-then-put

@@ -4,8 +4,8 @@ use Rattle.cq_base.specs.declared.party.Party.TheVariants as parties
 use Rattle.cq_live.specs.Ends.{party_at, back_of}
 use Rattle.cq_live.proofs.MasterSteps.{same_count}
 use Rattle.cq_live.proofs.NodeSteps.{ran_taken, ran_waiting, not_taken, none_taken, room_if}
-use Rattle.cq_trace.specs.Deeds.{taken_from}
-use Rattle.cq_world.specs.declared.event.Event.TheVariants as events
+use Rattle.cq_events.specs.Deeds.{taken_from}
+use Rattle.cq_events.specs.declared.event.Event.TheVariants as events
 use Rattle.cq_live.proofs.server_node.ServerNode.take_from.Goals as goal
 
 pub invariant_of-self-in_err-taken : goal.invariant_of-self-in_err-taken

@@ -2,7 +2,7 @@
 use Rattle.std.proofs.Common.{arith, ◌∙◌, ◌++◌, ◌∷◌, [], ap, Ok}
 use Rattle.cq_live.specs.Ends.{back_of}
 use Rattle.cq_live.proofs.NodeSteps.{ran_arrived, ran_unasked, refused_came, none_came, room_if}
-use Rattle.cq_world.specs.declared.event.Event.TheVariants as events
+use Rattle.cq_events.specs.declared.event.Event.TheVariants as events
 use Rattle.cq_live.proofs.server_node.ServerNode.take_request.Goals as goal
 
 pub invariant_of-self-in_err-request : goal.invariant_of-self-in_err-request

@@ -1,6 +1,6 @@
 -- The event was enabled.
-use Rattle.cq_world.specs.Runs.{world_after}
-use Rattle.cq_world.specs.Worlds.{first_world}
+use Rattle.cq_events.specs.Runs.{world_after}
+use Rattle.cq_events.specs.Worlds.{first_world}
 use Rattle.cq_trace.proofs.OfAudit.Rounds.{leads-more}
 use Rattle.cq_trace.proofs.order.Order.step.Goals as goal
 

@@ -3,7 +3,7 @@ use Rattle.std.proofs.Common.{◌∙◌, drop, ap, sym}
 use Rattle.std.specs.Option.{is_some}
 use Rattle.cq_chain.specs.Lanes.{messages_of}
 use Rattle.cq_world.specs.within.Kept.{messages_at}
-use Rattle.cq_world.specs.Worlds.{set_pair}
+use Rattle.cq_events.specs.Worlds.{set_pair}
 use Rattle.cq_world.proofs.OfSim.LinksKept.{written, set-same}
 use Rattle.cq_world.proofs.OfSim.PairKeys.{update-written, found-lane}
 use Rattle.cq_world.proofs.links.Links.pop.Goals as goal

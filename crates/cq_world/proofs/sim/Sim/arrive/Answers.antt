@@ -6,7 +6,7 @@ use Rattle.cq_chain.specs.Refusals.{refusal_of_arrival}
 use Rattle.cq_chain.specs.Steps.{arrived}
 use Rattle.cq_world.specs.within.Kept.{server_at}
 use Rattle.cq_world.specs.Stands.{StandsFor}
-use Rattle.cq_world.specs.Worlds.{stepped, is_in}
+use Rattle.cq_events.specs.Worlds.{stepped, is_in}
 use Rattle.cq_world.specs.declared.sim.Sim.{Sim}
 use Rattle.cq_world.proofs.OfSim.Refused.{at-living, at-dead, at-none, refused-arrive, next-arrive}
 use Rattle.cq_world.proofs.OfSim.Stands.{IsAt, holds, stands, known, unknown, stepped-stands, restands}

@@ -3,10 +3,10 @@ use Rattle.std.proofs.Common.{◌∙◌, ap, sym, refl, subst}
 use Rattle.std.specs.Option.{is_some}
 use Rattle.cq_base.specs.declared.party.Party.TheVariants as parties
 use Rattle.cq_chain.specs.Steps.{crashed}
-use Rattle.cq_world.specs.Events.{refusal_of_crash}
+use Rattle.cq_events.specs.Events.{refusal_of_crash}
 use Rattle.cq_world.specs.within.Kept.{server_at}
 use Rattle.cq_world.specs.Stands.{StandsFor}
-use Rattle.cq_world.specs.Worlds.{stepped, is_in}
+use Rattle.cq_events.specs.Worlds.{stepped, is_in}
 use Rattle.cq_world.specs.declared.sim.Sim.{Sim}
 use Rattle.cq_world.proofs.OfSim.Refused.{at-living, at-dead, at-none, refused-crash, next-crash}
 use Rattle.cq_world.proofs.OfSim.Remaining.{crash-allowed, crash-refused}

@@ -4,7 +4,7 @@ use Rattle.cq_base.specs.declared.party.Party.TheVariants as parties
 use Rattle.cq_chain.specs.Masters.{detected, refusal_of_detection}
 use Rattle.cq_world.specs.within.Kept.{server_at}
 use Rattle.cq_world.specs.Stands.{StandsFor}
-use Rattle.cq_world.specs.Worlds.{ordered, is_in}
+use Rattle.cq_events.specs.Worlds.{ordered, is_in}
 use Rattle.cq_world.specs.declared.sim.Sim.{Sim}
 use Rattle.cq_world.proofs.OfSim.Refused.{detect-known, detect-unknown, detect-dead, detect-living, next-detect}
 use Rattle.cq_world.proofs.OfSim.Stands.{holds, stands, known, unknown, ordered-same, detected-used, remains-master}

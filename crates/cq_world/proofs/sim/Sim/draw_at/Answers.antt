@@ -4,7 +4,7 @@ use Rattle.std.specs.Option.{is_some}
 use Rattle.cq_base.specs.declared.party.Party.TheVariants as parties
 use Rattle.cq_world.specs.within.Kept.{server_at, after_drawing}
 use Rattle.cq_world.specs.Stands.{StandsFor}
-use Rattle.cq_world.specs.Worlds.{is_in}
+use Rattle.cq_events.specs.Worlds.{is_in}
 use Rattle.cq_world.specs.declared.sim.Sim.{Sim}
 use Rattle.cq_world.proofs.OfSim.Stands.{IsAt, holds, stands, known, unknown, drawn-stands, drawn-nothing}
 use Rattle.cq_world.proofs.sim.Sim.draw_at.Goals as goal

@@ -1,6 +1,6 @@
 -- The first message leaves the link.
 use Rattle.std.proofs.Common.{◌∙◌, sym, refl}
-use Rattle.cq_world.specs.Events.{without_first}
+use Rattle.cq_events.specs.Events.{without_first}
 use Rattle.cq_world.specs.within.Kept.{messages_at}
 use Rattle.cq_world.specs.declared.sim.Sim.{Sim}
 use Rattle.cq_world.proofs.OfSim.Meanings.{all-length, none-of, filled-of}

@@ -1,6 +1,6 @@
 -- What is drawn from the outbox is given.
 use Rattle.std.proofs.Common.{◌∙◌, ap, sym, subst}
-use Rattle.cq_world.specs.Events.{refusal_of_put}
+use Rattle.cq_events.specs.Events.{refusal_of_put}
 use Rattle.cq_world.specs.Stands.{StandsFor}
 use Rattle.cq_world.proofs.OfSim.Meanings.{put-first}
 use Rattle.cq_world.proofs.OfSim.Refused.{next-put, given-put, put-drawn, put-given}

@@ -1,7 +1,7 @@
 -- Only what is put to the clients gives an answer.
 use Rattle.std.proofs.lemmas.Bool.{false≢true}
-use Rattle.cq_world.specs.Events.{refusal_of}
-use Rattle.cq_world.specs.declared.event.Event.TheVariants.{Put}
+use Rattle.cq_events.specs.Events.{refusal_of}
+use Rattle.cq_events.specs.declared.event.Event.TheVariants.{Put}
 use Rattle.cq_world.proofs.OfSim.Refused.{silent-put, silent-event, nothing-same}
 use Rattle.cq_world.proofs.sim.Sim.gives.Goals as goal
 

@@ -1,7 +1,7 @@
 -- The master hears the first message.
 use Rattle.std.proofs.Common.{ap, sym, refl, subst}
 use Rattle.cq_base.specs.declared.party.Party.TheVariants as parties
-use Rattle.cq_world.specs.Events.{refusal_of_take}
+use Rattle.cq_events.specs.Events.{refusal_of_take}
 use Rattle.cq_world.specs.within.Kept.{messages_at}
 use Rattle.cq_world.specs.Stands.{StandsFor}
 use Rattle.cq_world.specs.declared.sim.Sim.{Sim}

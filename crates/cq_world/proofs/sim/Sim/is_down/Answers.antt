@@ -1,9 +1,9 @@
 -- A server that is kept says it.
 use Rattle.std.proofs.Common.{◌≡◌, ◌∙◌, ap, sym, subst, true}
 use Rattle.cq_base.specs.declared.party.Party.TheVariants as parties
-use Rattle.cq_world.specs.Events.{knows, is_down}
+use Rattle.cq_events.specs.Events.{knows, is_down}
 use Rattle.cq_world.specs.within.Kept.{server_at}
-use Rattle.cq_world.specs.Worlds.{is_in}
+use Rattle.cq_events.specs.Worlds.{is_in}
 use Rattle.cq_world.proofs.OfSim.Stands.{holds, known, unknown}
 use Rattle.cq_world.proofs.OfSim.Taking.{true_false}
 use Rattle.cq_world.proofs.sim.Sim.is_down.Goals as goal

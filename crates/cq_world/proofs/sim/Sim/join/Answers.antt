@@ -3,10 +3,10 @@ use Rattle.std.proofs.Common.{◌∙◌, sym, refl, subst}
 use Rattle.cq_base.specs.declared.party.Party.TheVariants as parties
 use Rattle.cq_chain.specs.Faults.{IsRefusal}
 use Rattle.cq_chain.specs.Masters.{joined}
-use Rattle.cq_world.specs.Events.{refusal_of}
+use Rattle.cq_events.specs.Events.{refusal_of}
 use Rattle.cq_world.specs.Stands.{StandsFor}
-use Rattle.cq_world.specs.Worlds.{ordered}
-use Rattle.cq_world.specs.declared.event.Event.TheVariants as events
+use Rattle.cq_events.specs.Worlds.{ordered}
+use Rattle.cq_events.specs.declared.event.Event.TheVariants as events
 use Rattle.cq_world.specs.declared.sim.Sim.{Sim}
 use Rattle.cq_world.proofs.OfSim.Joining.{new-number, joined-stands}
 use Rattle.cq_world.proofs.OfSim.Refused.{refused-join, next-join}

@@ -1,7 +1,7 @@
 -- By whether both ends are known, whether the sender lives, and whether something waits.
 use Rattle.std.proofs.Common.{◌∙◌, ◌==◌, ap, sym, is_none, not}
-use Rattle.cq_world.specs.Events.{knows}
-use Rattle.cq_world.proofs.Parties.{both}
+use Rattle.cq_events.specs.Events.{knows}
+use Rattle.cq_events.proofs.Parties.{both}
 use Rattle.cq_world.proofs.OfSim.Refused.{put-known, put-dead, put-unknown, put-waits}
 use Rattle.cq_world.proofs.sim.Sim.may_put.Goals as goal
 

@@ -1,6 +1,6 @@
 -- What is drawn from the outbox is pushed onto the link.
 use Rattle.std.proofs.Common.{◌∙◌, ap, sym, subst, length}
-use Rattle.cq_world.specs.Events.{first_of, refusal_of_put}
+use Rattle.cq_events.specs.Events.{first_of, refusal_of_put}
 use Rattle.cq_world.specs.within.Kept.{after_drawing, after_posting}
 use Rattle.cq_world.specs.Stands.{StandsFor}
 use Rattle.cq_world.specs.declared.sim.Sim.{Sim}

@@ -1,10 +1,10 @@
 -- By whether both ends are known, and whether the sender lives.
 use Rattle.std.proofs.Common.{◌≡◌, ◌∙◌, sym, subst, None, IfOk, IfErr}
 use Rattle.cq_chain.specs.Faults.{IsRefusal}
-use Rattle.cq_world.specs.Events.{knows, given_by, next}
+use Rattle.cq_events.specs.Events.{knows, given_by, next}
 use Rattle.cq_world.specs.Stands.{StandsFor}
-use Rattle.cq_world.specs.declared.event.Event.TheVariants as events
-use Rattle.cq_world.proofs.Parties.{both}
+use Rattle.cq_events.specs.declared.event.Event.TheVariants as events
+use Rattle.cq_events.proofs.Parties.{both}
 use Rattle.cq_world.proofs.OfSim.Refused.{put-known, put-dead, put-unknown}
 use Rattle.cq_world.proofs.sim.Sim.put.Goals as goal
 

@@ -4,11 +4,11 @@ use Rattle.std.proofs.lemmas.List.{length-take-le}
 use Rattle.std.proofs.lemmas.Option.{slice_get-get_or}
 use Rattle.std.proofs.Math.Seq.{take-suc}
 use Rattle.cq_base.specs.Relations.{Among}
-use Rattle.cq_world.specs.Events.{refusal_of}
+use Rattle.cq_events.specs.Events.{refusal_of}
 use Rattle.cq_world.specs.Laws.{IsOfTheObject}
-use Rattle.cq_world.specs.Runs.{world_after}
+use Rattle.cq_events.specs.Runs.{world_after}
 use Rattle.cq_world.specs.Stands.{WantsMemory}
-use Rattle.cq_world.specs.Worlds.{first_world}
+use Rattle.cq_events.specs.Worlds.{first_world}
 use Rattle.cq_world.proofs.OfLaws.Headlines.{headline_holds, given_of_one_object}
 use Rattle.cq_world.proofs.OfSim.RunSteps.{IsRun, none-run, one-more, some_same}
 use Rattle.cq_world.proofs.OfSim.Calls.{had-ok, had-err}

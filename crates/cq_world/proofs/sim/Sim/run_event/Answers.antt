@@ -1,10 +1,10 @@
 -- By what the step gave.
 use Rattle.std.proofs.Common.{◌+◌, ◌∙◌, ◌++◌, inr, ap, sym, subst, append-nil, Some}
 use Rattle.std.specs.Result.{IsOk}
-use Rattle.cq_world.specs.Events.{refusal_of}
-use Rattle.cq_world.specs.Runs.{given_if, numbered}
+use Rattle.cq_events.specs.Events.{refusal_of}
+use Rattle.cq_events.specs.Runs.{given_if, numbered}
 use Rattle.cq_world.specs.Stands.{StandsFor, HasRoomFor}
-use Rattle.cq_world.specs.Worlds.{World}
+use Rattle.cq_events.specs.Worlds.{World}
 use Rattle.cq_world.proofs.OfSim.RunSteps.{after-done, after-refused, refusal-told, passes}
 use Rattle.cq_world.proofs.OfSim.Calls.{on-ok, on-err, no-err}
 use Rattle.cq_world.proofs.sim.Sim.run_event.Goals as goal

@@ -2,7 +2,7 @@
 use Rattle.std.proofs.Common.{ap, sym, length}
 use Rattle.cq_base.specs.declared.party.Party.TheVariants as parties
 use Rattle.cq_world.specs.within.Kept.{server_at}
-use Rattle.cq_world.specs.Worlds.{is_in}
+use Rattle.cq_events.specs.Worlds.{is_in}
 use Rattle.cq_world.proofs.OfSim.Stands.{holds, known, unknown}
 use Rattle.cq_world.proofs.sim.Sim.server_count.Goals as goal
 

@@ -1,5 +1,5 @@
 -- By the kind of the event.
-use Rattle.cq_world.specs.declared.event.Event.TheVariants.{Arrive, Ask, Take, Crash, Detect, Join}
+use Rattle.cq_events.specs.declared.event.Event.TheVariants.{Arrive, Ask, Take, Crash, Detect, Join}
 use Rattle.cq_world.proofs.OfSim.Refused.{given-arrive, given-ask, given-take, given-crash, given-detect, given-join, silent-same}
 use Rattle.cq_world.proofs.sim.Sim.step.Goals as goal
 

@@ -1,10 +1,10 @@
 -- By whether both ends are known, whether the taker lives, and who it is.
 use Rattle.std.proofs.Common.{◌≡◌, ◌∙◌, sym, subst, None, true, OnOk, IfErr}
 use Rattle.cq_chain.specs.Faults.{IsRefusal}
-use Rattle.cq_world.specs.Events.{knows, next, refusal_of}
+use Rattle.cq_events.specs.Events.{knows, next, refusal_of}
 use Rattle.cq_world.specs.Stands.{StandsFor}
-use Rattle.cq_world.specs.declared.event.Event.TheVariants as events
-use Rattle.cq_world.proofs.Parties.{both}
+use Rattle.cq_events.specs.declared.event.Event.TheVariants as events
+use Rattle.cq_events.proofs.Parties.{both}
 use Rattle.cq_world.proofs.OfSim.Refused.{IsDropped, next-take, take-known, take-dead, take-unknown, take-filled, take-dropped, take-nothing}
 use Rattle.cq_world.proofs.OfSim.Calls.{on-ok, if-err}
 use Rattle.cq_world.proofs.sim.Sim.take.Goals as goal

@@ -2,10 +2,10 @@
 use Rattle.std.proofs.Common.{◌∙◌, ap, sym, refl, subst}
 use Rattle.std.specs.Option.{is_some}
 use Rattle.cq_base.specs.declared.party.Party.TheVariants as parties
-use Rattle.cq_world.specs.Events.{refusal_of_take}
+use Rattle.cq_events.specs.Events.{refusal_of_take}
 use Rattle.cq_world.specs.within.Kept.{server_at, messages_at}
 use Rattle.cq_world.specs.Stands.{StandsFor}
-use Rattle.cq_world.specs.Worlds.{is_in}
+use Rattle.cq_events.specs.Worlds.{is_in}
 use Rattle.cq_world.specs.declared.sim.Sim.{Sim}
 use Rattle.cq_world.proofs.OfSim.Meanings.{first-mean, first-none}
 use Rattle.cq_world.proofs.OfSim.Refused.{next-take}

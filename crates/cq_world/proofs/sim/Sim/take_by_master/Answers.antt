@@ -1,7 +1,7 @@
 -- The master hears servers alone.
 use Rattle.std.proofs.Common.{◌∙◌, sym, subst}
 use Rattle.cq_chain.specs.Faults.{IsRefusal}
-use Rattle.cq_world.specs.Events.{refusal_of_take}
+use Rattle.cq_events.specs.Events.{refusal_of_take}
 use Rattle.cq_world.specs.Stands.{StandsFor}
 use Rattle.cq_world.proofs.OfSim.Refused.{next-take, take-filled, take-dropped, take-nothing, dropped-of-others}
 use Rattle.cq_world.proofs.OfSim.Calls.{on-ok, if-err}

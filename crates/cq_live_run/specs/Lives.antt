@@ -15,13 +15,13 @@ use Rattle.cq_chain.specs.declared.message.Message.TheVariants as kept
 use Rattle.cq_chain.specs.Parties.{same}
 use Rattle.cq_live.specs.ClientMoves.{IsAskOf}
 use Rattle.cq_trace.specs.Audits.{IsMerge}
-use Rattle.cq_trace.specs.Deeds.{Deed, Arrived, Asked, Crashed, Joined, event_of, put_to, AreDeeds, IsOrder}
-use Rattle.cq_trace.specs.Orders.{AreEnabled}
-use Rattle.cq_trace.specs.declared.trace.Trace.{Trace}
-use Rattle.cq_world.specs.Runs.{world_after, given_from}
-use Rattle.cq_world.specs.Worlds.{first_world}
-use Rattle.cq_world.specs.declared.event.Event.{Event}
-use Rattle.cq_world.specs.declared.event.Event.TheVariants as events
+use Rattle.cq_events.specs.Deeds.{Deed, Arrived, Asked, Crashed, Joined, event_of, put_to, AreDeeds, IsOrder}
+use Rattle.cq_events.specs.Orders.{AreEnabled}
+use Rattle.cq_events.specs.declared.trace.Trace.{Trace}
+use Rattle.cq_events.specs.Runs.{world_after, given_from}
+use Rattle.cq_events.specs.Worlds.{first_world}
+use Rattle.cq_events.specs.declared.event.Event.{Event}
+use Rattle.cq_events.specs.declared.event.Event.TheVariants as events
 
 -- What a live run is to do: what each client asks, which servers crash, each with the number of entries from which on it
 -- does, and which servers join.

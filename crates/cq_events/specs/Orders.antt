@@ -3,11 +3,11 @@ use Rattle.std.specs.Prelude.{◌≡◌, List, [], ◌∷◌, ◌++◌, if◌the
 use Rattle.cq_base.specs.declared.party.Party.{Party}
 use Rattle.cq_chain.specs.Messages.{Message}
 use Rattle.cq_chain.specs.Parties.{same}
-use Rattle.cq_world.specs.Events.{refusal_of, after, first_of}
-use Rattle.cq_world.specs.Owners.{party_of}
-use Rattle.cq_world.specs.Worlds.{World}
-use Rattle.cq_world.specs.declared.event.Event.{Event}
-use Rattle.cq_world.specs.declared.event.Event.TheVariants.{Put}
+use Rattle.cq_events.specs.Events.{refusal_of, after, first_of}
+use Rattle.cq_events.specs.Owners.{party_of}
+use Rattle.cq_events.specs.Worlds.{World}
+use Rattle.cq_events.specs.declared.event.Event.{Event}
+use Rattle.cq_events.specs.declared.event.Event.TheVariants.{Put}
 
 -- those of the events that are a party's, in order
 abbrev pub of_party : Party → List Event → List Event

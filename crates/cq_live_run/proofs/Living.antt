@@ -8,16 +8,16 @@ use Rattle.cq_base.specs.declared.party.Party.{Party}
 use Rattle.cq_base.specs.declared.party.Party.TheVariants as parties
 use Rattle.cq_base.specs.Relations.{Among}
 use Rattle.cq_chain.specs.Parties.{same}
-use Rattle.cq_live.specs.Lives.{Life, deeds_of, AreTraces, AuditsOrder, NodesLive}
+use Rattle.cq_live_run.specs.Lives.{Life, deeds_of, AreTraces, AuditsOrder, NodesLive}
 use Rattle.cq_trace.specs.Audits.{trace_of}
-use Rattle.cq_trace.specs.Deeds.{Deed, Arrived, Asked, Put, Took, Crashed, Detected, Joined, event_of, IsOrder, IsWhatTheyDid}
-use Rattle.cq_trace.specs.Orders.{of_party}
-use Rattle.cq_trace.specs.declared.trace.Trace.{Trace}
+use Rattle.cq_events.specs.Deeds.{Deed, Arrived, Asked, Put, Took, Crashed, Detected, Joined, event_of, IsOrder, IsWhatTheyDid}
+use Rattle.cq_events.specs.Orders.{of_party}
+use Rattle.cq_events.specs.declared.trace.Trace.{Trace}
 use Rattle.cq_trace.proofs.OfLaws.Agreeing.{orders_agree}
-use Rattle.cq_world.specs.Owners.{party_of}
-use Rattle.cq_world.specs.declared.event.Event.{Event}
-use Rattle.cq_world.specs.declared.event.Event.TheVariants as events
-use Rattle.cq_world.proofs.Parties.{same-true, same-refl}
+use Rattle.cq_events.specs.Owners.{party_of}
+use Rattle.cq_events.specs.declared.event.Event.{Event}
+use Rattle.cq_events.specs.declared.event.Event.TheVariants as events
+use Rattle.cq_events.proofs.Parties.{same-true, same-refl}
 
 -- ---- the deed of an event
 

@@ -18,11 +18,11 @@ use Rattle.cq_chain.specs.Servers.{Server}
 use Rattle.cq_chain.specs.Stands as chain
 use Rattle.cq_chain.specs.Stands.{Means, AllMean, IsFirst, posted, drained}
 use Rattle.cq_chain.specs.Steps.{Step, arrived, asked, takes, crashed}
-use Rattle.cq_trace.specs.Orders.{of_party, AreEnabled, put_by}
-use Rattle.cq_world.specs.Runs.{world_after, given_from}
-use Rattle.cq_world.specs.Worlds.{World, first_world}
-use Rattle.cq_world.specs.declared.event.Event.{Event}
-use Rattle.cq_world.specs.declared.event.Event.TheVariants as events
+use Rattle.cq_events.specs.Orders.{of_party, AreEnabled, put_by}
+use Rattle.cq_events.specs.Runs.{world_after, given_from}
+use Rattle.cq_events.specs.Worlds.{World, first_world}
+use Rattle.cq_events.specs.declared.event.Event.{Event}
+use Rattle.cq_events.specs.declared.event.Event.TheVariants as events
 
 -- ---- deeds
 

@@ -5,7 +5,7 @@ use Rattle.cq_base.specs.declared.party.Party.{Party}
 use Rattle.cq_base.specs.declared.party.Party.TheVariants.{Master, Clients, Server}
 use Rattle.cq_chain.specs.Messages.{Message}
 use Rattle.cq_chain.specs.Parties.{same}
-use Rattle.cq_world.specs.Worlds.{set_pair}
+use Rattle.cq_events.specs.Worlds.{set_pair}
 
 pub same-true : (a b : Party) → same a b ≡ true → a ≡ b
 same-true Master Master h = refl

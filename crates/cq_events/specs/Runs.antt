@@ -10,10 +10,10 @@ use Rattle.cq_chain.specs.Parties.{addressed}
 use Rattle.cq_chain.specs.Messages.{Message}
 use Rattle.cq_chain.specs.Servers.{Server, acts}
 use Rattle.cq_chain.specs.Steps.{arrived, asked, takes}
-use Rattle.cq_world.specs.Worlds.{World, first_world}
-use Rattle.cq_world.specs.Events.{refusal_of, after, given_by, answers_in}
-use Rattle.cq_world.specs.declared.event.Event.{Event}
-use Rattle.cq_world.specs.declared.event.Event.TheVariants.{Arrive, Ask, Put, Take, Crash, Detect, Join}
+use Rattle.cq_events.specs.Worlds.{World, first_world}
+use Rattle.cq_events.specs.Events.{refusal_of, after, given_by, answers_in}
+use Rattle.cq_events.specs.declared.event.Event.{Event}
+use Rattle.cq_events.specs.declared.event.Event.TheVariants.{Arrive, Ask, Put, Take, Crash, Detect, Join}
 
 -- The world after these events.
 unfoldable pub world_after : World → List Event → World

@@ -1,6 +1,6 @@
 //! The events of the world.
 ghost use Rattle.std.specs.Prelude.{◌≡◌, IfOk};
-ghost use Rattle.cq_world.specs.Owners.{party_of};
+ghost use Rattle.cq_events.specs.Owners.{party_of};
 
 use cq_base::{Moment, NoMemory, Party, Query, Request, ServerId};
 

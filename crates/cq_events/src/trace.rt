@@ -1,6 +1,6 @@
 //! What one party did.
+use crate::Event;
 use cq_base::Party;
-use cq_world::Event;
 
 /// The events of one party, in the order in which they happened there.
 #[derive(Debug, Drop)]

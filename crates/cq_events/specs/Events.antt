@@ -10,9 +10,9 @@ use Rattle.cq_chain.specs.Masters.{detected, joined, hears_from, refusal_of_dete
 use Rattle.cq_chain.specs.Messages.{Message, Answers}
 use Rattle.cq_chain.specs.Refusals.{refusal_of_arrival, refusal_of_query, refusal_of_taking}
 use Rattle.cq_chain.specs.Steps.{arrived, asked, takes, crashed}
-use Rattle.cq_world.specs.Worlds.{World, is_in, set_pair, stepped, ordered}
-use Rattle.cq_world.specs.declared.event.Event.{Event}
-use Rattle.cq_world.specs.declared.event.Event.TheVariants.{Arrive, Ask, Put, Take, Crash, Detect, Join}
+use Rattle.cq_events.specs.Worlds.{World, is_in, set_pair, stepped, ordered}
+use Rattle.cq_events.specs.declared.event.Event.{Event}
+use Rattle.cq_events.specs.declared.event.Event.TheVariants.{Arrive, Ask, Put, Take, Crash, Detect, Join}
 
 -- ---- refusals
 

@@ -1,0 +1,6 @@
+pub mod Worlds
+pub mod Owners
+pub mod Events
+pub mod Runs
+pub mod Orders
+pub mod Deeds
