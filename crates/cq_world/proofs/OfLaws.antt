@@ -4,3 +4,4 @@ pub mod Arriving
 pub mod Giving
 pub mod Quiet
 pub mod Headlines
+pub mod Dropped

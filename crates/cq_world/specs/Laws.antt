@@ -8,8 +8,9 @@ use Rattle.cq_base.specs.declared.party.Party.TheVariants as parties
 use Rattle.cq_base.specs.Relations.{Among, Front, Pairwise}
 use Rattle.cq_chain.specs.declared.fault.WorldFault.{WorldFault}
 use Rattle.cq_chain.specs.declared.message.Answer.{Answer}
-use Rattle.cq_chain.specs.Masters.{is_last}
+use Rattle.cq_chain.specs.Masters.{Master, is_last}
 use Rattle.cq_chain.specs.Messages.{Message, Fwd, Snap}
+use Rattle.cq_chain.specs.Parties.{is_that}
 use Rattle.cq_chain.specs.Servers.{acts}
 use Rattle.cq_chain.specs.Steps.{answer_to, answer_to_query}
 use Rattle.cq_store.specs.Laws.{Stamped, FreshOnceIn, RepeatsAreAnsweredAt, OthersDoNothingAt, HandsWhatWasSentAt, NoneInFlightAt, NoneDeletedAt, NoneRemovedAt, OneAcceptancePerWindowAt, FirstHandingsInOrderIn}
@@ -148,6 +149,25 @@ abbrev pub LaterQueriesSeeAsMuch : Type 0
 LaterQueriesSeeAsMuch = (size : ℕ) (before : List Event) (at : ℕ) (query : Query) (a : Answer) → 1 ≤ size
     → Among a (made size before) → refusal_of (world_after (first_world size) before) (Ask at query) ≡ None
     → a.length ≤ (answer_to_query ((world_after (first_world size) before).server at).entries query).length
+
+-- ---- servers that were dropped
+
+-- The number was used, and its server is neither a member nor the one that joins.
+abbrev pub IsOutOf : Master → ℕ → Type 0
+IsOutOf m id = (is_in m.used id ≡ true) × (is_in m.chain id ≡ false) × (is_that m.joiner id ≡ false)
+
+-- So it is in a world. Where such a server lives, it joined and was dropped, since a member leaves the chain only when it is
+-- down.
+abbrev pub IsOut : World → ℕ → Type 0
+IsOut w id = IsOutOf w.master id
+
+-- A server that was dropped while it joined is never a member and never joins again, and while it lives it isn't full and
+-- doesn't act.
+abbrev pub DroppedServersStayOut : Type 0
+DroppedServersStayOut = (size : ℕ) (events more : List Event) (id : ℕ) → 1 ≤ size → IsOut (world_after (first_world size) events) id
+    → IsOut (world_after (first_world size) (events ++ more)) id
+    × (((world_after (first_world size) (events ++ more)).server id).down ≡ false
+    → (((world_after (first_world size) (events ++ more)).server id).full ≡ false) × (acts ((world_after (first_world size) (events ++ more)).server id) ≡ false))
 
 -- ---- the chain at rest
 

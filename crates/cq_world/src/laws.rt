@@ -4,7 +4,7 @@
 ghost use Rattle.std.specs.Prelude.{List};
 ghost use Rattle.cq_base.specs.declared.ask.Entry.{Entry};
 ghost use Rattle.cq_store.specs.Laws.{FreshOnceIn, RepeatsAreAnsweredAt, OthersDoNothingAt, EachQueueAloneIn, EachReplyAloneAt, HandsWhatWasSentAt, NoneInFlightAt, NoneDeletedAt, NoneRemovedAt, OneAcceptancePerWindowAt, FirstHandingsInOrderIn};
-ghost use Rattle.cq_world.specs.Laws.{AtEachPlace, OfCommitted, AnswersAreOfTheObject, GivenWereMade, CommittedIsOfTheHead, CommittedIsOfFullServers, CommittedGrows, CommittedIsOfArrivals, MessagesAreOfTheHistory, HistoriesAreFronts, HistoriesFallAlongTheChain, OneActs, LengthsNeverFall, LaterArrivalsStandAbove, LaterQueriesSeeAsMuch, QuietMembersAgree, QuietTailActs, HeadlineHolds};
+ghost use Rattle.cq_world.specs.Laws.{AtEachPlace, OfCommitted, AnswersAreOfTheObject, GivenWereMade, CommittedIsOfTheHead, CommittedIsOfFullServers, CommittedGrows, CommittedIsOfArrivals, DroppedServersStayOut, MessagesAreOfTheHistory, HistoriesAreFronts, HistoriesFallAlongTheChain, OneActs, LengthsNeverFall, LaterArrivalsStandAbove, LaterQueriesSeeAsMuch, QuietMembersAgree, QuietTailActs, HeadlineHolds};
 
 /// Every answer that a server makes is the one that a single queue object gives which takes the committed list:
 /// to a request at the place that the answer bears, to a query after so many entries. Only answers that were
@@ -44,6 +44,12 @@ pub fn histories_are_fronts()
 /// At most one server that lives acts as tail.
 pub fn one_server_acts()
     ensures { OneActs }
+{}
+
+/// A server that joined and was dropped, since the last member was lost meanwhile, is never a member again.
+/// While it lives it isn't full and doesn't act.
+pub fn dropped_servers_stay_out()
+    ensures { DroppedServersStayOut }
 {}
 
 /// The lengths of the answers that are made never fall, in the order in which they are made.
