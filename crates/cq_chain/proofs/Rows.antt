@@ -19,7 +19,7 @@ use Rattle.cq_chain.specs.Clients.{Client, first_client, refusal_of_ask, next_re
 use Rattle.cq_chain.specs.declared.fault.ClientFault.TheVariants.{Busy, NumbersSpent}
 use Rattle.cq_chain.specs.declared.fault.WorldFault.TheVariants.{NoSuchServer, ServerDown, LinkEmpty, OutboxEmpty, LastFull, JoinPending, IdUsed, ChainFull, NotDown, NotHead, HistoryFull, NotTail, NoMemory}
 use Rattle.cq_chain.specs.declared.fault.ClientFault.TheVariants as client
-use Rattle.cq_chain.specs.Faults.{code_of, client_code_of, client_name_of}
+use Rattle.cq_chain.specs.Faults.{code_of, name_of, client_code_of, client_name_of}
 use Rattle.cq_chain.specs.Masters.{Master, numbers_from, first_master, no_order, detected, refusal_of_detection, joined, refusal_of_join, hears, hears_from}
 use Rattle.cq_chain.specs.Messages.{Message, Fwd, Snap, Ack, BeHead, Report, Adopt, BeTail, Feed, Have, Adopted, Caught, Ready, Answers}
 use Rattle.cq_chain.specs.Refusals.{refusal_of_arrival, refusal_of_query}
@@ -637,6 +637,9 @@ clients_are_not_heard = refl
 
 world_codes : map code_of (NoSuchServer ∷ ServerDown ∷ LinkEmpty ∷ OutboxEmpty ∷ LastFull ∷ JoinPending ∷ IdUsed ∷ ChainFull ∷ NotDown ∷ NotHead ∷ HistoryFull ∷ NotTail ∷ NoMemory ∷ []) ≡ 31 ∷ 32 ∷ 33 ∷ 34 ∷ 35 ∷ 36 ∷ 37 ∷ 38 ∷ 39 ∷ 40 ∷ 41 ∷ 42 ∷ 20 ∷ []
 world_codes = refl
+
+world_names : map name_of (NoSuchServer ∷ ServerDown ∷ LinkEmpty ∷ OutboxEmpty ∷ LastFull ∷ JoinPending ∷ IdUsed ∷ ChainFull ∷ NotDown ∷ NotHead ∷ HistoryFull ∷ NotTail ∷ NoMemory ∷ []) ≡ codes "NoSuchServer" ∷ codes "ServerDown" ∷ codes "LinkEmpty" ∷ codes "OutboxEmpty" ∷ codes "LastFull" ∷ codes "JoinPending" ∷ codes "IdUsed" ∷ codes "ChainFull" ∷ codes "NotDown" ∷ codes "NotHead" ∷ codes "HistoryFull" ∷ codes "NotTail" ∷ codes "NoMemory" ∷ []
+world_names = refl
 
 client_codes : map client_code_of (client.Busy ∷ client.NumbersSpent ∷ client.NoMemory ∷ []) ≡ 43 ∷ 44 ∷ 20 ∷ []
 client_codes = refl

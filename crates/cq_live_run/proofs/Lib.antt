@@ -12,3 +12,4 @@ pub mod Joining
 pub mod Counting
 pub mod Mapped
 pub mod Living
+mod Rows

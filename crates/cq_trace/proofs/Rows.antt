@@ -1,5 +1,5 @@
 -- Worked traces and orders, each computed by the definitions to what the rules say. The results were worked out by hand.
-use Rattle.std.proofs.Common.{◌≡◌, ◌≢◌, List, [], ◌∷◌, Bool, true, false, cond, Some, None, codes, refl, ◌∙◌, ap, sym, inl, inr}
+use Rattle.std.proofs.Common.{◌≡◌, ◌≢◌, ℕ, List, [], ◌∷◌, map, Bool, true, false, cond, Some, None, codes, refl, ◌∙◌, ap, sym, inl, inr}
 use Rattle.std.specs.Global.{Vec}
 use Rattle.cq_base.specs.declared.ask.Ask.TheVariants.{Create}
 use Rattle.cq_base.specs.declared.party.Party.{Party}
@@ -12,6 +12,8 @@ use Rattle.cq_chain.specs.Parties.{same}
 use Rattle.cq_chain.specs.Refusals.{refusal_of_arrival, refusal_of_taking}
 use Rattle.cq_chain.specs.Steps.{arrived}
 use Rattle.cq_trace.specs.Audits.{is_foreign, first_bad, IsStuck}
+use Rattle.cq_trace.specs.Faults.{code_of, name_of}
+use Rattle.cq_trace.specs.declared.fault.AuditFault.TheVariants.{NoNextEvent, BadTrace, NoMemory}
 use Rattle.cq_events.specs.Orders.{of_party, AreEnabled, put_by}
 use Rattle.cq_events.specs.declared.trace.Trace.{Trace}
 use Rattle.cq_world.proofs.Eaches.{some_none}
@@ -36,6 +38,14 @@ put = events.Put (Server 1) (Server 2)
 
 abbrev take : Event
 take = events.Take (Server 1) (Server 2)
+
+-- ---- faults
+
+fault_codes : (parties : Vec Party) (number : ℕ) → map code_of (NoNextEvent parties ∷ BadTrace number ∷ NoMemory ∷ []) ≡ 51 ∷ 52 ∷ 20 ∷ []
+fault_codes parties number = refl
+
+fault_names : (parties : Vec Party) (number : ℕ) → map name_of (NoNextEvent parties ∷ BadTrace number ∷ NoMemory ∷ []) ≡ codes "NoNextEvent" ∷ codes "BadTrace" ∷ codes "NoMemory" ∷ []
+fault_names parties number = refl
 
 -- ---- whose events are
 

@@ -2,17 +2,20 @@
 -- worked out by hand.
 use Rattle.std.proofs.Common.{◌≡◌, ℕ, List, [], ◌∷◌, ◌++◌, map, length, Option, None, Some, Bool, true, false, codes, refl}
 use Rattle.cq_base.specs.declared.ask.Ask.{Ask}
-use Rattle.cq_base.specs.declared.ask.Ask.TheVariants.{Create, Send}
+use Rattle.cq_base.specs.declared.ask.Ask.TheVariants.{Create, Send, Receive}
 use Rattle.cq_base.specs.declared.party.Party.{Party}
 use Rattle.cq_base.specs.declared.party.Party.TheVariants.{Master, Clients, Server}
 use Rattle.cq_base.specs.declared.reply.Refusal.TheVariants.{QueueDoesNotExist}
-use Rattle.cq_base.specs.declared.reply.Reply.TheVariants.{Created, Sent, Counts, Refused}
+use Rattle.cq_base.specs.declared.reply.Delivery.{Delivery}
+use Rattle.cq_base.specs.declared.reply.Reply.{Reply}
+use Rattle.cq_base.specs.declared.reply.Reply.TheVariants.{Created, Sent, Received, Counts, Refused}
 use Rattle.cq_base.specs.Clients.{of_client, is_fresh, is_stale, kept_reply}
 use Rattle.cq_base.specs.Effects.{effect_on, effect_off, effect_of}
 use Rattle.cq_base.specs.Facts.{about, on}
 use Rattle.cq_base.specs.History.{fresh_fact, fact_of, history, reply_again, reply_to, last_moment, counts_after}
 use Rattle.cq_base.specs.Lifetimes.{live, creations, removed_lately}
 use Rattle.cq_base.specs.Messages.{messages, duplicate, hands, touches, until, is_deleted, message_of, standing}
+use Rattle.cq_base.specs.Receiving.{in_turn, to_hand}
 use Rattle.cq_chain.specs.declared.fault.WorldFault.TheVariants.{NoSuchServer, ServerDown, LinkEmpty, OutboxEmpty, LastFull, JoinPending, IdUsed, ChainFull, NotDown, NotHead, NotTail}
 use Rattle.cq_chain.specs.declared.message.Answer.{Answer}
 use Rattle.cq_chain.specs.Messages.{Message, Fwd}
@@ -107,6 +110,37 @@ two_made = refl
 two_replies : map (λ a. a.reply) (made 3 two) ≡ Created 1 ∷ Counts 0 0 ∷ Sent 1 ∷ []
 unfolding made made_from after next refusal_of first_world numbers_from refusal_of_arrival refusal_of_query refusal_of_taking arrived asked takes reply_to counts_after history fact_of fresh_fact is_fresh of_client about on live removed_lately creations effect_of effect_on effect_off last_moment messages duplicate standing message_of hands touches until is_deleted
 two_replies = refl
+
+-- ---- two servers, of which the first is lost: the clock of the other one is behind
+
+-- the message, and the receipt of that handing of it
+abbrev handed : ℕ → Delivery
+handed handing = record { receipt = record { incarnation = 1; sequence = 1; handing = handing }; group = codes "a"; body = codes "x" }
+
+abbrev receive : Ask
+receive = Receive name 1 None
+
+-- a request at server 1 that goes its way, and its answer
+abbrev passes : ℕ → ℕ → Ask → List Event
+passes clock number ask = arrive 1 clock number ask ∷ (move 1 2 ++ (events.Put (Server 2) Clients ∷ []))
+
+-- one at server 2, and its answer
+abbrev at_second : ℕ → ℕ → Ask → List Event
+at_second clock number ask = arrive 2 clock number ask ∷ events.Put (Server 2) Clients ∷ []
+
+abbrev behind : List Event
+behind = passes 50000 1 create ++ (passes 50000 2 send ++ (passes 50000 3 receive ++ (passes 80000 4 receive
+    ++ (events.Crash 1 ∷ events.Detect 1 ∷ events.Put Master (Server 2) ∷ events.Take Master (Server 2) ∷ (at_second 10 5 receive
+    ++ (count_at 2 ∷ events.Put (Server 2) Clients ∷ at_second 110000 6 receive))))))
+
+behind_given : map {B = ℕ × Reply} (λ g. (g.1.length, g.1.reply)) (given_from 1 (first_world 2) behind)
+    ≡ (1, Created 1) ∷ (2, Sent 1) ∷ (3, Received (handed 1 ∷ [])) ∷ (4, Received (handed 2 ∷ [])) ∷ (5, Received []) ∷ (5, Counts 0 1) ∷ (6, Received (handed 3 ∷ [])) ∷ []
+unfolding given_from after next given_by refusal_of first_world numbers_from refusal_of_arrival refusal_of_query refusal_of_taking refusal_of_detection arrived asked takes forwards detected hears reply_to counts_after history fact_of fresh_fact reply_again is_fresh is_stale kept_reply of_client about on live removed_lately creations effect_of effect_on effect_off last_moment messages duplicate standing message_of hands touches until is_deleted in_turn to_hand
+behind_given = refl
+
+behind_moments : map (λ e. e.moment) (committed 2 behind) ≡ 50000 ∷ 50000 ∷ 50000 ∷ 80000 ∷ 80000 ∷ 110000 ∷ []
+unfolding committed longest_from longest_at after next refusal_of first_world numbers_from refusal_of_arrival refusal_of_query refusal_of_taking refusal_of_detection arrived asked takes forwards detected hears reply_to counts_after history fact_of fresh_fact reply_again is_fresh is_stale kept_reply of_client about on live removed_lately creations effect_of effect_on effect_off last_moment messages duplicate standing message_of hands touches until is_deleted in_turn to_hand
+behind_moments = refl
 
 -- ---- entries are kept until they are acknowledged
 
