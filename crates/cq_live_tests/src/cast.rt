@@ -1,63 +1,57 @@
-//! The nodes of a chain, and what is to be said of their end.
-use crate::common::{create, send};
+//! The nodes of a chain in one thread, and what is to be said of their end: two servers at first, of which the second crashes
+//! at five entries; a third one joins at turn 10 of the master; and each of two clients makes a queue and sends 20 messages.
+use crate::live_runs::asks;
 use crate::wires::{Reluctant, between};
-use cq_base::{Ask, ChainSize, Party, ServerId};
+use cq_base::{ChainSize, ServerId};
 use cq_chain::Message;
 use cq_link::{InPut, InTake, Inbox, Link, Taker};
 use cq_live::{ClientLinks, ClientNode, Flags, Join, Links, MasterNode, ServerEnds, ServerNode};
+use cq_plan::{LiveStep, asks_of};
 use cq_threads::Nodes;
-use cq_trace::{Trace, audit};
 use cq_world::Event;
 use std::alloc::Global;
 use std::test::Fail;
+use std::vec;
 
-pub type Server<'a> = ServerNode<'a, Reluctant, Taker<Message>, InTake>;
+type Server<'a> = ServerNode<'a, Reluctant, Taker<Message>, InTake>;
 
-pub type Client<'a> = ClientNode<'a, InPut, Taker<Message>>;
+type Client<'a> = ClientNode<'a, InPut, Taker<Message>>;
 
-pub type Master<'a> = MasterNode<'a, Reluctant, Taker<Message>>;
+type Master<'a> = MasterNode<'a, Reluctant, Taker<Message>>;
 
 pub type Chain<'a> = Nodes<'a, Reluctant, Taker<Message>, InTake, InPut>;
 
-/// What a chain is to do: it begins with so many servers, of which one crashes at so many entries, and one more joins at the
-/// turn of the master. Each client sends so many messages.
-#[derive(Clone, Copy, Debug)]
-pub struct Story {
-    pub size: u8,
-    pub crashes: u32,
-    pub at_entries: u64,
-    pub joins_at: u64,
-    pub messages: u32,
-    /// The room of each ring.
-    pub capacity: usize,
+type ToServers = Links<Reluctant, Taker<Message>>;
+
+type ToClients = ClientLinks<InPut, Taker<Message>>;
+
+/// How many servers there are at first, and the number of the one that joins.
+const FIRST: u8 = 2;
+
+const LAST: u32 = 3;
+
+fn size() -> Result<ChainSize, Fail> {
+    Ok(ChainSize::new(FIRST).ok_or("no chain")?)
 }
 
-/// What a client asks: to make the queue, and then to send so many messages.
-fn asks(alloc: Global, name: char, messages: u32) -> Result<Vec<Ask>, Fail> {
-    let mut asks = Vec::new(alloc);
-    asks.push(create(alloc)?)?;
-    for message in 0..messages {
-        asks.push(send(alloc, &format!(in alloc; "{name}{message}")?)?)?;
-    }
-    Ok(asks)
+fn id_of(number: u32) -> Result<ServerId, Fail> {
+    Ok(ServerId::new(number).ok_or("no server")?)
 }
 
 /// Servers in the order of their numbers, and the links of the two clients to them.
 #[derive(Drop)]
 struct Servers<'a> {
     nodes: Vec<Server<'a>>,
-    first: ClientLinks<InPut, Taker<Message>>,
-    second: ClientLinks<InPut, Taker<Message>>,
+    first: ToClients,
+    second: ToClients,
 }
 
-/// Adds the next server, which crashes with so many entries, if that is said.
+/// Adds the server of that number, with links to both clients.
 fn add<'a>(
     alloc: Global,
     servers: &mut Servers<'a>,
-    links: Links<Reluctant, Taker<Message>>,
-    size: ChainSize,
-    id: ServerId,
-    crash_after: Option<u64>,
+    links: ToServers,
+    number: u32,
     capacity: usize,
     flags: &'a Flags,
 ) -> Result<(), Fail> {
@@ -72,95 +66,88 @@ fn add<'a>(
         second: Reluctant::of(second),
         inbox,
     };
-    servers.nodes.push(ServerNode::new(alloc, size, id, ends, crash_after, flags)?)?;
+    let crash_after = if number == 2 { Some(5) } else { None };
+    servers.nodes.push(ServerNode::new(alloc, size()?, id_of(number)?, ends, crash_after, flags)?)?;
     Ok(())
 }
 
-/// The nodes of a story, before their first turn.
-pub fn nodes<'a>(alloc: Global, story: Story, flags: &'a Flags) -> Result<Chain<'a>, Fail> {
-    let size = ChainSize::new(story.size).ok_or("no chain")?;
-    let last = u32::from(story.size).saturating_add(1);
+/// All servers, with their links to the master and to each other.
+fn servers_of<'a>(
+    alloc: Global,
+    links: vec::IntoIter<ToServers>,
+    capacity: usize,
+    flags: &'a Flags,
+) -> Result<Servers<'a>, Fail> {
     let mut servers = Servers {
         nodes: Vec::new(alloc),
         first: ClientLinks::new(alloc),
         second: ClientLinks::new(alloc),
     };
-    let mut links = between(alloc, last as usize, story.capacity)?.into_iter();
-    let to_servers = links.next().ok_or("no links of the master")?;
-    for number in 1..=last {
-        let id = ServerId::new(number).ok_or("no server")?;
-        let crash_after = if number == story.crashes {
-            Some(story.at_entries)
-        } else {
-            None
-        };
-        let own = links.next().ok_or("no links of a server")?;
-        add(
-            alloc,
-            &mut servers,
-            own,
-            size,
-            id,
-            crash_after,
-            story.capacity,
-            flags,
-        )?;
+    let mut number = 0_u32;
+    for own in links {
+        number = number.saturating_add(1);
+        add(alloc, &mut servers, own, number, capacity, flags)?;
     }
+    Ok(servers)
+}
+
+fn master_of<'a>(alloc: Global, links: ToServers, flags: &'a Flags) -> Result<Master<'a>, Fail> {
     let mut joins = Vec::new(alloc);
     joins.push(Join {
-        server: ServerId::new(last).ok_or("no server")?,
-        after: story.joins_at,
+        server: id_of(LAST)?,
+        after: 10,
     })?;
-    let master = MasterNode::new(alloc, size, to_servers, joins, flags)?;
+    Ok(MasterNode::new(alloc, size()?, links, joins, flags)?)
+}
+
+fn client_of<'a>(
+    alloc: Global,
+    id: u32,
+    steps: &[LiveStep],
+    links: ToClients,
+    flags: &'a Flags,
+) -> Result<Client<'a>, Fail> {
+    let asks = asks_of(alloc, id, steps)?;
+    Ok(ClientNode::new(alloc, id, asks, links, flags))
+}
+
+/// The nodes, before their first turn. Each ring between them has so many places.
+pub fn nodes<'a>(alloc: Global, capacity: usize, flags: &'a Flags) -> Result<Chain<'a>, Fail> {
+    let mut links = between(alloc, LAST as usize, capacity)?.into_iter();
+    let master = master_of(alloc, links.next().ok_or("no links of the master")?, flags)?;
     let Servers {
         nodes,
         first,
         second,
-    } = servers;
+    } = servers_of(alloc, links, capacity, flags)?;
+    let steps = asks(alloc)?;
     Ok(Nodes {
         master,
         servers: nodes,
-        first: ClientNode::new(alloc, 1, asks(alloc, 'a', story.messages)?, first, flags),
-        second: ClientNode::new(alloc, 2, asks(alloc, 'b', story.messages)?, second, flags),
+        first: client_of(alloc, 1, &steps, first, flags)?,
+        second: client_of(alloc, 2, &steps, second, flags)?,
     })
 }
 
-/// The order that an audit gives to what the nodes did.
-pub fn order_of(
-    alloc: Global,
-    size: u8,
-    master: Master<'_>,
-    servers: Vec<Server<'_>>,
-) -> Result<Vec<Event>, Fail> {
-    let size = ChainSize::new(size).ok_or("no chain")?;
-    let mut traces = Vec::new(alloc);
-    traces.push(Trace {
-        party: Party::Master,
-        events: master.finish().trace,
-    })?;
-    for node in servers {
-        let parts = node.finish();
-        traces.push(Trace {
-            party: Party::Server(parts.id),
-            events: parts.trace,
-        })?;
-    }
-    let Ok(order) = audit(alloc, size, &traces) else {
-        return Err(Fail::from("no order"));
-    };
-    Ok(order)
-}
-
 /// How many of the events are crashes, detections and joins.
-pub fn changes(order: &[Event]) -> usize {
+fn count_changes(trace: &[Event]) -> usize {
     let mut changes = 0_usize;
-    for event in order {
+    for event in trace {
         if matches!(
             event,
             Event::Crash { .. } | Event::Detect { .. } | Event::Join { .. }
         ) {
             changes = changes.saturating_add(1);
         }
+    }
+    changes
+}
+
+/// How many crashes, detections and joins the nodes have noted.
+pub fn changes(chain: &Chain<'_>) -> usize {
+    let mut changes = count_changes(chain.master.trace());
+    for server in chain.servers.iter() {
+        changes = changes.saturating_add(count_changes(server.trace()));
     }
     changes
 }

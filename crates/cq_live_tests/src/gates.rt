@@ -10,8 +10,8 @@ use std::thread::yield_now;
 const PATIENCE: u32 = 100_000_000;
 
 /// Waits for a flag, but not for ever.
-fn wait_for(flag: &AtomicBool, patience: u32) -> bool {
-    for _ in 0..patience {
+fn wait_for(flag: &AtomicBool) -> bool {
+    for _ in 0..PATIENCE {
         if flag.load(SeqCst) {
             return true;
         }
@@ -32,7 +32,6 @@ pub struct Meeting {
     tail: Party,
     head_came: AtomicBool,
     tail_came: AtomicBool,
-    patience: u32,
 }
 
 impl Meeting {
@@ -42,16 +41,7 @@ impl Meeting {
             tail: server(tail)?,
             head_came: AtomicBool::new(false),
             tail_came: AtomicBool::new(false),
-            patience: PATIENCE,
         })
-    }
-
-    /// At which each waits only for a short time.
-    pub fn hasty(self) -> Meeting {
-        Meeting {
-            patience: 1_000,
-            ..self
-        }
     }
 }
 
@@ -62,10 +52,10 @@ impl Gate for Meeting {
         }
         if party == self.head {
             self.head_came.store(true, SeqCst);
-            wait_for(&self.tail_came, self.patience)
+            wait_for(&self.tail_came)
         } else if party == self.tail {
             self.tail_came.store(true, SeqCst);
-            wait_for(&self.head_came, self.patience)
+            wait_for(&self.head_came)
         } else {
             true
         }
@@ -96,7 +86,7 @@ impl Gate for Holding {
             self.goes_on.store(true, SeqCst);
         }
         if party == self.tail && turn == 2 {
-            return wait_for(&self.goes_on, PATIENCE);
+            return wait_for(&self.goes_on);
         }
         true
     }

@@ -12,6 +12,4 @@ mod gates;
 #[cfg(test)]
 mod live_runs;
 #[cfg(test)]
-mod one_server;
-#[cfg(test)]
 mod wires;

@@ -90,6 +90,40 @@ fn ring(alloc: Global, capacity: usize) -> Result<(FreshPutter, FreshTaker), Fai
     ))
 }
 
+/// The ends of links, by the party that has them.
+#[derive(Drop)]
+struct Ends {
+    /// On which a party puts, to each other one.
+    puts: Vec<Vec<FreshPutter>>,
+    /// From which it takes, from each other one.
+    takes: Vec<Vec<FreshTaker>>,
+}
+
+/// Room for the ends of so many parties.
+fn no_ends(alloc: Global, parties: usize) -> Result<Ends, Fail> {
+    let mut ends = Ends {
+        puts: Vec::new(alloc),
+        takes: Vec::new(alloc),
+    };
+    for _ in 0..parties {
+        ends.puts.push(Vec::new(alloc))?;
+        ends.takes.push(Vec::new(alloc))?;
+    }
+    Ok(ends)
+}
+
+/// Adds a ring from each party to each.
+fn add_rings(alloc: Global, ends: &mut Ends, parties: usize, capacity: usize) -> Result<(), Fail> {
+    for from in 0..parties {
+        for to in 0..parties {
+            let (put, take) = ring(alloc, capacity)?;
+            ends.puts.get_mut(from).ok_or("no row")?.push(put)?;
+            ends.takes.get_mut(to).ok_or("no column")?.push(take)?;
+        }
+    }
+    Ok(())
+}
+
 /// The links of the master and of so many servers to each other, in order, over rings: the master's are to the servers alone,
 /// those of a server are to the master and to all servers.
 pub fn between(
@@ -98,21 +132,10 @@ pub fn between(
     capacity: usize,
 ) -> Result<Vec<Links<Reluctant, Taker<Message>>>, Fail> {
     let parties = servers.saturating_add(1);
-    let mut rows = Vec::new(alloc);
-    let mut columns = Vec::new(alloc);
-    for _ in 0..parties {
-        rows.push(Vec::new(alloc))?;
-        columns.push(Vec::new(alloc))?;
-    }
-    for from in 0..parties {
-        for to in 0..parties {
-            let (putter, taker) = ring(alloc, capacity)?;
-            rows.get_mut(from).ok_or("no row")?.push(putter)?;
-            columns.get_mut(to).ok_or("no column")?.push(taker)?;
-        }
-    }
+    let mut ends = no_ends(alloc, parties)?;
+    add_rings(alloc, &mut ends, parties, capacity)?;
     let mut all = Vec::new(alloc);
-    for (row, column) in rows.into_iter().zip(columns) {
+    for (row, column) in ends.puts.into_iter().zip(ends.takes) {
         let skipped = usize::from(all.is_empty());
         all.push(joined(alloc, row, column, skipped)?)?;
     }

@@ -317,7 +317,15 @@ const PUTS_TEXT: &str = r#"{"line":1,"name":"OutboxEmpty","refused":34}
 
 #[test]
 fn runs_the_lines_before_a_failed_read(rt: HostRuntime) {
-    for (good, lines) in [(0, 0), (36, 0), (37, 1), (38, 1), (110, 2), (111, 3)] {
+    for (good, lines) in [
+        (0, 0),
+        (36, 0),
+        (37, 1),
+        (38, 1),
+        (74, 2),
+        (110, 2),
+        (111, 3),
+    ] {
         let mut reader = Pieces::new(PUTS.as_bytes(), 7);
         reader.good = good;
         let (answer, taken) = replayed(rt.alloc(), reader, usize::MAX, false);
@@ -335,7 +343,7 @@ fn writes_the_front_that_fits(rt: HostRuntime) -> Result<(), Fail> {
     let mut script = String::from_str(rt.alloc(), PUTS)?;
     script.push_str("x")?;
     for silent in [false, true] {
-        for room in [0, 1, 2, 44, 45, 46, 134] {
+        for room in [0, 1, 2, 10, 44, 45, 46, 50, 134] {
             let reader = Pieces::new(script.as_bytes(), 7);
             let (answer, taken) = replayed(rt.alloc(), reader, room, silent);
             assert_eq!(rt;

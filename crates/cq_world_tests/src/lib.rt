@@ -1,8 +1,8 @@
-//! The tests of servers, clients and worlds, by their public calls. They stand here since a crate that has tests is proved
+//! The tests of clients and worlds, by their public calls. They stand here since a crate that has tests is proved
 //! twice, and scripts need not wait for them.
 #![tactic(auto)]
 
 #[cfg(test)]
-mod servers;
+mod clients;
 #[cfg(test)]
 mod worlds;

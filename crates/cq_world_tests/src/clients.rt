@@ -1,10 +1,28 @@
 //! Clients, and the answers that close their requests.
-use super::common::create;
-use cq_base::{Ask, QueueName, Reply, Request};
+use cq_base::{Ask, QueueName, Reply, Request, Seconds};
 use cq_chain::{Client, ClientFault};
 use std::alloc::Global;
 use std::process::Abort;
 use std::test::Fail;
+
+// Where a client refuses a call for want of memory, the call is made once more. So under
+// `check/refused-allocations`, which refuses each allocation of each test in turn, a test passes, or ends with
+// an error where memory for a request or a text was refused; no assertion fails.
+
+/// Client 1 creates `q.fifo` with a visibility timeout of 30 s.
+fn create(alloc: Global, number: u64) -> Result<Request, Fail> {
+    let queue = QueueName::new(alloc, "q.fifo")?;
+    let visibility = Seconds::new(30).ok_or("no timeout")?;
+    Ok(Request {
+        client: 1,
+        number,
+        ask: Ask::Create {
+            queue,
+            visibility,
+            content: false,
+        },
+    })
+}
 
 /// It asks, once more where memory is refused.
 fn ask(client: &mut Client, what: &Ask) -> Result<Request, ClientFault> {
