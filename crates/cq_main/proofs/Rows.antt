@@ -3,6 +3,9 @@
 use Rattle.std.proofs.Common.{◌≡◌, ◌∷◌, [], map, codes, refl}
 use Rattle.std.specs.Fmt.{digits}
 use Rattle.cq_script.specs.declared.fault.ScriptFault.TheVariants.{BadLine, LineTooLong, TooManyLines, ReadFailed, WriteFailed, NoMemory}
+use Rattle.cq_live_run.specs.declared.fault.LiveFault.TheVariants.{TurnLimit, AuditRefused, SpawnFailed, BadScript, NoMemory as NoRoom}
+use Rattle.cq_trace.specs.declared.fault.AuditFault.{AuditFault}
+use Rattle.cq_main.specs.LiveStatuses.{live_fault_text, live_status_of}
 use Rattle.cq_main.specs.Outcomes.{version_text}
 use Rattle.cq_main.specs.Statuses.{fault_text, status_of}
 
@@ -15,6 +18,16 @@ lines_of_faults = refl
 
 statuses : map status_of (BadLine 3 ∷ LineTooLong 3 ∷ TooManyLines ∷ ReadFailed ∷ WriteFailed ∷ NoMemory ∷ []) ≡ 2 ∷ 2 ∷ 2 ∷ 3 ∷ 3 ∷ 3 ∷ []
 statuses = refl
+
+lines_of_live_faults : (fault : AuditFault) →
+    map live_fault_text (TurnLimit ∷ AuditRefused fault ∷ SpawnFailed ∷ BadScript 12 ∷ NoRoom ∷ [])
+    ≡ codes "cq: 71 TurnLimit\n" ∷ codes "cq: 72 AuditRefused\n" ∷ codes "cq: 73 SpawnFailed\n" ∷ codes "cq: 74 BadScript step 12\n"
+    ∷ codes "cq: 20 NoMemory\n" ∷ []
+unfolding digits
+lines_of_live_faults fault = refl
+
+live_statuses : (fault : AuditFault) → map live_status_of (TurnLimit ∷ AuditRefused fault ∷ SpawnFailed ∷ BadScript 3 ∷ NoRoom ∷ []) ≡ 3 ∷ 1 ∷ 3 ∷ 2 ∷ 3 ∷ []
+live_statuses fault = refl
 
 line_of_version : version_text (codes "0.1.0") ≡ codes "cq 0.1.0\n"
 line_of_version = refl

@@ -2,13 +2,16 @@
 use Rattle.std.specs.Prelude.{ℕ, Bool, List, Option}
 use Rattle.cq_main.specs.LiveOutcomes.{RunsLive}
 use Rattle.cq_main.specs.Outcomes.{RunsBy}
-use Rattle.cq_script.specs.Replays.{Replays}
-use Rattle.cq_script.specs.Sessions.{Sessions}
+use Rattle.cq_script.specs.Replays.{Headlines, Replays}
+use Rattle.cq_script.specs.Sessions.{SessionHeadlines, Sessions}
 use Rattle.cq_words.specs.declared.choice.Choice.{Choice}
 use Rattle.cq_words.specs.declared.choice.Choice.TheVariants.{Replay, Session, Live}
 
 -- On so many servers a script was replayed, the lines of a session were run, or a live script was.
-abbrev pub Runs : Choice → ℕ → Option (List ℕ) → Option (List ℕ) → Bool → Option (List ℕ) → Option (List ℕ) → Bool → Option (List ℕ) → Option (List ℕ) → Type 0
-Runs (Replay size) status unread left output_failed written output failed old new = RunsBy (Replays size) status unread left written output failed old new
-Runs (Session size) status unread left output_failed written output failed old new = RunsBy (Sessions size) status unread left written output failed old new
-Runs (Live size turns) status unread left output_failed written output failed old new = RunsLive size status unread left output_failed written output failed old new
+abbrev pub Runs : Choice → ℕ → Option (List ℕ) → Option (List ℕ) → Bool → Option (List ℕ) → Option (List ℕ) → Bool → Bool → Bool → Option (List ℕ) → Option (List ℕ) → Type 0
+Runs (Replay size) status unread left reader_failed written output writer_failed writer_flushed failed old new =
+    RunsBy (Replays size) (Headlines size) status unread left reader_failed written output writer_failed writer_flushed failed old new
+Runs (Session size) status unread left reader_failed written output writer_failed writer_flushed failed old new =
+    RunsBy (Sessions size) (SessionHeadlines size) status unread left reader_failed written output writer_failed writer_flushed failed old new
+Runs (Live size turns) status unread left reader_failed written output writer_failed writer_flushed failed old new =
+    RunsLive size status unread left reader_failed written output writer_failed writer_flushed failed old new

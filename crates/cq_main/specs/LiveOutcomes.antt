@@ -13,7 +13,7 @@ use Rattle.cq_main.specs.declared.live_fault.LiveEnd.{LiveEnd}
 use Rattle.cq_main.specs.declared.live_fault.LiveEnd.TheVariants.{Script, Live}
 use Rattle.cq_plan.specs.Steps.{first_bad}
 use Rattle.cq_plan.specs.declared.step.LiveStep.{LiveStep}
-use Rattle.cq_script.specs.declared.fault.ScriptFault.TheVariants.{WriteFailed}
+use Rattle.cq_script.specs.declared.fault.ScriptFault.TheVariants.{ReadFailed, WriteFailed}
 use Rattle.cq_world.specs.Laws.{Headline}
 
 -- The steps of a live script, which was read to its end, were run on so many servers: the report is of an order of what
@@ -36,6 +36,12 @@ Lived size (Ok report) input left = IsRun size input left report
 Lived size (Err (Script fault)) input left = ReadsLive (Err fault) input left
 Lived size (Err (Live fault)) input left = IsNotRun size input left fault
 
+-- By the answer: the reader has failed where its fault is ReadFailed, and hasn't where its script was read to the end.
+abbrev pub IsReadFaithfully : Result LiveReport LiveEnd → Bool → Type 0
+IsReadFaithfully (Ok report) reader_failed = reader_failed ≡ false
+IsReadFaithfully (Err (Script fault)) reader_failed = fault ≡ ReadFailed → reader_failed ≡ true
+IsReadFaithfully (Err (Live fault)) reader_failed = reader_failed ≡ false
+
 -- the two lines of a report
 abbrev pub report_text : ℕ → List ℕ
 report_text accepted = codes "accepted " ++ (decimal accepted ++ codes "\naudit ok\n")
@@ -48,16 +54,16 @@ abbrev pub EndsLive : LiveEnd → ℕ → Bool → Option (List ℕ) → Option 
 EndsLive (Script fault) status failed old new = EndsAt fault status failed old new
 EndsLive (Live fault) status failed old new = EndsAtLive fault status failed old new
 
--- The answer of a live run ended the program: its two lines were written, or the writer failed, which is a fault; or nothing was
--- written, and its fault is told.
-abbrev pub TellsLive : Result LiveReport LiveEnd → ℕ → Bool → Option (List ℕ) → Option (List ℕ) → Bool → Option (List ℕ) → Option (List ℕ) → Type 0
-TellsLive (Ok report) status output_failed written output failed old new =
-    ((output_failed ≡ false) × (status ≡ 0) × (new ≡ old) × Appends written output (report_text report.accepted))
-    ⊎ ((output_failed ≡ true) × EndsAt WriteFailed status failed old new)
-TellsLive (Err end) status output_failed written output failed old new = (output ≡ written) × EndsLive end status failed old new
+-- The answer of a live run ended the program: its two lines were written and flushed, or the writer failed, which is a fault;
+-- or nothing was written, and its fault is told.
+abbrev pub TellsLive : Result LiveReport LiveEnd → ℕ → Option (List ℕ) → Option (List ℕ) → Bool → Bool → Bool → Option (List ℕ) → Option (List ℕ) → Type 0
+TellsLive (Ok report) status written output writer_failed writer_flushed failed old new =
+    ((writer_failed ≡ false) × (writer_flushed ≡ true) × (status ≡ 0) × (new ≡ old) × Appends written output (report_text report.accepted))
+    ⊎ ((writer_failed ≡ true) × EndsAt WriteFailed status failed old new)
+TellsLive (Err end) status written output writer_failed writer_flushed failed old new = (output ≡ written) × (writer_failed ≡ false) × EndsLive end status failed old new
 
 -- a live script was read and run on so many servers, to the end of the program
-abbrev pub RunsLive : ℕ → ℕ → Option (List ℕ) → Option (List ℕ) → Bool → Option (List ℕ) → Option (List ℕ) → Bool → Option (List ℕ) → Option (List ℕ) → Type 0
-RunsLive size status unread left output_failed written output failed old new =
+abbrev pub RunsLive : ℕ → ℕ → Option (List ℕ) → Option (List ℕ) → Bool → Option (List ℕ) → Option (List ℕ) → Bool → Bool → Bool → Option (List ℕ) → Option (List ℕ) → Type 0
+RunsLive size status unread left reader_failed written output writer_failed writer_flushed failed old new =
     (answer : Result LiveReport LiveEnd) × (input : List ℕ) × Consumes unread left input
-    × Lived size answer input left × TellsLive answer status output_failed written output failed old new
+    × Lived size answer input left × IsReadFaithfully answer reader_failed × TellsLive answer status written output writer_failed writer_flushed failed old new

@@ -1,9 +1,9 @@
 //! Live runs: a live script is read and run, and what it did is told.
 ghost use Rattle.std.specs.Prelude.{◌≡◌, ℕ, List, false, true, IfErr, OnOk, OnErr};
 ghost use Rattle.std.specs.Io.KnownBytes.{Appends, Consumes};
-ghost use Rattle.cq_script.specs.Checks.{inner_of, is_failed};
+ghost use Rattle.cq_script.specs.Checks.{inner_of, is_failed, is_flushed};
 ghost use Rattle.cq_script.specs.declared.fault.ScriptFault.TheVariants.{WriteFailed};
-ghost use Rattle.cq_main.specs.LiveOutcomes.{Lived, RunsLive, TellsLive, report_text};
+ghost use Rattle.cq_main.specs.LiveOutcomes.{IsReadFaithfully, Lived, RunsLive, TellsLive, report_text};
 
 use crate::live_fault::{LiveEnd, report_end};
 use crate::report::report;
@@ -26,8 +26,9 @@ fn report_of<H: Threads + Wait + Sync, R: Read>(
     reader: &mut Checked<R>,
 ) -> Result<LiveReport, LiveEnd>
     requires { is_failed reader.old ≡ false }
-    ensures { (input : List ℕ) × Consumes (R.remaining (inner_of reader.old)) (R.remaining (inner_of reader.new)) input
+    ensures lived { (input : List ℕ) × Consumes (R.remaining (inner_of reader.old)) (R.remaining (inner_of reader.new)) input
         × Lived size result input (R.remaining (inner_of reader.new)) }
+    ensures faithful { IsReadFaithfully result (is_failed reader.new) }
 {
     match read_live(alloc, reader) {
         Ok(steps) => match live(rt, alloc, size, &steps, turns, &Always) {
@@ -38,10 +39,11 @@ fn report_of<H: Threads + Wait + Sync, R: Read>(
     }
 }
 
-/// Tells how many sends were accepted, and that the audit found an order of what was done.
+/// Tells how many sends were accepted, and that the audit found an order of what was done, and flushes that.
 fn tell_accepted<W: Write>(accepted: u64, output: &mut Checked<W>) -> Result<(), ScriptFault>
     requires { is_failed output.old ≡ false }
     ensures ok { OnOk result (is_failed output.new ≡ false) }
+    ensures flushed { OnOk result (is_flushed output.new ≡ true) }
     ensures told { OnOk result (Appends (W.contents (inner_of output.old)) (W.contents (inner_of output.new)) (report_text accepted)) }
     ensures fault { IfErr result (λ fault. fault ≡ WriteFailed) }
     ensures failed { OnErr result (is_failed output.new ≡ true) }
@@ -60,8 +62,8 @@ fn tell_report<W: Write, E: Write>(
     errors: &mut Checked<E>,
 ) -> u8
     requires { is_failed output.old ≡ false }
-    ensures { TellsLive answer.now result (is_failed output.new) (W.contents (inner_of output.old))
-        (W.contents (inner_of output.new)) (is_failed errors.new) (E.contents (inner_of errors.old))
+    ensures { TellsLive answer.now result (W.contents (inner_of output.old)) (W.contents (inner_of output.new))
+        (is_failed output.new) (is_flushed output.new) (is_failed errors.new) (E.contents (inner_of errors.old))
         (E.contents (inner_of errors.new)) }
 {
     match answer {
@@ -87,8 +89,9 @@ pub fn run_live<H: Threads + Wait + Sync, R: Read, W: Write, E: Write>(
     requires reader { is_failed reader.old ≡ false }
     requires output { is_failed output.old ≡ false }
     ensures { RunsLive size result (R.remaining (inner_of reader.old)) (R.remaining (inner_of reader.new))
-        (is_failed output.new) (W.contents (inner_of output.old)) (W.contents (inner_of output.new))
-        (is_failed errors.new) (E.contents (inner_of errors.old)) (E.contents (inner_of errors.new)) }
+        (is_failed reader.new) (W.contents (inner_of output.old)) (W.contents (inner_of output.new))
+        (is_failed output.new) (is_flushed output.new) (is_failed errors.new) (E.contents (inner_of errors.old))
+        (E.contents (inner_of errors.new)) }
 {
     let answer = report_of(rt, alloc, size, turns, reader);
     tell_report(&answer, output, errors)

@@ -6,7 +6,9 @@ ghost use Rattle.clap.specs.Words.{fault_of, kind_of};
 ghost use Rattle.cq_script.specs.Checks.{inner_of, is_failed, is_flushed};
 ghost use Rattle.cq_words.specs.CommandLine.{asked_choice, program_app};
 ghost use Rattle.cq_main.specs.Choices.{Runs};
-ghost use Rattle.cq_main.specs.Outcomes.{Ends, EndsAt, Helps, Refuses, TellsVersion, unread_text};
+ghost use Rattle.cq_main.specs.Outcomes.{Ends, EndsAt, Helps, Refuses, RunsBy, TellsVersion, unread_text};
+ghost use Rattle.cq_script.specs.Replays.{Headlines, Replays};
+ghost use Rattle.cq_script.specs.Sessions.{SessionHeadlines, Sessions};
 ghost use Rattle.cq_words.specs.WordFaults.{all_are, is_help, is_usage, is_version};
 ghost use Rattle.cq_words.specs.declared.choice.Choice.{Choice};
 ghost use Rattle.cq_script.specs.declared.fault.ScriptFault.TheVariants.{NoMemory};
@@ -16,6 +18,7 @@ use crate::live::run_live;
 use crate::report::report;
 use clap::Error;
 use clap::error::ErrorKind;
+use cq_base::ChainSize;
 use cq_script::{Checked, ScriptFault, Sink, replay, session};
 use cq_words::{Choice, VERSION, choice_of};
 use std::alloc::Global;
@@ -109,21 +112,23 @@ pub fn run<H: Threads + Wait + Sync, R: Read, W: Write, E: Write>(
     requires output { is_failed output.old ≡ false }
     ensures good { (choice : Choice) → asked_choice (map string_bytes words.now) ≡ Some choice
         → Runs choice result (R.remaining (inner_of reader.old)) (R.remaining (inner_of reader.new))
-        (is_failed output.new) (W.contents (inner_of output.old)) (W.contents (inner_of output.new)) (is_failed errors.new)
-        (E.contents (inner_of errors.old)) (E.contents (inner_of errors.new))
-        ⊎ EndsAt NoMemory result (is_failed errors.new) (E.contents (inner_of errors.old))
+        (is_failed reader.new) (W.contents (inner_of output.old)) (W.contents (inner_of output.new))
+        (is_failed output.new) (is_flushed output.new) (is_failed errors.new) (E.contents (inner_of errors.old))
+        (E.contents (inner_of errors.new))
+        ⊎ (reader.new ≡ reader.old) × (output.new ≡ output.old)
+        × EndsAt NoMemory result (is_failed errors.new) (E.contents (inner_of errors.old))
         (E.contents (inner_of errors.new)) }
     ensures help { all_are is_help (fault_of program_app (map string_bytes words.now)) ≡ true
         → Helps GUIDE.now result (is_failed output.new) (W.contents (inner_of output.old))
         (W.contents (inner_of output.new)) (is_failed errors.new) (E.contents (inner_of errors.old))
         (E.contents (inner_of errors.new))
-        ⊎ EndsAt NoMemory result (is_failed errors.new) (E.contents (inner_of errors.old))
+        ⊎ (output.new ≡ output.old) × EndsAt NoMemory result (is_failed errors.new) (E.contents (inner_of errors.old))
         (E.contents (inner_of errors.new)) }
     ensures version { all_are is_version (fault_of program_app (map string_bytes words.now)) ≡ true
         → TellsVersion VERSION.now result (is_failed output.new) (W.contents (inner_of output.old))
         (W.contents (inner_of output.new)) (is_failed errors.new) (E.contents (inner_of errors.old))
         (E.contents (inner_of errors.new))
-        ⊎ EndsAt NoMemory result (is_failed errors.new) (E.contents (inner_of errors.old))
+        ⊎ (output.new ≡ output.old) × EndsAt NoMemory result (is_failed errors.new) (E.contents (inner_of errors.old))
         (E.contents (inner_of errors.new)) }
     ensures usage { all_are is_usage (fault_of program_app (map string_bytes words.now)) ≡ true
         → Refuses result (is_failed errors.new) (E.contents (inner_of errors.old)) (E.contents (inner_of errors.new))
@@ -152,14 +157,55 @@ fn carry_out<H: Threads + Wait + Sync, R: Read, W: Write, E: Write>(
     requires reader { is_failed reader.old ≡ false }
     requires output { is_failed output.old ≡ false }
     ensures { Runs choice result (R.remaining (inner_of reader.old)) (R.remaining (inner_of reader.new))
-        (is_failed output.new) (W.contents (inner_of output.old)) (W.contents (inner_of output.new)) (is_failed errors.new)
-        (E.contents (inner_of errors.old)) (E.contents (inner_of errors.new)) }
+        (is_failed reader.new) (W.contents (inner_of output.old)) (W.contents (inner_of output.new))
+        (is_failed output.new) (is_flushed output.new) (is_failed errors.new) (E.contents (inner_of errors.old))
+        (E.contents (inner_of errors.new)) }
 {
     match choice {
-        Choice::Replay { size } => end(&replay(alloc, size, reader, output), errors),
-        Choice::Session { size } => end(&session(alloc, size, reader, output), errors),
+        Choice::Replay { size } => run_script(alloc, size, reader, output, errors),
+        Choice::Session { size } => run_session(alloc, size, reader, output, errors),
         Choice::Live { size, turns } => run_live(rt, alloc, size, turns, reader, output, errors),
     }
+}
+
+/// Replays the script of the reader on so many servers, and tells its fault.
+fn run_script<R: Read, W: Write, E: Write>(
+    alloc: Global,
+    size: ChainSize,
+    reader: &mut Checked<R>,
+    output: &mut Checked<W>,
+    errors: &mut Checked<E>,
+) -> u8
+    requires reader { is_failed reader.old ≡ false }
+    requires output { is_failed output.old ≡ false }
+    ensures { RunsBy (Replays size) (Headlines size) result (R.remaining (inner_of reader.old))
+        (R.remaining (inner_of reader.new)) (is_failed reader.new) (W.contents (inner_of output.old))
+        (W.contents (inner_of output.new)) (is_failed output.new) (is_flushed output.new) (is_failed errors.new)
+        (E.contents (inner_of errors.old)) (E.contents (inner_of errors.new)) }
+{
+    // Its contract says that there is one at least.
+    let _servers = size.get();
+    end(&replay(alloc, size, reader, output), errors)
+}
+
+/// Runs the lines of the reader as a session on so many servers, and tells its fault.
+fn run_session<R: Read, W: Write, E: Write>(
+    alloc: Global,
+    size: ChainSize,
+    reader: &mut Checked<R>,
+    output: &mut Checked<W>,
+    errors: &mut Checked<E>,
+) -> u8
+    requires reader { is_failed reader.old ≡ false }
+    requires output { is_failed output.old ≡ false }
+    ensures { RunsBy (Sessions size) (SessionHeadlines size) result (R.remaining (inner_of reader.old))
+        (R.remaining (inner_of reader.new)) (is_failed reader.new) (W.contents (inner_of output.old))
+        (W.contents (inner_of output.new)) (is_failed output.new) (is_flushed output.new) (is_failed errors.new)
+        (E.contents (inner_of errors.old)) (E.contents (inner_of errors.new)) }
+{
+    // Its contract says that there is one at least.
+    let _servers = size.get();
+    end(&session(alloc, size, reader, output), errors)
 }
 
 /// Tells the fault of a script, if there is one.
@@ -188,7 +234,7 @@ fn tell_error<W: Write, E: Write>(
         → Helps GUIDE.now result (is_failed output.new) (W.contents (inner_of output.old))
         (W.contents (inner_of output.new)) (is_failed errors.new) (E.contents (inner_of errors.old))
         (E.contents (inner_of errors.new))
-        ⊎ EndsAt NoMemory result (is_failed errors.new) (E.contents (inner_of errors.old))
+        ⊎ (output.new ≡ output.old) × EndsAt NoMemory result (is_failed errors.new) (E.contents (inner_of errors.old))
         (E.contents (inner_of errors.new)) }
     ensures version { is_version (kind_of error.now) ≡ true
         → TellsVersion VERSION.now result (is_failed output.new) (W.contents (inner_of output.old))
@@ -220,7 +266,7 @@ fn help<W: Write, E: Write>(
     ensures { Helps GUIDE.now result (is_failed output.new) (W.contents (inner_of output.old))
         (W.contents (inner_of output.new)) (is_failed errors.new) (E.contents (inner_of errors.old))
         (E.contents (inner_of errors.new))
-        ⊎ EndsAt NoMemory result (is_failed errors.new) (E.contents (inner_of errors.old))
+        ⊎ (output.new ≡ output.old) × EndsAt NoMemory result (is_failed errors.new) (E.contents (inner_of errors.old))
         (E.contents (inner_of errors.new)) }
 {
     let Ok(text) = error.to_string(alloc) else {

@@ -8,8 +8,8 @@ use Rattle.cq_plan.specs.declared.step.LiveStep.{LiveStep}
 use Rattle.cq_main.proofs.LiveTold.{of_fault}
 use Rattle.cq_main.proofs.live.report_of.Goals as goal
 
-pub returns-in-Ok-live : goal.returns-in-Ok-live
-returns-in-Ok-live g c =
+pub returns-in-Ok-live-clause-lived : goal.returns-in-Ok-live-clause-lived
+returns-in-Ok-live-clause-lived g c =
     let r = c.in-Ok.ensures.reads in (
       r.0,
       r.1,
@@ -21,8 +21,8 @@ returns-in-Ok-live g c =
       },
     )
 
-pub returns-in-Ok : goal.returns-in-Ok
-returns-in-Ok g c =
+pub returns-in-Ok-clause-lived : goal.returns-in-Ok-clause-lived
+returns-in-Ok-clause-lived g c =
     let r = c.in-Ok.ensures.reads in (
       r.0,
       r.1,

@@ -8,7 +8,7 @@ use Rattle.cq_main.proofs.run.help.Goals as goal
 use Rattle.cq_main.proofs.run.help.Goals.{then-is_err-via-then-is_err, then-is_err-via-else-is_err+then-failed}
 
 pub returns-in_default : goal.returns-in_default
-returns-in_default g c = inr c.report.ensures
+returns-in_default g c = inr (refl, c.report.ensures)
 
 pub returns-then-is_err : goal.returns-then-is_err
 returns-then-is_err g c =

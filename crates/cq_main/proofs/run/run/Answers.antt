@@ -11,7 +11,7 @@ pub returns-in-Err-clause-help : goal.returns-in-Err-clause-help
 returns-in-Err-clause-help g c = λ all.
     let kinds = fault_of program_app (map string_bytes c.args.words.now) in
     elim (has_such is_help kinds c.in-Err.error all (c.in-Err.ensures.faults (all_are_some is_help kinds all))) [
-      | inl memory ↦ inr (c.tell_error.ensures.memory memory)
+      | inl memory ↦ inr (c.tell_error.ensures.silent_for_memory memory, c.tell_error.ensures.memory memory)
       | inr such ↦ c.tell_error.ensures.help such
     ]
 
@@ -19,7 +19,7 @@ pub returns-in-Err-clause-version : goal.returns-in-Err-clause-version
 returns-in-Err-clause-version g c = λ all.
     let kinds = fault_of program_app (map string_bytes c.args.words.now) in
     elim (has_such is_version kinds c.in-Err.error all (c.in-Err.ensures.faults (all_are_some is_version kinds all))) [
-      | inl memory ↦ inr (c.tell_error.ensures.memory memory)
+      | inl memory ↦ inr (c.tell_error.ensures.silent_for_memory memory, c.tell_error.ensures.memory memory)
       | inr such ↦ inl (c.tell_error.ensures.version such)
     ]
 
