@@ -1,0 +1,156 @@
+//! Sending, deleting, and changing timeouts.
+
+use std::sync::Arc;
+
+use uuid::Uuid;
+
+use super::{Actions, Performed};
+use crate::attributes::LONGEST_MESSAGE;
+use crate::digests::{md5_of_attributes, md5_of_text};
+use crate::errors::SqsError;
+use crate::messages::{Form, Kept, MessageAttributes, TRACE_HEADER};
+use crate::queues::ask::{Ask, Outcome};
+use crate::queues::Queue;
+use crate::store::Answer;
+use crate::texts::{DedupId, QueueName};
+use crate::wire::requests::{Batch, Change, Message};
+use crate::wire::responses::{Done, Failed, Sent};
+use crate::wire::Response;
+
+impl Actions {
+    pub(super) async fn send(&self, name: &QueueName, message: Message) -> Result<Performed, SqsError> {
+        let queue = self.queue(name)?;
+        let ask = self.send_ask(&queue, &message)?;
+        let outcome = self.store.ask(&queue, ask).await?;
+        Ok(Response::Sent(sent(&message, &outcome)?).into())
+    }
+
+    pub(super) async fn send_batch(&self, name: &QueueName, batch: Batch<Message>) -> Result<Performed, SqsError> {
+        let queue = self.queue(name)?;
+        // An entry that isn't good counts nothing, and is told of its own.
+        let size: usize = batch.iter().filter_map(|(_, entry)| Some(entry.as_ref().ok()?.size())).sum();
+        if size > LONGEST_MESSAGE {
+            return Err(SqsError::BatchRequestTooLong { limit: LONGEST_MESSAGE, sent: size });
+        }
+        let ask_of = |message: &Message| self.send_ask(&queue, message);
+        self.answer_each(&queue, batch, ask_of, |message, outcome| sent(message, outcome).map(Some)).await
+    }
+
+    fn send_ask(&self, queue: &Queue, message: &Message) -> Result<Ask, SqsError> {
+        let (limit, by_content, by_group) = {
+            let state = queue.state();
+            let attributes = &state.attributes;
+            (attributes.maximum_message_size(), attributes.dedups_by_content(), attributes.dedups_by_group())
+        };
+        if message.size() > limit {
+            return Err(SqsError::InvalidParameterValue(format!(
+                "One or more parameters are invalid. Reason: Message must be shorter than {limit} bytes."
+            )));
+        }
+        let dedup = match &message.dedup {
+            Some(dedup) => dedup.clone(),
+            None if by_content => DedupId::of_body(message.body.as_str()),
+            None => return Err(SqsError::missing_dedup_id()),
+        };
+        let for_store = if by_group { dedup.within(&message.group) } else { dedup.clone() };
+        let kept = Kept {
+            id: Uuid::new_v4(),
+            sent: self.store.clock().now(),
+            dedup,
+            attributes: message.attributes.clone(),
+            trace: message.trace.clone(),
+        };
+        let form = Form::new(&kept, &message.body)
+            .map_err(|error| SqsError::InternalFailure(format!("The message can't be kept: {error}")))?;
+        Ok(Ask::Send { group: message.group.clone(), dedup: for_store, form })
+    }
+
+    pub(super) async fn delete(&self, name: &QueueName, handle: &str) -> Result<Performed, SqsError> {
+        let queue = self.queue(name)?;
+        let receipt = queue.receipt_of(handle)?;
+        self.store.ask(&queue, Ask::Delete { receipt }).await?;
+        Ok(Response::Nothing.into())
+    }
+
+    pub(super) async fn delete_batch(&self, name: &QueueName, batch: Batch<String>) -> Result<Performed, SqsError> {
+        let queue = self.queue(name)?;
+        let ask_of = |handle: &String| Ok(Ask::Delete { receipt: queue.receipt_of(handle)? });
+        self.answer_each(&queue, batch, ask_of, |_, _| Ok(None)).await
+    }
+
+    pub(super) async fn change(&self, name: &QueueName, change: &Change) -> Result<Performed, SqsError> {
+        let queue = self.queue(name)?;
+        self.store.ask(&queue, change_ask(&queue, change)?).await?;
+        Ok(Response::Nothing.into())
+    }
+
+    pub(super) async fn change_batch(&self, name: &QueueName, batch: Batch<Change>) -> Result<Performed, SqsError> {
+        let queue = self.queue(name)?;
+        self.answer_each(&queue, batch, |change| change_ask(&queue, change), |_, _| Ok(None)).await
+    }
+
+    /// Asks for all good entries at once, and tells what came of each.
+    async fn answer_each<T>(
+        &self,
+        queue: &Arc<Queue>,
+        batch: Batch<T>,
+        ask_of: impl Fn(&T) -> Result<Ask, SqsError>,
+        result_of: impl Fn(&T, &Outcome) -> Result<Option<Sent>, SqsError>,
+    ) -> Result<Performed, SqsError> {
+        let mut asks = Vec::with_capacity(batch.len());
+        let mut entries = Vec::with_capacity(batch.len());
+        for (id, entry) in batch {
+            let asked = entry.and_then(|entry| Ok((ask_of(&entry)?, entry)));
+            entries.push((
+                id,
+                asked.map(|(ask, entry)| {
+                    asks.push(ask);
+                    entry
+                }),
+            ));
+        }
+        let is_asked = !asks.is_empty();
+        let answers = if is_asked { self.store.ask_all(queue, asks).await } else { Vec::new() };
+        let mut answers = answers.into_iter();
+        let (mut successful, mut failed) = (Vec::new(), Vec::new());
+        for (id, entry) in entries {
+            let answered = entry.and_then(|entry| {
+                let answer: Answer = answers.next().unwrap_or_else(|| Err(no_answer()));
+                result_of(&entry, &answer?)
+            });
+            match answered {
+                Ok(sent) => successful.push(Done { id, sent }),
+                Err(error) => failed.push(Failed::new(id, &error)),
+            }
+        }
+        let response = Response::Batch { successful, failed };
+        Ok(Performed { is_settled: is_asked, ..response.into() })
+    }
+}
+
+fn no_answer() -> SqsError {
+    SqsError::InternalFailure("The store gave no answer.".into())
+}
+
+fn change_ask(queue: &Queue, change: &Change) -> Result<Ask, SqsError> {
+    let receipt = queue.receipt_of(&change.handle)?;
+    Ok(Ask::Change { receipt, visibility: change.visibility, by_attempt: false })
+}
+
+/// The MD5s are of what this send carried, also where the message is one that was sent before.
+fn sent(message: &Message, outcome: &Outcome) -> Result<Sent, SqsError> {
+    let Outcome::Sent { sequence, id } = outcome else { return Err(no_answer()) };
+    let system = message.trace.clone().map(|trace| MessageAttributes::from([(TRACE_HEADER.to_string(), trace)]));
+    Ok(Sent {
+        message_id: id.to_string(),
+        md5_of_body: md5_of_text(message.body.as_str()),
+        md5_of_attributes: (!message.attributes.is_empty()).then(|| md5_of_attributes(&message.attributes)),
+        md5_of_system_attributes: system.as_ref().map(md5_of_attributes),
+        sequence_number: sequence_number(*sequence),
+    })
+}
+
+/// A sequence number as clients see it: 20 digits.
+pub(super) fn sequence_number(sequence: u64) -> String {
+    format!("{sequence:020}")
+}

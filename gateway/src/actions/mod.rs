@@ -1,0 +1,123 @@
+//! The actions of SQS: each becomes asks of the store, and their answers become a result.
+
+mod messages;
+mod queues;
+mod receiving;
+
+use std::hash::{Hash, Hasher};
+use std::sync::Arc;
+
+use tokio::sync::Mutex;
+
+use crate::errors::SqsError;
+use crate::handles::Receipt;
+use crate::presence::Presence;
+use crate::queues::Queue;
+use crate::store::Store;
+use crate::texts::QueueName;
+use crate::wire::{Request, Response};
+
+/// Who asks: the URL under which the gateway was reached, and whether anybody still waits for the answer.
+#[derive(Clone, Debug)]
+pub struct Caller {
+    pub base_url: String,
+    pub presence: Presence,
+}
+
+/// What an action came to.
+#[derive(Clone)]
+pub struct Performed {
+    pub response: Response,
+    /// What a receive handed out, so that it can be told whether that is still in flight.
+    pub handed: Option<(Arc<Queue>, Vec<Receipt>)>,
+    /// What it rests on was on disk when it was made.
+    pub is_settled: bool,
+}
+
+impl From<Response> for Performed {
+    fn from(response: Response) -> Performed {
+        Performed { response, handed: None, is_settled: true }
+    }
+}
+
+impl Performed {
+    /// A result that was read from the tables alone.
+    fn of_tables(response: Response) -> Performed {
+        Performed { response, handed: None, is_settled: false }
+    }
+}
+
+/// What URLs and ARNs say.
+#[derive(Clone, Debug)]
+pub struct Owner {
+    /// 12 digits.
+    pub account: String,
+    pub region: String,
+}
+
+/// So many creations and removals can go on side by side.
+const TURNS: usize = 64;
+
+/// Performs the actions.
+pub struct Actions {
+    store: Store,
+    owner: Owner,
+    /// Creations and removals of one name come one after the other. No other action takes a turn.
+    turns: Vec<Mutex<()>>,
+}
+
+impl Actions {
+    pub fn new(store: Store, owner: Owner) -> Actions {
+        Actions { store, owner, turns: (0..TURNS).map(|_| Mutex::new(())).collect() }
+    }
+
+    pub fn store(&self) -> &Store {
+        &self.store
+    }
+
+    fn turn_of(&self, name: &QueueName) -> &Mutex<()> {
+        let mut hasher = std::collections::hash_map::DefaultHasher::new();
+        name.hash(&mut hasher);
+        &self.turns[hasher.finish() as usize % TURNS]
+    }
+
+    fn queue(&self, name: &QueueName) -> Result<Arc<Queue>, SqsError> {
+        self.store.queues().get(name)
+    }
+
+    fn url(&self, name: &QueueName, caller: &Caller) -> String {
+        format!("{}/{}/{name}", caller.base_url, self.owner.account)
+    }
+
+    /// Does what a request asks for, when all that it rests on is on disk.
+    pub async fn perform(&self, request: Request, caller: &Caller) -> Result<Performed, SqsError> {
+        let performed = self.perform_unsettled(request, caller).await;
+        let is_settled = performed.as_ref().is_ok_and(|performed| performed.is_settled);
+        if !is_settled && !self.store.settled().await {
+            return Err(SqsError::ServiceUnavailable("The store is gone.".into()));
+        }
+        performed
+    }
+
+    async fn perform_unsettled(&self, request: Request, caller: &Caller) -> Result<Performed, SqsError> {
+        match request {
+            Request::SendMessage { queue, message } => self.send(&queue, message).await,
+            Request::SendMessageBatch { queue, batch } => self.send_batch(&queue, batch).await,
+            Request::ReceiveMessage { queue, receive } => self.receive(&queue, receive, caller).await,
+            Request::DeleteMessage { queue, handle } => self.delete(&queue, &handle).await,
+            Request::DeleteMessageBatch { queue, batch } => self.delete_batch(&queue, batch).await,
+            Request::ChangeMessageVisibility { queue, change } => self.change(&queue, &change).await,
+            Request::ChangeMessageVisibilityBatch { queue, batch } => self.change_batch(&queue, batch).await,
+            Request::CreateQueue { queue, attributes, tags } => self.create(queue, attributes, tags, caller).await,
+            Request::DeleteQueue { queue } => self.remove(&queue).await,
+            Request::GetQueueUrl { queue } => self.get_url(queue, caller),
+            Request::ListQueues { prefix, most, after } => Ok(self.list(&prefix, most, &after, caller)),
+            Request::GetQueueAttributes { queue, wanted } => self.get_attributes(&queue, &wanted).await,
+            Request::SetQueueAttributes { queue, attributes } => self.set_attributes(&queue, attributes).await,
+            Request::TagQueue { queue, tags } => self.tag(&queue, tags).await,
+            Request::UntagQueue { queue, keys } => self.untag(&queue, keys).await,
+            Request::ListQueueTags { queue } => self.list_tags(&queue),
+            Request::PurgeQueue { queue } => self.purge(&queue).await,
+        }
+    }
+}

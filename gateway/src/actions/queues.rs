@@ -1,0 +1,164 @@
+//! Queues: creating, removing, purging, and what is told of them.
+
+use std::sync::Arc;
+
+use super::{Actions, Caller, Performed};
+use crate::attributes::{Given, QueueAttributes, Wanted, COUNTS};
+use crate::errors::SqsError;
+use crate::queues::ask::{Ask, Change, Creation, Outcome};
+use crate::queues::Queue;
+use crate::store::Held;
+use crate::texts::QueueName;
+use crate::wire::requests::{test_count_of_tags, Tags};
+use crate::wire::Response;
+
+/// So long a queue can't be purged again, in milliseconds (API Reference, PurgeQueue, `PurgeQueueInProgress`).
+const PURGE_PAUSE: u64 = 60_000;
+
+/// How many deletes of a purge are asked for at once.
+const PURGED_AT_ONCE: usize = 32;
+
+/// The longest page of ListQueues.
+const LONGEST_PAGE: u32 = 1000;
+
+impl Actions {
+    pub(super) async fn create(
+        &self,
+        name: QueueName,
+        given: Given,
+        tags: Tags,
+        caller: &Caller,
+    ) -> Result<Performed, SqsError> {
+        let _turn = self.turn_of(&name).lock().await;
+        let url = Response::QueueUrl(self.url(&name, caller));
+        if let Some(queue) = self.store.queues().find(&name) {
+            queue.state().attributes.test_same(&given)?;
+            return Ok(Performed::of_tables(url));
+        }
+        let attributes = QueueAttributes::for_creation(&given)?;
+        let now = self.store.clock().now();
+        self.store.queues().test_pause(&name, now)?;
+        let visibility = attributes.visibility_timeout();
+        let creation = Arc::new(Creation { name, mark: rand::random(), attributes, tags, before: None });
+        let store = self.store.queues().next_store_name();
+        let queue = Arc::new(Queue::new(store, &creation, now));
+        self.store.ask(&queue, Ask::Create { store, visibility, creation }).await?;
+        Ok(url.into())
+    }
+
+    pub(super) async fn remove(&self, name: &QueueName) -> Result<Performed, SqsError> {
+        let _turn = self.turn_of(name).lock().await;
+        let queue = self.queue(name)?;
+        let held = self.store.hold(&queue).await?;
+        let store = queue.state().store;
+        held.ask(Ask::Remove { store, name: Some(name.clone()) }).await?;
+        Ok(Response::Nothing.into())
+    }
+
+    pub(super) fn get_url(&self, name: Option<QueueName>, caller: &Caller) -> Result<Performed, SqsError> {
+        let queue = self.queue(&name.ok_or(SqsError::QueueDoesNotExist)?)?;
+        Ok(Performed::of_tables(Response::QueueUrl(self.url(&queue.name, caller))))
+    }
+
+    pub(super) fn list(&self, prefix: &str, most: Option<u32>, after: &str, caller: &Caller) -> Performed {
+        let count = most.unwrap_or(LONGEST_PAGE) as usize;
+        let (names, has_more) = self.store.queues().page(prefix, after, count);
+        let last = names.last().map(QueueName::to_string);
+        let urls = names.iter().map(|name| self.url(name, caller)).collect();
+        let next = last.filter(|_| has_more && most.is_some());
+        Performed::of_tables(Response::Queues { urls, next })
+    }
+
+    pub(super) async fn get_attributes(&self, name: &QueueName, wanted: &Wanted) -> Result<Performed, SqsError> {
+        let queue = self.queue(name)?;
+        let counts = if wanted.has_counts() { Some(self.store.count(&queue).await?) } else { None };
+        let is_settled = counts.is_some();
+        let mut told = self.told(&queue);
+        if let Some(Outcome::Counts { visible, in_flight }) = counts {
+            let counts = [visible, in_flight, 0];
+            told.extend(COUNTS.iter().zip(counts).map(|(name, count)| (name.to_string(), count.to_string())));
+        }
+        told.retain(|(name, _)| wanted.has(name));
+        told.sort_unstable();
+        Ok(Performed { is_settled, ..Performed::of_tables(Response::Attributes(told)) })
+    }
+
+    fn told(&self, queue: &Queue) -> Vec<(String, String)> {
+        let state = queue.state();
+        let own = state.attributes.iter().map(|(name, value)| (name.to_string(), value.to_string()));
+        let mut told: Vec<_> = own.collect();
+        let arn = format!("arn:aws:sqs:{}:{}:{}", self.owner.region, self.owner.account, queue.name);
+        told.push(("CreatedTimestamp".into(), (state.created / 1000).to_string()));
+        told.push(("LastModifiedTimestamp".into(), (state.modified / 1000).to_string()));
+        told.push(("QueueArn".into(), arn));
+        told
+    }
+
+    pub(super) async fn set_attributes(&self, name: &QueueName, given: Given) -> Result<Performed, SqsError> {
+        let queue = self.queue(name)?;
+        queue.state().attributes.test_change(&given)?;
+        self.store.note(&queue, Change::Attributes(given)).await?;
+        Ok(Response::Nothing.into())
+    }
+
+    pub(super) async fn tag(&self, name: &QueueName, tags: Tags) -> Result<Performed, SqsError> {
+        let _turn = self.turn_of(name).lock().await;
+        let queue = self.queue(name)?;
+        let mut whole = queue.state().tags.clone();
+        whole.extend(tags.clone());
+        test_count_of_tags(&whole)?;
+        self.store.note(&queue, Change::Tag(tags)).await?;
+        Ok(Response::Nothing.into())
+    }
+
+    pub(super) async fn untag(&self, name: &QueueName, keys: Vec<String>) -> Result<Performed, SqsError> {
+        let queue = self.queue(name)?;
+        self.store.note(&queue, Change::Untag(keys)).await?;
+        Ok(Response::Nothing.into())
+    }
+
+    pub(super) fn list_tags(&self, name: &QueueName) -> Result<Performed, SqsError> {
+        let tags = self.queue(name)?.state().tags.clone();
+        Ok(Performed::of_tables(Response::Tags(tags.into_iter().collect())))
+    }
+
+    /// Deletes all messages that are there; deduplication ids stay. Nobody else has the queue meanwhile.
+    pub(super) async fn purge(&self, name: &QueueName) -> Result<Performed, SqsError> {
+        let queue = self.queue(name)?;
+        let held = self.store.hold(&queue).await?;
+        let now = self.store.clock().now();
+        let (purged, removed) = {
+            let state = queue.state();
+            (state.purged, state.removed)
+        };
+        if removed {
+            return Err(SqsError::QueueDoesNotExist);
+        }
+        if purged.is_some_and(|purged| now < purged + PURGE_PAUSE) {
+            return Err(SqsError::PurgeQueueInProgress { queue: name.to_string() });
+        }
+        delete_all(&queue, &held).await?;
+        held.note(Change::Purged).await?;
+        Ok(Response::Nothing.into())
+    }
+}
+
+async fn delete_all(queue: &Queue, held: &Held) -> Result<(), SqsError> {
+    loop {
+        let receipts = queue.state().receipts_up_to(u64::MAX);
+        for some in receipts.chunks(PURGED_AT_ONCE) {
+            let asks = some.iter().map(|receipt| Ask::Delete { receipt: *receipt }).collect();
+            for answer in held.ask_all(asks).await {
+                answer?;
+            }
+        }
+        if !queue.state().has_messages_up_to(u64::MAX) {
+            return Ok(());
+        }
+        let ask = Ask::Receive { size: 10, visibility: 0, attempt: None };
+        let Outcome::Received { handed, .. } = held.ask(ask).await? else { return Ok(()) };
+        if handed.is_empty() {
+            return Ok(());
+        }
+    }
+}

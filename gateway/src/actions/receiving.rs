@@ -1,0 +1,103 @@
+//! Receiving.
+
+use std::sync::Arc;
+use std::time::Duration;
+
+use super::messages::sequence_number;
+use super::{Actions, Caller, Performed};
+use crate::digests::{md5_of_attributes, md5_of_text};
+use crate::errors::SqsError;
+use crate::handles::Handle;
+use crate::messages::{read_form, Kept, MessageAttributes};
+use crate::polling;
+use crate::queues::ask::{Ask, Handed, Outcome};
+use crate::queues::Queue;
+use crate::texts::QueueName;
+use crate::wire::requests::{Receive, Shown, SystemAttribute};
+use crate::wire::responses::ReceivedMessage;
+use crate::wire::Response;
+
+/// The `SenderId` of every message: there is one account.
+const SENDER: &str = "AIDAHOBBYCHAIR0000000";
+
+impl Actions {
+    pub(super) async fn receive(
+        &self,
+        name: &QueueName,
+        receive: Receive,
+        caller: &Caller,
+    ) -> Result<Performed, SqsError> {
+        let queue = self.queue(name)?;
+        let (own_visibility, own_wait) = {
+            let attributes = &queue.state().attributes;
+            (attributes.visibility_timeout(), attributes.wait_time())
+        };
+        let visibility = receive.visibility.unwrap_or(own_visibility);
+        let wait = u64::from(receive.wait.unwrap_or(own_wait));
+        if let Some(handed) = self.receive_again(&queue, &receive, visibility).await? {
+            return received(&queue, handed, &receive.shown);
+        }
+        let ask = Ask::Receive { size: receive.size, visibility, attempt: receive.attempt };
+        let Outcome::Received { mut handed, openings } = self.store.ask(&queue, ask.clone()).await? else {
+            return Err(SqsError::InternalFailure("The store handed nothing out.".into()));
+        };
+        if handed.is_empty() && wait > 0 {
+            let (time, presence) = (Duration::from_secs(wait), caller.presence.clone());
+            handed = polling::wait(&self.store, &queue, ask, presence, time, openings).await?;
+        }
+        received(&queue, handed, &receive.shown)
+    }
+
+    /// What the attempt was given before, with the timeout begun anew, if that is still to be had.
+    async fn receive_again(
+        &self,
+        queue: &Arc<Queue>,
+        receive: &Receive,
+        visibility: u32,
+    ) -> Result<Option<Vec<Handed>>, SqsError> {
+        let Some(attempt) = &receive.attempt else { return Ok(None) };
+        let Some(found) = queue.state().attempt(attempt, self.store.clock().now()) else { return Ok(None) };
+        let change = |handed: &Handed| Ask::Change { receipt: handed.receipt, visibility, by_attempt: true };
+        let answers = self.store.ask_all(queue, found.iter().map(change).collect()).await;
+        Ok(answers.iter().all(Result::is_ok).then_some(found))
+    }
+}
+
+fn received(queue: &Arc<Queue>, handed: Vec<Handed>, shown: &Shown) -> Result<Performed, SqsError> {
+    let messages = handed.iter().map(|one| show(queue, one, shown)).collect::<Result<_, _>>()?;
+    let receipts = handed.iter().map(|one| one.receipt).collect();
+    let handed = (!handed.is_empty()).then(|| (queue.clone(), receipts));
+    Ok(Performed { handed, ..Response::Messages(messages).into() })
+}
+
+fn show(queue: &Queue, handed: &Handed, shown: &Shown) -> Result<ReceivedMessage, SqsError> {
+    let (kept, body) = read_form(&handed.form)
+        .ok_or_else(|| SqsError::InternalFailure("The store has a message in no form.".into()))?;
+    let handle = Handle { mark: queue.mark, receipt: handed.receipt, moment: handed.moment };
+    let system = shown.system().iter();
+    let attributes = system.filter_map(|one| Some((one.name(), told(*one, handed, &kept)?))).collect();
+    let wanted = kept.attributes.into_iter().filter(|(name, _)| shown.has(name));
+    let message_attributes: MessageAttributes = wanted.collect();
+    Ok(ReceivedMessage {
+        message_id: kept.id.to_string(),
+        receipt_handle: handle.outward(),
+        md5_of_body: md5_of_text(body),
+        body: body.into(),
+        attributes,
+        md5_of_attributes: (!message_attributes.is_empty()).then(|| md5_of_attributes(&message_attributes)),
+        message_attributes,
+    })
+}
+
+fn told(attribute: SystemAttribute, handed: &Handed, kept: &Kept) -> Option<String> {
+    Some(match attribute {
+        SystemAttribute::SenderId => SENDER.into(),
+        SystemAttribute::SentTimestamp => kept.sent.to_string(),
+        SystemAttribute::ApproximateReceiveCount => handed.receipt.ordinal.to_string(),
+        SystemAttribute::ApproximateFirstReceiveTimestamp => handed.first.to_string(),
+        SystemAttribute::SequenceNumber => sequence_number(handed.receipt.sequence),
+        SystemAttribute::MessageGroupId => handed.group.clone(),
+        SystemAttribute::MessageDeduplicationId => kept.dedup.as_str().into(),
+        SystemAttribute::TraceHeader => kept.trace.as_ref()?.text()?.into(),
+    })
+}

@@ -1,0 +1,282 @@
+//! The attributes of a queue: which there are, which values they may have, and what is told of them.
+
+use std::collections::{BTreeMap, BTreeSet};
+
+use serde::{Deserialize, Serialize};
+
+use crate::errors::SqsError;
+
+/// The largest `MaximumMessageSize`, which is its default as well, in bytes.
+pub const LONGEST_MESSAGE: usize = 262_144;
+
+/// The counts of messages, which are the store's.
+pub const COUNTS: [&str; 3] =
+    ["ApproximateNumberOfMessages", "ApproximateNumberOfMessagesNotVisible", "ApproximateNumberOfMessagesDelayed"];
+const TOLD: [&str; 3] = ["CreatedTimestamp", "LastModifiedTimestamp", "QueueArn"];
+
+/// Which values an attribute may have.
+enum Rule {
+    Flag,
+    OneOf(&'static [&'static str]),
+    Whole(u64, u64),
+    AnyText,
+    /// Nothing but the empty text, since the feature isn't there.
+    Nothing,
+}
+
+struct Attribute {
+    name: &'static str,
+    rule: Rule,
+    default: Option<&'static str>,
+    /// What is added to the refusal of a value.
+    reason: &'static str,
+}
+
+const fn attribute(name: &'static str, rule: Rule, default: Option<&'static str>) -> Attribute {
+    Attribute { name, rule, default, reason: "" }
+}
+
+const NO_DEAD_LETTERS: &str = "Dead-letter queues are not supported.";
+
+/// All attributes that a client can set (API Reference, CreateQueue, `Attributes`).
+static ATTRIBUTES: [Attribute; 15] = [
+    attribute("ContentBasedDeduplication", Rule::Flag, Some("false")),
+    attribute("DeduplicationScope", Rule::OneOf(&["queue", "messageGroup"]), Some("queue")),
+    Attribute {
+        name: "DelaySeconds",
+        rule: Rule::Whole(0, 0),
+        default: Some("0"),
+        reason: "Delays are not supported: it must be 0.",
+    },
+    attribute("FifoQueue", Rule::Flag, Some("true")),
+    attribute("FifoThroughputLimit", Rule::OneOf(&["perQueue", "perMessageGroupId"]), Some("perQueue")),
+    attribute("KmsDataKeyReusePeriodSeconds", Rule::Whole(60, 86_400), None),
+    attribute("KmsMasterKeyId", Rule::AnyText, None),
+    attribute("MaximumMessageSize", Rule::Whole(1_024, LONGEST_MESSAGE as u64), Some("262144")),
+    attribute("MessageRetentionPeriod", Rule::Whole(60, 1_209_600), Some("345600")),
+    attribute("Policy", Rule::AnyText, None),
+    attribute("ReceiveMessageWaitTimeSeconds", Rule::Whole(0, 20), Some("0")),
+    Attribute { name: "RedriveAllowPolicy", rule: Rule::Nothing, default: None, reason: NO_DEAD_LETTERS },
+    Attribute { name: "RedrivePolicy", rule: Rule::Nothing, default: None, reason: NO_DEAD_LETTERS },
+    attribute("SqsManagedSseEnabled", Rule::Flag, Some("false")),
+    attribute("VisibilityTimeout", Rule::Whole(0, 43_200), Some("30")),
+];
+
+impl Attribute {
+    fn read(&self, value: &str) -> Result<String, SqsError> {
+        let read = match self.rule {
+            Rule::Flag => Some(value.to_ascii_lowercase()).filter(|flag| flag == "true" || flag == "false"),
+            Rule::OneOf(values) => values.contains(&value).then(|| value.to_string()),
+            Rule::Whole(least, most) => {
+                whole(value).filter(|number| (least..=most).contains(number)).map(|number| number.to_string())
+            }
+            Rule::AnyText => Some(value.to_string()),
+            Rule::Nothing => value.is_empty().then(String::new),
+        };
+        read.ok_or_else(|| SqsError::attribute_value(self.name, self.reason))
+    }
+}
+
+/// A number written in digits alone.
+fn whole(text: &str) -> Option<u64> {
+    let is_digits = !text.is_empty() && text.bytes().all(|byte| byte.is_ascii_digit());
+    text.parse().ok().filter(|_| is_digits)
+}
+
+/// Attributes that a client wants to set, each known and with a good value.
+#[derive(Clone, Debug, PartialEq, Eq, Serialize, Deserialize)]
+#[serde(transparent)]
+pub struct Given(BTreeMap<String, String>);
+
+impl Given {
+    /// Tests names and values. An unknown name is `InvalidAttributeName`, a bad value `InvalidAttributeValue`.
+    pub fn read(given: &[(String, String)]) -> Result<Given, SqsError> {
+        let mut good = BTreeMap::new();
+        for (name, value) in given {
+            let found = ATTRIBUTES.iter().find(|attribute| attribute.name == name);
+            let attribute = found.ok_or_else(|| SqsError::InvalidAttributeName(name.clone()))?;
+            good.insert(name.clone(), attribute.read(value)?);
+        }
+        Ok(Given(good))
+    }
+
+    pub fn is_empty(&self) -> bool {
+        self.0.is_empty()
+    }
+}
+
+/// All attributes that a queue has.
+#[derive(Clone, Debug, PartialEq, Eq, Serialize, Deserialize)]
+#[serde(transparent)]
+pub struct QueueAttributes(BTreeMap<String, String>);
+
+impl QueueAttributes {
+    /// Those of a new queue: what is given, and defaults.
+    pub fn for_creation(given: &Given) -> Result<QueueAttributes, SqsError> {
+        let mut whole = BTreeMap::new();
+        for attribute in &ATTRIBUTES {
+            if let Some(default) = attribute.default {
+                whole.insert(attribute.name.to_string(), default.to_string());
+            }
+        }
+        let mut attributes = QueueAttributes(whole);
+        attributes.set(given);
+        attributes.test_together()?;
+        Ok(attributes)
+    }
+
+    /// A queue that lives is created again only with the values that it has; those left out don't count
+    /// (API Reference, CreateQueue, `QueueNameExists`).
+    pub fn test_same(&self, given: &Given) -> Result<(), SqsError> {
+        for (name, value) in &given.0 {
+            if self.text(name) != value {
+                return Err(SqsError::QueueNameExists { attribute: name.clone() });
+            }
+        }
+        Ok(())
+    }
+
+    /// Whether these attributes may be changed so.
+    pub fn test_change(&self, given: &Given) -> Result<(), SqsError> {
+        if given.0.get("FifoQueue").is_some_and(|value| value != "true") {
+            return Err(SqsError::attribute_value("FifoQueue", "It can't be changed."));
+        }
+        let mut changed = self.clone();
+        changed.set(given);
+        changed.test_together()
+    }
+
+    /// Takes over values; the empty text removes an attribute.
+    pub fn set(&mut self, given: &Given) {
+        for (name, value) in &given.0 {
+            if value.is_empty() {
+                self.0.remove(name);
+            } else {
+                self.0.insert(name.clone(), value.clone());
+            }
+        }
+    }
+
+    /// The throughput can be a group's only where deduplication is
+    /// (API Reference, SetQueueAttributes, `FifoThroughputLimit`).
+    fn test_together(&self) -> Result<(), SqsError> {
+        let per_group = self.text("FifoThroughputLimit") == "perMessageGroupId";
+        if per_group && !self.dedups_by_group() {
+            return Err(SqsError::attribute_value(
+                "FifoThroughputLimit",
+                "It can be perMessageGroupId only where DeduplicationScope is messageGroup.",
+            ));
+        }
+        Ok(())
+    }
+
+    fn text(&self, name: &str) -> &str {
+        self.0.get(name).map_or("", String::as_str)
+    }
+
+    fn number(&self, name: &str) -> u64 {
+        self.text(name).parse().unwrap_or(0)
+    }
+
+    /// Seconds, from 0 to 43,200.
+    pub fn visibility_timeout(&self) -> u32 {
+        self.number("VisibilityTimeout") as u32
+    }
+
+    /// Seconds, from 0 to 20.
+    pub fn wait_time(&self) -> u32 {
+        self.number("ReceiveMessageWaitTimeSeconds") as u32
+    }
+
+    /// Bytes of a body with its attributes.
+    pub fn maximum_message_size(&self) -> usize {
+        self.number("MaximumMessageSize") as usize
+    }
+
+    pub fn dedups_by_content(&self) -> bool {
+        self.text("ContentBasedDeduplication") == "true"
+    }
+
+    pub fn dedups_by_group(&self) -> bool {
+        self.text("DeduplicationScope") == "messageGroup"
+    }
+
+    pub fn iter(&self) -> impl Iterator<Item = (&str, &str)> {
+        self.0.iter().map(|(name, value)| (name.as_str(), value.as_str()))
+    }
+}
+
+/// Which attributes a client wants to be told.
+#[derive(Clone, Debug, PartialEq, Eq)]
+pub struct Wanted(BTreeSet<String>);
+
+impl Wanted {
+    /// Tests the names; `All` stands for each. An unknown one is `InvalidAttributeName`.
+    pub fn read(names: &[String]) -> Result<Wanted, SqsError> {
+        for name in names {
+            if name != "All" && !is_known(name) {
+                return Err(SqsError::InvalidAttributeName(name.clone()));
+            }
+        }
+        if names.iter().any(|name| name == "All") {
+            let all = ATTRIBUTES.iter().map(|attribute| attribute.name).chain(COUNTS).chain(TOLD);
+            return Ok(Wanted(all.map(String::from).collect()));
+        }
+        Ok(Wanted(names.iter().cloned().collect()))
+    }
+
+    pub fn has(&self, name: &str) -> bool {
+        self.0.contains(name)
+    }
+
+    /// Whether the store must be asked for its counts.
+    pub fn has_counts(&self) -> bool {
+        COUNTS.iter().any(|name| self.has(name))
+    }
+}
+
+/// Whether there is an attribute of queues with this name.
+pub fn is_known(name: &str) -> bool {
+    ATTRIBUTES.iter().any(|attribute| attribute.name == name) || COUNTS.contains(&name) || TOLD.contains(&name)
+}
+
+#[cfg(test)]
+mod tests {
+    use super::*;
+
+    fn given(pairs: &[(&str, &str)]) -> Result<Given, SqsError> {
+        let pairs: Vec<_> = pairs.iter().map(|(a, b)| (a.to_string(), b.to_string())).collect();
+        Given::read(&pairs)
+    }
+
+    #[test]
+    fn values_are_tested() {
+        for (name, value) in [
+            ("VisibilityTimeout", "43201"),
+            ("VisibilityTimeout", "-1"),
+            ("VisibilityTimeout", "+1"),
+            ("VisibilityTimeout", ""),
+            ("MaximumMessageSize", "1023"),
+            ("FifoQueue", "perhaps"),
+            ("RedrivePolicy", "{}"),
+            ("DelaySeconds", "1"),
+        ] {
+            assert!(matches!(given(&[(name, value)]), Err(SqsError::InvalidAttributeValue { .. })), "{name}");
+        }
+        let unknown = given(&[("Colour", "red")]);
+        assert_eq!(unknown, Err(SqsError::InvalidAttributeName("Colour".into())));
+    }
+
+    #[test]
+    fn a_queue_has_defaults_and_what_was_given() {
+        let made = given(&[("VisibilityTimeout", "007"), ("FifoQueue", "TRUE")]).unwrap();
+        let attributes = QueueAttributes::for_creation(&made).unwrap();
+        assert_eq!((attributes.visibility_timeout(), attributes.maximum_message_size()), (7, 262_144));
+        assert!(attributes.test_same(&given(&[("VisibilityTimeout", "7")]).unwrap()).is_ok());
+        assert!(attributes.test_same(&given(&[("VisibilityTimeout", "8")]).unwrap()).is_err());
+        assert!(attributes.test_same(&given(&[("RedrivePolicy", "")]).unwrap()).is_ok());
+        assert!(attributes.test_change(&given(&[("FifoQueue", "false")]).unwrap()).is_err());
+        let limit = given(&[("FifoThroughputLimit", "perMessageGroupId")]).unwrap();
+        assert!(attributes.test_change(&limit).is_err());
+    }
+}

@@ -1,0 +1,190 @@
+//! The errors of SQS, with their codes and statuses.
+
+use thiserror::Error;
+
+/// A refusal as a client is told of it. Its text is the `message`.
+#[derive(Clone, Debug, PartialEq, Eq, Error)]
+pub enum SqsError {
+    #[error("The specified queue does not exist.")]
+    QueueDoesNotExist,
+    #[error("A queue already exists with the same name and a different value for attribute {attribute}")]
+    QueueNameExists { attribute: String },
+    #[error("You must wait 60 seconds after deleting a queue before you can create another with the same name.")]
+    QueueDeletedRecently,
+    #[error("Only one PurgeQueue operation on {queue} is allowed every 60 seconds.")]
+    PurgeQueueInProgress { queue: String },
+    #[error("The input receipt handle is invalid.")]
+    ReceiptHandleIsInvalid,
+    #[error("The message referred to isn't in flight.")]
+    MessageNotInflight,
+    #[error("{0}")]
+    InvalidParameterValue(String),
+    #[error("The request must contain the parameter {0}.")]
+    MissingParameter(String),
+    #[error(
+        "Invalid characters found. Valid unicode characters are #x9 | #xA | #xD | #x20 to #xD7FF | #xE000 to #xFFFD | #x10000 to #x10FFFF"
+    )]
+    InvalidMessageContents,
+    #[error("Unknown Attribute {0}.")]
+    InvalidAttributeName(String),
+    #[error("Invalid value for the parameter {name}.{reason}")]
+    InvalidAttributeValue { name: String, reason: String },
+    #[error("There should be at least one entry in the request.")]
+    EmptyBatchRequest,
+    #[error("Maximum number of entries per request are 10. You have sent {0}.")]
+    TooManyEntriesInBatchRequest(usize),
+    #[error("Id {0} repeated.")]
+    BatchEntryIdsNotDistinct(String),
+    #[error(
+        "A batch entry id can only contain alphanumeric characters, hyphens and underscores. It can be at most 80 letters long."
+    )]
+    InvalidBatchEntryId,
+    #[error("Batch requests cannot be longer than {limit} bytes. You have sent {sent} bytes.")]
+    BatchRequestTooLong { limit: usize, sent: usize },
+    #[error("{0} is not supported.")]
+    UnsupportedOperation(String),
+    #[error("The action {0} is not valid for this endpoint.")]
+    UnknownOperation(String),
+    #[error("{0}")]
+    OverLimit(String),
+    #[error("{0}")]
+    InternalFailure(String),
+    #[error("{0}")]
+    ServiceUnavailable(String),
+}
+
+/// How both protocols name an error.
+#[derive(Clone, Copy, Debug, PartialEq, Eq)]
+pub struct Coded {
+    /// What stands under `__type` in the JSON protocol.
+    pub type_name: &'static str,
+    /// The code of the query protocol, which the JSON protocol gives in `x-amzn-query-error`.
+    pub code: &'static str,
+    /// The HTTP status.
+    pub status: u16,
+}
+
+impl SqsError {
+    /// The row of this error in the table of codes (API Reference, "Common Errors" and each action's errors).
+    pub fn coded(&self) -> Coded {
+        let (type_name, code, status) = match self {
+            SqsError::QueueDoesNotExist => {
+                ("com.amazonaws.sqs#QueueDoesNotExist", "AWS.SimpleQueueService.NonExistentQueue", 400)
+            }
+            SqsError::QueueNameExists { .. } => ("com.amazonaws.sqs#QueueNameExists", "QueueAlreadyExists", 400),
+            SqsError::QueueDeletedRecently => {
+                ("com.amazonaws.sqs#QueueDeletedRecently", "AWS.SimpleQueueService.QueueDeletedRecently", 400)
+            }
+            SqsError::PurgeQueueInProgress { .. } => {
+                ("com.amazonaws.sqs#PurgeQueueInProgress", "AWS.SimpleQueueService.PurgeQueueInProgress", 403)
+            }
+            SqsError::ReceiptHandleIsInvalid => {
+                ("com.amazonaws.sqs#ReceiptHandleIsInvalid", "ReceiptHandleIsInvalid", 400)
+            }
+            SqsError::MessageNotInflight => {
+                ("com.amazonaws.sqs#MessageNotInflight", "AWS.SimpleQueueService.MessageNotInflight", 400)
+            }
+            SqsError::InvalidParameterValue(_) => {
+                ("com.amazonaws.sqs#InvalidParameterValue", "InvalidParameterValue", 400)
+            }
+            SqsError::MissingParameter(_) => {
+                ("com.amazon.coral.service#MissingRequiredParameterException", "MissingParameter", 400)
+            }
+            SqsError::InvalidMessageContents => {
+                ("com.amazonaws.sqs#InvalidMessageContents", "InvalidMessageContents", 400)
+            }
+            SqsError::InvalidAttributeName(_) => {
+                ("com.amazonaws.sqs#InvalidAttributeName", "InvalidAttributeName", 400)
+            }
+            SqsError::InvalidAttributeValue { .. } => {
+                ("com.amazonaws.sqs#InvalidAttributeValue", "InvalidAttributeValue", 400)
+            }
+            SqsError::EmptyBatchRequest => {
+                ("com.amazonaws.sqs#EmptyBatchRequest", "AWS.SimpleQueueService.EmptyBatchRequest", 400)
+            }
+            SqsError::TooManyEntriesInBatchRequest(_) => (
+                "com.amazonaws.sqs#TooManyEntriesInBatchRequest",
+                "AWS.SimpleQueueService.TooManyEntriesInBatchRequest",
+                400,
+            ),
+            SqsError::BatchEntryIdsNotDistinct(_) => {
+                ("com.amazonaws.sqs#BatchEntryIdsNotDistinct", "AWS.SimpleQueueService.BatchEntryIdsNotDistinct", 400)
+            }
+            SqsError::InvalidBatchEntryId => {
+                ("com.amazonaws.sqs#InvalidBatchEntryId", "AWS.SimpleQueueService.InvalidBatchEntryId", 400)
+            }
+            SqsError::BatchRequestTooLong { .. } => {
+                ("com.amazonaws.sqs#BatchRequestTooLong", "AWS.SimpleQueueService.BatchRequestTooLong", 400)
+            }
+            SqsError::UnsupportedOperation(_) => {
+                ("com.amazonaws.sqs#UnsupportedOperation", "AWS.SimpleQueueService.UnsupportedOperation", 400)
+            }
+            SqsError::UnknownOperation(_) => {
+                ("com.amazon.coral.service#UnknownOperationException", "InvalidAction", 400)
+            }
+            SqsError::OverLimit(_) => ("com.amazonaws.sqs#OverLimit", "OverLimit", 403),
+            SqsError::InternalFailure(_) => ("com.amazonaws.sqs#InternalFailure", "InternalFailure", 500),
+            SqsError::ServiceUnavailable(_) => ("com.amazonaws.sqs#ServiceUnavailable", "ServiceUnavailable", 503),
+        };
+        Coded { type_name, code, status }
+    }
+
+    /// Whether the fault is the client's: every error below 500.
+    pub fn is_sender_fault(&self) -> bool {
+        self.coded().status < 500
+    }
+
+    /// `InvalidParameterValue` for a value that is out of range.
+    pub fn out_of_range(value: &str, parameter: &str, least: i64, most: i64) -> SqsError {
+        SqsError::InvalidParameterValue(format!(
+            "Value {value} for parameter {parameter} is invalid. Reason: Must be between {least} and {most}, if provided."
+        ))
+    }
+
+    /// `InvalidAttributeValue`, with a reason or an empty text.
+    pub fn attribute_value(name: &str, reason: &str) -> SqsError {
+        let reason = if reason.is_empty() { String::new() } else { format!(" {reason}") };
+        SqsError::InvalidAttributeValue { name: name.into(), reason }
+    }
+
+    /// A send has no deduplication id, and its queue makes none.
+    pub fn missing_dedup_id() -> SqsError {
+        SqsError::InvalidParameterValue(
+            "The queue should either have ContentBasedDeduplication enabled or MessageDeduplicationId provided explicitly"
+                .into(),
+        )
+    }
+
+    /// The error for a refusal of the store, by its number (`docs/LINES.md`).
+    pub fn of_refusal(code: u32) -> SqsError {
+        match code {
+            1 => SqsError::QueueDoesNotExist,
+            2 => SqsError::QueueNameExists { attribute: "VisibilityTimeout".into() },
+            3 => SqsError::QueueDeletedRecently,
+            4 => SqsError::ReceiptHandleIsInvalid,
+            5 => SqsError::MessageNotInflight,
+            6 => SqsError::InvalidParameterValue(
+                "Total VisibilityTimeout for the message is beyond the limit [43200 seconds]".into(),
+            ),
+            8 => SqsError::missing_dedup_id(),
+            14 => SqsError::InvalidMessageContents,
+            _ => SqsError::InternalFailure(format!("The store refused this ({code}).")),
+        }
+    }
+}
+
+#[cfg(test)]
+mod tests {
+    use super::*;
+
+    #[test]
+    fn codes_and_shapes_are_those_of_the_service() {
+        let coded = SqsError::QueueDoesNotExist.coded();
+        assert_eq!(coded.code, "AWS.SimpleQueueService.NonExistentQueue");
+        assert_eq!(coded.type_name, "com.amazonaws.sqs#QueueDoesNotExist");
+        assert_eq!(SqsError::of_refusal(99).coded().status, 500);
+        assert!(!SqsError::of_refusal(99).is_sender_fault());
+        let error = SqsError::attribute_value("DelaySeconds", "It must be 0.");
+        assert_eq!(error.to_string(), "Invalid value for the parameter DelaySeconds. It must be 0.");
+    }
+}

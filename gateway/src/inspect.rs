@@ -1,0 +1,75 @@
+//! Looking at a journal that nobody opens to write, or at a copy of one.
+
+use std::io::Write;
+use std::path::Path;
+
+use anyhow::{bail, Result};
+
+use crate::journal::{self, Record, Records};
+use crate::lines;
+
+/// Writes the journal as a script: two lines for each request of a queue that lives.
+pub fn dump(path: &Path, out: &mut impl Write) -> Result<()> {
+    if journal::is_version1(path) {
+        return Ok(journal::dump_version1(path, out)?);
+    }
+    let (records, _) = Records::of_files(path)?;
+    let removed = records.removed().clone();
+    let mut number = 0;
+    let mut failed = None;
+    records.read(|payload| {
+        for line in payload.split(|byte| *byte == b'\n') {
+            let Some(record) = Record::read(line) else { continue };
+            let is_removed = record.store_name().is_some_and(|name| removed.contains(&name));
+            let Some(ask) = record.ask.filter(|_| !is_removed) else { continue };
+            number += 1;
+            let mut script = Vec::new();
+            let written = lines::append_request(&mut script, record.clock, 1, number, ask);
+            if let Err(error) = written.map_err(anyhow::Error::from).and_then(|()| Ok(out.write_all(&script)?)) {
+                failed = Some(error);
+                return false;
+            }
+        }
+        true
+    })?;
+    failed.map_or(Ok(()), Err)
+}
+
+/// Says what a journal holds. Damage is an error that says where it is.
+pub fn verify(path: &Path, out: &mut impl Write) -> Result<()> {
+    if journal::is_version1(path) {
+        writeln!(out, "{}: {} records of version 1, undamaged", path.display(), journal::count_version1(path)?)?;
+        return Ok(());
+    }
+    let (records, found) = Records::of_files(path)?;
+    let removed = records.removed().clone();
+    let (mut requests, mut notes, mut passed, mut bad) = (0u64, 0u64, 0u64, 0u64);
+    let mut last_clock = 0;
+    let count = records.read(|payload| {
+        for line in payload.split(|byte| *byte == b'\n').filter(|line| !line.is_empty()) {
+            match Record::read(line).and_then(|record| Some((record.store_name()?, record))) {
+                Some((name, record)) => {
+                    last_clock = record.clock.max(last_clock);
+                    match (removed.contains(&name), record.ask.is_some()) {
+                        (true, _) => passed += 1,
+                        (false, true) => requests += 1,
+                        (false, false) => notes += 1,
+                    }
+                }
+                None => bad += 1,
+            }
+        }
+        true
+    })?;
+    for segment in &found {
+        let (number, bytes, last) = (segment.segment, segment.bytes, segment.last_commit);
+        writeln!(out, "segment {number}: {bytes} bytes, commits up to {last}")?;
+    }
+    writeln!(out, "{count} records: {requests} requests and {notes} notes of queues that are there, {passed} of queues that were removed")?;
+    writeln!(out, "the last clock is {last_clock}")?;
+    if bad > 0 {
+        bail!("{bad} records can't be read");
+    }
+    writeln!(out, "undamaged")?;
+    Ok(())
+}

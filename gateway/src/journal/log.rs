@@ -1,0 +1,179 @@
+//! The log: commits go to the end of the last segment, in space that was allocated ahead.
+
+use std::io;
+use std::sync::Arc;
+
+use super::disk::{Folder, Segment};
+use super::frame;
+use super::segments::{scan_all, Head, JournalError, Scanned, Span};
+
+/// How large files get, and how much space is kept ahead.
+#[derive(Clone, Copy, Debug)]
+pub struct Sizes {
+    /// A segment longer than this is followed by another one.
+    pub segment: u64,
+    /// Space is allocated in pieces of this size.
+    pub piece: u64,
+    /// So much space is to be there behind the last commit.
+    pub ahead: u64,
+}
+
+impl Default for Sizes {
+    fn default() -> Sizes {
+        Sizes { segment: 64 << 20, piece: 16 << 20, ahead: 12 << 20 }
+    }
+}
+
+/// A log that is open to be written. Whoever has it keeps all others out.
+pub struct Log<F: Folder> {
+    folder: Arc<F>,
+    sizes: Sizes,
+    file: F::File,
+    active: Span,
+    /// Up to here there is space.
+    allocated: u64,
+    /// The number of the last commit that was tried.
+    number: u64,
+}
+
+impl<F: Folder> Log<F> {
+    /// Opens a log, or begins one. What a commit left behind that was told to nobody is cut off. Before this returns
+    /// all that it found is on disk.
+    pub fn open(folder: Arc<F>, sizes: Sizes) -> Result<(Log<F>, Scanned), JournalError> {
+        let mut scanned = scan_all(folder.as_ref())?;
+        // The segment that stands for others may have its name in the cache alone.
+        folder.sync()?;
+        for number in std::mem::take(&mut scanned.replaced) {
+            folder.remove(number)?;
+        }
+        let Some(active) = scanned.spans.last().cloned() else {
+            return Log::begin(folder, sizes, scanned);
+        };
+        let bytes = folder.read(active.segment)?;
+        let file = folder.open(active.segment)?;
+        cut_off(&file, &bytes, active.end)?;
+        // What the cache shows need not be on the disk: a sync that failed has forgotten it.
+        let place = active.last_place;
+        let last = usize::try_from(place).ok().zip(usize::try_from(active.end).ok());
+        if let Some(last) = last.and_then(|(start, end)| bytes.get(start..end)) {
+            file.write_at(place, last)?;
+        }
+        // Two frames that aren't on the disk yet would be one too many: if this failed after another had been written,
+        // the next start would find that one, and power could take this one from under it.
+        file.sync()?;
+        // A copy may have holes where there was space.
+        let length = bytes.len() as u64;
+        let allocated = if file.allocate(length).is_ok() { length } else { active.end };
+        let mut log = Log { folder, sizes, allocated, number: active.last + 1, file, active };
+        // No number is used again: the one that is passed over may have been that of a commit that failed.
+        if log.is_short() {
+            log.grow();
+        }
+        log.commit(&[])?;
+        log.folder.sync()?;
+        if let Some(span) = scanned.spans.last_mut() {
+            *span = log.active.clone();
+        }
+        Ok((log, scanned))
+    }
+
+    fn begin(folder: Arc<F>, sizes: Sizes, mut scanned: Scanned) -> Result<(Log<F>, Scanned), JournalError> {
+        let (file, active) = prepare(folder.as_ref(), 1, 0, sizes)?;
+        publish(folder.as_ref(), 1)?;
+        let allocated = active.end + sizes.piece;
+        scanned.spans.push(active.clone());
+        Ok((Log { folder, sizes, file, active, allocated, number: 0 }, scanned))
+    }
+
+    /// The segment that is written to.
+    pub fn active(&self) -> &Span {
+        &self.active
+    }
+
+    /// How many bytes can be written without more space.
+    pub fn room(&self) -> u64 {
+        self.allocated.saturating_sub(self.active.end)
+    }
+
+    /// Writes one commit. After it returns well the payload outlives a power cut. After it fails the log is of no
+    /// use any more: what the disk has isn't known.
+    pub fn commit(&mut self, payload: &[u8]) -> io::Result<()> {
+        self.number += 1;
+        let place = self.active.end;
+        let bytes = frame::encode(self.number, place, payload);
+        let bytes = bytes.map_err(|error| io::Error::new(io::ErrorKind::InvalidInput, error))?;
+        self.file.write_at(place, &bytes)?;
+        self.file.sync()?;
+        self.active.end += bytes.len() as u64;
+        self.active.last = self.number;
+        self.active.last_place = place;
+        Ok(())
+    }
+
+    /// Whether there is less space ahead than there should be.
+    pub fn is_short(&self) -> bool {
+        self.room() < self.sizes.ahead
+    }
+
+    /// Allocates one more piece, if the disk has it. A disk that is full leaves the room as it is.
+    pub fn grow(&mut self) -> bool {
+        let wanted = self.allocated + self.sizes.piece;
+        let is_grown = self.file.allocate(wanted).is_ok();
+        if is_grown {
+            self.allocated = wanted;
+        }
+        is_grown
+    }
+
+    /// Begins another segment where this one is long enough, and tells the span of the one that was closed. A disk
+    /// that is full leaves things as they are; another failure ends the log.
+    pub fn go_on(&mut self) -> Result<Option<Span>, JournalError> {
+        if self.active.end < self.sizes.segment {
+            return Ok(None);
+        }
+        let segment = self.active.segment + 1;
+        let Ok((file, active)) = prepare(self.folder.as_ref(), segment, self.active.last, self.sizes) else {
+            return Ok(None);
+        };
+        self.begin_segment(file, active).map(Some)
+    }
+
+    /// From the moment on in which the segment has its name, none but it may be written to.
+    fn begin_segment(&mut self, file: F::File, active: Span) -> Result<Span, JournalError> {
+        publish(self.folder.as_ref(), active.segment)?;
+        let closed = std::mem::replace(&mut self.active, active);
+        let old = std::mem::replace(&mut self.file, file);
+        self.allocated = self.active.end + self.sizes.piece;
+        // The space behind the last commit is given back; where that fails, it is lost until the segment goes.
+        let _ = old.set_length(closed.end);
+        Ok(closed)
+    }
+}
+
+/// Puts zeros where a commit was torn. The space stays: it may be the last that there is.
+fn cut_off<S: Segment>(file: &S, bytes: &[u8], end: u64) -> io::Result<()> {
+    let torn = usize::try_from(end).ok().and_then(|end| bytes.get(end..)).unwrap_or_default();
+    match torn.iter().rposition(|byte| *byte != 0) {
+        Some(last) => file.write_at(end, &vec![0; last + 1]),
+        None => Ok(()),
+    }
+}
+
+/// A segment that is whole on the disk, and has no name yet.
+fn prepare<F: Folder>(folder: &F, segment: u64, previous: u64, sizes: Sizes) -> Result<(F::File, Span), JournalError> {
+    let head = Head::new(segment, segment, previous);
+    let bytes = head.encode()?;
+    let file = folder.create(segment)?;
+    let end = bytes.len() as u64;
+    file.allocate(end + sizes.piece)?;
+    file.write_at(0, &bytes)?;
+    file.sync()?;
+    let last_place = super::segments::MAGIC.len() as u64;
+    Ok((file, Span { segment, head, start: end, end, last: previous, last_place }))
+}
+
+/// Its name is on the disk before the first commit goes into a segment.
+fn publish<F: Folder>(folder: &F, segment: u64) -> Result<(), JournalError> {
+    folder.publish(segment)?;
+    Ok(folder.sync()?)
+}

@@ -1,0 +1,371 @@
+//! The journal: a record for each request that changed something, on disk before anybody is answered.
+
+mod disk;
+mod frame;
+mod log;
+mod record;
+mod segments;
+#[cfg(test)]
+mod simulated;
+mod version1;
+mod writer;
+
+use std::collections::HashSet;
+use std::fs::File;
+use std::path::{Path, PathBuf};
+use std::sync::atomic::{AtomicBool, AtomicI64, AtomicU64, Ordering};
+use std::sync::{Arc, Condvar, Mutex, MutexGuard, PoisonError};
+use std::time::Instant;
+
+use rustix::fs::{flock, fstatfs, FlockOperation};
+use tokio::sync::{oneshot, Notify};
+
+use crate::errors::SqsError;
+use crate::queues::ask::StoreName;
+use crate::store::Answer;
+pub use disk::Files;
+use disk::Folder;
+use log::{Log, Sizes};
+pub use record::{digest_of_reply, Record};
+pub use segments::JournalError;
+use segments::{frames, lines_in, scan_all, Scanned, Span};
+pub use version1::{convert, count as count_version1, dump as dump_version1};
+
+/// Records that go to the disk together, and the answers that may leave when they are there.
+#[derive(Default)]
+pub struct Batch {
+    /// Lines.
+    pub records: Vec<u8>,
+    pub count: u64,
+    pub finished: Vec<(oneshot::Sender<Vec<Answer>>, Vec<Answer>)>,
+}
+
+impl Batch {
+    /// Gives the answers.
+    pub fn tell(&mut self) {
+        for (done, answers) in self.finished.drain(..) {
+            // A client that has gone hears nothing.
+            let _ = done.send(answers);
+        }
+    }
+
+    fn is_empty(&self) -> bool {
+        self.records.is_empty() && self.finished.is_empty()
+    }
+}
+
+/// What a request does to the space that is in use.
+#[derive(Clone, Copy, Debug, PartialEq, Eq)]
+pub enum Need {
+    /// It adds something that stays: refused first.
+    More,
+    /// It moves what is there.
+    Same,
+    /// It takes something away: refused last.
+    Less,
+}
+
+/// What is kept of the space ahead for requests that take something away or move it.
+const RESERVE: i64 = 8 << 20;
+
+/// What is kept of it for those that take something away.
+const LAST_PART: i64 = 4 << 20;
+
+struct Shared {
+    files: Files,
+    waiting: Mutex<Waiting>,
+    more: Condvar,
+    /// Told when the thread has ended well.
+    ended: Notify,
+    /// Space that is allocated, less what was promised to records. A batch has at most one frame a record.
+    room: AtomicI64,
+    /// The disk had no more space when it was last asked.
+    is_full: AtomicBool,
+    /// Told when the disk was asked for space.
+    grown: Notify,
+    /// How many records the segments have.
+    count: AtomicU64,
+    /// What is on disk. While it is held no segment is replaced or begun.
+    spans: Mutex<Vec<Span>>,
+    /// Names of the store whose records can go.
+    removed: Mutex<HashSet<StoreName>>,
+    rewriting: Mutex<Rewriting>,
+    /// Keeps other gateways out for as long as it is open. It is never renamed.
+    _lock: File,
+}
+
+/// When closed segments were written anew.
+#[derive(Default)]
+struct Rewriting {
+    goes_on: bool,
+    /// How many names had been removed then.
+    removed: usize,
+    /// Not before this moment again.
+    next: Option<Instant>,
+}
+
+#[derive(Default)]
+struct Waiting {
+    batch: Batch,
+    wants_room: bool,
+    is_closed: bool,
+}
+
+/// An open journal. Copies write to the same one.
+#[derive(Clone)]
+pub struct Journal(Arc<Shared>);
+
+/// A journal that was found, before it is written to.
+pub struct Opened {
+    log: Log<Files>,
+    journal: Journal,
+}
+
+fn locked<T>(mutex: &Mutex<T>) -> MutexGuard<'_, T> {
+    mutex.lock().unwrap_or_else(PoisonError::into_inner)
+}
+
+/// A journal that no other gateway has, before it is read.
+pub struct Taken {
+    files: Files,
+    path: PathBuf,
+    lock: File,
+}
+
+impl Taken {
+    /// Keeps other gateways from the journal named by a path.
+    pub fn new(path: &Path) -> Result<Taken, JournalError> {
+        let files = Files::new(path);
+        let lock = lock(&files, path)?;
+        Ok(Taken { files, path: path.into(), lock })
+    }
+
+    /// Opens the journal, or begins one. One of version 1 must have been converted before.
+    pub fn open(self) -> Result<Opened, JournalError> {
+        version1::take_over(&self.files, &self.path)?;
+        let (log, scanned) = Log::open(Arc::new(self.files.clone()), Sizes::default())?;
+        let Scanned { spans, removed, .. } = scanned;
+        let shared = Shared {
+            files: self.files,
+            waiting: Mutex::default(),
+            more: Condvar::new(),
+            ended: Notify::new(),
+            room: AtomicI64::new(log.room() as i64),
+            is_full: AtomicBool::new(false),
+            grown: Notify::new(),
+            count: AtomicU64::new(0),
+            spans: Mutex::new(spans),
+            removed: Mutex::new(removed),
+            rewriting: Mutex::default(),
+            _lock: self.lock,
+        };
+        Ok(Opened { log, journal: Journal(Arc::new(shared)) })
+    }
+}
+
+impl Opened {
+    /// What the journal has.
+    pub fn records(&self) -> Result<Records, JournalError> {
+        Ok(Records { is_counted: false, ..self.journal.records()? })
+    }
+
+    /// Begins to write. `records` is how many were found. What ends the thread for good is told by `failed`.
+    pub fn begin(self, records: u64, failed: fn(&str)) -> Result<Journal, JournalError> {
+        self.journal.0.count.store(records, Ordering::Relaxed);
+        writer::start(self.log, self.journal.clone(), failed)?;
+        Ok(self.journal)
+    }
+}
+
+fn lock(files: &Files, path: &Path) -> Result<File, JournalError> {
+    let name = files.path_of("lock");
+    let mut options = File::options();
+    let opened = options.create(true).write(true).truncate(false).open(&name);
+    let file = opened.map_err(|error| JournalError::Io(format!("{} can't be opened: {error}", name.display())))?;
+    if let Some(kind) = fstatfs(&file).ok().and_then(|found| network(found.f_type as u64)) {
+        return Err(JournalError::Network(format!("{} is on {kind}", path.display())));
+    }
+    match flock(&file, FlockOperation::NonBlockingLockExclusive) {
+        Ok(()) => Ok(file),
+        Err(rustix::io::Errno::WOULDBLOCK) => Err(JournalError::InUse(path.display().to_string())),
+        Err(error) => Err(JournalError::Io(format!("{} can't be locked: {error}", name.display()))),
+    }
+}
+
+/// The name of a file system of the network, by its type (statfs(2)).
+fn network(kind: u64) -> Option<&'static str> {
+    Some(match kind & 0xffff_ffff {
+        0x6969 => "NFS",
+        0x517b | 0xfe53_4d42 | 0xff53_4d42 => "SMB",
+        0x0102_1997 => "9P",
+        0x00c3_6400 => "Ceph",
+        0x5346_414f | 0x6b41_4653 => "AFS",
+        _ => return None,
+    })
+}
+
+impl Journal {
+    fn waiting(&self) -> MutexGuard<'_, Waiting> {
+        locked(&self.0.waiting)
+    }
+
+    /// Gives records and answers over to the writing thread, and leaves `batch` empty.
+    pub fn hand_over(&self, batch: &mut Batch) {
+        let mut waiting = self.waiting();
+        waiting.batch.records.extend_from_slice(&batch.records);
+        waiting.batch.count += batch.count;
+        waiting.batch.finished.append(&mut batch.finished);
+        batch.records.clear();
+        batch.count = 0;
+        self.0.more.notify_one();
+    }
+
+    /// Sets space aside for a record of up to `bytes`, and tells how much that was; none where it must be asked for
+    /// first, which `grown` tells of. Where the disk is full, what needs more is `OverLimit`, and what moves things
+    /// `ServiceUnavailable`, before a commit fails.
+    pub fn set_aside(&self, need: Need, bytes: u64) -> Result<Option<u64>, SqsError> {
+        let bytes = bytes + frame::HEAD as u64;
+        let left = self.0.room.fetch_sub(bytes as i64, Ordering::Relaxed) - bytes as i64;
+        let is_enough = match need {
+            Need::More => left >= RESERVE,
+            Need::Same => left >= LAST_PART,
+            Need::Less => left >= 0,
+        };
+        if is_enough {
+            return Ok(Some(bytes));
+        }
+        self.give_back(bytes);
+        let was_full = self.0.is_full.load(Ordering::Relaxed);
+        self.waiting().wants_room = true;
+        self.0.more.notify_one();
+        match need {
+            _ if !was_full => Ok(None),
+            Need::More => Err(SqsError::OverLimit("The disk of the journal is full.".into())),
+            _ => Err(SqsError::ServiceUnavailable("The disk of the journal is full.".into())),
+        }
+    }
+
+    /// Waits until the disk was asked for space.
+    pub async fn grown(&self) {
+        self.0.grown.notified().await;
+    }
+
+    pub fn give_back(&self, bytes: u64) {
+        self.0.room.fetch_add(bytes as i64, Ordering::Relaxed);
+    }
+
+    /// A record of so many bytes is on its way.
+    pub fn use_room(&self, bytes: u64) {
+        let bytes = bytes + frame::HEAD as u64;
+        self.0.room.fetch_sub(bytes as i64, Ordering::Relaxed);
+    }
+
+    /// Waits until all that was handed over is on disk.
+    pub async fn settled(&self) {
+        let (done, answers) = oneshot::channel();
+        let mut batch = Batch { finished: vec![(done, Vec::new())], ..Batch::default() };
+        self.hand_over(&mut batch);
+        let _ = answers.await;
+    }
+
+    /// How many records were written, less those that went.
+    fn count(&self) -> u64 {
+        self.0.count.load(Ordering::Relaxed)
+    }
+
+    /// What is on disk by now.
+    pub fn records(&self) -> Result<Records, JournalError> {
+        let removed = locked(&self.0.removed).clone();
+        Ok(Records { source: Source::Journal(self.clone()), removed, is_counted: true })
+    }
+
+    /// Writes what waits and an empty commit, and ends the thread.
+    pub async fn close(&self) {
+        self.waiting().is_closed = true;
+        self.0.more.notify_one();
+        self.0.ended.notified().await;
+    }
+}
+
+enum Source {
+    Journal(Journal),
+    Files(Files, Vec<Span>),
+}
+
+/// The records of a journal, in order.
+pub struct Records {
+    source: Source,
+    removed: HashSet<StoreName>,
+    /// It is known how many there must be.
+    is_counted: bool,
+}
+
+impl Records {
+    /// The records of a journal, or of a copy of one, that nobody opens to write.
+    pub fn of_files(path: &Path) -> Result<(Records, Vec<Found>), JournalError> {
+        let files = Files::new(path);
+        let Scanned { spans, removed, .. } = scan_all(&files)?;
+        if spans.is_empty() {
+            return Err(JournalError::Io(format!("{}: there is no journal", path.display())));
+        }
+        let found = spans.iter().map(Found::of).collect();
+        Ok((Records { source: Source::Files(files, spans), removed, is_counted: false }, found))
+    }
+
+    /// Names of the store that were removed. A replay passes their records over.
+    pub fn removed(&self) -> &HashSet<StoreName> {
+        &self.removed
+    }
+
+    /// Hands on the lines of each commit, until `take` says that it is enough. Tells how many lines there were.
+    pub fn read(self, mut take: impl FnMut(Vec<u8>) -> bool) -> Result<u64, JournalError> {
+        let held;
+        let (files, spans): (&Files, &[Span]) = match &self.source {
+            Source::Journal(journal) => {
+                held = locked(&journal.0.spans);
+                (&journal.0.files, &held)
+            }
+            Source::Files(files, spans) => (files, spans),
+        };
+        let mut count = 0;
+        for span in spans {
+            let bytes = files.read(span.segment)?;
+            for frame in frames(span, &bytes) {
+                count += lines_in(frame.payload);
+                if !frame.payload.is_empty() && !take(frame.payload.to_vec()) {
+                    return Ok(count);
+                }
+            }
+        }
+        match &self.source {
+            Source::Journal(journal) if self.is_counted && journal.count() != count => {
+                Err(JournalError::OtherCount { found: count, written: journal.count() })
+            }
+            _ => Ok(count),
+        }
+    }
+}
+
+/// A segment as `verify` tells of it.
+#[derive(Clone, Copy, Debug, PartialEq, Eq)]
+pub struct Found {
+    pub segment: u64,
+    pub bytes: u64,
+    pub last_commit: u64,
+}
+
+impl Found {
+    fn of(span: &Span) -> Found {
+        Found { segment: span.segment, bytes: span.end, last_commit: span.last }
+    }
+}
+
+/// Whether there is a file with this name and a journal of version 1 in it.
+pub fn is_version1(path: &Path) -> bool {
+    version1::is_there(path)
+}
+
+/// Where the Python gateway's journal stays after it was written anew.
+pub fn old_path(path: &Path) -> PathBuf {
+    Files::new(path).path_of("version1")
+}

@@ -1,0 +1,183 @@
+//! The records of a journal: one for each request that changed something, a line of JSON each.
+
+use std::borrow::Cow;
+use std::sync::Arc;
+
+use serde::{Deserialize, Serialize};
+use serde_json::value::RawValue;
+use sha2::{Digest, Sha256};
+
+use crate::clock::Moment;
+use crate::lines::{read_receipt, Fields, Kind};
+use crate::messages::Form;
+use crate::queues::ask::{Ask, Change, Creation, StoreName};
+use crate::texts::{hex, AttemptId, DedupId, GroupId, QueueName};
+
+/// A record as it stands in the journal.
+#[derive(Debug, Serialize, Deserialize)]
+pub struct Record<'a> {
+    pub clock: Moment,
+    /// What was asked of the store, without a client and a number: a replay gives new ones.
+    #[serde(borrow, default, skip_serializing_if = "Option::is_none")]
+    pub ask: Option<&'a RawValue>,
+    /// Of the store's reply, to compare it with the one that a replay gives.
+    #[serde(borrow, default, skip_serializing_if = "Option::is_none")]
+    pub digest: Option<Cow<'a, str>>,
+    /// Of a creation.
+    #[serde(default, skip_serializing_if = "Option::is_none")]
+    pub creation: Option<Arc<Creation>>,
+    /// Of a removal that a client asked for.
+    #[serde(default, skip_serializing_if = "Option::is_none")]
+    pub removed: Option<QueueName>,
+    /// Of a send whose form the store can't take.
+    #[serde(borrow, default, skip_serializing_if = "Option::is_none")]
+    pub form: Option<Cow<'a, str>>,
+    /// Of a receive.
+    #[serde(default, skip_serializing_if = "Option::is_none")]
+    pub attempt: Option<AttemptId>,
+    /// Of a change for which no client asked.
+    #[serde(default, skip_serializing_if = "std::ops::Not::not")]
+    pub by_attempt: bool,
+    /// Of a note: the queue's name in the store, and what changed.
+    #[serde(borrow, default, skip_serializing_if = "Option::is_none")]
+    pub queue: Option<Cow<'a, str>>,
+    #[serde(default, skip_serializing_if = "Option::is_none")]
+    pub note: Option<Change>,
+}
+
+impl<'a> Record<'a> {
+    fn at(clock: Moment) -> Record<'a> {
+        Record {
+            clock,
+            ask: None,
+            digest: None,
+            creation: None,
+            removed: None,
+            form: None,
+            attempt: None,
+            by_attempt: false,
+            queue: None,
+            note: None,
+        }
+    }
+
+    /// The record of an ask that changed something. `reply` is the text of the store's reply.
+    pub fn of_ask(clock: Moment, ask: &'a Ask, raw: &'a RawValue, reply: &str) -> Record<'a> {
+        let mut record = Record::at(clock);
+        record.ask = Some(raw);
+        record.digest = Some(digest_of_reply(reply).into());
+        match ask {
+            Ask::Create { creation, .. } => record.creation = Some(creation.clone()),
+            Ask::Remove { name, .. } => record.removed = name.clone(),
+            Ask::Send { form: Form::Split { whole, .. }, .. } => record.form = Some(whole.into()),
+            Ask::Receive { attempt, .. } => record.attempt = attempt.clone(),
+            Ask::Change { by_attempt, .. } => record.by_attempt = *by_attempt,
+            Ask::Send { .. } | Ask::Delete { .. } => {}
+        }
+        record
+    }
+
+    pub fn of_note(clock: Moment, queue: StoreName, change: &Change) -> Record<'a> {
+        let queue = Some(queue.text().into());
+        Record { queue, note: Some(change.clone()), ..Record::at(clock) }
+    }
+
+    /// Appends the record's line.
+    pub fn append(&self, out: &mut Vec<u8>) -> Result<(), serde_json::Error> {
+        serde_json::to_writer(&mut *out, self)?;
+        out.push(b'\n');
+        Ok(())
+    }
+
+    /// Reads a record's line, without its line feed. None if it is none.
+    pub fn read(line: &'a [u8]) -> Option<Record<'a>> {
+        serde_json::from_slice(line).ok()
+    }
+
+    pub fn fields(&self) -> Option<Fields<'a>> {
+        self.ask.and_then(|raw| serde_json::from_str(raw.get()).ok())
+    }
+
+    /// The name in the store of the queue that the record is about.
+    pub fn store_name(&self) -> Option<StoreName> {
+        #[derive(Deserialize)]
+        struct Queue<'q> {
+            #[serde(borrow)]
+            queue: Cow<'q, str>,
+        }
+        match (&self.ask, &self.queue) {
+            (Some(raw), _) => {
+                let found: Queue<'_> = serde_json::from_str(raw.get()).ok()?;
+                StoreName::parse(&found.queue)
+            }
+            (None, Some(queue)) => StoreName::parse(queue),
+            (None, None) => None,
+        }
+    }
+
+    /// The ask of this record. `base` is where the store's count of the queue's messages begins.
+    pub fn to_ask(&self, fields: Fields<'_>, base: u64) -> Option<Ask> {
+        let store = StoreName::parse(&fields.queue)?;
+        let receipt = || read_receipt(fields.receipt.as_deref()?, base);
+        Some(match fields.kind {
+            Kind::Create => Ask::Create { store, visibility: fields.visibility?, creation: self.creation.clone()? },
+            Kind::Remove => Ask::Remove { store, name: self.removed.clone() },
+            Kind::Send => Ask::Send {
+                group: GroupId::parse(fields.group.as_deref()?).ok()?,
+                dedup: DedupId::parse(fields.dedup.as_deref()?).ok()?,
+                form: self.form_of(fields.body?.into_owned()),
+            },
+            Kind::Receive => {
+                Ask::Receive { size: fields.size?, visibility: fields.visibility?, attempt: self.attempt.clone() }
+            }
+            Kind::Delete => Ask::Delete { receipt: receipt()? },
+            Kind::Change => {
+                Ask::Change { receipt: receipt()?, visibility: fields.visibility?, by_attempt: self.by_attempt }
+            }
+        })
+    }
+
+    fn form_of(&self, stored: String) -> Form {
+        match &self.form {
+            None => Form::Whole(stored),
+            Some(whole) => Form::Split { stub: stored, whole: whole.to_string() },
+        }
+    }
+}
+
+/// What the journal keeps of a reply: the first half of its SHA-256, in hex.
+pub fn digest_of_reply(reply: &str) -> String {
+    hex(&Sha256::digest(reply.as_bytes())[..16])
+}
+
+#[cfg(test)]
+mod tests {
+    use super::*;
+    use crate::handles::Receipt;
+
+    #[test]
+    fn records_come_back() {
+        let form = Form::Split { stub: "s".into(), whole: "a\nb".into() };
+        let (group, dedup) = (GroupId::parse("g").unwrap(), DedupId::parse("d").unwrap());
+        let receipt = Receipt { sequence: 15, ordinal: 1 };
+        for ask in [
+            Ask::Send { group, dedup, form },
+            Ask::Receive { size: 3, visibility: 9, attempt: AttemptId::parse("x").ok() },
+            Ask::Change { receipt, visibility: 5, by_attempt: true },
+            Ask::Remove { store: StoreName(7), name: QueueName::parse("q.fifo") },
+        ] {
+            let raw = serde_json::value::to_raw_value(&Fields::of(StoreName(7), 10, &ask)).unwrap();
+            let mut line = Vec::new();
+            Record::of_ask(5, &ask, &raw, "{}").append(&mut line).unwrap();
+            let record = Record::read(&line[..line.len() - 1]).unwrap();
+            assert_eq!((record.clock, record.store_name()), (5, Some(StoreName(7))));
+            let again = record.to_ask(record.fields().unwrap(), 10).unwrap();
+            assert_eq!(format!("{again:?}"), format!("{ask:?}"));
+        }
+        let mut line = Vec::new();
+        Record::of_note(5, StoreName(7), &Change::Purged).append(&mut line).unwrap();
+        let note = Record::read(&line[..line.len() - 1]).unwrap();
+        assert_eq!((note.note.clone(), note.store_name()), (Some(Change::Purged), Some(StoreName(7))));
+        assert!(Record::read(b"{}").is_none());
+    }
+}

@@ -1,0 +1,299 @@
+//! Segments: the files of a journal, what stands in them, and where they are damaged.
+
+use std::collections::HashSet;
+use std::io;
+
+use serde::{Deserialize, Serialize};
+use thiserror::Error;
+
+use super::disk::{Folder, Segment};
+use super::frame::{self, Frame};
+use super::record::Record;
+use crate::queues::ask::StoreName;
+
+/// Why a journal can't be used.
+#[derive(Clone, Debug, PartialEq, Eq, Error)]
+pub enum JournalError {
+    #[error("{0}")]
+    Io(String),
+    #[error("{0} is in use by another process")]
+    InUse(String),
+    #[error("{0} is no journal: it doesn't begin as one")]
+    NoJournal(String),
+    #[error("{0} is a journal of version {1}, and this gateway reads versions 1 and 2")]
+    NewerVersion(String, u32),
+    #[error("segment {segment} of the journal is damaged at byte {place}, and there are good commits behind it")]
+    Damaged { segment: u64, place: u64 },
+    #[error("segment {0} of the journal is missing")]
+    Missing(u64),
+    #[error("segment {segment} of the journal was written as segment {found}")]
+    OtherNumber { segment: u64, found: u64 },
+    #[error("segment {segment} of the journal was written for {found}, and this gateway has {needed}")]
+    OtherRules { segment: u64, found: String, needed: String },
+    #[error("the journal has {found} records, and {written} were written")]
+    OtherCount { found: u64, written: u64 },
+    #[error("{0}: a journal must be on a disk of this machine")]
+    Network(String),
+}
+
+impl From<io::Error> for JournalError {
+    fn from(error: io::Error) -> JournalError {
+        JournalError::Io(error.to_string())
+    }
+}
+
+/// A segment begins with these bytes.
+pub const MAGIC: &[u8] = b"hobbychair journal 2\n";
+
+/// What the first frame of a segment says.
+#[derive(Clone, Debug, PartialEq, Eq, Serialize, Deserialize)]
+pub struct Head {
+    /// The rules by which the store answers. Other rules would give other replies.
+    pub rules: u32,
+    /// How many programs share the queues, and by which hash of their names.
+    pub shards: u32,
+    pub hash: String,
+    /// The segment's own number, and that of the first one that it stands for.
+    pub segment: u64,
+    pub from: u64,
+    /// The number of the last commit before the segment.
+    pub previous: u64,
+}
+
+impl Head {
+    pub fn new(segment: u64, from: u64, previous: u64) -> Head {
+        Head { rules: 1, shards: 1, hash: "crc32".into(), segment, from, previous }
+    }
+
+    fn is_readable(&self) -> bool {
+        (self.rules, self.shards) == (1, 1)
+    }
+
+    fn said(&self) -> String {
+        format!("rules {} and {} shards", self.rules, self.shards)
+    }
+
+    /// The first bytes of a segment.
+    pub fn encode(&self) -> io::Result<Vec<u8>> {
+        let payload = serde_json::to_vec(self)?;
+        let place = MAGIC.len() as u64;
+        let frame = frame::encode(self.previous, place, &payload);
+        let frame = frame.map_err(|error| io::Error::new(io::ErrorKind::InvalidInput, error))?;
+        Ok([MAGIC, &frame].concat())
+    }
+}
+
+/// What a segment holds.
+#[derive(Clone, Debug, PartialEq, Eq)]
+pub struct Span {
+    pub segment: u64,
+    pub head: Head,
+    /// Where its commits begin and end.
+    pub start: u64,
+    pub end: u64,
+    /// The number of its last commit, or of the one before the segment.
+    pub last: u64,
+    /// The place of its last frame, the head's own if there is no other.
+    pub last_place: u64,
+}
+
+/// Reads the head of a segment and finds its last good commit. Takes time in proportion to its bytes.
+pub fn scan(segment: u64, bytes: &[u8]) -> Result<Span, JournalError> {
+    let magic = bytes.get(..MAGIC.len()).unwrap_or(bytes);
+    if magic != MAGIC {
+        return Err(not_begun(segment, magic));
+    }
+    let place = MAGIC.len() as u64;
+    let damaged = JournalError::Damaged { segment, place };
+    let first = frame::read(bytes, place).ok_or(damaged.clone())?;
+    let head: Head = serde_json::from_slice(first.payload).map_err(|_| damaged)?;
+    if !head.is_readable() {
+        let needed = Head::new(0, 0, 0).said();
+        return Err(JournalError::OtherRules { segment, found: head.said(), needed });
+    }
+    if head.segment != segment {
+        return Err(JournalError::OtherNumber { segment, found: head.segment });
+    }
+    let (start, previous) = (first.end(), head.previous);
+    let mut span = Span { segment, head, start, end: start, last: previous, last_place: place };
+    while let Some(next) = frame::read(bytes, span.end).filter(|next| next.number > span.last) {
+        span.last = next.number;
+        span.last_place = next.place;
+        span.end = next.end();
+    }
+    match frame::find_higher(bytes, span.end, span.last) {
+        Some(_) => Err(JournalError::Damaged { segment, place: span.end }),
+        None => Ok(span),
+    }
+}
+
+fn not_begun(segment: u64, magic: &[u8]) -> JournalError {
+    let name = format!("segment {segment}");
+    let text = String::from_utf8_lossy(magic);
+    let version = text.strip_prefix("hobbychair journal ").and_then(|rest| rest.trim_end().parse().ok());
+    match version {
+        Some(version) if version > 2 => JournalError::NewerVersion(name, version),
+        _ => JournalError::NoJournal(name),
+    }
+}
+
+/// The commits of a span.
+pub fn frames<'a>(span: &Span, bytes: &'a [u8]) -> impl Iterator<Item = Frame<'a>> {
+    let (mut place, end) = (span.start, span.end);
+    std::iter::from_fn(move || {
+        let next = frame::read(bytes, place).filter(|frame| frame.end() <= end)?;
+        place = next.end();
+        Some(next)
+    })
+}
+
+/// All segments that count, in order, and those that another one stands for.
+pub struct Scanned {
+    pub spans: Vec<Span>,
+    pub replaced: Vec<u64>,
+    /// Names of the store that were removed, in whichever segment.
+    pub removed: HashSet<StoreName>,
+}
+
+/// Reads all segments, and refuses damage: a commit that is gone though a later one is there.
+pub fn scan_all<F: Folder>(folder: &F) -> Result<Scanned, JournalError> {
+    let mut numbers = folder.list()?;
+    numbers.sort_unstable();
+    let mut spans: Vec<Span> = Vec::new();
+    let mut removed = HashSet::new();
+    for number in &numbers {
+        let bytes = folder.read(*number)?;
+        let span = scan(*number, &bytes)?;
+        note_removed(&span, &bytes, &mut removed)?;
+        spans.push(span);
+    }
+    let (mut kept, mut replaced) = (Vec::new(), Vec::new());
+    let mut needed = None;
+    for span in spans.into_iter().rev() {
+        let next: Option<u64> = needed;
+        match next {
+            Some(needed) if span.segment > needed => {
+                replaced.push(span.segment);
+                continue;
+            }
+            Some(needed) if span.segment < needed => return Err(JournalError::Missing(needed)),
+            _ => {}
+        }
+        needed = Some(span.head.from.saturating_sub(1));
+        kept.push(span);
+    }
+    if let Some(missing) = needed.filter(|needed| *needed > 0) {
+        return Err(JournalError::Missing(missing));
+    }
+    kept.reverse();
+    for pair in kept.windows(2) {
+        if pair[0].last != pair[1].head.previous {
+            return Err(JournalError::Damaged { segment: pair[0].segment, place: pair[0].end });
+        }
+    }
+    Ok(Scanned { spans: kept, replaced, removed })
+}
+
+/// Texts in JSON have no quotes by themselves, so these bytes stand in the record of a removal alone.
+const REMOVAL: &[u8] = b"\"kind\":\"remove\"";
+
+fn note_removed(span: &Span, bytes: &[u8], removed: &mut HashSet<StoreName>) -> Result<(), JournalError> {
+    for frame in frames(span, bytes) {
+        let damaged = JournalError::Damaged { segment: span.segment, place: frame.place };
+        removed.extend(removed_by(frame.payload).ok_or(damaged)?);
+    }
+    Ok(())
+}
+
+/// The names of the store that the lines of a payload remove. None if a line can't be read.
+pub fn removed_by(payload: &[u8]) -> Option<Vec<StoreName>> {
+    let found = memchr::memmem::find_iter(payload, REMOVAL).map(|found| {
+        let start = memchr::memrchr(b'\n', &payload[..found]).map_or(0, |place| place + 1);
+        let length = memchr::memchr(b'\n', &payload[start..]);
+        let line = &payload[start..length.map_or(payload.len(), |length| start + length)];
+        Record::read(line).and_then(|record| record.store_name())
+    });
+    found.collect()
+}
+
+/// Segments that were written anew, as one, and don't have its name yet.
+pub struct Rewritten {
+    span: Span,
+    replaced: Vec<u64>,
+    /// How many records went.
+    pub dropped: u64,
+    /// How many of the old segments are in it.
+    pub consumed: usize,
+}
+
+/// Writes the first segments of these spans anew, as one, without the records of removed names: as many as make one of
+/// `length` bytes. Nothing may be written to them any more, each removal must be on disk, and segments before them must
+/// have been written anew. None if there are no spans.
+pub fn rewrite<F: Folder>(
+    folder: &F,
+    spans: &[Span],
+    removed: &HashSet<StoreName>,
+    length: u64,
+) -> Result<Option<Rewritten>, JournalError> {
+    let Some(first) = spans.first() else { return Ok(None) };
+    let (mut kept, mut size, mut dropped, mut consumed) = (Vec::new(), 0, 0, 0);
+    for span in spans {
+        let old = folder.read(span.segment)?;
+        for frame in frames(span, &old) {
+            let payload = without(frame.payload, removed);
+            dropped += lines_in(frame.payload) - lines_in(&payload);
+            // The last commit says how far the segment goes.
+            if !payload.is_empty() || frame.number == span.last {
+                size += payload.len() as u64;
+                kept.push((frame.number, payload));
+            }
+        }
+        consumed += 1;
+        if size >= length {
+            break;
+        }
+    }
+    let last = &spans[consumed - 1];
+    let mut bytes = Head::new(last.segment, first.head.from, first.head.previous).encode()?;
+    for (number, payload) in kept {
+        let again = frame::encode(number, bytes.len() as u64, &payload);
+        bytes.extend(again.map_err(|error| JournalError::Io(error.to_string()))?);
+    }
+    let span = scan(last.segment, &bytes)?;
+    let file = folder.create(last.segment)?;
+    file.write_at(0, &bytes)?;
+    file.sync()?;
+    let replaced = spans[..consumed - 1].iter().map(|span| span.segment).collect();
+    Ok(Some(Rewritten { span, replaced, dropped, consumed }))
+}
+
+/// How many records a payload has.
+pub fn lines_in(payload: &[u8]) -> u64 {
+    memchr::memchr_iter(b'\n', payload).count() as u64
+}
+
+impl Rewritten {
+    /// Puts the new segment in the place of the old ones. It has the number of the last of them.
+    pub fn publish<F: Folder>(self, folder: &F) -> Result<Span, JournalError> {
+        folder.publish(self.span.segment)?;
+        folder.sync()?;
+        for segment in self.replaced {
+            folder.remove(segment)?;
+        }
+        folder.sync()?;
+        Ok(self.span)
+    }
+}
+
+/// The lines of a payload but those of removed names.
+fn without(payload: &[u8], removed: &HashSet<StoreName>) -> Vec<u8> {
+    let mut kept = Vec::with_capacity(payload.len());
+    for line in payload.split_inclusive(|byte| *byte == b'\n') {
+        let record = Record::read(line.strip_suffix(b"\n").unwrap_or(line));
+        let name = record.and_then(|record| record.store_name());
+        if !name.is_some_and(|name| removed.contains(&name)) {
+            kept.extend_from_slice(line);
+        }
+    }
+    kept
+}

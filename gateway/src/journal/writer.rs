@@ -1,0 +1,209 @@
+//! The thread that writes: all records that wait go to the disk by one commit, and then their answers leave.
+
+use std::sync::atomic::Ordering;
+use std::sync::PoisonError;
+use std::time::{Duration, Instant};
+
+use super::disk::Files;
+use super::log::Log;
+use super::segments::{removed_by, rewrite, JournalError};
+use super::{locked, Batch, Journal};
+
+/// After so long without a commit an empty one is written, so that damage of the last real one is seen.
+const QUIET: Duration = Duration::from_secs(1);
+
+/// Closed segments are written anew when they have so many bytes.
+const WORTH_REWRITING: u64 = 32 << 20;
+
+/// They are let alone for so long, and for so many times what it took.
+const REST: Duration = Duration::from_secs(60);
+const REST_SHARE: u32 = 20;
+
+/// A segment that is written anew takes in others until it has so many bytes.
+const REWRITTEN: u64 = 64 << 20;
+
+pub fn start(log: Log<Files>, journal: Journal, failed: fn(&str)) -> Result<(), JournalError> {
+    let thread = std::thread::Builder::new().name("journal".into());
+    thread.spawn(move || {
+        if let Err(error) = keep_writing(log, &journal, failed) {
+            failed(&format!("the journal can't be written: {error}"));
+        }
+    })?;
+    Ok(())
+}
+
+/// What there is to do next.
+enum Next {
+    Grow,
+    Write(Batch),
+    Quiet,
+    Close(Batch),
+}
+
+fn keep_writing(mut log: Log<Files>, journal: &Journal, failed: fn(&str)) -> Result<(), JournalError> {
+    let mut is_quiet = true;
+    loop {
+        rewrite_aside(journal, failed)?;
+        match wait(journal, is_quiet) {
+            Next::Grow => grow(&mut log, journal),
+            Next::Write(mut batch) => {
+                if !batch.records.is_empty() {
+                    commit(&mut log, journal, &batch)?;
+                    is_quiet = false;
+                }
+                batch.tell();
+            }
+            Next::Quiet => {
+                commit_nothing(&mut log, journal)?;
+                is_quiet = true;
+            }
+            Next::Close(mut batch) => {
+                if !batch.records.is_empty() {
+                    commit(&mut log, journal, &batch)?;
+                }
+                commit_nothing(&mut log, journal)?;
+                batch.tell();
+                journal.0.ended.notify_one();
+                return Ok(());
+            }
+        }
+    }
+}
+
+fn wait(journal: &Journal, is_quiet: bool) -> Next {
+    let since = Instant::now();
+    let mut waiting = journal.waiting();
+    loop {
+        if waiting.is_closed {
+            return Next::Close(std::mem::take(&mut waiting.batch));
+        }
+        if std::mem::take(&mut waiting.wants_room) {
+            return Next::Grow;
+        }
+        if !waiting.batch.is_empty() {
+            return Next::Write(std::mem::take(&mut waiting.batch));
+        }
+        let left = QUIET.saturating_sub(since.elapsed());
+        if !is_quiet && left.is_zero() {
+            return Next::Quiet;
+        }
+        let more = &journal.0.more;
+        waiting = if is_quiet {
+            more.wait(waiting).unwrap_or_else(PoisonError::into_inner)
+        } else {
+            more.wait_timeout(waiting, left).unwrap_or_else(PoisonError::into_inner).0
+        };
+    }
+}
+
+fn commit(log: &mut Log<Files>, journal: &Journal, batch: &Batch) -> Result<(), JournalError> {
+    let shared = &journal.0;
+    let before = log.room();
+    log.commit(&batch.records)?;
+    let taken = before - log.room();
+    // What was promised for the records is taken back, and what they took is counted instead.
+    let promised = batch.records.len() as u64 + batch.count * super::frame::HEAD as u64;
+    shared.room.fetch_add(promised as i64 - taken as i64, Ordering::Relaxed);
+    shared.count.fetch_add(batch.count, Ordering::Relaxed);
+    let removed = removed_by(&batch.records).unwrap_or_default();
+    if !removed.is_empty() {
+        locked(&shared.removed).extend(removed);
+    }
+    let mut spans = locked(&shared.spans);
+    if let Some(last) = spans.last_mut() {
+        *last = log.active().clone();
+    }
+    drop(spans);
+    if log.is_short() {
+        grow(log, journal);
+    }
+    let before = log.room();
+    let mut spans = locked(&shared.spans);
+    if let Some(closed) = log.go_on()? {
+        if let Some(last) = spans.last_mut() {
+            *last = closed;
+        }
+        spans.push(log.active().clone());
+    }
+    shared.room.fetch_add(log.room() as i64 - before as i64, Ordering::Relaxed);
+    Ok(())
+}
+
+/// An empty commit, where there is space for one.
+fn commit_nothing(log: &mut Log<Files>, journal: &Journal) -> Result<(), JournalError> {
+    if log.room() < super::frame::HEAD as u64 {
+        return Ok(());
+    }
+    commit(log, journal, &Batch::default())
+}
+
+/// Allocates space, or finds that there is none.
+fn grow(log: &mut Log<Files>, journal: &Journal) {
+    let (shared, before) = (&journal.0, log.room());
+    let is_grown = log.grow();
+    shared.room.fetch_add(log.room() as i64 - before as i64, Ordering::Relaxed);
+    shared.is_full.store(!is_grown, Ordering::Relaxed);
+    shared.grown.notify_one();
+}
+
+/// Has the closed segments written anew by a thread of its own, where names were removed since the last time.
+fn rewrite_aside(journal: &Journal, failed: fn(&str)) -> Result<(), JournalError> {
+    let shared = &journal.0;
+    let removed = locked(&shared.removed).len();
+    let mut rewriting = locked(&shared.rewriting);
+    let is_early = rewriting.next.is_some_and(|next| Instant::now() < next);
+    if rewriting.goes_on || is_early || removed == rewriting.removed || closed_bytes(journal) < WORTH_REWRITING {
+        return Ok(());
+    }
+    rewriting.goes_on = true;
+    rewriting.removed = removed;
+    drop(rewriting);
+    let journal = journal.clone();
+    let thread = std::thread::Builder::new().name("rewriting".into());
+    thread.spawn(move || {
+        let since = Instant::now();
+        if let Err(error) = rewrite_closed(&journal) {
+            failed(&format!("the journal can't be written anew: {error}"));
+        }
+        let mut rewriting = locked(&journal.0.rewriting);
+        rewriting.goes_on = false;
+        rewriting.next = Some(Instant::now() + REST.max(REST_SHARE * since.elapsed()));
+    })?;
+    Ok(())
+}
+
+fn closed_bytes(journal: &Journal) -> u64 {
+    let spans = locked(&journal.0.spans);
+    spans[..spans.len().saturating_sub(1)].iter().map(|span| span.end).sum()
+}
+
+/// An error leaves it open which segments there are.
+fn rewrite_closed(journal: &Journal) -> Result<(), JournalError> {
+    let shared = &journal.0;
+    let removed = locked(&shared.removed).clone();
+    let mut closed = {
+        let spans = locked(&shared.spans);
+        spans[..spans.len().saturating_sub(1)].to_vec()
+    };
+    let mut done = 0;
+    loop {
+        let rewritten = match rewrite(&shared.files, &closed, &removed, REWRITTEN) {
+            Ok(Some(rewritten)) => rewritten,
+            Ok(None) => break,
+            Err(error) => {
+                // A full disk: nothing has changed, and it is tried again later.
+                tracing::warn!("the journal isn't written anew: {error}");
+                locked(&shared.rewriting).removed = 0;
+                break;
+            }
+        };
+        let (dropped, consumed) = (rewritten.dropped, rewritten.consumed);
+        let mut spans = locked(&shared.spans);
+        let span = rewritten.publish(&shared.files)?;
+        spans.splice(done..done + consumed, [span]);
+        shared.count.fetch_sub(dropped, Ordering::Relaxed);
+        closed.drain(..consumed);
+        done += 1;
+    }
+    Ok(())
+}

@@ -1,0 +1,28 @@
+//! The protocol of Amazon SQS (API 2012-11-05) in front of `cq`, the program that keeps FIFO queues and is proved.
+//!
+//! A request is read by one of two codecs (`wire`), its action (`actions`) becomes asks, and the store's task (`store`)
+//! writes them as lines (`lines`) to the program (`cq`). What comes back changes the tables (`queues`), is kept
+//! (`journal`), and goes to the client (`http`).
+
+pub mod actions;
+pub mod attributes;
+pub mod clock;
+pub mod command_line;
+pub mod cq;
+pub mod digests;
+pub mod errors;
+pub mod handles;
+pub mod http;
+pub mod inspect;
+pub mod journal;
+pub mod lines;
+pub mod messages;
+pub mod polling;
+pub mod presence;
+pub mod queues;
+pub mod repeats;
+pub mod rolling;
+pub mod serve;
+pub mod store;
+pub mod texts;
+pub mod wire;

@@ -1,0 +1,295 @@
+//! Asks as lines of `cq session`, and what comes of them (`docs/LINES.md`). No other module knows these lines.
+
+use std::borrow::Cow;
+
+use serde::{Deserialize, Serialize};
+use serde_json::value::RawValue;
+use thiserror::Error;
+
+use crate::handles::Receipt;
+use crate::queues::ask::{Ask, StoreName};
+
+/// The kinds of asks.
+#[derive(Clone, Copy, Debug, PartialEq, Eq, Serialize, Deserialize)]
+#[serde(rename_all = "lowercase")]
+pub enum Kind {
+    Create,
+    Remove,
+    Send,
+    Receive,
+    Delete,
+    Change,
+}
+
+/// What stands under `ask` in a line. The journal keeps the same.
+#[derive(Clone, Debug, PartialEq, Eq, Serialize, Deserialize)]
+pub struct Fields<'a> {
+    pub kind: Kind,
+    #[serde(borrow)]
+    pub queue: Cow<'a, str>,
+    #[serde(borrow, default, skip_serializing_if = "Option::is_none")]
+    pub group: Option<Cow<'a, str>>,
+    #[serde(borrow, default, skip_serializing_if = "Option::is_none")]
+    pub dedup: Option<Cow<'a, str>>,
+    #[serde(borrow, default, skip_serializing_if = "Option::is_none")]
+    pub body: Option<Cow<'a, str>>,
+    #[serde(default, skip_serializing_if = "Option::is_none")]
+    pub size: Option<u8>,
+    #[serde(default, skip_serializing_if = "Option::is_none")]
+    pub visibility: Option<u32>,
+    #[serde(borrow, default, skip_serializing_if = "Option::is_none")]
+    pub receipt: Option<Cow<'a, str>>,
+}
+
+impl<'a> Fields<'a> {
+    fn new(kind: Kind, queue: StoreName) -> Fields<'a> {
+        Fields {
+            kind,
+            queue: queue.text().into(),
+            group: None,
+            dedup: None,
+            body: None,
+            size: None,
+            visibility: None,
+            receipt: None,
+        }
+    }
+
+    /// The fields of an ask. The store counts the queue's messages from the one behind `base`.
+    pub fn of(queue: StoreName, base: u64, ask: &'a Ask) -> Fields<'a> {
+        match ask {
+            Ask::Create { store, visibility, .. } => {
+                Fields { visibility: Some(*visibility), ..Fields::new(Kind::Create, *store) }
+            }
+            Ask::Remove { store, .. } => Fields::new(Kind::Remove, *store),
+            Ask::Send { group, dedup, form } => Fields {
+                group: Some(group.as_str().into()),
+                dedup: Some(dedup.as_str().into()),
+                body: Some(form.stored().into()),
+                ..Fields::new(Kind::Send, queue)
+            },
+            Ask::Receive { size, visibility, .. } => {
+                let kind = Kind::Receive;
+                Fields { size: Some(*size), visibility: Some(*visibility), ..Fields::new(kind, queue) }
+            }
+            Ask::Delete { receipt } => {
+                Fields { receipt: Some(receipt_text(*receipt, base)), ..Fields::new(Kind::Delete, queue) }
+            }
+            Ask::Change { receipt, visibility, .. } => Fields {
+                receipt: Some(receipt_text(*receipt, base)),
+                visibility: Some(*visibility),
+                ..Fields::new(Kind::Change, queue)
+            },
+        }
+    }
+}
+
+/// A name of the store is created once, so its queue is always the first of that name.
+fn receipt_text(receipt: Receipt, base: u64) -> Cow<'static, str> {
+    format!("1-{}-{}", receipt.sequence.saturating_sub(base), receipt.ordinal).into()
+}
+
+/// Reads the store's text of a receipt, of a queue that the store counts from the message behind `base`.
+pub fn read_receipt(text: &str, base: u64) -> Option<Receipt> {
+    let mut parts = text.split('-').map(|part| part.parse::<u64>().ok());
+    let (Some(Some(_)), Some(Some(place)), Some(Some(ordinal)), None) =
+        (parts.next(), parts.next(), parts.next(), parts.next())
+    else {
+        return None;
+    };
+    Some(Receipt { sequence: base.checked_add(place)?, ordinal })
+}
+
+#[derive(Serialize)]
+struct Arrive<'a> {
+    op: &'static str,
+    at: u32,
+    clock: u64,
+    client: u32,
+    number: u64,
+    ask: &'a RawValue,
+}
+
+#[derive(Serialize)]
+struct Query<'a> {
+    op: &'static str,
+    at: u32,
+    client: u32,
+    tag: u64,
+    queue: &'a str,
+}
+
+const PUT: &[u8] = b"{\"op\":\"put\",\"from\":1,\"to\":\"clients\"}\n";
+const SERVER: u32 = 1;
+
+/// The client under which counts are asked for. Requests have the clients from 1 on.
+const COUNTER: u32 = 0;
+
+/// No queue of the store has this name: theirs are numbers.
+const NO_QUEUE: &str = "none.fifo";
+
+fn append<T: Serialize>(out: &mut Vec<u8>, line: &T) -> Result<(), serde_json::Error> {
+    serde_json::to_writer(&mut *out, line)?;
+    out.push(b'\n');
+    out.extend_from_slice(PUT);
+    Ok(())
+}
+
+/// Appends the two lines of a request: it arrives, and its answer is given.
+pub fn append_request(
+    out: &mut Vec<u8>,
+    clock: u64,
+    client: u32,
+    number: u64,
+    ask: &RawValue,
+) -> Result<(), serde_json::Error> {
+    append(out, &Arrive { op: "arrive", at: SERVER, clock, client, number, ask })
+}
+
+/// Appends a request that does nothing but move the store's moment on. A count is of the moment of the last request.
+pub fn append_moment(out: &mut Vec<u8>, clock: u64) -> Result<(), serde_json::Error> {
+    let ask = serde_json::value::to_raw_value(&Fields {
+        size: Some(1),
+        queue: NO_QUEUE.into(),
+        ..Fields::new(Kind::Receive, StoreName(0))
+    })?;
+    append_request(out, clock, COUNTER, 0, &ask)
+}
+
+/// Appends the two lines of a query for the counts of a queue.
+pub fn append_count(out: &mut Vec<u8>, tag: u64, queue: StoreName) -> Result<(), serde_json::Error> {
+    append(out, &Query { op: "ask", at: SERVER, client: COUNTER, tag, queue: &queue.text() })
+}
+
+/// A reply of the store.
+#[derive(Clone, Debug, PartialEq, Eq)]
+pub enum Reply {
+    Created,
+    Removed,
+    /// The store's sequence number.
+    Sent(u64),
+    Received(Vec<Given>),
+    /// Whether anything was deleted.
+    Deleted(bool),
+    Changed,
+    Counts {
+        visible: u64,
+        in_flight: u64,
+    },
+    Refused(u32),
+}
+
+/// A message as the store hands it out.
+#[derive(Clone, Debug, PartialEq, Eq, Deserialize)]
+pub struct Given {
+    pub body: String,
+    pub group: String,
+    pub receipt: String,
+}
+
+/// One line of output that matters.
+#[derive(Debug)]
+pub enum Output<'a> {
+    /// The answer to the request or query of this client and number.
+    Answer { client: u32, number: u64, reply: Reply, text: &'a str },
+    /// The request's own line was refused, by this number.
+    Refused(u32),
+    /// The line that should have given the answer of a refused request.
+    Nothing,
+}
+
+/// The program wrote what it never should.
+#[derive(Debug, Error)]
+#[error("cq wrote a line that can't be read: {0}")]
+pub struct BadOutput(String);
+
+#[derive(Deserialize)]
+struct OutputFields<'a> {
+    client: Option<u32>,
+    number: Option<u64>,
+    tag: Option<u64>,
+    #[serde(borrow)]
+    reply: Option<&'a RawValue>,
+    refused: Option<u32>,
+}
+
+#[derive(Deserialize)]
+struct ReplyFields<'a> {
+    #[serde(borrow)]
+    kind: Cow<'a, str>,
+    sequence: Option<u64>,
+    messages: Option<Vec<Given>>,
+    removed: Option<bool>,
+    visible: Option<u64>,
+    in_flight: Option<u64>,
+    code: Option<u32>,
+}
+
+const OUTBOX_EMPTY: u32 = 34;
+
+/// Reads a line of output, without its line feed.
+pub fn read_output(line: &[u8]) -> Result<Output<'_>, BadOutput> {
+    let bad = || BadOutput(String::from_utf8_lossy(&line[..line.len().min(200)]).into_owned());
+    let fields: OutputFields<'_> = serde_json::from_slice(line).map_err(|_| bad())?;
+    if let Some(code) = fields.refused {
+        return Ok(if code == OUTBOX_EMPTY { Output::Nothing } else { Output::Refused(code) });
+    }
+    let (Some(client), Some(number), Some(raw)) = (fields.client, fields.number.or(fields.tag), fields.reply) else {
+        return Err(bad());
+    };
+    let reply = read_reply(raw.get()).ok_or_else(bad)?;
+    Ok(Output::Answer { client, number, reply, text: raw.get() })
+}
+
+fn read_reply(text: &str) -> Option<Reply> {
+    let fields: ReplyFields<'_> = serde_json::from_str(text).ok()?;
+    Some(match fields.kind.as_ref() {
+        "created" => Reply::Created,
+        "removed" => Reply::Removed,
+        "sent" => Reply::Sent(fields.sequence?),
+        "received" => Reply::Received(fields.messages?),
+        "deleted" => Reply::Deleted(fields.removed?),
+        "changed" => Reply::Changed,
+        "counts" => Reply::Counts { visible: fields.visible?, in_flight: fields.in_flight? },
+        "refused" => Reply::Refused(fields.code?),
+        _ => return None,
+    })
+}
+
+#[cfg(test)]
+mod tests {
+    use super::*;
+
+    fn line_of(ask: &Ask) -> String {
+        let raw = serde_json::value::to_raw_value(&Fields::of(StoreName(7), 10, ask)).unwrap();
+        let mut out = Vec::new();
+        append_request(&mut out, 5, 2, 3, &raw).unwrap();
+        String::from_utf8(out).unwrap()
+    }
+
+    #[test]
+    fn requests_become_two_lines() {
+        let receipt = Receipt { sequence: 12, ordinal: 4 };
+        let line = line_of(&Ask::Change { receipt, visibility: 9, by_attempt: false });
+        let expected = "{\"op\":\"arrive\",\"at\":1,\"clock\":5,\"client\":2,\"number\":3,\"ask\":{\"kind\":\"change\",\
+            \"queue\":\"7.fifo\",\"visibility\":9,\"receipt\":\"1-2-4\"}}\n{\"op\":\"put\",\"from\":1,\"to\":\"clients\"}\n";
+        assert_eq!(line, expected);
+    }
+
+    #[test]
+    fn answers_are_read() {
+        let line = br#"{"client":1,"length":3,"line":6,"number":9,"reply":{"kind":"received","messages":[{"body":"a\n","group":"g","receipt":"1-2-1"}]}}"#;
+        let Ok(Output::Answer { client: 1, number: 9, reply: Reply::Received(given), text }) = read_output(line) else {
+            panic!()
+        };
+        assert!(text.starts_with("{\"kind\"") && given[0].body == "a\n");
+        assert_eq!(read_receipt(&given[0].receipt, 10), Some(Receipt { sequence: 12, ordinal: 1 }));
+        let refused = br#"{"line":3,"name":"BadLine","refused":61}"#;
+        assert!(matches!(read_output(refused), Ok(Output::Refused(61))));
+        let put = br#"{"line":4,"name":"OutboxEmpty","refused":34}"#;
+        assert!(matches!(read_output(put), Ok(Output::Nothing)));
+        for bad in [&b"hello"[..], b"{}", b"{\"client\":1,\"number\":1,\"reply\":{\"kind\":\"x\"}}"] {
+            assert!(read_output(bad).is_err());
+        }
+    }
+}

@@ -1,0 +1,3 @@
+fn main() {
+    std::process::exit(hobbychair::command_line::main());
+}

@@ -1,0 +1,293 @@
+//! What a message has beside its body, and the one form in which all of it stands in the store.
+
+use std::collections::BTreeMap;
+
+use serde::{Deserialize, Serialize};
+use uuid::Uuid;
+
+use crate::errors::SqsError;
+use crate::texts::{test_characters, Body, DedupId, STORE_LIMIT};
+
+/// The one message system attribute that a send may carry (API Reference, SendMessage, `MessageSystemAttributes`).
+pub const TRACE_HEADER: &str = "AWSTraceHeader";
+
+/// The most attributes that a message can have.
+pub const MOST_ATTRIBUTES: usize = 10;
+
+/// The attributes of a message by their names.
+pub type MessageAttributes = BTreeMap<String, AttributeValue>;
+
+/// The value of a message attribute (API Reference, `MessageAttributeValue`).
+#[derive(Clone, Debug, PartialEq, Eq, Serialize, Deserialize)]
+pub struct AttributeValue {
+    #[serde(rename = "DataType")]
+    data_type: String,
+    #[serde(flatten)]
+    content: Content,
+}
+
+#[derive(Clone, Debug, PartialEq, Eq, Serialize, Deserialize)]
+enum Content {
+    #[serde(rename = "StringValue")]
+    Text(String),
+    #[serde(rename = "BinaryValue", with = "as_base64")]
+    Binary(Vec<u8>),
+}
+
+mod as_base64 {
+    use serde::{Deserialize, Deserializer, Serializer};
+
+    pub fn serialize<S: Serializer>(data: &[u8], serializer: S) -> Result<S::Ok, S::Error> {
+        serializer.serialize_str(&base64::encode(data))
+    }
+
+    pub fn deserialize<'de, D: Deserializer<'de>>(deserializer: D) -> Result<Vec<u8>, D::Error> {
+        let text = String::deserialize(deserializer)?;
+        base64::decode(text).map_err(serde::de::Error::custom)
+    }
+}
+
+impl AttributeValue {
+    /// The value of the attribute `name`: a type (`String`, `Number` or `Binary`, with a label of up to 256 bytes in
+    /// all), and the text or the base64 that goes with it. A wrong one is `InvalidParameterValue`.
+    pub fn new(
+        name: &str,
+        data_type: &str,
+        text: Option<&str>,
+        binary: Option<&str>,
+    ) -> Result<AttributeValue, SqsError> {
+        let wrong = |message: String| Err(SqsError::InvalidParameterValue(message));
+        if data_type.is_empty() {
+            return wrong(format!("The message attribute '{name}' must contain non-empty message attribute type."));
+        }
+        let (kind, label) = data_type.split_once('.').unwrap_or((data_type, ""));
+        let is_known = matches!(kind, "String" | "Number" | "Binary");
+        if !is_known || data_type.len() > 256 || label.chars().any(|character| character < ' ') {
+            return wrong(format!(
+                "The type of message attribute '{name}' is invalid. You must use only the following supported type \
+                 prefixes: Binary, Number, String."
+            ));
+        }
+        let content = if kind == "Binary" {
+            match base64::decode(binary.unwrap_or_default()) {
+                Ok(data) => Content::Binary(data),
+                Err(_) => return wrong(format!("The value of message attribute '{name}' is no base64.")),
+            }
+        } else {
+            let text = text.unwrap_or_default();
+            test_characters(text)?;
+            if kind == "Number" && !text.is_empty() && !is_number(text) {
+                return wrong(format!("Can't cast the value of message attribute '{name}' to a number."));
+            }
+            Content::Text(text.into())
+        };
+        let value = AttributeValue { data_type: data_type.into(), content };
+        if value.data().is_empty() {
+            return wrong(format!(
+                "The message attribute '{name}' must contain non-empty message attribute value for type '{data_type}'."
+            ));
+        }
+        Ok(value)
+    }
+
+    /// The type, with its label.
+    pub fn data_type(&self) -> &str {
+        &self.data_type
+    }
+
+    /// The bytes of the value: what a binary one stands for, or UTF-8.
+    pub fn data(&self) -> &[u8] {
+        match &self.content {
+            Content::Text(text) => text.as_bytes(),
+            Content::Binary(data) => data,
+        }
+    }
+
+    pub fn is_binary(&self) -> bool {
+        matches!(self.content, Content::Binary(_))
+    }
+
+    /// The text of a value that isn't binary.
+    pub fn text(&self) -> Option<&str> {
+        match &self.content {
+            Content::Text(text) => Some(text),
+            Content::Binary(_) => None,
+        }
+    }
+
+    fn size(&self) -> usize {
+        self.data_type.len() + self.data().len()
+    }
+}
+
+/// A decimal number with a sign, a point and an exponent, each of which may be missing.
+fn is_number(text: &str) -> bool {
+    let digits = |text: &str| text.bytes().all(|byte| byte.is_ascii_digit());
+    let unsigned = |text: &str| text.strip_prefix(['+', '-']).unwrap_or(text).to_string();
+    let text = unsigned(text);
+    let (mantissa, exponent) = match text.split_once(['e', 'E']) {
+        Some((mantissa, exponent)) => (mantissa, Some(unsigned(exponent))),
+        None => (text.as_str(), None),
+    };
+    let (whole, part) = mantissa.split_once('.').unwrap_or((mantissa, ""));
+    let has_mantissa = digits(whole) && digits(part) && !(whole.is_empty() && part.is_empty());
+    has_mantissa && exponent.map_or(true, |exponent| !exponent.is_empty() && digits(&exponent))
+}
+
+/// Refuses a name that no message attribute may have (Developer Guide, "Amazon SQS message attributes").
+pub fn test_attribute_name(name: &str) -> Result<(), SqsError> {
+    let lower = name.to_ascii_lowercase();
+    let is_good_byte = |byte: u8| byte.is_ascii_alphanumeric() || b"_.-".contains(&byte);
+    let is_good = (1..=256).contains(&name.len())
+        && name.bytes().all(is_good_byte)
+        && !lower.starts_with("aws.")
+        && !lower.starts_with("amazon.")
+        && !name.starts_with('.')
+        && !name.ends_with('.')
+        && !name.contains("..");
+    is_good
+        .then_some(())
+        .ok_or_else(|| SqsError::InvalidParameterValue(format!("The message attribute name '{name}' is invalid.")))
+}
+
+/// What the attributes of a message count, in bytes: names, types and values.
+pub fn size_of_attributes(attributes: &MessageAttributes) -> usize {
+    attributes.iter().map(|(name, value)| name.len() + value.size()).sum()
+}
+
+/// All that is kept of a message beside its body, its group and its place.
+#[derive(Clone, Debug, PartialEq, Eq, Serialize, Deserialize)]
+pub struct Kept {
+    /// The MessageId.
+    pub id: Uuid,
+    /// When it was sent, in milliseconds.
+    pub sent: u64,
+    /// The deduplication id that clients see.
+    pub dedup: DedupId,
+    #[serde(default, skip_serializing_if = "BTreeMap::is_empty")]
+    pub attributes: MessageAttributes,
+    /// The trace header, where there is one.
+    #[serde(default, skip_serializing_if = "Option::is_none")]
+    pub trace: Option<AttributeValue>,
+}
+
+/// The head of a form that says that the rest of it stands elsewhere.
+#[derive(Serialize, Deserialize)]
+struct Elsewhere {
+    id: Uuid,
+    elsewhere: bool,
+}
+
+/// A message as it goes into the store in place of its body.
+#[derive(Clone, Debug, PartialEq, Eq)]
+pub enum Form {
+    /// What is kept as one line of JSON, and behind it the body.
+    Whole(String),
+    /// The store takes no text so long: it has `stub`, and the gateway and its journal have `whole`.
+    Split { stub: String, whole: String },
+}
+
+impl Form {
+    /// The form of a message. It is split where it is longer than the store takes.
+    pub fn new(kept: &Kept, body: &Body) -> Result<Form, serde_json::Error> {
+        let mut whole = serde_json::to_string(kept)?;
+        whole.reserve_exact(1 + body.as_str().len());
+        whole.push('\n');
+        whole.push_str(body.as_str());
+        if whole.len() <= STORE_LIMIT {
+            return Ok(Form::Whole(whole));
+        }
+        let stub = serde_json::to_string(&Elsewhere { id: kept.id, elsewhere: true })?;
+        Ok(Form::Split { stub, whole })
+    }
+
+    /// What the store has.
+    pub fn stored(&self) -> &str {
+        match self {
+            Form::Whole(whole) => whole,
+            Form::Split { stub, .. } => stub,
+        }
+    }
+}
+
+/// What is kept of a message, and its body, read from its whole form. None if the text is no form.
+pub fn read_form(whole: &str) -> Option<(Kept, &str)> {
+    let (kept, body) = whole.split_once('\n')?;
+    Some((serde_json::from_str(kept).ok()?, body))
+}
+
+/// The MessageId in a stored form, whole or not. Takes time in proportion to its first line.
+pub fn id_of_form(stored: &str) -> Option<Uuid> {
+    #[derive(Deserialize)]
+    struct Id {
+        id: Uuid,
+    }
+    let head = stored.split('\n').next()?;
+    serde_json::from_str::<Id>(head).ok().map(|found| found.id)
+}
+
+#[cfg(test)]
+mod tests {
+    use super::*;
+
+    fn kept() -> Kept {
+        Kept {
+            id: Uuid::from_u128(7),
+            sent: 1_700_000_000_000,
+            dedup: DedupId::parse("d").unwrap(),
+            attributes: MessageAttributes::new(),
+            trace: None,
+        }
+    }
+
+    #[test]
+    fn numbers() {
+        for good in ["0", "-1.5e3", "+.5", "5.", "1E+9", "00"] {
+            assert!(is_number(good), "{good}");
+        }
+        for bad in ["", "one", "1e", ".", "+", "1.2.3", "0x1", "--1", "1e--2", " 1"] {
+            assert!(!is_number(bad), "{bad}");
+        }
+    }
+
+    #[test]
+    fn values_of_attributes() {
+        assert!(AttributeValue::new("a", "Binary", None, Some("AAE=")).is_ok());
+        for (kind, text, binary) in [
+            ("", Some("x"), None),
+            ("Text", Some("x"), None),
+            ("Strings", Some("x"), None),
+            ("Number", Some("one"), None),
+            ("Binary", Some("x"), None),
+            ("Binary", None, Some("?")),
+            ("String", None, None),
+            ("String", Some("\0"), None),
+        ] {
+            assert!(AttributeValue::new("a", kind, text, binary).is_err(), "{kind} {text:?} {binary:?}");
+        }
+        for bad in ["", "AWS.a", "amazon.b", ".a", "a.", "a..b", "a b", "ä", &"x".repeat(257)] {
+            assert!(test_attribute_name(bad).is_err(), "{bad}");
+        }
+    }
+
+    #[test]
+    fn a_form_comes_back() {
+        let mut kept = kept();
+        let value = AttributeValue::new("a", "Binary.x", None, Some("AP8=")).unwrap();
+        kept.attributes.insert("a".into(), value);
+        kept.trace = Some(AttributeValue::new("t", "String", Some("Root=1"), None).unwrap());
+        let form = Form::new(&kept, &Body::parse("one\ntwo").unwrap()).unwrap();
+        assert_eq!(read_form(form.stored()), Some((kept.clone(), "one\ntwo")));
+        assert_eq!(id_of_form(form.stored()), Some(kept.id));
+        assert_eq!(read_form("hello"), None);
+    }
+
+    #[test]
+    fn a_form_above_the_stores_limit_is_split() {
+        let body = Body::parse(&"x".repeat(STORE_LIMIT)).unwrap();
+        let form = Form::new(&kept(), &body).unwrap();
+        assert!(matches!(&form, Form::Split { whole, .. } if read_form(whole).unwrap().1 == body.as_str()));
+        assert_eq!(id_of_form(form.stored()), Some(Uuid::from_u128(7)));
+        assert!(read_form(form.stored()).is_none());
+    }
+}

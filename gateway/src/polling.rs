@@ -1,0 +1,181 @@
+//! Long polls: who waits at a queue for a message, in order of arrival.
+
+use std::collections::VecDeque;
+use std::sync::{Arc, Mutex, MutexGuard, PoisonError};
+use std::time::Duration;
+
+use tokio::sync::oneshot;
+use tokio::time::Instant;
+
+use crate::errors::SqsError;
+use crate::presence::Presence;
+use crate::queues::ask::{Ask, Handed, Outcome};
+use crate::queues::Queue;
+use crate::store::Store;
+
+type Found = Result<Vec<Handed>, SqsError>;
+
+/// A receive that waits.
+struct Poll {
+    number: u64,
+    ask: Ask,
+    presence: Presence,
+    deadline: Instant,
+    done: oneshot::Sender<Found>,
+}
+
+impl Poll {
+    /// Nobody is there any more who could be handed anything.
+    fn is_gone(&self) -> bool {
+        self.done.is_closed() || self.presence.is_gone()
+    }
+}
+
+/// Those who wait at one queue.
+#[derive(Default)]
+pub struct Polls(Mutex<Waiting>);
+
+#[derive(Default)]
+struct Waiting {
+    polls: VecDeque<Poll>,
+    last_number: u64,
+    /// A task serves them.
+    is_served: bool,
+}
+
+/// The most receives that are tried at once.
+const MOST_AT_ONCE: u64 = 64;
+
+/// So often a poll whose time is up looks whether it is still being tried.
+const LOOK_AGAIN: Duration = Duration::from_millis(20);
+
+/// How long a served queue whose polls have all gone is watched at most before the task looks again.
+const LONGEST_WATCH: Duration = Duration::from_secs(20);
+
+impl Polls {
+    fn waiting(&self) -> MutexGuard<'_, Waiting> {
+        self.0.lock().unwrap_or_else(PoisonError::into_inner)
+    }
+
+    /// Takes out a poll that isn't being tried.
+    fn withdraw(&self, number: u64) -> bool {
+        let mut waiting = self.waiting();
+        let place = waiting.polls.iter().position(|poll| poll.number == number);
+        place.map(|place| waiting.polls.remove(place)).is_some()
+    }
+
+    /// Takes the first polls, to try them.
+    fn take(&self, count: u64) -> Vec<Poll> {
+        let mut waiting = self.waiting();
+        waiting.polls.retain(|poll| !poll.is_gone());
+        let count = waiting.polls.len().min(count as usize);
+        waiting.polls.drain(..count).collect()
+    }
+
+    fn put_back(&self, poll: Poll) {
+        self.waiting().polls.push_front(poll);
+    }
+
+    /// Whether anybody is left. If nobody is, the task that serves them ends.
+    fn goes_on(&self) -> bool {
+        let mut waiting = self.waiting();
+        waiting.polls.retain(|poll| !poll.is_gone());
+        waiting.is_served = !waiting.polls.is_empty();
+        waiting.is_served
+    }
+}
+
+/// Waits at a queue for messages, and tells those that came, or none when `time` is up.
+///
+/// `seen` is how many openings the receive had seen that came back empty. A queue that is removed meanwhile is
+/// `QueueDoesNotExist`.
+pub async fn wait(store: &Store, queue: &Arc<Queue>, ask: Ask, presence: Presence, time: Duration, seen: u64) -> Found {
+    let (done, mut found) = oneshot::channel();
+    let deadline = Instant::now() + time;
+    let number = {
+        let mut waiting = queue.polls.waiting();
+        waiting.last_number += 1;
+        let number = waiting.last_number;
+        waiting.polls.push_back(Poll { number, ask, presence, deadline, done });
+        if !waiting.is_served {
+            waiting.is_served = true;
+            tokio::spawn(serve(store.clone(), queue.clone()));
+        }
+        number
+    };
+    if queue.state().openings != seen {
+        queue.opened.notify_one();
+    }
+    let mut until = deadline;
+    loop {
+        match tokio::time::timeout_at(until, &mut found).await {
+            Ok(Ok(found)) => return found,
+            Ok(Err(_)) => return Err(SqsError::ServiceUnavailable("The store is gone.".into())),
+            Err(_) if queue.polls.withdraw(number) => return Ok(Vec::new()),
+            // It is being tried: what it is handed must not be lost. Perhaps it goes back among those that wait.
+            Err(_) => until = Instant::now() + LOOK_AGAIN,
+        }
+    }
+}
+
+/// Tries the polls of a queue whenever something has happened that can open a group.
+async fn serve(store: Store, queue: Arc<Queue>) {
+    let mut seen = queue.state().openings;
+    while queue.polls.goes_on() {
+        wait_for_opening(&store, &queue).await;
+        let openings = queue.state().openings;
+        let news = openings.wrapping_sub(seen).clamp(1, MOST_AT_ONCE);
+        seen = openings;
+        while try_some(&store, &queue, news).await {}
+    }
+}
+
+async fn wait_for_opening(store: &Store, queue: &Queue) {
+    let clock = store.clock();
+    let next_end = queue.state().next_end(clock.now());
+    let end = async {
+        match next_end {
+            Some(end) => clock.wait_until(end).await,
+            None => tokio::time::sleep(LONGEST_WATCH).await,
+        }
+    };
+    tokio::select! {
+        _ = queue.opened.notified() => {}
+        _ = end => {}
+    }
+}
+
+/// Tries the first polls, and tells whether all of them were handed something.
+async fn try_some(store: &Store, queue: &Arc<Queue>, count: u64) -> bool {
+    let polls = queue.polls.take(count);
+    if polls.is_empty() {
+        return false;
+    }
+    let asks = polls.iter().map(|poll| poll.ask.clone()).collect();
+    let answers = store.ask_all(queue, asks).await;
+    let mut all_handed = true;
+    // From the last to the first, so that those that go back stand in their order.
+    for (poll, answer) in polls.into_iter().zip(answers).rev() {
+        match answer {
+            Ok(Outcome::Received { handed, .. }) if handed.is_empty() => {
+                all_handed = false;
+                if poll.deadline > Instant::now() {
+                    queue.polls.put_back(poll);
+                } else {
+                    let _ = poll.done.send(Ok(Vec::new()));
+                }
+            }
+            Ok(Outcome::Received { handed, .. }) => {
+                // A client that went while its try was on its way isn't noticed here.
+                let _ = poll.done.send(Ok(handed));
+            }
+            Ok(_) => {
+                let _ = poll.done.send(Ok(Vec::new()));
+            }
+            Err(error) => {
+                let _ = poll.done.send(Err(error));
+            }
+        }
+    }
+    all_handed
+}

@@ -1,0 +1,128 @@
+//! What is asked of the store, and what comes of it.
+
+use std::collections::BTreeMap;
+use std::sync::Arc;
+
+use serde::{Deserialize, Serialize};
+use uuid::Uuid;
+
+use crate::attributes::{Given, QueueAttributes};
+use crate::clock::Moment;
+use crate::handles::Receipt;
+use crate::messages::Form;
+use crate::texts::{AttemptId, DedupId, GroupId, QueueName};
+
+/// The name under which a queue stands in the store: a number, and another one each time.
+#[derive(Clone, Copy, Debug, PartialEq, Eq, Hash, PartialOrd, Ord)]
+pub struct StoreName(pub u64);
+
+impl StoreName {
+    /// The name as the store's rules want it.
+    pub fn text(self) -> String {
+        format!("{}.fifo", self.0)
+    }
+
+    pub fn parse(text: &str) -> Option<StoreName> {
+        let number = text.strip_suffix(".fifo")?.parse().ok()?;
+        Some(StoreName(number)).filter(|name| name.text() == text)
+    }
+}
+
+/// One thing to ask of a queue.
+#[derive(Clone, Debug)]
+pub enum Ask {
+    Create {
+        store: StoreName,
+        visibility: u32,
+        creation: Arc<Creation>,
+    },
+    /// `name` is the name that goes with it; none where the queue goes on under another name of the store.
+    Remove {
+        store: StoreName,
+        name: Option<QueueName>,
+    },
+    Send {
+        group: GroupId,
+        dedup: DedupId,
+        form: Form,
+    },
+    Receive {
+        size: u8,
+        visibility: u32,
+        attempt: Option<AttemptId>,
+    },
+    Delete {
+        receipt: Receipt,
+    },
+    /// `by_attempt`: not a client asks for it, but a repeated receive.
+    Change {
+        receipt: Receipt,
+        visibility: u32,
+        by_attempt: bool,
+    },
+}
+
+/// What the gateway keeps of a queue that is created.
+#[derive(Clone, Debug, PartialEq, Eq, Serialize, Deserialize)]
+pub struct Creation {
+    pub name: QueueName,
+    pub mark: u64,
+    pub attributes: QueueAttributes,
+    pub tags: BTreeMap<String, String>,
+    /// Of a queue that was there before under another name of the store.
+    #[serde(default, skip_serializing_if = "Option::is_none")]
+    pub before: Option<Before>,
+}
+
+/// What a queue was before it went over to another name of the store.
+#[derive(Clone, Debug, PartialEq, Eq, Serialize, Deserialize)]
+pub struct Before {
+    /// How many messages it had been sent. The store counts from 1 again.
+    pub base: u64,
+    pub created: Moment,
+    pub modified: Moment,
+    pub purged: Option<Moment>,
+}
+
+/// A change of what the gateway keeps of a queue, of which the store knows nothing.
+#[derive(Clone, Debug, PartialEq, Eq, Serialize, Deserialize)]
+#[serde(rename_all = "lowercase")]
+pub enum Change {
+    Attributes(Given),
+    Tag(BTreeMap<String, String>),
+    Untag(Vec<String>),
+    Purged,
+}
+
+/// A message as it is handed out.
+#[derive(Clone, Debug)]
+pub struct Handed {
+    pub receipt: Receipt,
+    /// When it was handed out, and when for the first time.
+    pub moment: Moment,
+    pub first: Moment,
+    pub group: String,
+    /// Its whole form.
+    pub form: Arc<str>,
+}
+
+/// What came of something asked.
+#[derive(Clone, Debug)]
+pub enum Outcome {
+    /// It was done, and there is nothing to tell.
+    Done,
+    /// The sequence number and the id of the message; those of the first send where this one repeats it.
+    Sent {
+        sequence: u64,
+        id: Uuid,
+    },
+    /// `openings` counts what happened to the queue by then that can open a group.
+    Received {
+        handed: Vec<Handed>,
+        openings: u64,
+    },
+    Counts {
+        visible: u64,
+        in_flight: u64,
+    },
+}

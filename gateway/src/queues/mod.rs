@@ -1,0 +1,153 @@
+//! The tables: what the gateway keeps of each queue that lives. They follow the answers of the store.
+
+pub mod ask;
+mod state;
+
+use std::collections::{BTreeMap, HashMap};
+use std::sync::atomic::{AtomicU64, Ordering};
+use std::sync::{Arc, Mutex, MutexGuard, PoisonError, RwLock};
+
+use tokio::sync::Notify;
+
+use crate::clock::Moment;
+use crate::errors::SqsError;
+use crate::handles::{Handle, Mark, Receipt};
+use crate::lines::Reply;
+use crate::polling::Polls;
+use crate::texts::QueueName;
+use ask::{Ask, Creation, Outcome, StoreName};
+pub use state::{State, WINDOW};
+
+/// So long a name isn't free after its queue was removed, in milliseconds
+/// (API Reference, CreateQueue, `QueueDeletedRecently`).
+pub const REMOVAL_PAUSE: u64 = 60_000;
+
+/// One incarnation of a queue.
+pub struct Queue {
+    pub name: QueueName,
+    pub mark: Mark,
+    state: Mutex<State>,
+    /// Told when something happened that can open a group.
+    pub opened: Notify,
+    pub polls: Polls,
+}
+
+impl Queue {
+    /// A queue that is to be created under this name of the store.
+    pub fn new(store: StoreName, creation: &Creation, now: Moment) -> Queue {
+        Queue {
+            name: creation.name.clone(),
+            mark: Mark(creation.mark),
+            state: Mutex::new(State::new(store, creation, now)),
+            opened: Notify::new(),
+            polls: Polls::default(),
+        }
+    }
+
+    /// What is known of it. Whoever holds this does nothing else meanwhile.
+    pub fn state(&self) -> MutexGuard<'_, State> {
+        self.state.lock().unwrap_or_else(PoisonError::into_inner)
+    }
+
+    /// The receipt of a handle that was given out for this queue.
+    pub fn receipt_of(&self, handle: &str) -> Result<Receipt, SqsError> {
+        let handle: Handle = handle.parse()?;
+        if handle.mark != self.mark {
+            return Err(SqsError::ReceiptHandleIsInvalid);
+        }
+        self.state().receipt_of(&handle)
+    }
+}
+
+/// All queues by their names.
+#[derive(Default)]
+pub struct Queues {
+    by_name: RwLock<BTreeMap<QueueName, Arc<Queue>>>,
+    /// When the queue of a name was removed, of names whose pause may not be over.
+    removed: Mutex<HashMap<QueueName, Moment>>,
+    last_store_name: AtomicU64,
+}
+
+impl Queues {
+    pub fn find(&self, name: &QueueName) -> Option<Arc<Queue>> {
+        self.by_name.read().unwrap_or_else(PoisonError::into_inner).get(name).cloned()
+    }
+
+    pub fn get(&self, name: &QueueName) -> Result<Arc<Queue>, SqsError> {
+        self.find(name).ok_or(SqsError::QueueDoesNotExist)
+    }
+
+    /// All queues, in order of their names.
+    pub fn all(&self) -> Vec<Arc<Queue>> {
+        self.by_name.read().unwrap_or_else(PoisonError::into_inner).values().cloned().collect()
+    }
+
+    /// Up to `most` names behind `after` that begin with `prefix`, in order, and whether there are more.
+    pub fn page(&self, prefix: &str, after: &str, most: usize) -> (Vec<QueueName>, bool) {
+        let queues = self.by_name.read().unwrap_or_else(PoisonError::into_inner);
+        let fits = |name: &&QueueName| name.as_str().starts_with(prefix) && name.as_str() > after;
+        let mut names: Vec<_> = queues.keys().filter(fits).take(most + 1).cloned().collect();
+        let has_more = names.len() > most;
+        names.truncate(most);
+        (names, has_more)
+    }
+
+    /// Refuses a name whose queue was removed less than a minute before.
+    pub fn test_pause(&self, name: &QueueName, now: Moment) -> Result<(), SqsError> {
+        let removed = self.removed.lock().unwrap_or_else(PoisonError::into_inner);
+        match removed.get(name) {
+            Some(moment) if now < moment + REMOVAL_PAUSE => Err(SqsError::QueueDeletedRecently),
+            _ => Ok(()),
+        }
+    }
+
+    /// A name of the store that no queue has had.
+    pub fn next_store_name(&self) -> StoreName {
+        StoreName(1 + self.last_store_name.fetch_add(1, Ordering::Relaxed))
+    }
+
+    /// From now on this name of the store counts as used.
+    pub fn saw_store_name(&self, name: StoreName) {
+        self.last_store_name.fetch_max(name.0, Ordering::Relaxed);
+    }
+
+    /// Takes up the store's answer to an ask of this queue. The second value says whether the journal has to know.
+    pub fn settle(
+        &self,
+        queue: &Arc<Queue>,
+        ask: &Ask,
+        reply: Reply,
+        moment: Moment,
+    ) -> Result<(Outcome, bool), SqsError> {
+        let settled = queue.state().settle(ask, reply, moment)?;
+        match ask {
+            Ask::Create { .. } => self.insert(queue),
+            Ask::Remove { name: Some(name), .. } => self.remove(queue, name, moment),
+            _ => {}
+        }
+        if settled.opened {
+            queue.opened.notify_one();
+        }
+        Ok((settled.outcome, settled.changed))
+    }
+
+    fn insert(&self, queue: &Arc<Queue>) {
+        let mut queues = self.by_name.write().unwrap_or_else(PoisonError::into_inner);
+        queues.insert(queue.name.clone(), queue.clone());
+    }
+
+    fn remove(&self, queue: &Arc<Queue>, name: &QueueName, moment: Moment) {
+        queue.state().removed = true;
+        let mut queues = self.by_name.write().unwrap_or_else(PoisonError::into_inner);
+        queues.remove(name);
+        drop(queues);
+        self.note_removal(name, moment);
+    }
+
+    /// A queue of this name was removed at this moment.
+    pub fn note_removal(&self, name: &QueueName, moment: Moment) {
+        let mut removed = self.removed.lock().unwrap_or_else(PoisonError::into_inner);
+        removed.retain(|_, earlier| moment < *earlier + REMOVAL_PAUSE);
+        removed.insert(name.clone(), moment);
+    }
+}

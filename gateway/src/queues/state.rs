@@ -1,0 +1,353 @@
+//! What is kept of one queue. It follows the answers of the store.
+
+use std::cmp::Reverse;
+use std::collections::{BTreeMap, BinaryHeap, HashMap, VecDeque};
+use std::sync::Arc;
+
+use uuid::Uuid;
+
+use super::ask::{Ask, Before, Change, Creation, Handed, Outcome, StoreName};
+use crate::attributes::QueueAttributes;
+use crate::clock::Moment;
+use crate::errors::SqsError;
+use crate::handles::{Handle, Receipt};
+use crate::lines::{read_receipt, Given, Reply};
+use crate::messages::{id_of_form, Form};
+use crate::texts::AttemptId;
+
+/// So long a deduplication id counts, in milliseconds. A repeated attempt id is given the same messages as long.
+pub const WINDOW: u64 = 300_000;
+
+/// A message that isn't deleted.
+#[derive(Debug, Default)]
+struct Message {
+    last: Option<Handing>,
+    /// Its whole form, where the store has a stub in its place.
+    form: Option<Arc<str>>,
+}
+
+/// The last handing of a message.
+#[derive(Clone, Copy, Debug)]
+struct Handing {
+    ordinal: u64,
+    moment: Moment,
+    first: Moment,
+    until: Moment,
+    /// A client has changed the timeout since.
+    touched: bool,
+}
+
+/// What a receive with an attempt id was given.
+#[derive(Clone, Debug)]
+struct Attempt {
+    moment: Moment,
+    handed: Vec<Handed>,
+}
+
+/// What is known of one incarnation of a queue.
+#[derive(Debug)]
+pub struct State {
+    pub store: StoreName,
+    /// The store counts from the message behind this one.
+    pub base: u64,
+    pub attributes: QueueAttributes,
+    pub tags: BTreeMap<String, String>,
+    pub created: Moment,
+    pub modified: Moment,
+    pub purged: Option<Moment>,
+    pub removed: bool,
+    pub last_sequence: u64,
+    pub last_send: Moment,
+    /// How often something happened that can open a group.
+    pub openings: u64,
+    messages: HashMap<u64, Message>,
+    /// The ids of the messages that were sent within the window, in order; the last is `last_sequence`'s.
+    recent: VecDeque<(Moment, Uuid)>,
+    attempts: HashMap<AttemptId, Attempt>,
+    attempts_by_age: VecDeque<(Moment, AttemptId)>,
+    ends: BinaryHeap<Reverse<(Moment, u64)>>,
+}
+
+/// What the answer to an ask did.
+pub struct Settled {
+    pub outcome: Outcome,
+    /// Something changed, so the journal has to know.
+    pub changed: bool,
+    /// Something happened that can open a group.
+    pub opened: bool,
+}
+
+impl Settled {
+    fn unchanged(outcome: Outcome) -> Settled {
+        Settled { outcome, changed: false, opened: false }
+    }
+
+    fn done(opened: bool) -> Settled {
+        Settled { outcome: Outcome::Done, changed: true, opened }
+    }
+}
+
+/// The store answered an ask with what never answers it.
+fn misfit() -> SqsError {
+    SqsError::InternalFailure("The store's answer doesn't fit the request.".into())
+}
+
+impl State {
+    pub fn new(store: StoreName, creation: &Creation, now: Moment) -> State {
+        let fresh = Before { base: 0, created: now, modified: now, purged: None };
+        let before = creation.before.clone().unwrap_or(fresh);
+        State {
+            store,
+            base: before.base,
+            attributes: creation.attributes.clone(),
+            tags: creation.tags.clone(),
+            created: before.created,
+            modified: before.modified,
+            purged: before.purged,
+            removed: false,
+            last_sequence: before.base,
+            last_send: 0,
+            openings: 0,
+            messages: HashMap::new(),
+            recent: VecDeque::new(),
+            attempts: HashMap::new(),
+            attempts_by_age: VecDeque::new(),
+            ends: BinaryHeap::new(),
+        }
+    }
+
+    /// Takes up the store's answer to an ask of `moment`.
+    pub fn settle(&mut self, ask: &Ask, reply: Reply, moment: Moment) -> Result<Settled, SqsError> {
+        match (ask, reply) {
+            (_, Reply::Refused(code)) => Err(SqsError::of_refusal(code)),
+            (Ask::Create { store, .. }, Reply::Created) => {
+                if *store != self.store {
+                    self.go_over(*store);
+                }
+                Ok(Settled::done(false))
+            }
+            (Ask::Remove { .. }, Reply::Removed) => Ok(Settled::done(true)),
+            (Ask::Send { form, .. }, Reply::Sent(place)) => self.sent(form, place, moment),
+            (Ask::Receive { visibility, attempt, .. }, Reply::Received(given)) => {
+                self.received(given, *visibility, attempt.as_ref(), moment)
+            }
+            (Ask::Delete { receipt }, Reply::Deleted(removed)) => Ok(self.deleted(*receipt, removed)),
+            (Ask::Change { receipt, visibility, by_attempt }, Reply::Changed) => {
+                Ok(self.changed(*receipt, *visibility, *by_attempt, moment))
+            }
+            _ => Err(misfit()),
+        }
+    }
+
+    fn open(&mut self) {
+        self.openings += 1;
+    }
+
+    fn sent(&mut self, form: &Form, place: u64, moment: Moment) -> Result<Settled, SqsError> {
+        let sequence = self.base + place;
+        if sequence <= self.last_sequence {
+            let id = self.recent_id(sequence).ok_or_else(misfit)?;
+            return Ok(Settled::unchanged(Outcome::Sent { sequence, id }));
+        }
+        if sequence != self.last_sequence + 1 {
+            return Err(misfit());
+        }
+        let id = id_of_form(form.stored()).ok_or_else(misfit)?;
+        self.last_sequence = sequence;
+        self.last_send = moment;
+        self.remember(moment, id);
+        let form = match form {
+            Form::Whole(_) => None,
+            Form::Split { whole, .. } => Some(whole.as_str().into()),
+        };
+        self.messages.insert(sequence, Message { last: None, form });
+        self.open();
+        Ok(Settled { outcome: Outcome::Sent { sequence, id }, changed: true, opened: true })
+    }
+
+    fn remember(&mut self, moment: Moment, id: Uuid) {
+        while self.recent.front().is_some_and(|(sent, _)| sent + WINDOW <= moment) {
+            self.recent.pop_front();
+        }
+        self.recent.push_back((moment, id));
+    }
+
+    fn recent_id(&self, sequence: u64) -> Option<Uuid> {
+        let from_end = usize::try_from(self.last_sequence.checked_sub(sequence)?).ok()?;
+        let place = self.recent.len().checked_sub(1 + from_end)?;
+        self.recent.get(place).map(|(_, id)| *id)
+    }
+
+    fn received(
+        &mut self,
+        given: Vec<Given>,
+        visibility: u32,
+        attempt: Option<&AttemptId>,
+        moment: Moment,
+    ) -> Result<Settled, SqsError> {
+        let until = moment + 1000 * u64::from(visibility);
+        let mut handed = Vec::with_capacity(given.len());
+        for one in given {
+            handed.push(self.hand(one, until, moment)?);
+        }
+        if let (Some(attempt), false) = (attempt, handed.is_empty()) {
+            self.keep_attempt(attempt, Attempt { moment, handed: handed.clone() });
+        }
+        let (changed, opened) = (!handed.is_empty(), !handed.is_empty() && until <= moment);
+        if opened {
+            self.open();
+        }
+        let outcome = Outcome::Received { handed, openings: self.openings };
+        Ok(Settled { outcome, changed, opened })
+    }
+
+    fn hand(&mut self, given: Given, until: Moment, moment: Moment) -> Result<Handed, SqsError> {
+        let receipt = read_receipt(&given.receipt, self.base).ok_or_else(misfit)?;
+        let message = self.messages.get_mut(&receipt.sequence).ok_or_else(misfit)?;
+        let first = message.last.map_or(moment, |last| last.first);
+        let ordinal = receipt.ordinal;
+        message.last = Some(Handing { ordinal, moment, first, until, touched: false });
+        let form = message.form.clone().unwrap_or_else(|| given.body.into());
+        self.note_end(until, receipt.sequence);
+        Ok(Handed { receipt, moment, first, group: given.group, form })
+    }
+
+    fn deleted(&mut self, receipt: Receipt, removed: bool) -> Settled {
+        if !removed {
+            return Settled::unchanged(Outcome::Done);
+        }
+        self.messages.remove(&receipt.sequence);
+        self.open();
+        Settled::done(true)
+    }
+
+    fn changed(&mut self, receipt: Receipt, visibility: u32, by_attempt: bool, moment: Moment) -> Settled {
+        let until = moment + 1000 * u64::from(visibility);
+        let message = self.messages.get_mut(&receipt.sequence);
+        if let Some(last) = message.and_then(|message| message.last.as_mut()) {
+            last.until = until;
+            last.touched |= !by_attempt;
+        }
+        self.note_end(until, receipt.sequence);
+        self.open();
+        Settled::done(true)
+    }
+
+    /// Takes up a change of which the store knows nothing.
+    pub fn apply(&mut self, change: &Change, moment: Moment) {
+        match change {
+            Change::Attributes(given) => {
+                self.attributes.set(given);
+                self.modified = moment;
+            }
+            Change::Tag(tags) => self.tags.extend(tags.clone()),
+            Change::Untag(keys) => self.tags.retain(|key, _| !keys.contains(key)),
+            Change::Purged => self.purged = Some(moment),
+        }
+    }
+
+    fn note_end(&mut self, until: Moment, sequence: u64) {
+        self.ends.push(Reverse((until, sequence)));
+        if self.ends.len() > 1024 + 2 * self.messages.len() {
+            let messages = &self.messages;
+            let current = self.ends.drain().filter(|Reverse((until, sequence))| is_end(messages, *until, *sequence));
+            self.ends = current.collect();
+        }
+    }
+
+    /// The first end of a timeout that is still to come.
+    pub fn next_end(&mut self, now: Moment) -> Option<Moment> {
+        while let Some(Reverse((until, sequence))) = self.ends.peek() {
+            if *until > now && is_end(&self.messages, *until, *sequence) {
+                return Some(*until);
+            }
+            self.ends.pop();
+        }
+        None
+    }
+
+    /// The receipt of a handle, if the handle is of a handing that there was. The mark is tested before.
+    ///
+    /// Of a message that is deleted, and of an earlier handing, the store decides: neither does anything.
+    pub fn receipt_of(&self, handle: &Handle) -> Result<Receipt, SqsError> {
+        let receipt = handle.receipt;
+        if receipt.sequence > self.last_sequence {
+            return Err(SqsError::ReceiptHandleIsInvalid);
+        }
+        if let Some(message) = self.messages.get(&receipt.sequence) {
+            let last = message.last.ok_or(SqsError::ReceiptHandleIsInvalid)?;
+            let is_last = receipt.ordinal == last.ordinal;
+            if receipt.ordinal > last.ordinal || (is_last && handle.moment != last.moment) {
+                return Err(SqsError::ReceiptHandleIsInvalid);
+            }
+        }
+        Ok(receipt)
+    }
+
+    /// Whether each of these receipts is its message's last one, and none of them has ended.
+    pub fn are_in_flight(&self, receipts: &[Receipt], now: Moment) -> bool {
+        receipts.iter().all(|receipt| {
+            let message = self.messages.get(&receipt.sequence);
+            let last = message.and_then(|message| message.last);
+            last.is_some_and(|last| last.ordinal == receipt.ordinal && last.until > now)
+        })
+    }
+
+    fn keep_attempt(&mut self, id: &AttemptId, attempt: Attempt) {
+        let now = attempt.moment;
+        while let Some((moment, oldest)) = self.attempts_by_age.front() {
+            if now < moment + WINDOW {
+                break;
+            }
+            if self.attempts.get(oldest).is_some_and(|attempt| attempt.moment == *moment) {
+                self.attempts.remove(oldest);
+            }
+            self.attempts_by_age.pop_front();
+        }
+        self.attempts_by_age.push_back((now, id.clone()));
+        self.attempts.insert(id.clone(), attempt);
+    }
+
+    /// What the attempt was given, if that is still all in the hands of who asked
+    /// (API Reference, ReceiveMessage, `ReceiveRequestAttemptId`).
+    pub fn attempt(&self, id: &AttemptId, now: Moment) -> Option<Vec<Handed>> {
+        let found = self.attempts.get(id).filter(|found| now < found.moment + WINDOW)?;
+        let is_held = |handed: &Handed| {
+            let message = self.messages.get(&handed.receipt.sequence);
+            let last = message.and_then(|message| message.last);
+            last.is_some_and(|last| last.ordinal == handed.receipt.ordinal && !last.touched)
+        };
+        found.handed.iter().all(is_held).then(|| found.handed.clone())
+    }
+
+    /// The last receipts of the messages up to `sequence` that were handed out and aren't deleted.
+    pub fn receipts_up_to(&self, sequence: u64) -> Vec<Receipt> {
+        let up_to = self.messages.iter().filter(|(own, _)| **own <= sequence);
+        let receipts = up_to
+            .filter_map(|(own, message)| message.last.map(|last| Receipt { sequence: *own, ordinal: last.ordinal }));
+        receipts.collect()
+    }
+
+    pub fn has_messages_up_to(&self, sequence: u64) -> bool {
+        self.messages.keys().any(|own| *own <= sequence)
+    }
+
+    /// Whether the queue is empty and remembers no deduplication id.
+    pub fn is_at_rest(&self, now: Moment) -> bool {
+        self.messages.is_empty() && self.last_send + WINDOW <= now
+    }
+
+    /// Goes over to another name of the store, which counts from 1 again.
+    fn go_over(&mut self, store: StoreName) {
+        self.store = store;
+        self.base = self.last_sequence;
+        self.recent = VecDeque::new();
+        self.messages = HashMap::new();
+        self.ends = BinaryHeap::new();
+    }
+}
+
+fn is_end(messages: &HashMap<u64, Message>, until: Moment, sequence: u64) -> bool {
+    let last = messages.get(&sequence).and_then(|message| message.last);
+    last.is_some_and(|last| last.until == until)
+}

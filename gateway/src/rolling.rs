@@ -1,0 +1,64 @@
+//! Queues at rest go over to fresh names of the store, so that the records of their messages can go.
+
+use std::sync::Arc;
+use std::time::Duration;
+
+use crate::errors::SqsError;
+use crate::queues::ask::{Ask, Before, Creation};
+use crate::queues::{Queue, State};
+use crate::store::Store;
+
+/// So often queues are looked at.
+const PAUSE: Duration = Duration::from_secs(10);
+
+/// A queue that was sent fewer messages since it has its name keeps it.
+const WORTH_ROLLING: u64 = 1000;
+
+/// Rolls queues for as long as the gateway serves.
+pub async fn keep_rolling(store: Store) {
+    loop {
+        tokio::time::sleep(PAUSE).await;
+        for queue in store.queues().all() {
+            if !is_due(&queue.state(), store.clock().now()) {
+                continue;
+            }
+            if let Err(error) = roll(&store, &queue).await {
+                tracing::warn!("{} keeps its name in the store: {error}", queue.name);
+            }
+        }
+    }
+}
+
+/// Empty, no deduplication id that counts, and enough to gain.
+fn is_due(state: &State, now: u64) -> bool {
+    !state.removed && state.is_at_rest(now) && state.last_sequence - state.base >= WORTH_ROLLING
+}
+
+/// Gives a queue a fresh name, while nobody else has it, and removes the old one. If this ends half way, the next start
+/// removes it.
+async fn roll(store: &Store, queue: &Arc<Queue>) -> Result<(), SqsError> {
+    let held = store.hold(queue).await?;
+    let (old, visibility, creation) = {
+        let state = queue.state();
+        if !is_due(&state, store.clock().now()) {
+            return Ok(());
+        }
+        (state.store, state.attributes.visibility_timeout(), creation_of(queue, &state))
+    };
+    let fresh = store.queues().next_store_name();
+    held.ask(Ask::Create { store: fresh, visibility, creation: Arc::new(creation) }).await?;
+    held.ask(Ask::Remove { store: old, name: None }).await?;
+    Ok(())
+}
+
+fn creation_of(queue: &Queue, state: &State) -> Creation {
+    let before =
+        Before { base: state.last_sequence, created: state.created, modified: state.modified, purged: state.purged };
+    Creation {
+        name: queue.name.clone(),
+        mark: queue.mark.0,
+        attributes: state.attributes.clone(),
+        tags: state.tags.clone(),
+        before: Some(before),
+    }
+}

@@ -1,0 +1,151 @@
+//! The store: asks in, answers out. One task owns the program's pipe.
+
+mod replay;
+mod task;
+
+use std::sync::Arc;
+
+use tokio::sync::{mpsc, oneshot};
+
+use crate::clock::Clock;
+use crate::errors::SqsError;
+use crate::handles::Mark;
+use crate::queues::ask::{Ask, Change, Outcome};
+use crate::queues::{Queue, Queues};
+
+pub use replay::{replay, ReplayError, Replayed, Tables};
+pub use task::{start, Ended, Start};
+
+/// What is asked for, and where the answers go.
+struct Job {
+    queue: Option<Arc<Queue>>,
+    whats: Vec<What>,
+    /// It may pass where its queue is held.
+    passes: bool,
+    done: oneshot::Sender<Answers>,
+}
+
+enum What {
+    Ask(Ask),
+    Count,
+    /// Moves the store's moment on.
+    Moment,
+    Note(Change),
+    /// Keeps all other jobs of the queue waiting until it is let go.
+    Hold,
+    LetGo,
+}
+
+pub type Answer = Result<Outcome, SqsError>;
+type Answers = Vec<Answer>;
+
+/// Hands asks to the task that owns the program. Copies go to the same task.
+#[derive(Clone)]
+pub struct Store {
+    jobs: mpsc::UnboundedSender<Job>,
+    queues: Arc<Queues>,
+    clock: Arc<Clock>,
+}
+
+fn gone() -> SqsError {
+    SqsError::ServiceUnavailable("The store is gone.".into())
+}
+
+impl Store {
+    pub fn queues(&self) -> &Queues {
+        &self.queues
+    }
+
+    pub fn clock(&self) -> &Clock {
+        &self.clock
+    }
+
+    async fn perform(&self, queue: Option<&Arc<Queue>>, whats: Vec<What>, passes: bool) -> Answers {
+        let count = whats.len();
+        let (done, answers) = oneshot::channel();
+        let job = Job { queue: queue.cloned(), whats, passes, done };
+        let sent = self.jobs.send(job);
+        let answered = match sent {
+            Ok(()) => answers.await.ok(),
+            Err(_) => None,
+        };
+        answered.unwrap_or_else(|| (0..count).map(|_| Err(gone())).collect())
+    }
+
+    async fn perform_one(&self, queue: &Arc<Queue>, what: What) -> Answer {
+        self.perform(Some(queue), vec![what], false).await.pop().unwrap_or_else(|| Err(gone()))
+    }
+
+    /// The answer to one ask, when all that it rests on is on disk.
+    pub async fn ask(&self, queue: &Arc<Queue>, ask: Ask) -> Answer {
+        self.perform_one(queue, What::Ask(ask)).await
+    }
+
+    /// The answers to asks that are written one after the other, in their order.
+    pub async fn ask_all(&self, queue: &Arc<Queue>, asks: Vec<Ask>) -> Vec<Answer> {
+        self.perform(Some(queue), asks.into_iter().map(What::Ask).collect(), false).await
+    }
+
+    /// How many messages of the queue are visible and how many in flight, at this moment.
+    pub async fn count(&self, queue: &Arc<Queue>) -> Answer {
+        self.perform_one(queue, What::Count).await
+    }
+
+    /// A change of what the gateway alone keeps.
+    pub async fn note(&self, queue: &Arc<Queue>, change: Change) -> Answer {
+        self.perform_one(queue, What::Note(change)).await
+    }
+
+    /// Waits for a first answer of the program. False if there is none.
+    pub async fn is_answering(&self) -> bool {
+        let answers = self.perform(None, vec![What::Moment], true).await;
+        answers.iter().all(Result::is_ok)
+    }
+
+    /// Waits until all that the tables show is on disk. False if it never will be.
+    pub async fn settled(&self) -> bool {
+        let (done, answers) = oneshot::channel();
+        let job = Job { queue: None, whats: Vec::new(), passes: true, done };
+        self.jobs.send(job).is_ok() && answers.await.is_ok()
+    }
+
+    /// Keeps all others from the queue until what this gives is dropped. Whoever begins this brings it to its end, or
+    /// the queue is kept for good.
+    pub async fn hold(&self, queue: &Arc<Queue>) -> Result<Held, SqsError> {
+        self.perform_one(queue, What::Hold).await?;
+        Ok(Held { store: self.clone(), queue: queue.clone() })
+    }
+}
+
+/// A queue that one task has to itself.
+pub struct Held {
+    store: Store,
+    queue: Arc<Queue>,
+}
+
+impl Held {
+    pub async fn ask_all(&self, asks: Vec<Ask>) -> Vec<Answer> {
+        self.store.perform(Some(&self.queue), asks.into_iter().map(What::Ask).collect(), true).await
+    }
+
+    pub async fn ask(&self, ask: Ask) -> Answer {
+        self.ask_all(vec![ask]).await.pop().unwrap_or_else(|| Err(gone()))
+    }
+
+    pub async fn note(&self, change: Change) -> Answer {
+        let answers = self.store.perform(Some(&self.queue), vec![What::Note(change)], true);
+        answers.await.pop().unwrap_or_else(|| Err(gone()))
+    }
+}
+
+impl Drop for Held {
+    fn drop(&mut self) {
+        let (done, _) = oneshot::channel();
+        let queue = Some(self.queue.clone());
+        // Where the task is gone, nothing waits any more.
+        let _ = self.store.jobs.send(Job { queue, whats: vec![What::LetGo], passes: true, done });
+    }
+}
+
+/// Jobs of held queues, in order.
+type HeldJobs = std::collections::HashMap<Mark, std::collections::VecDeque<Job>>;

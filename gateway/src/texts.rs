@@ -1,0 +1,211 @@
+//! Texts that were tested. Each type is made in one place, and only these types reach the store.
+
+use std::fmt;
+use std::sync::Arc;
+
+use serde::{Deserialize, Serialize};
+use sha2::{Digest, Sha256};
+
+use crate::errors::SqsError;
+
+/// The longest text that the store takes as a body, in bytes of UTF-8.
+pub const STORE_LIMIT: usize = 262_144;
+
+/// The name of a FIFO queue: 1 to 75 ASCII letters, digits, `-` and `_`, then `.fifo`
+/// (API Reference, CreateQueue, `QueueName`). Copies share the text.
+#[derive(Clone, Debug, PartialEq, Eq, Hash, PartialOrd, Ord, Serialize)]
+pub struct QueueName(Arc<str>);
+
+impl QueueName {
+    /// The name in `text`, or none if it breaks the rule.
+    pub fn parse(text: &str) -> Option<QueueName> {
+        let stem = text.strip_suffix(".fifo")?;
+        let is_good = |byte: u8| byte.is_ascii_alphanumeric() || byte == b'-' || byte == b'_';
+        ((1..=75).contains(&stem.len()) && stem.bytes().all(is_good)).then(|| QueueName(text.into()))
+    }
+
+    /// The name behind the last slash of a queue's URL; a bare name is taken as well.
+    pub fn of_url(url: &str) -> Result<QueueName, SqsError> {
+        let name = url.rsplit('/').next().unwrap_or(url);
+        QueueName::parse(name).ok_or(SqsError::QueueDoesNotExist)
+    }
+
+    /// What a client is told of a name that breaks the rule.
+    pub fn refusal() -> SqsError {
+        SqsError::InvalidParameterValue(
+            "The name of a FIFO queue can only include alphanumeric characters, hyphens, or underscores, \
+             must end with .fifo suffix and be 1 to 80 in length."
+                .into(),
+        )
+    }
+
+    pub fn as_str(&self) -> &str {
+        &self.0
+    }
+}
+
+impl fmt::Display for QueueName {
+    fn fmt(&self, formatter: &mut fmt::Formatter<'_>) -> fmt::Result {
+        formatter.write_str(&self.0)
+    }
+}
+
+impl<'de> Deserialize<'de> for QueueName {
+    fn deserialize<D: serde::Deserializer<'de>>(deserializer: D) -> Result<QueueName, D::Error> {
+        let text = String::deserialize(deserializer)?;
+        QueueName::parse(&text).ok_or_else(|| serde::de::Error::custom("this is no queue's name"))
+    }
+}
+
+/// Whether a text has 1 to 128 bytes from `!` to `~`.
+fn is_short_and_printable(text: &str) -> bool {
+    (1..=128).contains(&text.len()) && text.bytes().all(|byte| (0x21..=0x7e).contains(&byte))
+}
+
+fn only_printable(parameter: &str) -> SqsError {
+    SqsError::InvalidParameterValue(format!(
+        "{parameter} can only include alphanumeric and punctuation characters. 1 to 128 in length."
+    ))
+}
+
+/// A message group id: 1 to 128 ASCII letters, digits and punctuation marks
+/// (API Reference, SendMessage, `MessageGroupId`).
+#[derive(Clone, Debug, PartialEq, Eq, Serialize, Deserialize)]
+#[serde(transparent)]
+pub struct GroupId(String);
+
+impl GroupId {
+    pub fn parse(text: &str) -> Result<GroupId, SqsError> {
+        is_short_and_printable(text).then(|| GroupId(text.into())).ok_or_else(|| only_printable("MessageGroupId"))
+    }
+
+    pub fn as_str(&self) -> &str {
+        &self.0
+    }
+}
+
+/// A message deduplication id: 1 to 128 ASCII letters, digits and punctuation marks
+/// (API Reference, SendMessage, `MessageDeduplicationId`).
+#[derive(Clone, Debug, PartialEq, Eq, Serialize, Deserialize)]
+#[serde(transparent)]
+pub struct DedupId(String);
+
+impl DedupId {
+    pub fn parse(text: &str) -> Result<DedupId, SqsError> {
+        is_short_and_printable(text)
+            .then(|| DedupId(text.into()))
+            .ok_or_else(|| only_printable("MessageDeduplicationId"))
+    }
+
+    /// The id that stands for a body: its SHA-256 in hex (Developer Guide, "Using the message deduplication ID").
+    pub fn of_body(body: &str) -> DedupId {
+        DedupId(hex(&Sha256::digest(body.as_bytes())))
+    }
+
+    /// The id that stands for this one in its group alone, where a queue's ids count by group.
+    pub fn within(&self, group: &GroupId) -> DedupId {
+        let mut digest = Sha256::new();
+        digest.update(group.0.as_bytes());
+        digest.update([0]);
+        digest.update(self.0.as_bytes());
+        DedupId(hex(&digest.finalize()))
+    }
+
+    pub fn as_str(&self) -> &str {
+        &self.0
+    }
+}
+
+/// A receive request attempt id: 1 to 128 ASCII letters, digits and punctuation marks
+/// (API Reference, ReceiveMessage, `ReceiveRequestAttemptId`).
+#[derive(Clone, Debug, PartialEq, Eq, Hash, Serialize, Deserialize)]
+#[serde(transparent)]
+pub struct AttemptId(String);
+
+impl AttemptId {
+    pub fn parse(text: &str) -> Result<AttemptId, SqsError> {
+        is_short_and_printable(text)
+            .then(|| AttemptId(text.into()))
+            .ok_or_else(|| only_printable("ReceiveRequestAttemptId"))
+    }
+}
+
+/// The body of a message: at least one character, and none outside the set of SQS
+/// (API Reference, SendMessage, `MessageBody`). Its length is tested with its attributes, by the queue's limit.
+#[derive(Clone, Debug, PartialEq, Eq)]
+pub struct Body(String);
+
+impl Body {
+    pub fn parse(text: &str) -> Result<Body, SqsError> {
+        if text.is_empty() {
+            return Err(SqsError::MissingParameter("MessageBody".into()));
+        }
+        test_characters(text)?;
+        Ok(Body(text.into()))
+    }
+
+    pub fn as_str(&self) -> &str {
+        &self.0
+    }
+}
+
+/// Refuses a text with a character that no message may have. Takes time in proportion to the text.
+pub fn test_characters(text: &str) -> Result<(), SqsError> {
+    if text.bytes().all(|byte| (0x20..0x80).contains(&byte)) {
+        return Ok(());
+    }
+    let is_good = |character| match character {
+        '\t' | '\n' | '\r' => true,
+        '\u{fffe}' | '\u{ffff}' => false,
+        character => character >= ' ',
+    };
+    text.chars().all(is_good).then_some(()).ok_or(SqsError::InvalidMessageContents)
+}
+
+/// Bytes as lower-case hex digits.
+pub fn hex(bytes: &[u8]) -> String {
+    const DIGITS: &[u8; 16] = b"0123456789abcdef";
+    let mut text = String::with_capacity(2 * bytes.len());
+    for byte in bytes {
+        text.push(char::from(DIGITS[usize::from(byte >> 4)]));
+        text.push(char::from(DIGITS[usize::from(byte & 15)]));
+    }
+    text
+}
+
+#[cfg(test)]
+mod tests {
+    use super::*;
+
+    #[test]
+    fn names_of_queues() {
+        assert!(QueueName::parse("a.fifo").is_some());
+        assert!(QueueName::parse(&format!("{}.fifo", "x".repeat(75))).is_some());
+        for bad in ["", ".fifo", "a", "a b.fifo", "ä.fifo", &format!("{}.fifo", "x".repeat(76))] {
+            assert!(QueueName::parse(bad).is_none(), "{bad}");
+        }
+        assert_eq!(QueueName::of_url("http://host/1/a.fifo").unwrap().as_str(), "a.fifo");
+        assert_eq!(QueueName::of_url("http://host/1/a"), Err(SqsError::QueueDoesNotExist));
+    }
+
+    #[test]
+    fn ids_and_bodies() {
+        assert!(GroupId::parse("!~").is_ok() && GroupId::parse(&"x".repeat(128)).is_ok());
+        for bad in ["", "a b", "ä", "\u{7f}", &"x".repeat(129)] {
+            assert!(GroupId::parse(bad).is_err() && DedupId::parse(bad).is_err(), "{bad:?}");
+        }
+        assert!(Body::parse("\t\n\r \u{7f}\u{d7ff}\u{e000}\u{fffd}\u{10ffff}").is_ok());
+        for bad in ["\u{b}", "a\u{fffe}", "\u{ffff}", "\0"] {
+            assert_eq!(Body::parse(bad), Err(SqsError::InvalidMessageContents));
+        }
+    }
+
+    #[test]
+    fn ids_made_of_bodies_and_groups() {
+        let made = DedupId::of_body("hello");
+        assert_eq!(made.as_str(), "2cf24dba5fb0a30e26e83b2ac5b9e29e1b161e5c1fa7425e73043362938b9824");
+        let group = GroupId::parse("a").unwrap();
+        let other = GroupId::parse("b").unwrap();
+        assert_ne!(made.within(&group), made.within(&other));
+    }
+}

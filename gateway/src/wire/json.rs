@@ -1,0 +1,199 @@
+//! AWS JSON 1.0: the action in a header, members and results as JSON objects.
+
+use serde::Serialize;
+
+use super::requests::{self, Action, Request};
+use super::responses::{as_map, Done, Failed, Pairs, ReceivedMessage, Response};
+use super::value::{Map, Value};
+use super::{fault, Incoming, Reply};
+use crate::errors::SqsError;
+
+const CONTENT_TYPE: &str = "application/x-amz-json-1.0";
+const SERVICE: &str = "AmazonSQS.";
+
+pub fn read(incoming: &Incoming<'_>) -> Result<Request, SqsError> {
+    let target = incoming.target.unwrap_or_default();
+    let name = target.strip_prefix(SERVICE).ok_or_else(|| SqsError::UnknownOperation(target.into()))?;
+    let action: Action = name.parse()?;
+    let mut members = members(incoming.body)?;
+    if let (Some(queue), None) = (incoming.path_queue, members.get("QueueUrl")) {
+        members.0.push(("QueueUrl".into(), Value::Text(queue.into())));
+    }
+    requests::read(action, &members)
+}
+
+fn members(body: &[u8]) -> Result<Map<'_>, SqsError> {
+    if body.is_empty() {
+        return Ok(Map::default());
+    }
+    match serde_json::from_slice(body) {
+        Ok(Value::Map(map)) => Ok(map),
+        Ok(_) => Err(SqsError::InvalidParameterValue("The request's body is no JSON object.".into())),
+        Err(_) => Err(SqsError::InvalidParameterValue("The request's body is no JSON.".into())),
+    }
+}
+
+#[derive(Serialize)]
+struct Nothing {}
+
+#[derive(Serialize)]
+#[serde(rename_all = "PascalCase")]
+struct Url<'a> {
+    queue_url: &'a str,
+}
+
+#[derive(Serialize)]
+#[serde(rename_all = "PascalCase")]
+struct Urls<'a> {
+    #[serde(skip_serializing_if = "<[String]>::is_empty")]
+    queue_urls: &'a [String],
+    #[serde(skip_serializing_if = "Option::is_none")]
+    next_token: Option<&'a str>,
+}
+
+#[derive(Serialize)]
+#[serde(rename_all = "PascalCase")]
+struct Attributes<'a> {
+    #[serde(skip_serializing_if = "<[_]>::is_empty", serialize_with = "pairs")]
+    attributes: &'a [(String, String)],
+}
+
+#[derive(Serialize)]
+#[serde(rename_all = "PascalCase")]
+struct Tags<'a> {
+    #[serde(skip_serializing_if = "<[_]>::is_empty", serialize_with = "pairs")]
+    tags: &'a [(String, String)],
+}
+
+#[derive(Serialize)]
+#[serde(rename_all = "PascalCase")]
+struct Messages<'a> {
+    #[serde(skip_serializing_if = "<[_]>::is_empty")]
+    messages: &'a [ReceivedMessage],
+}
+
+#[derive(Serialize)]
+#[serde(rename_all = "PascalCase")]
+struct Batch<'a> {
+    successful: &'a [Done],
+    failed: &'a [Failed],
+}
+
+#[derive(Serialize)]
+struct Refusal<'a> {
+    #[serde(rename = "__type")]
+    type_name: &'a str,
+    message: String,
+}
+
+fn pairs<S: serde::Serializer>(pairs: &&[(String, String)], serializer: S) -> Result<S::Ok, S::Error> {
+    as_map(pairs, serializer)
+}
+
+pub fn answer(response: &Response, request_id: String) -> Reply {
+    let body = match response {
+        Response::Nothing => to_bytes(&Nothing {}),
+        Response::QueueUrl(url) => to_bytes(&Url { queue_url: url }),
+        Response::Queues { urls, next } => to_bytes(&Urls { queue_urls: urls, next_token: next.as_deref() }),
+        Response::Attributes(attributes) => to_bytes(&Attributes { attributes: slice(attributes) }),
+        Response::Tags(tags) => to_bytes(&Tags { tags: slice(tags) }),
+        Response::Sent(sent) => to_bytes(sent),
+        Response::Messages(messages) => to_bytes(&Messages { messages }),
+        Response::Batch { successful, failed } => to_bytes(&Batch { successful, failed }),
+    };
+    Reply { status: 200, content_type: CONTENT_TYPE, query_error: None, request_id, body }
+}
+
+fn slice(pairs: &Pairs) -> &[(String, String)] {
+    pairs
+}
+
+pub fn refuse(error: &SqsError, request_id: String) -> Reply {
+    let coded = error.coded();
+    Reply {
+        status: coded.status,
+        content_type: CONTENT_TYPE,
+        query_error: Some(format!("{};{}", coded.code, fault(error))),
+        request_id,
+        body: to_bytes(&Refusal { type_name: coded.type_name, message: error.to_string() }),
+    }
+}
+
+/// These types have texts for keys, so writing them into memory can't fail.
+fn to_bytes<T: Serialize>(value: &T) -> Vec<u8> {
+    serde_json::to_vec(value).unwrap_or_default()
+}
+
+#[cfg(test)]
+mod tests {
+    use super::*;
+    use crate::wire::requests::Message;
+    use crate::wire::responses::Sent;
+
+    fn read_body(action: &str, body: &[u8]) -> Result<Request, SqsError> {
+        let target = format!("AmazonSQS.{action}");
+        read(&Incoming { target: Some(&target), path_queue: None, query: "", body })
+    }
+
+    /// A request as boto3 writes it.
+    const SEND: &[u8] = br#"{"QueueUrl": "http://127.0.0.1:9324/000000000000/q.fifo", "MessageBody": "h\u00e9llo",
+        "MessageGroupId": "g", "MessageDeduplicationId": "d",
+        "MessageAttributes": {"a": {"DataType": "Binary", "BinaryValue": "AP8="}}}"#;
+
+    #[test]
+    fn a_send_is_read() {
+        let Ok(Request::SendMessage { queue, message }) = read_body("SendMessage", SEND) else { panic!() };
+        let Message { body, group, dedup, attributes, trace } = message;
+        assert_eq!((queue.as_str(), body.as_str(), group.as_str()), ("q.fifo", "héllo", "g"));
+        assert_eq!((dedup.unwrap().as_str(), attributes["a"].data(), trace), ("d", &b"\0\xff"[..], None));
+    }
+
+    #[test]
+    fn broken_requests_are_refused() {
+        for body in [&b"{"[..], b"[]", b"\xff", &[b'['; 100_000], br#"{"QueueUrl":"\ud800"}"#] {
+            let refused = read_body("ListQueues", body);
+            assert!(matches!(refused, Err(SqsError::InvalidParameterValue(_))), "{refused:?}");
+        }
+        assert_eq!(read_body("MakeCoffee", b"{}"), Err(SqsError::UnknownOperation("MakeCoffee".into())));
+        let missing = read_body("SendMessage", br#"{"QueueUrl":"q.fifo","MessageGroupId":"g"}"#);
+        assert_eq!(missing, Err(SqsError::MissingParameter("MessageBody".into())));
+    }
+
+    #[test]
+    fn any_front_and_any_flipped_byte_of_a_request_is_read_or_refused() {
+        for length in 0..SEND.len() {
+            let _ = read_body("SendMessage", &SEND[..length]);
+            for flip in [1u8, 0x80] {
+                let mut spoilt = SEND.to_vec();
+                spoilt[length] ^= flip;
+                let _ = read_body("SendMessage", &spoilt);
+            }
+        }
+    }
+
+    #[test]
+    fn answers_and_errors_have_the_services_form() {
+        let sent = Sent {
+            message_id: "i".into(),
+            md5_of_body: "m".into(),
+            md5_of_attributes: None,
+            md5_of_system_attributes: None,
+            sequence_number: "1".into(),
+        };
+        let reply = answer(&Response::Sent(sent.clone()), "r".into());
+        assert_eq!(reply.body, br#"{"MessageId":"i","MD5OfMessageBody":"m","SequenceNumber":"1"}"#);
+        let successful = vec![Done { id: "1".into(), sent: Some(sent) }, Done { id: "2".into(), sent: None }];
+        let failed = vec![Failed::new("3".into(), &SqsError::InvalidMessageContents)];
+        let batch = answer(&Response::Batch { successful, failed }, "r".into());
+        let text = String::from_utf8(batch.body).unwrap();
+        assert!(text.starts_with(
+            r#"{"Successful":[{"Id":"1","MessageId":"i","MD5OfMessageBody":"m","SequenceNumber":"1"},{"Id":"2"}],"#
+        ));
+        assert_eq!(answer(&Response::Messages(Vec::new()), "r".into()).body, b"{}");
+        let refused = refuse(&SqsError::QueueDoesNotExist, "r".into());
+        assert_eq!(refused.query_error.unwrap(), "AWS.SimpleQueueService.NonExistentQueue;Sender");
+        let expected =
+            br#"{"__type":"com.amazonaws.sqs#QueueDoesNotExist","message":"The specified queue does not exist."}"#;
+        assert_eq!(refused.body, expected);
+    }
+}

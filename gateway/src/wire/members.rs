@@ -1,0 +1,164 @@
+//! The members of a request, read by their names and tested for their kinds.
+//!
+//! In the query form all values are texts, also where they are numbers.
+
+use super::value::{Map, Value};
+use crate::errors::SqsError;
+use crate::messages::{test_attribute_name, AttributeValue, MessageAttributes, MOST_ATTRIBUTES, TRACE_HEADER};
+
+/// The members of one request, of one entry of a batch, or of a structure.
+#[derive(Clone, Copy)]
+pub struct Members<'m, 'a>(pub &'m Map<'a>);
+
+fn wrong(message: String) -> SqsError {
+    SqsError::InvalidParameterValue(message)
+}
+
+impl<'m, 'a> Members<'m, 'a> {
+    pub fn has(&self, name: &str) -> bool {
+        self.0.get(name).is_some()
+    }
+
+    pub fn text(&self, name: &str) -> Result<Option<&'m str>, SqsError> {
+        match self.0.get(name) {
+            None => Ok(None),
+            Some(Value::Text(text)) => Ok(Some(text)),
+            Some(_) => Err(wrong(format!("{name} must be a string."))),
+        }
+    }
+
+    /// A text that must be there and not empty.
+    pub fn required_text(&self, name: &str) -> Result<&'m str, SqsError> {
+        let text = self.text(name)?.filter(|text| !text.is_empty());
+        text.ok_or_else(|| SqsError::MissingParameter(name.into()))
+    }
+
+    /// A whole number from `least` to `most`.
+    pub fn number(&self, name: &str, least: i64, most: i64) -> Result<Option<u32>, SqsError> {
+        let (number, shown) = match self.0.get(name) {
+            None => return Ok(None),
+            Some(Value::Integer(number)) => (Some(*number), number.to_string()),
+            Some(Value::Text(text)) => (digits(text), text.to_string()),
+            Some(_) => (None, "of this kind".into()),
+        };
+        let good = number.filter(|number| (least..=most).contains(number));
+        let good = good.and_then(|number| u32::try_from(number).ok());
+        good.map(Some).ok_or_else(|| SqsError::out_of_range(&shown, name, least, most))
+    }
+
+    pub fn required_number(&self, name: &str, least: i64, most: i64) -> Result<u32, SqsError> {
+        self.number(name, least, most)?.ok_or_else(|| SqsError::MissingParameter(name.into()))
+    }
+
+    /// A list of texts; none where it is missing.
+    pub fn texts(&self, name: &str) -> Result<Vec<String>, SqsError> {
+        let not_texts = || wrong(format!("{name} must be a list of strings."));
+        match self.0.get(name) {
+            None => Ok(Vec::new()),
+            Some(Value::List(list)) => list
+                .iter()
+                .map(|value| match value {
+                    Value::Text(text) => Ok(text.to_string()),
+                    _ => Err(not_texts()),
+                })
+                .collect(),
+            Some(_) => Err(not_texts()),
+        }
+    }
+
+    /// A map of texts. Clients also give whole numbers and truth values there, and mean their texts.
+    pub fn texts_by_name(&self, name: &str) -> Result<Vec<(String, String)>, SqsError> {
+        let not_texts = || wrong(format!("{name} must be a map of strings."));
+        let map = match self.0.get(name) {
+            None => return Ok(Vec::new()),
+            Some(Value::Map(map)) => map,
+            Some(_) => return Err(not_texts()),
+        };
+        let mut pairs = Vec::with_capacity(map.0.len());
+        for (key, value) in &map.0 {
+            let text = match value {
+                Value::Text(text) => text.to_string(),
+                Value::Integer(number) => number.to_string(),
+                Value::Flag(flag) => flag.to_string(),
+                _ => return Err(not_texts()),
+            };
+            pairs.push((key.to_string(), text));
+        }
+        Ok(pairs)
+    }
+
+    /// The entries of a batch, as they came.
+    pub fn entries(&self) -> Result<Vec<Members<'m, 'a>>, SqsError> {
+        let not_entries = || wrong("Entries must be a list of entries.".into());
+        match self.0.get("Entries") {
+            None => Ok(Vec::new()),
+            Some(Value::List(list)) => list
+                .iter()
+                .map(|value| match value {
+                    Value::Map(map) => Ok(Members(map)),
+                    _ => Err(not_entries()),
+                })
+                .collect(),
+            Some(_) => Err(not_entries()),
+        }
+    }
+
+    /// `MessageAttributes`, each tested.
+    pub fn message_attributes(&self) -> Result<MessageAttributes, SqsError> {
+        let mut found = MessageAttributes::new();
+        for (name, members) in self.structures("MessageAttributes")? {
+            test_attribute_name(name)?;
+            found.insert(name.into(), members.attribute_value(name)?);
+        }
+        if found.len() > MOST_ATTRIBUTES {
+            return Err(wrong(format!(
+                "Number of message attributes [{}] exceeds the allowed maximum [{MOST_ATTRIBUTES}].",
+                found.len()
+            )));
+        }
+        Ok(found)
+    }
+
+    /// The one message system attribute that there is.
+    pub fn trace_header(&self) -> Result<Option<AttributeValue>, SqsError> {
+        let mut trace = None;
+        for (name, members) in self.structures("MessageSystemAttributes")? {
+            if name != TRACE_HEADER {
+                return Err(wrong(format!("Message system attribute name {name} is invalid.")));
+            }
+            let value = members.attribute_value(name)?;
+            if value.data_type() != "String" {
+                return Err(wrong(format!("The type of message system attribute {name} must be String.")));
+            }
+            trace = Some(value);
+        }
+        Ok(trace)
+    }
+
+    fn attribute_value(&self, name: &str) -> Result<AttributeValue, SqsError> {
+        let data_type = self.text("DataType")?.unwrap_or_default();
+        AttributeValue::new(name, data_type, self.text("StringValue")?, self.text("BinaryValue")?)
+    }
+
+    fn structures(&self, name: &str) -> Result<Vec<(&'m str, Members<'m, 'a>)>, SqsError> {
+        let not_structures = || wrong(format!("{name} must be a map of structures."));
+        match self.0.get(name) {
+            None => Ok(Vec::new()),
+            Some(Value::Map(map)) => map
+                .0
+                .iter()
+                .map(|(key, value)| match value {
+                    Value::Map(map) => Ok((key.as_ref(), Members(map))),
+                    _ => Err(not_structures()),
+                })
+                .collect(),
+            Some(_) => Err(not_structures()),
+        }
+    }
+}
+
+fn digits(text: &str) -> Option<i64> {
+    let unsigned = text.strip_prefix('-').unwrap_or(text);
+    let is_digits = (1..=19).contains(&unsigned.len()) && unsigned.bytes().all(|byte| byte.is_ascii_digit());
+    text.parse().ok().filter(|_| is_digits)
+}

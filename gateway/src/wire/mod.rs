@@ -1,0 +1,87 @@
+//! The two protocols that clients speak, over the same types: AWS JSON 1.0, and the query form with answers in XML.
+
+mod json;
+mod members;
+mod query;
+pub mod requests;
+pub mod responses;
+mod value;
+
+pub use requests::{Action, Request};
+pub use responses::Response;
+
+use crate::errors::SqsError;
+
+/// The XML namespace of the query protocol's answers.
+pub const NAMESPACE: &str = "http://queue.amazonaws.com/doc/2012-11-05/";
+
+/// Which protocol a client speaks.
+#[derive(Clone, Copy, Debug, PartialEq, Eq)]
+pub enum Protocol {
+    Json,
+    Query,
+}
+
+/// What of an HTTP request says what is asked.
+#[derive(Clone, Copy, Debug)]
+pub struct Incoming<'a> {
+    /// The header `X-Amz-Target`, which the JSON protocol has.
+    pub target: Option<&'a str>,
+    /// The queue in the path, where there is one.
+    pub path_queue: Option<&'a str>,
+    /// The query string of the URL.
+    pub query: &'a str,
+    pub body: &'a [u8],
+}
+
+/// A response, ready to be sent.
+#[derive(Clone, Debug, PartialEq, Eq)]
+pub struct Reply {
+    pub status: u16,
+    pub content_type: &'static str,
+    /// The header `x-amzn-query-error`, which errors have in the JSON protocol.
+    pub query_error: Option<String>,
+    pub request_id: String,
+    pub body: Vec<u8>,
+}
+
+impl Protocol {
+    pub fn of(incoming: &Incoming<'_>) -> Protocol {
+        match incoming.target {
+            Some(_) => Protocol::Json,
+            None => Protocol::Query,
+        }
+    }
+
+    /// Reads and tests a request. Takes time in proportion to its bytes.
+    pub fn read(self, incoming: &Incoming<'_>) -> Result<Request, SqsError> {
+        match self {
+            Protocol::Json => json::read(incoming),
+            Protocol::Query => query::read(incoming),
+        }
+    }
+
+    /// The response to an action that was done.
+    pub fn answer(self, action: Action, response: &Response, request_id: String) -> Reply {
+        match self {
+            Protocol::Json => json::answer(response, request_id),
+            Protocol::Query => query::answer(action, response, request_id),
+        }
+    }
+
+    /// The response to a request that was refused.
+    pub fn refuse(self, error: &SqsError, request_id: String) -> Reply {
+        match self {
+            Protocol::Json => json::refuse(error, request_id),
+            Protocol::Query => query::refuse(error, request_id),
+        }
+    }
+}
+
+fn fault(error: &SqsError) -> &'static str {
+    if error.is_sender_fault() {
+        "Sender"
+    } else {
+        "Receiver"
+    }
+}

@@ -1,0 +1,447 @@
+//! What clients ask for: one type for each action, its members tested.
+
+use std::str::FromStr;
+
+use super::members::Members;
+use super::value::Map;
+use crate::attributes::{Given, Wanted};
+use crate::errors::SqsError;
+use crate::messages::{AttributeValue, MessageAttributes};
+use crate::texts::{AttemptId, Body, DedupId, GroupId, QueueName};
+
+/// The actions that are done (API Reference, "Actions").
+#[derive(Clone, Copy, Debug, PartialEq, Eq, Hash)]
+pub enum Action {
+    ChangeMessageVisibility,
+    ChangeMessageVisibilityBatch,
+    CreateQueue,
+    DeleteMessage,
+    DeleteMessageBatch,
+    DeleteQueue,
+    GetQueueAttributes,
+    GetQueueUrl,
+    ListQueueTags,
+    ListQueues,
+    PurgeQueue,
+    ReceiveMessage,
+    SendMessage,
+    SendMessageBatch,
+    SetQueueAttributes,
+    TagQueue,
+    UntagQueue,
+}
+
+impl Action {
+    pub const ALL: [Action; 17] = [
+        Action::ChangeMessageVisibility,
+        Action::ChangeMessageVisibilityBatch,
+        Action::CreateQueue,
+        Action::DeleteMessage,
+        Action::DeleteMessageBatch,
+        Action::DeleteQueue,
+        Action::GetQueueAttributes,
+        Action::GetQueueUrl,
+        Action::ListQueueTags,
+        Action::ListQueues,
+        Action::PurgeQueue,
+        Action::ReceiveMessage,
+        Action::SendMessage,
+        Action::SendMessageBatch,
+        Action::SetQueueAttributes,
+        Action::TagQueue,
+        Action::UntagQueue,
+    ];
+
+    pub fn name(self) -> &'static str {
+        match self {
+            Action::ChangeMessageVisibility => "ChangeMessageVisibility",
+            Action::ChangeMessageVisibilityBatch => "ChangeMessageVisibilityBatch",
+            Action::CreateQueue => "CreateQueue",
+            Action::DeleteMessage => "DeleteMessage",
+            Action::DeleteMessageBatch => "DeleteMessageBatch",
+            Action::DeleteQueue => "DeleteQueue",
+            Action::GetQueueAttributes => "GetQueueAttributes",
+            Action::GetQueueUrl => "GetQueueUrl",
+            Action::ListQueueTags => "ListQueueTags",
+            Action::ListQueues => "ListQueues",
+            Action::PurgeQueue => "PurgeQueue",
+            Action::ReceiveMessage => "ReceiveMessage",
+            Action::SendMessage => "SendMessage",
+            Action::SendMessageBatch => "SendMessageBatch",
+            Action::SetQueueAttributes => "SetQueueAttributes",
+            Action::TagQueue => "TagQueue",
+            Action::UntagQueue => "UntagQueue",
+        }
+    }
+
+    /// Whether a good answer has a result, which the query form shows as an element of its own.
+    pub fn has_result(self) -> bool {
+        !matches!(
+            self,
+            Action::ChangeMessageVisibility
+                | Action::DeleteMessage
+                | Action::DeleteQueue
+                | Action::PurgeQueue
+                | Action::SetQueueAttributes
+                | Action::TagQueue
+                | Action::UntagQueue
+        )
+    }
+}
+
+/// Actions that SQS has and that aren't done here.
+const UNSUPPORTED: [&str; 6] = [
+    "AddPermission",
+    "CancelMessageMoveTask",
+    "ListDeadLetterSourceQueues",
+    "ListMessageMoveTasks",
+    "RemovePermission",
+    "StartMessageMoveTask",
+];
+
+impl FromStr for Action {
+    type Err = SqsError;
+
+    fn from_str(name: &str) -> Result<Action, SqsError> {
+        if let Some(action) = Action::ALL.into_iter().find(|action| action.name() == name) {
+            return Ok(action);
+        }
+        if UNSUPPORTED.contains(&name) {
+            return Err(SqsError::UnsupportedOperation(name.into()));
+        }
+        Err(SqsError::UnknownOperation(name.into()))
+    }
+}
+
+/// A request whose members are good by themselves.
+#[derive(Clone, Debug, PartialEq)]
+pub enum Request {
+    ChangeMessageVisibility { queue: QueueName, change: Change },
+    ChangeMessageVisibilityBatch { queue: QueueName, batch: Batch<Change> },
+    CreateQueue { queue: QueueName, attributes: Given, tags: Tags },
+    DeleteMessage { queue: QueueName, handle: String },
+    DeleteMessageBatch { queue: QueueName, batch: Batch<String> },
+    DeleteQueue { queue: QueueName },
+    GetQueueAttributes { queue: QueueName, wanted: Wanted },
+    GetQueueUrl { queue: Option<QueueName> },
+    ListQueueTags { queue: QueueName },
+    ListQueues { prefix: String, most: Option<u32>, after: String },
+    PurgeQueue { queue: QueueName },
+    ReceiveMessage { queue: QueueName, receive: Receive },
+    SendMessage { queue: QueueName, message: Message },
+    SendMessageBatch { queue: QueueName, batch: Batch<Message> },
+    SetQueueAttributes { queue: QueueName, attributes: Given },
+    TagQueue { queue: QueueName, tags: Tags },
+    UntagQueue { queue: QueueName, keys: Vec<String> },
+}
+
+impl Request {
+    pub fn action(&self) -> Action {
+        match self {
+            Request::ChangeMessageVisibility { .. } => Action::ChangeMessageVisibility,
+            Request::ChangeMessageVisibilityBatch { .. } => Action::ChangeMessageVisibilityBatch,
+            Request::CreateQueue { .. } => Action::CreateQueue,
+            Request::DeleteMessage { .. } => Action::DeleteMessage,
+            Request::DeleteMessageBatch { .. } => Action::DeleteMessageBatch,
+            Request::DeleteQueue { .. } => Action::DeleteQueue,
+            Request::GetQueueAttributes { .. } => Action::GetQueueAttributes,
+            Request::GetQueueUrl { .. } => Action::GetQueueUrl,
+            Request::ListQueueTags { .. } => Action::ListQueueTags,
+            Request::ListQueues { .. } => Action::ListQueues,
+            Request::PurgeQueue { .. } => Action::PurgeQueue,
+            Request::ReceiveMessage { .. } => Action::ReceiveMessage,
+            Request::SendMessage { .. } => Action::SendMessage,
+            Request::SendMessageBatch { .. } => Action::SendMessageBatch,
+            Request::SetQueueAttributes { .. } => Action::SetQueueAttributes,
+            Request::TagQueue { .. } => Action::TagQueue,
+            Request::UntagQueue { .. } => Action::UntagQueue,
+        }
+    }
+}
+
+/// The entries of a batch by their ids, 1 to 10 of them; one that isn't good by itself has its refusal.
+pub type Batch<T> = Vec<(String, Result<T, SqsError>)>;
+
+/// A handle and a new timeout in seconds.
+#[derive(Clone, Debug, PartialEq, Eq)]
+pub struct Change {
+    pub handle: String,
+    pub visibility: u32,
+}
+
+/// A message to send. Its size isn't tested yet, since the limit is its queue's.
+#[derive(Clone, Debug, PartialEq, Eq)]
+pub struct Message {
+    pub body: Body,
+    pub group: GroupId,
+    pub dedup: Option<DedupId>,
+    pub attributes: MessageAttributes,
+    pub trace: Option<AttributeValue>,
+}
+
+impl Message {
+    /// What it counts against `MaximumMessageSize`, in bytes.
+    pub fn size(&self) -> usize {
+        self.body.as_str().len() + crate::messages::size_of_attributes(&self.attributes)
+    }
+}
+
+#[derive(Clone, Debug, PartialEq, Eq)]
+pub struct Receive {
+    /// 1 to 10.
+    pub size: u8,
+    /// Seconds; the queue's if it is missing.
+    pub visibility: Option<u32>,
+    /// Seconds; the queue's if it is missing.
+    pub wait: Option<u32>,
+    pub attempt: Option<AttemptId>,
+    pub shown: Shown,
+}
+
+/// Which system attributes of messages there are (API Reference, ReceiveMessage, `MessageSystemAttributeNames`).
+#[derive(Clone, Copy, Debug, PartialEq, Eq)]
+pub enum SystemAttribute {
+    ApproximateFirstReceiveTimestamp,
+    ApproximateReceiveCount,
+    TraceHeader,
+    MessageDeduplicationId,
+    MessageGroupId,
+    SenderId,
+    SentTimestamp,
+    SequenceNumber,
+}
+
+impl SystemAttribute {
+    pub const ALL: [SystemAttribute; 8] = [
+        SystemAttribute::TraceHeader,
+        SystemAttribute::ApproximateFirstReceiveTimestamp,
+        SystemAttribute::ApproximateReceiveCount,
+        SystemAttribute::MessageDeduplicationId,
+        SystemAttribute::MessageGroupId,
+        SystemAttribute::SenderId,
+        SystemAttribute::SentTimestamp,
+        SystemAttribute::SequenceNumber,
+    ];
+
+    pub fn name(self) -> &'static str {
+        match self {
+            SystemAttribute::ApproximateFirstReceiveTimestamp => "ApproximateFirstReceiveTimestamp",
+            SystemAttribute::ApproximateReceiveCount => "ApproximateReceiveCount",
+            SystemAttribute::TraceHeader => crate::messages::TRACE_HEADER,
+            SystemAttribute::MessageDeduplicationId => "MessageDeduplicationId",
+            SystemAttribute::MessageGroupId => "MessageGroupId",
+            SystemAttribute::SenderId => "SenderId",
+            SystemAttribute::SentTimestamp => "SentTimestamp",
+            SystemAttribute::SequenceNumber => "SequenceNumber",
+        }
+    }
+}
+
+/// Which attributes of messages a client wants to see.
+#[derive(Clone, Debug, Default, PartialEq, Eq)]
+pub struct Shown {
+    system: Vec<SystemAttribute>,
+    names: Vec<String>,
+}
+
+impl Shown {
+    fn read(members: Members<'_, '_>) -> Result<Shown, SqsError> {
+        let mut asked = members.texts("AttributeNames")?;
+        asked.extend(members.texts("MessageSystemAttributeNames")?);
+        let mut system = Vec::new();
+        for name in &asked {
+            let found = SystemAttribute::ALL.into_iter().find(|known| known.name() == name);
+            // Clients of old also ask for attributes of the queue here; SQS gives none and complains of none.
+            let is_passed_over =
+                name == "All" || name == "DeadLetterQueueSourceArn" || crate::attributes::is_known(name);
+            match found {
+                Some(known) if !system.contains(&known) => system.push(known),
+                None if !is_passed_over => return Err(SqsError::InvalidAttributeName(name.clone())),
+                _ => {}
+            }
+        }
+        if asked.iter().any(|name| name == "All") {
+            system = SystemAttribute::ALL.to_vec();
+        }
+        Ok(Shown { system, names: members.texts("MessageAttributeNames")? })
+    }
+
+    pub fn system(&self) -> &[SystemAttribute] {
+        &self.system
+    }
+
+    /// Whether a message attribute was asked for: by its name, by a prefix as `a.*`, or by `All` or `.*`.
+    pub fn has(&self, name: &str) -> bool {
+        self.names.iter().any(|wanted| {
+            let prefix = wanted.strip_suffix(".*");
+            wanted == "All"
+                || wanted == name
+                || prefix.is_some_and(|prefix| prefix.is_empty() || name.starts_with(&wanted[..=prefix.len()]))
+        })
+    }
+}
+
+/// Tags in order of their keys.
+pub type Tags = std::collections::BTreeMap<String, String>;
+
+/// The most tags that a queue can have.
+pub const MOST_TAGS: usize = 50;
+
+/// Refuses more tags than a queue can have (Developer Guide, "Amazon SQS cost allocation tags").
+pub fn test_count_of_tags(tags: &Tags) -> Result<(), SqsError> {
+    if tags.len() > MOST_TAGS {
+        let message = format!("A queue can have {MOST_TAGS} tags at most.");
+        return Err(SqsError::InvalidParameterValue(message));
+    }
+    Ok(())
+}
+
+fn tags(members: Members<'_, '_>, name: &str) -> Result<Tags, SqsError> {
+    let tags: Tags = members.texts_by_name(name)?.into_iter().collect();
+    test_count_of_tags(&tags)?;
+    let is_good = |key: &str, value: &str| (1..=128).contains(&key.chars().count()) && value.chars().count() <= 256;
+    if !tags.iter().all(|(key, value)| is_good(key, value)) {
+        let message = "The key of a tag has 1 to 128 characters, and its value at most 256.";
+        return Err(SqsError::InvalidParameterValue(message.into()));
+    }
+    Ok(tags)
+}
+
+/// The longest visibility timeout, in seconds.
+const LONGEST_TIMEOUT: i64 = 43_200;
+
+/// Tests the members of a request.
+pub fn read(action: Action, members: &Map<'_>) -> Result<Request, SqsError> {
+    let members = Members(members);
+    let queue = || QueueName::of_url(members.required_text("QueueUrl")?);
+    Ok(match action {
+        Action::ChangeMessageVisibility => {
+            Request::ChangeMessageVisibility { queue: queue()?, change: change(members)? }
+        }
+        Action::ChangeMessageVisibilityBatch => {
+            Request::ChangeMessageVisibilityBatch { queue: queue()?, batch: batch(members, change)? }
+        }
+        Action::CreateQueue => create(members)?,
+        Action::DeleteMessage => Request::DeleteMessage { queue: queue()?, handle: handle(members)? },
+        Action::DeleteMessageBatch => Request::DeleteMessageBatch { queue: queue()?, batch: batch(members, handle)? },
+        Action::DeleteQueue => Request::DeleteQueue { queue: queue()? },
+        Action::GetQueueAttributes => {
+            Request::GetQueueAttributes { queue: queue()?, wanted: Wanted::read(&members.texts("AttributeNames")?)? }
+        }
+        Action::GetQueueUrl => Request::GetQueueUrl { queue: QueueName::parse(members.required_text("QueueName")?) },
+        Action::ListQueueTags => Request::ListQueueTags { queue: queue()? },
+        Action::ListQueues => Request::ListQueues {
+            prefix: members.text("QueueNamePrefix")?.unwrap_or_default().into(),
+            most: members.number("MaxResults", 1, 1000)?,
+            after: members.text("NextToken")?.unwrap_or_default().into(),
+        },
+        Action::PurgeQueue => Request::PurgeQueue { queue: queue()? },
+        Action::ReceiveMessage => Request::ReceiveMessage { queue: queue()?, receive: receive(members)? },
+        Action::SendMessage => Request::SendMessage { queue: queue()?, message: message(members)? },
+        Action::SendMessageBatch => Request::SendMessageBatch { queue: queue()?, batch: batch(members, message)? },
+        Action::SetQueueAttributes => {
+            let queue = queue()?;
+            let attributes = Given::read(&members.texts_by_name("Attributes")?)?;
+            if attributes.is_empty() {
+                return Err(SqsError::MissingParameter("Attributes".into()));
+            }
+            Request::SetQueueAttributes { queue, attributes }
+        }
+        Action::TagQueue => {
+            let (queue, tags) = (queue()?, tags(members, "Tags")?);
+            if tags.is_empty() {
+                return Err(SqsError::MissingParameter("Tags".into()));
+            }
+            Request::TagQueue { queue, tags }
+        }
+        Action::UntagQueue => {
+            let queue = queue()?;
+            if !members.has("TagKeys") {
+                return Err(SqsError::MissingParameter("TagKeys".into()));
+            }
+            Request::UntagQueue { queue, keys: members.texts("TagKeys")? }
+        }
+    })
+}
+
+fn create(members: Members<'_, '_>) -> Result<Request, SqsError> {
+    let name = members.required_text("QueueName")?;
+    let given = members.texts_by_name("Attributes")?;
+    let is_fifo = given.iter().any(|(name, value)| name == "FifoQueue" && value.eq_ignore_ascii_case("true"));
+    if !is_fifo && !name.ends_with(".fifo") {
+        let message = "Standard queues are not supported: FifoQueue must be true.";
+        return Err(SqsError::InvalidParameterValue(message.into()));
+    }
+    let queue = QueueName::parse(name).ok_or_else(QueueName::refusal)?;
+    if !is_fifo {
+        return Err(SqsError::InvalidParameterValue(
+            "The name of a queue that isn't FIFO can't end with .fifo, and FifoQueue must be true here: \
+             standard queues are not supported."
+                .into(),
+        ));
+    }
+    let tags = tags(members, "tags")?;
+    Ok(Request::CreateQueue { queue, attributes: Given::read(&given)?, tags })
+}
+
+fn receive(members: Members<'_, '_>) -> Result<Receive, SqsError> {
+    let attempt = members.text("ReceiveRequestAttemptId")?;
+    Ok(Receive {
+        size: members.number("MaxNumberOfMessages", 1, 10)?.unwrap_or(1) as u8,
+        visibility: members.number("VisibilityTimeout", 0, LONGEST_TIMEOUT)?,
+        wait: members.number("WaitTimeSeconds", 0, 20)?,
+        attempt: attempt.map(AttemptId::parse).transpose()?,
+        shown: Shown::read(members)?,
+    })
+}
+
+fn message(members: Members<'_, '_>) -> Result<Message, SqsError> {
+    let body = Body::parse(members.required_text("MessageBody")?)?;
+    if members.number("DelaySeconds", 0, 900)?.unwrap_or(0) > 0 {
+        return Err(SqsError::InvalidParameterValue(
+            "Value for parameter DelaySeconds is invalid. Reason: The request include parameter that is not valid \
+             for this queue type."
+                .into(),
+        ));
+    }
+    let dedup = members.text("MessageDeduplicationId")?;
+    Ok(Message {
+        body,
+        group: GroupId::parse(members.required_text("MessageGroupId")?)?,
+        dedup: dedup.map(DedupId::parse).transpose()?,
+        attributes: members.message_attributes()?,
+        trace: members.trace_header()?,
+    })
+}
+
+fn handle(members: Members<'_, '_>) -> Result<String, SqsError> {
+    members.required_text("ReceiptHandle").map(String::from)
+}
+
+fn change(members: Members<'_, '_>) -> Result<Change, SqsError> {
+    let visibility = members.required_number("VisibilityTimeout", 0, LONGEST_TIMEOUT)?;
+    Ok(Change { handle: handle(members)?, visibility })
+}
+
+/// The entries, if the batch as a whole is good.
+fn batch<T>(members: Members<'_, '_>, read: fn(Members<'_, '_>) -> Result<T, SqsError>) -> Result<Batch<T>, SqsError> {
+    let entries = members.entries()?;
+    match entries.len() {
+        0 => return Err(SqsError::EmptyBatchRequest),
+        1..=10 => {}
+        count => return Err(SqsError::TooManyEntriesInBatchRequest(count)),
+    }
+    let mut batch: Batch<T> = Vec::with_capacity(entries.len());
+    for entry in entries {
+        let id = entry.required_text("Id")?;
+        let is_good_byte = |byte: u8| byte.is_ascii_alphanumeric() || byte == b'-' || byte == b'_';
+        if id.len() > 80 || !id.bytes().all(is_good_byte) {
+            return Err(SqsError::InvalidBatchEntryId);
+        }
+        if batch.iter().any(|(other, _)| other == id) {
+            return Err(SqsError::BatchEntryIdsNotDistinct(id.into()));
+        }
+        batch.push((id.into(), read(entry)));
+    }
+    Ok(batch)
+}

@@ -1,0 +1,101 @@
+//! What clients are answered: one type for the results of all actions.
+
+use serde::ser::{SerializeMap, Serializer};
+use serde::Serialize;
+
+use crate::errors::SqsError;
+use crate::messages::MessageAttributes;
+
+/// The result of an action that was done.
+#[derive(Clone, Debug, PartialEq)]
+pub enum Response {
+    Nothing,
+    QueueUrl(String),
+    Queues { urls: Vec<String>, next: Option<String> },
+    Attributes(Pairs),
+    Tags(Pairs),
+    Sent(Sent),
+    Messages(Vec<ReceivedMessage>),
+    Batch { successful: Vec<Done>, failed: Vec<Failed> },
+}
+
+/// Names and values in order.
+pub type Pairs = Vec<(String, String)>;
+
+/// The result of a send.
+#[derive(Clone, Debug, PartialEq, Eq, Serialize)]
+#[serde(rename_all = "PascalCase")]
+pub struct Sent {
+    pub message_id: String,
+    #[serde(rename = "MD5OfMessageBody")]
+    pub md5_of_body: String,
+    #[serde(rename = "MD5OfMessageAttributes", skip_serializing_if = "Option::is_none")]
+    pub md5_of_attributes: Option<String>,
+    #[serde(rename = "MD5OfMessageSystemAttributes", skip_serializing_if = "Option::is_none")]
+    pub md5_of_system_attributes: Option<String>,
+    pub sequence_number: String,
+}
+
+/// A message as a receive shows it.
+#[derive(Clone, Debug, PartialEq, Eq, Serialize)]
+#[serde(rename_all = "PascalCase")]
+pub struct ReceivedMessage {
+    pub message_id: String,
+    pub receipt_handle: String,
+    #[serde(rename = "MD5OfBody")]
+    pub md5_of_body: String,
+    pub body: String,
+    #[serde(skip_serializing_if = "Vec::is_empty", serialize_with = "as_map")]
+    pub attributes: Vec<(&'static str, String)>,
+    #[serde(rename = "MD5OfMessageAttributes", skip_serializing_if = "Option::is_none")]
+    pub md5_of_attributes: Option<String>,
+    #[serde(skip_serializing_if = "MessageAttributes::is_empty")]
+    pub message_attributes: MessageAttributes,
+}
+
+/// An entry of a batch that was done. What its action tells of it stands beside its id.
+#[derive(Clone, Debug, PartialEq, Eq, Serialize)]
+#[serde(rename_all = "PascalCase")]
+pub struct Done {
+    pub id: String,
+    #[serde(flatten)]
+    pub sent: Option<Sent>,
+}
+
+/// An entry of a batch that was refused.
+#[derive(Clone, Debug, PartialEq, Eq, Serialize)]
+#[serde(rename_all = "PascalCase")]
+pub struct Failed {
+    pub id: String,
+    pub sender_fault: bool,
+    pub code: &'static str,
+    pub message: String,
+}
+
+impl Failed {
+    pub fn new(id: String, error: &SqsError) -> Failed {
+        let (code, message) = (error.coded().code, error.to_string());
+        Failed { id, sender_fault: error.is_sender_fault(), code, message }
+    }
+}
+
+impl Response {
+    /// Whether a receive handed out nothing.
+    pub fn is_empty_receive(&self) -> bool {
+        matches!(self, Response::Messages(messages) if messages.is_empty())
+    }
+}
+
+/// Pairs as a JSON object.
+pub fn as_map<K, V, S>(pairs: &[(K, V)], serializer: S) -> Result<S::Ok, S::Error>
+where
+    K: Serialize,
+    V: Serialize,
+    S: Serializer,
+{
+    let mut map = serializer.serialize_map(Some(pairs.len()))?;
+    for (name, value) in pairs {
+        map.serialize_entry(name, value)?;
+    }
+    map.end()
+}
