@@ -10,7 +10,7 @@ from typing import Any
 
 import pytest
 
-from started import START, ByBoto3, ByJson, ByQuery, Refused, Started, boto3_client, program
+from started import COMPILED, START, ByBoto3, ByJson, ByQuery, Refused, Started, boto3_client, program
 
 try:
     import moto
@@ -18,8 +18,12 @@ try:
 except ImportError:
     moto = None
 
-ONE = ["--servers", "1"]
+ONE: list[str] = []
 CHAIN = ["--servers", "3", "--lose", "0.2"]
+SETTINGS = [ONE] if COMPILED else [ONE, CHAIN]
+"""The compiled gateway has no chain."""
+
+NAMES = ["one", "chain"][: len(SETTINGS)]
 _names = itertools.count(1)
 
 
@@ -46,7 +50,7 @@ def chain(tmp_path_factory):
     yield from _started(CHAIN, tmp_path_factory.mktemp("chain"))
 
 
-@pytest.fixture(params=["one", "chain"])
+@pytest.fixture(params=NAMES)
 def gateway(request):
     return request.getfixturevalue(request.param)
 
@@ -100,7 +104,7 @@ class Rules:
         assert re.fullmatch(rf"(AWS\.SimpleQueueService\.)?{code}", refusal.value.code)
 
 
-@pytest.fixture(params=["one", "chain", "moto"])
+@pytest.fixture(params=[*NAMES, "moto"])
 def rules(request, monkeypatch):
     if request.param != "moto":
         gateway = request.getfixturevalue(request.param)

@@ -27,8 +27,18 @@ def program() -> str:
     return os.environ.get("HOBBYCHAIR_CQ") or str(TOP / "crates" / "cq_main" / "out" / "cq_main")
 
 
+COMPILED = os.environ.get("HOBBYCHAIR_GATEWAY")
+"""The compiled gateway, where it is what the tests are about. Otherwise they are about the one in Python."""
+
+NAME = "hobbychair" if COMPILED else "hobbychair-sqs"
+
+
 def command(*words: str) -> list[str]:
-    return [sys.executable, "-m", "hobbychair", *words]
+    if not COMPILED:
+        return [sys.executable, "-m", "hobbychair", *words]
+    if words and words[0].startswith("--") and words[0] not in ("--help", "--version"):
+        words = ("serve", *words)
+    return [COMPILED, *words]
 
 
 def environment() -> dict[str, str]:
@@ -126,9 +136,13 @@ def post(url: str, body: bytes, headers: dict[str, str]) -> tuple[int, dict[str,
     request = urllib.request.Request(url, data=body, headers=headers, method="POST")
     try:
         with urllib.request.urlopen(request, timeout=60) as response:
-            return response.status, dict(response.headers), response.read()
+            return response.status, _lower(response.headers), response.read()
     except urllib.error.HTTPError as error:
-        return error.code, dict(error.headers), error.read()
+        return error.code, _lower(error.headers), error.read()
+
+
+def _lower(headers) -> dict[str, str]:
+    return {name.lower(): value for name, value in headers.items()}
 
 
 class ByJson:
@@ -141,7 +155,7 @@ class ByJson:
         headers = {"X-Amz-Target": f"AmazonSQS.{action}", "Content-Type": "application/x-amz-json-1.0",
                    "x-amzn-query-mode": "true"}
         status, got, body = post(self.url + "/", json.dumps(members, default=_base64).encode(), headers)
-        assert got["Content-Type"] == "application/x-amz-json-1.0" and got["x-amzn-RequestId"]
+        assert got["content-type"] == "application/x-amz-json-1.0" and got["x-amzn-requestid"]
         result = json.loads(body)
         if status != 200:
             code, fault = got["x-amzn-query-error"].split(";")
@@ -184,7 +198,7 @@ class ByQuery:
             fields["QueueUrl"] = queue
         body = urllib.parse.urlencode(fields).encode()
         status, got, answer = post(url, body, {"Content-Type": "application/x-www-form-urlencoded"})
-        assert got["Content-Type"].startswith("text/xml")
+        assert got["content-type"].startswith("text/xml")
         root = xml.etree.ElementTree.fromstring(re.sub(rb' xmlns="[^"]*"', b"", answer))
         if status != 200:
             assert root.tag == "ErrorResponse" and root.findtext("RequestId")

@@ -8,9 +8,12 @@ import subprocess
 import pytest
 
 from conftest import new_name
-from started import ByBoto3, Started, command, environment, program
+from started import COMPILED, NAME, ByBoto3, Started, command, environment, program
 
-from hobbychair.journal import HEADER, MARK
+HEADER = b"hobbychair journal 1\n"
+MARK = b"\xffHC\xfe"
+
+of_the_python_gateway = pytest.mark.skipif(COMPILED is not None, reason="it is about the Python gateway's file")
 
 
 @pytest.fixture
@@ -79,6 +82,7 @@ def test_all_that_is_kept_comes_again(tmp_path):
     assert gateway.stop() == 0
 
 
+@of_the_python_gateway
 @pytest.mark.parametrize("cut", [1, 5, 12, 40])
 def test_a_cut_last_record_is_cut_off(journal, tmp_path, cut):
     journal.write_bytes(journal.read_bytes()[:-cut])
@@ -86,6 +90,7 @@ def test_a_cut_last_record_is_cut_off(journal, tmp_path, cut):
     assert bodies(journal, tmp_path) == ["m0", "m1"]
 
 
+@of_the_python_gateway
 def test_a_last_record_with_a_wrong_byte_is_cut_off(journal, tmp_path):
     data = bytearray(journal.read_bytes())
     data[-3] ^= 1
@@ -93,6 +98,7 @@ def test_a_last_record_with_a_wrong_byte_is_cut_off(journal, tmp_path):
     assert bodies(journal, tmp_path) == ["m0", "m1"]
 
 
+@of_the_python_gateway
 @pytest.mark.parametrize("part", ["mark", "length", "checksum", "text"])
 def test_other_damage_stops_the_start_with_its_place(journal, part):
     data = bytearray(journal.read_bytes())
@@ -114,6 +120,7 @@ def test_a_file_that_is_no_journal_is_left_alone(tmp_path):
     assert path.read_text() == "Dear Sir or Madam"
 
 
+@of_the_python_gateway
 def test_a_journal_that_was_cut_at_its_birth_begins_anew(tmp_path):
     path = tmp_path / "journal"
     path.write_bytes(HEADER[:5])
@@ -122,6 +129,7 @@ def test_a_journal_that_was_cut_at_its_birth_begins_anew(tmp_path):
     assert path.read_bytes() == HEADER
 
 
+@of_the_python_gateway
 def test_a_reply_that_differs_stops_the_start(journal):
     import zlib
     data = journal.read_bytes()
@@ -140,7 +148,7 @@ def test_a_second_gateway_is_kept_out(journal):
     gateway = Started("--journal", str(journal))
     ended = start(journal)
     assert ended.returncode == 1
-    assert ended.stderr == f"hobbychair-sqs: {journal} is in use by another process\n"
+    assert ended.stderr == f"{NAME}: {journal} is in use by another process\n"
     assert gateway.stop() == 0
 
 

@@ -8,14 +8,16 @@ import signal
 import subprocess
 import threading
 import time
+from pathlib import Path
 
 import pytest
 
-from conftest import CHAIN, ONE
-from started import ByBoto3, Refused, Started, command, environment, program
+from conftest import NAMES, SETTINGS
+from started import COMPILED, ByBoto3, Refused, Started, command, environment, program
 
 KILLS = int(os.environ.get("HOBBYCHAIR_TEST_KILLS", "50"))
 CLIENTS = 6
+ROUNDS = 120 if COMPILED else 40
 TIMEOUT = 30
 
 
@@ -125,7 +127,7 @@ class Load:
         self.maybe_deleted = set()
 
 
-@pytest.mark.parametrize("words", [ONE, CHAIN], ids=["one", "chain"])
+@pytest.mark.parametrize("words", SETTINGS, ids=NAMES)
 def test_what_was_acknowledged_outlives_kills(words, tmp_path):
     journal = tmp_path / "journal"
     load = Load(7)
@@ -151,7 +153,7 @@ def test_what_was_acknowledged_outlives_kills(words, tmp_path):
     assert len(load.numbers) > 5 * KILLS
 
 
-@pytest.mark.parametrize("words", [ONE, CHAIN], ids=["one", "chain"])
+@pytest.mark.parametrize("words", SETTINGS, ids=NAMES)
 def test_no_client_sees_that_cq_was_killed(words, tmp_path):
     gateway = Started(*words, "--journal", str(tmp_path / "journal"))
     calls = [ByBoto3(gateway.client()) for _ in range(CLIENTS)]
@@ -162,7 +164,7 @@ def test_no_client_sees_that_cq_was_killed(words, tmp_path):
     def work(client: int) -> None:
         call = calls[client]
         try:
-            for place in range(40):
+            for place in range(ROUNDS):
                 call("SendMessage", QueueUrl="q.fifo", MessageBody=str(place), MessageGroupId=f"g{client}",
                      MessageDeduplicationId=f"{client}-{place}")
                 for message in call("ReceiveMessage", QueueUrl="q.fifo", AttributeNames=["All"]).get("Messages", []):
@@ -178,19 +180,19 @@ def test_no_client_sees_that_cq_was_killed(words, tmp_path):
     kills = 0
     observer = ByBoto3(gateway.client())
     while any(thread.is_alive() for thread in threads):
-        time.sleep(0.1)
+        time.sleep(0.05)
         # An answer of the store says that the program runs again.
         observer("GetQueueAttributes", QueueUrl="q.fifo", AttributeNames=["All"])
-        pid = gateway.process.pid
-        with open(f"/proc/{pid}/task/{pid}/children") as file:
-            for child in file.read().split():
-                os.kill(int(child), signal.SIGKILL)
-                kills += 1
+        # Each thread has a list of the children that it started.
+        lists = list(Path(f"/proc/{gateway.process.pid}/task").glob("*/children"))
+        for child in " ".join(children.read_text() for children in lists).split():
+            os.kill(int(child), signal.SIGKILL)
+            kills += 1
     for thread in threads:
         thread.join()
     assert failures == [] and kills > 2
     while messages := calls[0]("ReceiveMessage", QueueUrl="q.fifo", AttributeNames=["All"]).get("Messages", []):
         received[messages[0]["Attributes"]["MessageGroupId"]].append(int(messages[0]["Body"]))
         calls[0]("DeleteMessage", QueueUrl="q.fifo", ReceiptHandle=messages[0]["ReceiptHandle"])
-    assert all(places == list(range(40)) for places in received.values())
+    assert all(places == list(range(ROUNDS)) for places in received.values())
     assert gateway.stop() == 0

@@ -8,7 +8,7 @@ import time
 
 import pytest
 
-from conftest import CHAIN, ONE, new_queue
+from conftest import NAMES, SETTINGS, new_queue
 from started import ByBoto3, Started
 
 MESSAGES = int(os.environ.get("HOBBYCHAIR_TEST_MESSAGES", "10000"))
@@ -16,7 +16,7 @@ GROUPS = 100
 CLIENTS = 8
 
 
-@pytest.mark.parametrize("words", [ONE, CHAIN], ids=["one", "chain"])
+@pytest.mark.parametrize("words", SETTINGS, ids=NAMES)
 def test_each_groups_messages_come_once_each_and_in_order(words):
     gateway = Started(*words)
     calls = [ByBoto3(gateway.client()) for _ in range(CLIENTS)]
