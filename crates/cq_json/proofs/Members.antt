@@ -7,7 +7,7 @@ use Rattle.serde_json.specs.View.{members_view}
 use Rattle.serde_json.specs.declared.value.Value.{Value}
 use Rattle.cq_json.specs.Fields.{members_among}
 
-among-map : (name : List ℕ) (ks : List (Bor (List ℕ))) → list_any (λ key. bytes_eq key name) (map (λ key. key.now) ks) ≡ list_any (λ key. bytes_eq key.now name) ks
+pub among-map : (name : List ℕ) (ks : List (Bor (List ℕ))) → list_any (λ key. bytes_eq key name) (map (λ key. key.now) ks) ≡ list_any (λ key. bytes_eq key.now name) ks
 among-map name [] = refl
 among-map name (k ∷ ks) = rw (among-map name ks)
 

@@ -2,3 +2,5 @@ pub mod Fields
 pub mod Receipts
 pub mod Asks
 pub mod Readers
+pub mod Flat
+pub mod FlatReading

@@ -13,11 +13,11 @@ use std::alloc::Global;
 
 /// The visibility timeout of a new queue for which none is said, in seconds (SQS API Reference,
 /// "CreateQueue", `VisibilityTimeout`).
-const DEFAULT_SECONDS: u32 = 30;
+pub(crate) const DEFAULT_SECONDS: u32 = 30;
 
 /// How many messages a receive asks for that does not say it (SQS API Reference, "ReceiveMessage",
 /// `MaxNumberOfMessages`).
-const DEFAULT_BATCH: u8 = 1;
+pub(crate) const DEFAULT_BATCH: u8 = 1;
 
 #[tactic(auto, unfolding(crate::specs::Asks::create_in))]
 fn read_create(alloc: Global, value: &Value) -> Result<Ask, Stop>

@@ -17,6 +17,7 @@ use serde_json::{Map, Value};
 use std::alloc::Global;
 
 /// Why reading a line stopped before an event was made.
+#[derive(Drop)]
 pub enum Stop {
     /// The line is none of the script's.
     Bad,
@@ -57,7 +58,7 @@ pub fn parse(alloc: Global, bytes: &[u8]) -> Result<Value, Stop>
     }
 }
 
-fn is_among(keys: &[&str], name: &str) -> bool
+pub(crate) fn is_among(keys: &[&str], name: &str) -> bool
     ensures { result ≡ list_any (λ key. bytes_eq key.now name.now) keys.now }
 {
     keys.iter().any(|key| *key == name)
@@ -137,7 +138,7 @@ fn server(value: &Value) -> Result<ServerId, Stop>
     Ok(ServerId::new(whole(value, 1, u64::from(PARTY_LIMIT))? as u32).unwrap())
 }
 
-fn party_named(name: &str) -> Result<Party, Stop>
+pub(crate) fn party_named(name: &str) -> Result<Party, Stop>
     ensures { Gives same result (spec.party_named name.now) }
 {
     if name == "master" {

@@ -4,10 +4,16 @@
 
 mod ask;
 mod fields;
+mod flat;
+mod flat_ask;
+mod flat_reading;
 mod texts;
 
 pub use ask::read_ask;
 pub use fields::{
     Stop, has_only, member_at, moment_at, parse, party_at, server_at, text_at, u32_at, u64_at,
 };
+pub use flat::Flat;
+pub use flat_ask::read_flat_ask;
+pub use flat_reading::FlatObject;
 pub use texts::queue_name;

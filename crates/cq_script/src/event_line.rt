@@ -1,15 +1,18 @@
 //! A line of a script, and the event that it says.
-ghost use Rattle.std.specs.Prelude.{◌≡◌, Ok, Err, true};
+ghost use Rattle.std.specs.Prelude.{◌≡◌, IfSome, Ok, Err, true};
 ghost use Rattle.std.specs.List.{list_all};
 ghost use Rattle.cq_script.specs.Line.{is_blank_byte, event_from, line_of, Reads};
 ghost use Rattle.cq_json.specs.Readers.{Gives, same};
 ghost use Rattle.cq_script.specs.declared.event_line.Line.TheVariants as lines;
 
 use crate::event::read_event;
+use crate::flat_event::read_flat_event;
 use cq_base::BaseFault;
-use cq_json::{Stop, parse};
+use cq_json::{FlatObject, Stop, parse};
 use cq_world::Event;
+use json::Scratch;
 use std::alloc::Global;
+use std::str;
 use thiserror::Error;
 
 /// What a line of a script is.
@@ -43,6 +46,18 @@ pub fn is_blank(bytes: &[u8]) -> bool
         .all(|byte| *byte == b' ' || *byte == b'\t' || *byte == b'\r')
 }
 
+/// The event that the bytes say, if their object is a flat one: read without a map, and with no memory
+/// but a scratch and that of the event. None also for bytes that say no event, or one with a text that
+/// breaks its rule, and where there is no memory. O(bytes).
+fn event_at_once(alloc: Global, bytes: &[u8]) -> Option<Event>
+    ensures { IfSome result (λ event. event_from bytes.now ≡ Ok event) }
+{
+    let text = str::from_utf8(bytes).ok()?;
+    let mut scratch = Scratch::new(alloc);
+    let object = FlatObject::read(text, &mut scratch)?;
+    read_flat_event(alloc, object.fields())
+}
+
 fn read_object(alloc: Global, bytes: &[u8]) -> Result<Event, Stop>
     ensures { Gives same result (event_from bytes.now) }
 {
@@ -60,6 +75,9 @@ pub fn event_of(alloc: Global, bytes: &[u8]) -> Result<Line, LineFault>
 {
     if is_blank(bytes) {
         return Ok(Line::Blank);
+    }
+    if let Some(event) = event_at_once(alloc, bytes) {
+        return Ok(Line::Event(event));
     }
     match read_object(alloc, bytes) {
         Ok(event) => Ok(Line::Event(event)),

@@ -7,6 +7,7 @@ mod checked;
 mod event;
 mod event_line;
 mod fault;
+mod flat_event;
 pub mod laws;
 mod lines;
 mod outcome;

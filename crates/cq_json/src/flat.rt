@@ -1,0 +1,266 @@
+//! A flat object: at most eight members, whose values are texts, whole numbers and truth values, and
+//! one inner object of the same kind at most. It takes no memory.
+ghost use Rattle.std.specs.Prelude.{◌≡◌, ◌≤◌, None, map, option_map, IfSome, true};
+ghost use Rattle.std.specs.List.{list_any, list_all};
+ghost use Rattle.std.specs.Str.{bytes_eq};
+ghost use Rattle.std.specs.Option.{option_copied};
+ghost use Rattle.serde_json.specs.Find.{get};
+ghost use Rattle.cq_base.specs.declared.limits.TheConstants.{MOMENT_LIMIT, SECONDS_LIMIT, BATCH_LIMIT, PARTY_LIMIT, NUMBER_LIMIT};
+ghost use Rattle.cq_json.specs.Fields as spec;
+ghost use Rattle.cq_json.specs.Flat.{scalar_data, inner_members, flat_data, inner_data, is_inner, last_named, Finds};
+ghost use Rattle.cq_json.specs.Readers.{same};
+
+use crate::fields::{is_among, party_named};
+use arrayvec::ArrayVec;
+use cq_base::{
+    BATCH_LIMIT, BatchSize, MOMENT_LIMIT, Moment, NUMBER_LIMIT, PARTY_LIMIT, Party, SECONDS_LIMIT,
+    Seconds, ServerId,
+};
+
+/// The most members of an object that is read as a flat one.
+const MOST: usize = 8;
+
+/// The value of a member.
+#[derive(Clone, Copy)]
+pub enum Scalar<'a> {
+    /// A text.
+    Text(&'a str),
+    /// A whole number, written in digits alone.
+    Number(u64),
+    /// A truth value.
+    Truth(bool),
+    /// The inner object, whose members are kept apart.
+    Inner,
+}
+
+impl<'a> Scalar<'a> {
+    /// Whether it is the inner object.
+    pub(crate) fn is_inner(self) -> bool
+        ensures { result ≡ is_inner self.entry }
+    {
+        match self {
+            Scalar::Inner => true,
+            Scalar::Text(_) | Scalar::Number(_) | Scalar::Truth(_) => false,
+        }
+    }
+}
+
+/// A member of an object.
+#[derive(Clone, Copy)]
+pub struct Member<'a> {
+    pub(crate) name: &'a str,
+    pub(crate) value: Scalar<'a>,
+}
+
+impl<'a> Default for Member<'a> {
+    fn default() -> Member<'a> {
+        Member {
+            name: "",
+            value: Scalar::Inner,
+        }
+    }
+}
+
+/// The members of an object, in the order of its text.
+pub type Members<'a> = ArrayVec<Member<'a>, MOST>;
+
+/// The members of an object and those of the object in it, to be looked at.
+#[derive(Clone, Copy)]
+pub struct Flat<'o, 'a> {
+    pub(crate) members: &'o [Member<'a>],
+    pub(crate) inner: &'o [Member<'a>],
+}
+
+/// The value of the last member of that name: O(members).
+fn last_named<'a>(members: &[Member<'a>], key: &str) -> Option<Scalar<'a>>
+    ensures { result ≡ last_named key.now None members.now }
+{
+    let mut found = None;
+    for member in members {
+        if member.name == key {
+            found = Some(member.value);
+        }
+    }
+    found
+}
+
+/// Whether each member has one of these names: O(members x keys).
+fn are_among(members: &[Member<'_>], keys: &[&str]) -> bool
+    ensures { result ≡ list_all
+        (λ m. list_any (λ key. bytes_eq key.now m.name.now) keys.now) members.now }
+{
+    members.iter().all(|member| is_among(keys, member.name))
+}
+
+impl<'o, 'a> Flat<'o, 'a> {
+    /// Whether no key in the object is another than these.
+    #[tactic(auto, using(crate::proofs::FlatMembers::among_flat))]
+    pub fn has_only(self, keys: &[&str]) -> bool
+        ensures { result ≡ spec.has_only (map (λ key. key.now) keys.now) (flat_data self.entry) }
+    {
+        are_among(self.members, keys)
+    }
+
+    /// The inner object.
+    pub fn inner(self) -> Flat<'o, 'a>
+        ensures { flat_data result ≡ inner_data self.entry }
+    {
+        Flat {
+            members: self.inner,
+            inner: &[],
+        }
+    }
+
+    /// The value under the key.
+    #[tactic(auto, using(crate::proofs::FlatMembers::found_flat))]
+    fn get(self, key: &str) -> Option<Scalar<'a>>
+        ensures { option_map (scalar_data (inner_members self.entry.inner.now)) result ≡ get key.now (flat_data self.entry) }
+    {
+        last_named(self.members, key)
+    }
+
+    /// The inner object, if it is under the key.
+    pub fn object_at(self, key: &str) -> Option<Flat<'o, 'a>>
+        ensures { Finds flat_data result (spec.member_at key.now (flat_data self.entry)) }
+    {
+        match self.get(key)? {
+            Scalar::Inner => Some(self.inner()),
+            Scalar::Text(_) | Scalar::Number(_) | Scalar::Truth(_) => None,
+        }
+    }
+
+    /// The text under the key.
+    pub fn text_at(self, key: &str) -> Option<&'a str>
+        ensures { Finds (λ t. t.now) result (spec.text_at key.now (flat_data self.entry)) }
+    {
+        match self.get(key)? {
+            Scalar::Text(text) => Some(text),
+            Scalar::Number(_) | Scalar::Truth(_) | Scalar::Inner => None,
+        }
+    }
+
+    /// The text under the key, which may be missing.
+    pub fn text_if_at(self, key: &str) -> Option<Option<&'a str>>
+        ensures { Finds option_copied result (spec.text_if_at key.now (flat_data self.entry)) }
+    {
+        match self.get(key) {
+            Some(Scalar::Text(text)) => Some(Some(text)),
+            Some(Scalar::Number(_) | Scalar::Truth(_) | Scalar::Inner) => None,
+            None => Some(None),
+        }
+    }
+
+    /// The truth value under the key, which may be missing.
+    pub fn truth_if_at(self, key: &str) -> Option<Option<bool>>
+        ensures { Finds same result (spec.truth_if_at key.now (flat_data self.entry)) }
+    {
+        match self.get(key) {
+            Some(Scalar::Truth(truth)) => Some(Some(truth)),
+            Some(Scalar::Number(_) | Scalar::Text(_) | Scalar::Inner) => None,
+            None => Some(None),
+        }
+    }
+
+    /// The number under the key, if it is from `low` to `high`.
+    fn number_at(self, low: u64, high: u64, key: &str) -> Option<u64>
+        ensures value { Finds same result (spec.number_at low high key.now (flat_data self.entry)) }
+        ensures least { IfSome result (λ number. low ≤ number) }
+        ensures most { IfSome result (λ number. number ≤ high) }
+    {
+        match self.get(key)? {
+            Scalar::Number(number) => {
+                if low <= number && number <= high {
+                    Some(number)
+                } else {
+                    None
+                }
+            }
+            Scalar::Text(_) | Scalar::Truth(_) | Scalar::Inner => None,
+        }
+    }
+
+    /// The server under the key.
+    pub fn server_at(self, key: &str) -> Option<ServerId>
+        ensures { Finds same result (spec.number_at 1 PARTY_LIMIT key.now (flat_data self.entry)) }
+    {
+        Some(ServerId::new(self.number_at(1, u64::from(PARTY_LIMIT), key)? as u32).unwrap())
+    }
+
+    /// The number under the key.
+    pub fn u32_at(self, key: &str) -> Option<u32>
+        ensures { Finds same result (spec.number_at 0 PARTY_LIMIT key.now (flat_data self.entry)) }
+    {
+        Some(self.number_at(0, u64::from(PARTY_LIMIT), key)? as u32)
+    }
+
+    /// The number under the key.
+    pub fn u64_at(self, key: &str) -> Option<u64>
+        ensures { Finds same result (spec.number_at 0 NUMBER_LIMIT key.now (flat_data self.entry)) }
+    {
+        self.number_at(0, NUMBER_LIMIT, key)
+    }
+
+    /// The moment under the key.
+    pub fn moment_at(self, key: &str) -> Option<Moment>
+        ensures { Finds same result (spec.number_at 0 MOMENT_LIMIT key.now (flat_data self.entry)) }
+    {
+        Some(Moment::new(self.number_at(0, MOMENT_LIMIT, key)?).unwrap())
+    }
+
+    /// The visibility timeout under the key.
+    pub fn seconds_at(self, key: &str) -> Option<Seconds>
+        ensures { Finds same result (spec.number_at 0 SECONDS_LIMIT key.now (flat_data self.entry)) }
+    {
+        Some(Seconds::new(self.number_at(0, u64::from(SECONDS_LIMIT), key)? as u32).unwrap())
+    }
+
+    /// The number under the key, which may be missing, if it is from `low` to `high`.
+    fn number_if_at(self, low: u64, high: u64, key: &str) -> Option<Option<u64>>
+        ensures value { Finds same result (spec.number_if_at low high key.now (flat_data self.entry)) }
+        ensures least { IfSome result (λ found. IfSome found (λ number. low ≤ number)) }
+        ensures most { IfSome result (λ found. IfSome found (λ number. number ≤ high)) }
+    {
+        match self.get(key) {
+            Some(Scalar::Number(number)) => {
+                if low <= number && number <= high {
+                    Some(Some(number))
+                } else {
+                    None
+                }
+            }
+            Some(Scalar::Text(_) | Scalar::Truth(_) | Scalar::Inner) => None,
+            None => Some(None),
+        }
+    }
+
+    /// The visibility timeout under the key, which may be missing.
+    pub fn seconds_if_at(self, key: &str) -> Option<Option<Seconds>>
+        ensures { Finds same result (spec.number_if_at 0 SECONDS_LIMIT key.now (flat_data self.entry)) }
+    {
+        match self.number_if_at(0, u64::from(SECONDS_LIMIT), key)? {
+            Some(seconds) => Some(Some(Seconds::new(seconds as u32).unwrap())),
+            None => Some(None),
+        }
+    }
+
+    /// The number of messages under the key, which may be missing.
+    pub fn batch_size_if_at(self, key: &str) -> Option<Option<BatchSize>>
+        ensures { Finds same result (spec.number_if_at 1 BATCH_LIMIT key.now (flat_data self.entry)) }
+    {
+        match self.number_if_at(1, u64::from(BATCH_LIMIT), key)? {
+            Some(size) => Some(Some(BatchSize::new(size as u8).unwrap())),
+            None => Some(None),
+        }
+    }
+
+    /// The party under the key.
+    pub fn party_at(self, key: &str) -> Option<Party>
+        ensures { Finds same result (spec.party_at key.now (flat_data self.entry)) }
+    {
+        match self.get(key)? {
+            Scalar::Text(name) => party_named(name).ok(),
+            Scalar::Number(_) => Some(Party::Server(self.server_at(key)?)),
+            Scalar::Truth(_) | Scalar::Inner => None,
+        }
+    }
+}

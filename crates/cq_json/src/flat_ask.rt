@@ -1,0 +1,132 @@
+//! The asks of flat objects. None for an object that says no ask, or one with a text that breaks its
+//! rule.
+ghost use Rattle.cq_json.specs.Asks as spec;
+ghost use Rattle.cq_json.specs.Flat.{Finds, flat_data};
+ghost use Rattle.cq_json.specs.Readers.{same};
+
+use crate::ask::{DEFAULT_BATCH, DEFAULT_SECONDS};
+use crate::flat::Flat;
+use crate::texts::{dedup_id_if, group_id, message_body, queue_name, receipt};
+use cq_base::{Ask, BatchSize, Seconds};
+use std::alloc::Global;
+
+#[tactic(auto, unfolding(crate::specs::Asks::create_in))]
+fn read_create(alloc: Global, object: Flat<'_, '_>) -> Option<Ask>
+    ensures { Finds same result (spec.create_in (flat_data object.entry)) }
+{
+    if !object.has_only(&["kind", "queue", "visibility", "content_dedup"]) {
+        return None;
+    }
+    let queue = object.text_at("queue")?;
+    let visibility = object.seconds_if_at("visibility")?;
+    let content = object.truth_if_at("content_dedup")?;
+    Some(Ask::Create {
+        queue: queue_name(alloc, queue).ok()?,
+        visibility: visibility.unwrap_or(Seconds::new(DEFAULT_SECONDS).unwrap()),
+        content: content.unwrap_or(false),
+    })
+}
+
+#[tactic(auto, unfolding(crate::specs::Asks::remove_in))]
+fn read_remove(alloc: Global, object: Flat<'_, '_>) -> Option<Ask>
+    ensures { Finds same result (spec.remove_in (flat_data object.entry)) }
+{
+    if !object.has_only(&["kind", "queue"]) {
+        return None;
+    }
+    let queue = object.text_at("queue")?;
+    Some(Ask::Remove {
+        queue: queue_name(alloc, queue).ok()?,
+    })
+}
+
+#[tactic(auto, unfolding(crate::specs::Asks::send_in))]
+fn read_send(alloc: Global, object: Flat<'_, '_>) -> Option<Ask>
+    ensures { Finds same result (spec.send_in (flat_data object.entry)) }
+{
+    if !object.has_only(&["kind", "queue", "group", "dedup", "body"]) {
+        return None;
+    }
+    let queue = object.text_at("queue")?;
+    let group = object.text_at("group")?;
+    let dedup = object.text_if_at("dedup")?;
+    let body = object.text_at("body")?;
+    Some(Ask::Send {
+        queue: queue_name(alloc, queue).ok()?,
+        group: group_id(alloc, group).ok()?,
+        dedup: dedup_id_if(alloc, dedup).ok()?,
+        body: message_body(alloc, body).ok()?,
+    })
+}
+
+#[tactic(auto, unfolding(crate::specs::Asks::receive_in))]
+fn read_receive(alloc: Global, object: Flat<'_, '_>) -> Option<Ask>
+    ensures { Finds same result (spec.receive_in (flat_data object.entry)) }
+{
+    if !object.has_only(&["kind", "queue", "size", "visibility"]) {
+        return None;
+    }
+    let queue = object.text_at("queue")?;
+    let size = object.batch_size_if_at("size")?;
+    let visibility = object.seconds_if_at("visibility")?;
+    Some(Ask::Receive {
+        queue: queue_name(alloc, queue).ok()?,
+        size: size.unwrap_or(BatchSize::new(DEFAULT_BATCH).unwrap()),
+        visibility,
+    })
+}
+
+#[tactic(auto, unfolding(crate::specs::Asks::delete_in))]
+fn read_delete(alloc: Global, object: Flat<'_, '_>) -> Option<Ask>
+    ensures { Finds same result (spec.delete_in (flat_data object.entry)) }
+{
+    if !object.has_only(&["kind", "queue", "receipt"]) {
+        return None;
+    }
+    let queue = object.text_at("queue")?;
+    let receipt = receipt(object.text_at("receipt")?).ok()?;
+    Some(Ask::Delete {
+        queue: queue_name(alloc, queue).ok()?,
+        receipt,
+    })
+}
+
+#[tactic(auto, unfolding(crate::specs::Asks::change_in))]
+fn read_change(alloc: Global, object: Flat<'_, '_>) -> Option<Ask>
+    ensures { Finds same result (spec.change_in (flat_data object.entry)) }
+{
+    if !object.has_only(&["kind", "queue", "receipt", "visibility"]) {
+        return None;
+    }
+    let queue = object.text_at("queue")?;
+    let receipt = receipt(object.text_at("receipt")?).ok()?;
+    let visibility = object.seconds_at("visibility")?;
+    Some(Ask::Change {
+        queue: queue_name(alloc, queue).ok()?,
+        receipt,
+        visibility,
+    })
+}
+
+/// The ask that the object says.
+#[tactic(auto, unfolding(crate::specs::Asks::ask_in))]
+pub fn read_flat_ask(alloc: Global, object: Flat<'_, '_>) -> Option<Ask>
+    ensures { Finds same result (spec.ask_in (flat_data object.entry)) }
+{
+    let kind = object.text_at("kind")?;
+    if kind == "create" {
+        read_create(alloc, object)
+    } else if kind == "remove" {
+        read_remove(alloc, object)
+    } else if kind == "send" {
+        read_send(alloc, object)
+    } else if kind == "receive" {
+        read_receive(alloc, object)
+    } else if kind == "delete" {
+        read_delete(alloc, object)
+    } else if kind == "change" {
+        read_change(alloc, object)
+    } else {
+        None
+    }
+}
