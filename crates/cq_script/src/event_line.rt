@@ -47,14 +47,13 @@ pub fn is_blank(bytes: &[u8]) -> bool
 }
 
 /// The event that the bytes say, if their object is a flat one: read without a map, and with no memory
-/// but a scratch and that of the event. None also for bytes that say no event, or one with a text that
+/// but that of the scratch and of the event. None also for bytes that say no event, or one with a text that
 /// breaks its rule, and where there is no memory. O(bytes).
-fn event_at_once(alloc: Global, bytes: &[u8]) -> Option<Event>
+fn event_at_once(alloc: Global, scratch: &mut Scratch, bytes: &[u8]) -> Option<Event>
     ensures { IfSome result (λ event. event_from bytes.now ≡ Ok event) }
 {
     let text = str::from_utf8(bytes).ok()?;
-    let mut scratch = Scratch::new(alloc);
-    let object = FlatObject::read(text, &mut scratch)?;
+    let object = FlatObject::read(text, scratch)?;
     read_flat_event(alloc, object.fields())
 }
 
@@ -65,18 +64,21 @@ fn read_object(alloc: Global, bytes: &[u8]) -> Result<Event, Stop>
     read_event(alloc, &value)
 }
 
-/// What the line with these bytes, its line feed left out, says. A line that says nothing that a script can have is
-/// Bad; one that is good but for a text that breaks its rule is read as Refused with that fault. A blank line takes no
-/// memory. O(bytes).
+/// What the line with these bytes, its line feed left out, says, as `event_of` tells it. The scratch is kept from line to
+/// line, and grows to the bytes of the longest. O(bytes).
 #[tactic(auto, unfolding(crate::specs::Line::line_of))]
-pub fn event_of(alloc: Global, bytes: &[u8]) -> Result<Line, LineFault>
+pub(crate) fn event_with(
+    alloc: Global,
+    scratch: &mut Scratch,
+    bytes: &[u8],
+) -> Result<Line, LineFault>
     ensures says { Reads result (line_of bytes.now) }
     ensures blank { list_all is_blank_byte bytes.now ≡ true → result ≡ Ok lines.Blank }
 {
     if is_blank(bytes) {
         return Ok(Line::Blank);
     }
-    if let Some(event) = event_at_once(alloc, bytes) {
+    if let Some(event) = event_at_once(alloc, scratch, bytes) {
         return Ok(Line::Event(event));
     }
     match read_object(alloc, bytes) {
@@ -85,4 +87,15 @@ pub fn event_of(alloc: Global, bytes: &[u8]) -> Result<Line, LineFault>
         Err(Stop::Text(fault)) => Ok(Line::Refused(fault)),
         Err(Stop::Memory) => Err(LineFault::NoMemory),
     }
+}
+
+/// What the line with these bytes, its line feed left out, says. A line that says nothing that a script can have is
+/// Bad; one that is good but for a text that breaks its rule is read as Refused with that fault. A blank line takes no
+/// memory. O(bytes).
+pub fn event_of(alloc: Global, bytes: &[u8]) -> Result<Line, LineFault>
+    ensures says { Reads result (line_of bytes.now) }
+    ensures blank { list_all is_blank_byte bytes.now ≡ true → result ≡ Ok lines.Blank }
+{
+    let mut scratch = Scratch::new(alloc);
+    event_with(alloc, &mut scratch, bytes)
 }

@@ -4,9 +4,10 @@ ghost use Rattle.cq_script.specs.Lines.{items_of_line, IsCut};
 ghost use Rattle.cq_script.specs.Line.{line_of, Reads};
 ghost use Rattle.cq_script.specs.within.Readings.{nothing_read, forgotten, judged, bytes_of, end_of, Follows, room_for, part_of, line_end};
 
-use crate::event_line::{Line, LineFault, event_of};
+use crate::event_line::{Line, LineFault, event_with};
 use crate::fault::{LineRefusal, ScriptFault};
 use cq_world::Event;
+use json::Scratch;
 use memchr::memchr;
 use std::alloc::{AllocError, Global};
 use std::marker::Model;
@@ -29,6 +30,7 @@ pub struct Item {
 #[derive(Drop)]
 pub struct Reading {
     alloc: Global,
+    scratch: Scratch,
     items: Vec<Item>,
     lines: u64,
     begun: Vec<u8>,
@@ -54,6 +56,7 @@ impl Reading {
     {
         Reading {
             alloc,
+            scratch: Scratch::new(alloc),
             items: Vec::new(alloc),
             lines: 0,
             begun: Vec::new(alloc),
@@ -94,7 +97,7 @@ impl Reading {
         if self.begun.is_empty() {
             return Ok(());
         }
-        let read = event_of(self.alloc, self.begun.as_slice());
+        let read = event_with(self.alloc, &mut self.scratch, self.begun.as_slice());
         self.judge(read)
     }
 
@@ -135,11 +138,11 @@ impl Reading {
     {
         self.may_go_on(part)?;
         if self.begun.is_empty() {
-            let read = event_of(self.alloc, part);
+            let read = event_with(self.alloc, &mut self.scratch, part);
             return self.judge(read);
         }
         self.begun.extend_from_slice(part)?;
-        let read = event_of(self.alloc, self.begun.as_slice());
+        let read = event_with(self.alloc, &mut self.scratch, self.begun.as_slice());
         self.judge(read)
     }
 

@@ -4,11 +4,12 @@ ghost use Rattle.cq_script.specs.Line.{line_of};
 ghost use Rattle.cq_script.specs.declared.session_reading.TheConstants.{BYTES_LIMIT};
 ghost use Rattle.cq_script.specs.within.Heard.{heard, is_too_long, items_ended, items_saying, last_items, line_closed, nothing_heard, part_heard, said_in, IsKept, unburdened, FailsToHear};
 
-use crate::event_line::{Line, LineFault, event_of};
+use crate::event_line::{Line, LineFault, event_with};
 use crate::fault::{LineRefusal, ScriptFault};
 use crate::lines::{Item, LINE_LIMIT, cut_line};
 use cq_base::NoMemory;
 use cq_world::Event;
+use json::Scratch;
 use std::alloc::Global;
 use std::marker::Model;
 
@@ -19,6 +20,7 @@ pub const BYTES_LIMIT: u64 = u64::MAX;
 #[derive(Drop)]
 pub struct SessionReading {
     alloc: Global,
+    scratch: Scratch,
     items: Vec<Item>,
     lines: u64,
     bytes: u64,
@@ -49,6 +51,7 @@ impl SessionReading {
     {
         SessionReading {
             alloc,
+            scratch: Scratch::new(alloc),
             items: Vec::new(alloc),
             lines: 0,
             bytes: 0,
@@ -108,7 +111,8 @@ impl SessionReading {
         if self.begun.is_empty() {
             return Ok(None);
         }
-        said_by(self.alloc, self.begun.as_slice())
+        let mut scratch = Scratch::new(self.alloc);
+        said_by(self.alloc, &mut scratch, self.begun.as_slice())
     }
 
     /// Whether the line that has begun is too long with these bytes.
@@ -145,7 +149,7 @@ impl SessionReading {
         if self.is_too_long(part) {
             return Ok(Some(Err(LineRefusal::TooLong)));
         }
-        said_by_parts(self.alloc, &mut self.begun, part)
+        said_by_parts(self.alloc, &mut self.scratch, &mut self.begun, part)
     }
 
     /// These bytes end the line that has begun, or are a line.
@@ -167,10 +171,14 @@ impl SessionReading {
 }
 
 /// What the line with these bytes says in a session, if it isn't blank.
-fn said_by(alloc: Global, bytes: &[u8]) -> Result<Option<Result<Event, LineRefusal>>, NoMemory>
+fn said_by(
+    alloc: Global,
+    scratch: &mut Scratch,
+    bytes: &[u8],
+) -> Result<Option<Result<Event, LineRefusal>>, NoMemory>
     ensures { IfOk result (λ said. said ≡ said_in (line_of bytes.now)) }
 {
-    match event_of(alloc, bytes) {
+    match event_with(alloc, scratch, bytes) {
         Ok(Line::Blank) => Ok(None),
         Ok(Line::Event(event)) => Ok(Some(Ok(event))),
         Ok(Line::Refused(fault)) => Ok(Some(Err(LineRefusal::Text(fault)))),
@@ -182,6 +190,7 @@ fn said_by(alloc: Global, bytes: &[u8]) -> Result<Option<Result<Event, LineRefus
 /// The same of a line that has begun with some bytes and ends with others. One that came whole isn't copied.
 fn said_by_parts(
     alloc: Global,
+    scratch: &mut Scratch,
     begun: &mut Vec<u8>,
     part: &[u8],
 ) -> Result<Option<Result<Event, LineRefusal>>, NoMemory>
@@ -189,10 +198,10 @@ fn said_by_parts(
     ensures bytes { vec_len begun.new ≤ vec_len begun.old + length part.now }
 {
     if begun.is_empty() {
-        return said_by(alloc, part);
+        return said_by(alloc, scratch, part);
     }
     begun.extend_from_slice(part)?;
-    said_by(alloc, begun.as_slice())
+    said_by(alloc, scratch, begun.as_slice())
 }
 
 /// Adds the item of a line that says this.
