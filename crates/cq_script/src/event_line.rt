@@ -11,8 +11,8 @@ use cq_base::BaseFault;
 use cq_json::{FlatObject, Stop, parse};
 use cq_world::Event;
 use json::Scratch;
+use simdutf8::basic::from_utf8;
 use std::alloc::Global;
-use std::str;
 use thiserror::Error;
 
 /// What a line of a script is.
@@ -52,7 +52,7 @@ pub fn is_blank(bytes: &[u8]) -> bool
 fn event_at_once(alloc: Global, scratch: &mut Scratch, bytes: &[u8]) -> Option<Event>
     ensures { IfSome result (λ event. event_from bytes.now ≡ Ok event) }
 {
-    let text = str::from_utf8(bytes).ok()?;
+    let text = from_utf8(bytes).ok()?;
     let object = FlatObject::read(text, scratch)?;
     read_flat_event(alloc, object.fields())
 }
