@@ -1,3 +1,5 @@
 pub mod Floats
-pub mod Sending
+pub mod Joined
+pub mod Plain
 pub mod Rows
+pub mod Sending

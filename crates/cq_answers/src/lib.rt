@@ -5,5 +5,9 @@
 mod line;
 mod member;
 mod reply;
+mod row;
+mod row_reply;
+mod write;
 
 pub use line::{answer_line, refused_line};
+pub use write::{write_answer, write_refused};

@@ -1,0 +1,11 @@
+use Rattle.std.proofs.Common.{refl}
+use Rattle.json.specs.Print.{escape_byte}
+use Rattle.cq_answers.proofs.Joined.{five}
+use Rattle.cq_answers.proofs.row_reply.put_counts.Goals as goal
+
+pub returns-clause-ok : goal.returns-clause-ok
+unfolding escape_byte
+returns-clause-ok c =
+    five c.put-3.result _ _ _ _ _ _ _ _ _ _ _ _
+    c.in_ok-put.ensures.ok c.in_ok-put_number.ensures.ok c.in_ok-put-2.ensures.ok c.in_ok-put_number-2.ensures.ok c.put-3.ensures.ok
+    refl
