@@ -1,5 +1,5 @@
 //! What comes of the lines of a script.
-ghost use Rattle.std.specs.Prelude.{◌≡◌, ◌++◌, Err, IfOk, OnOk, OnErr, true};
+ghost use Rattle.std.specs.Prelude.{◌≡◌, ◌++◌, Err, OnOk, OnErr, true};
 ghost use Rattle.cq_script.specs.Runs.{Takes};
 ghost use Rattle.cq_script.specs.declared.fault.ScriptFault.TheVariants.{ReadFailed, WriteFailed};
 ghost use Rattle.cq_script.specs.within.Played.{after_items};
@@ -11,7 +11,7 @@ use crate::fault::ScriptFault;
 use crate::lines::Item;
 use crate::sink::Sink;
 use crate::writing::{finish_writing, write_text};
-use cq_answers::{answer_line, refused_line};
+use cq_answers::{write_answer, write_refused};
 use cq_base::NoMemory;
 use cq_chain::WorldFault;
 use cq_world::{Event, Sim};
@@ -20,43 +20,34 @@ use std::alloc::Global;
 /// After how many bytes of text the writer is given them.
 const TEXT_SIZE: usize = 65_536;
 
-/// Has the event happen, which the line with that number says, and gives what is written of it: the answer that it
-/// gives, or why it is refused. It is empty where the event does neither.
-fn event_line(alloc: Global, number: u64, sim: &mut Sim, event: &Event) -> Result<Vec<u8>, NoMemory>
-    ensures { Shows sim.old (λ w. IfOk result (λ text. (text.items ≡ event_text number w event.now (refusal_of w event.now))
+/// Has the event happen, which the line with that number says, and adds what is written of it to the text: the answer
+/// that it gives, or why it is refused. That is nothing where the event does neither, and after `NoMemory`.
+fn run_event(number: u64, sim: &mut Sim, event: &Event, text: &mut Vec<u8>) -> Result<(), NoMemory>
+    ensures ok { Shows sim.old (λ w. OnOk result ((text.new.items ≡ text.old.items ++ event_text number w event.now (refusal_of w event.now))
         × StandsFor sim.new (after w event.now))) }
+    ensures err { OnErr result (text.new.items ≡ text.old.items) }
 {
     match sim.step(event) {
-        Ok(Some(answer)) => answer_line(alloc, number, &answer),
-        Ok(None) => Ok(Vec::new(alloc)),
+        Ok(Some(answer)) => write_answer(text, number, &answer),
+        Ok(None) => Ok(()),
         Err(fault) => match fault {
             WorldFault::NoMemory => Err(NoMemory),
-            _ => refused_line(alloc, number, fault.code(), fault.name()),
+            _ => write_refused(text, number, fault.code(), fault.name()),
         },
     }
 }
 
-/// Has the item happen, and gives what is written of it. What the servers take for its event, and the length of what
-/// is given.
-fn item_line(alloc: Global, sim: &mut Sim, item: &Item) -> Result<Vec<u8>, NoMemory>
-    ensures { Shows sim.old (λ w. IfOk result (λ text. (text.items ≡ output w item.now)
-        × StandsFor sim.new (after_said w item.now.said))) }
-{
-    match &item.said {
-        Ok(event) => event_line(alloc, item.number, sim, event),
-        Err(refusal) => refused_line(alloc, item.number, refusal.code(), refusal.name()),
-    }
-}
-
-/// Has the item happen, and adds what comes of it to the text.
-fn run_item(alloc: Global, sim: &mut Sim, item: &Item, text: &mut Vec<u8>) -> Result<(), NoMemory>
+/// Has the item happen, and adds what comes of it to the text: O(what the servers do for its event, and the bytes of
+/// what is added). After `NoMemory` the text is as before.
+fn run_item(sim: &mut Sim, item: &Item, text: &mut Vec<u8>) -> Result<(), NoMemory>
     ensures ok { Shows sim.old (λ w. OnOk result ((text.new.items ≡ text.old.items ++ output w item.now)
         × StandsFor sim.new (after_said w item.now.said))) }
     ensures err { OnErr result (text.new.items ≡ text.old.items) }
 {
-    let line = item_line(alloc, sim, item)?;
-    text.extend_from_slice(line.as_slice())?;
-    Ok(())
+    match &item.said {
+        Ok(event) => run_event(item.number, sim, event, text),
+        Err(refusal) => write_refused(text, item.number, refusal.code(), refusal.name()),
+    }
 }
 
 /// Has the items happen one after another, writes what comes of each, and passes it on. The text of many is written at
@@ -75,7 +66,7 @@ pub(crate) fn run_items<W: Sink>(
 {
     let mut text = Vec::new(alloc);
     for item in items {
-        if run_item(alloc, sim, item, &mut text).is_err() {
+        if run_item(sim, item, &mut text).is_err() {
             write_text(writer, text.as_slice())?;
             return Err(ScriptFault::NoMemory);
         }
