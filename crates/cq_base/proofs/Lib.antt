@@ -11,6 +11,7 @@ pub mod Lists
 pub mod MadeIds
 pub mod Numbers
 pub mod Pairs
+pub mod PlainBytes
 pub mod Rows
 pub mod OneMoreFact
 pub mod TextRows

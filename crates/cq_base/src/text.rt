@@ -1,6 +1,7 @@
 //! Queue names, ids and bodies: texts that keep their rules.
 ghost use Rattle.std.specs.Prelude.{◌≡◌, ◌↔◌, true, false, List, ℕ, length, Some, IfOk, IfErr, IsErrOf};
 ghost use Rattle.std.specs.Arc.{arc_str_bytes};
+ghost use Rattle.std.specs.Bool.{OnTrue};
 ghost use Rattle.std.specs.List.{list_all};
 ghost use Rattle.std.specs.Str.{bytes_eq};
 ghost use Rattle.std.specs.Hash as fed;
@@ -56,10 +57,40 @@ fn is_body_character(character: char) -> bool
     matches!(character, '\t' | '\n' | '\r' | ' '..='\u{d7ff}' | '\u{e000}'..='\u{fffd}' | '\u{10000}'..='\u{10ffff}')
 }
 
-fn has_body_characters(text: &str) -> bool
+/// Whether a body may have each character: it decodes one after the other.
+fn are_body_characters(text: &str) -> bool
     ensures { result ≡ has_body_characters text.now }
 {
     text.chars().all(|character| is_body_character(character))
+}
+
+/// Whether a body may have each character that begins with this byte. The only characters that it may not have are
+/// controls, of one byte below 32, and U+FFFE and U+FFFF, which begin with 0xEF.
+#[inline(always)]
+fn is_plain_byte(byte: u8) -> bool
+    ensures { OnTrue result ((is_body_character byte ≡ true) × (byte ≡ 0xEF → ⊥)) }
+{
+    let is_space = (byte == b'\t') | (byte == b'\n') | (byte == b'\r');
+    ((b' ' <= byte) | is_space) & (byte != 0xEF)
+}
+
+/// Whether the bytes alone show that a body may have each character: O(bytes of the text). It goes on past a byte that
+/// isn't plain, since a loop with no other way out is compiled to look at many bytes at once.
+fn are_plain_bytes(text: &str) -> bool
+    ensures { OnTrue result (has_body_characters text.now ≡ true) }
+{
+    let mut plain = true;
+    for byte in text.as_bytes() {
+        plain &= is_plain_byte(*byte);
+    }
+    plain
+}
+
+/// Whether a body may have each character: O(bytes of the text). Only a text with a byte that isn't plain is decoded.
+fn has_body_characters(text: &str) -> bool
+    ensures { result ≡ has_body_characters text.now }
+{
+    are_plain_bytes(text) || are_body_characters(text)
 }
 
 fn has_body_length(text: &str) -> bool
