@@ -5,7 +5,7 @@ use Rattle.std.proofs.lemmas.Bool.{cases_lt}
 use Rattle.std.proofs.lemmas.List.{length-map, get_or-map, take_all}
 use Rattle.std.proofs.lemmas.List.Sorted.{sum_by-IsPermutation}
 use Rattle.std.proofs.lemmas.List.Sums.{sum_by_more, sum_by_push, length-filter}
-use Rattle.cq_least.specs.Firsts.{AreAbove, IsFirst}
+use Rattle.cq_least.specs.Firsts.{AreAbove}
 use Rattle.cq_least.specs.Packing.{upto, by_place, ArePlaced, is_counted}
 
 -- one position more
@@ -30,15 +30,25 @@ count_skip p from i o none = let e : from + (i - from) ≡ i = omega arith in su
 above_uncounted : (numbers places : List ℕ) (limit end j : ℕ) → limit < get_or numbers j 0 → is_counted numbers places limit end j ≡ false
 above_uncounted numbers places limit end j above = let no : nat_le (get_or numbers j 0) limit ≡ false = grind arith in ap (λ b. b && nat_lt (get_or places j 0) end) no
 
--- the first number from `from` on that is at most the limit counts, if its place is before `end`
-pub counted-next : (numbers places : List ℕ) (limit end from i : ℕ) → IsFirst numbers from limit i → count_by (is_counted numbers places limit end) (upto (i + 1)) ≡ count_by (is_counted numbers places limit end) (upto from) + cond (nat_lt (get_or places i 0) end) 1 0
-counted-next numbers places limit end from i first =
-    let p = is_counted numbers places limit end in
-    let found = first.found in
-    let yes : nat_le (get_or numbers i 0) limit ≡ true = grind arith in
-    count_next p i
-    ∙ ap (λ n. n + cond (p i) 1 0) (count_skip p from i first.after (λ j a b. above_uncounted numbers places limit end j (first.before j a b)))
-    ∙ ap (λ b. count_by p (upto from) + cond (b && nat_lt (get_or places i 0) end) 1 0) yes
+-- positions at which both tests agree
+count_same : (p q : ℕ → Bool) (n : ℕ) → ((j : ℕ) → j < n → p j ≡ q j) → count_by p (upto n) ≡ count_by q (upto n)
+count_same p q zero same = refl
+count_same p q (suc n) same =
+    sum_by_push (λ j. cond (p j) 1 0) (upto n) n
+    ∙ ap (λ c. c + cond (p n) 1 0) (count_same p q n (λ j l. same j (omega arith)))
+    ∙ ap (λ b. count_by q (upto n) + cond b 1 0) (same n (omega arith))
+    ∙ sym (sum_by_push (λ j. cond (q j) 1 0) (upto n) n)
+
+-- where each place is before `end`, all numbers count that are at most the limit
+pub counted-before : (numbers places : List ℕ) (limit end n : ℕ) → ((j : ℕ) → j < n → get_or places j 0 < end) → count_by (is_counted numbers places limit end) (upto n) ≡ count_by (λ j. nat_le (get_or numbers j 0) limit) (upto n)
+counted-before numbers places limit end n before = count_same (is_counted numbers places limit end) (λ j. nat_le (get_or numbers j 0) limit) n (λ j l. same j (before j l))
+  where
+    anyway : (c : Bool) → (c && true) ≡ c
+    anyway true = refl
+    anyway false = refl
+
+    same : (j : ℕ) → get_or places j 0 < end → is_counted numbers places limit end j ≡ nat_le (get_or numbers j 0) limit
+    same j l = let yes : nat_lt (get_or places j 0) end ≡ true = grind arith in ap (λ b. nat_le (get_or numbers j 0) limit && b) yes ∙ anyway (nat_le (get_or numbers j 0) limit)
 
 -- no more count where all numbers are above the limit
 pub counted-rest : (numbers places : List ℕ) (limit end from n : ℕ) → from ≤ n → AreAbove numbers limit from n → count_by (is_counted numbers places limit end) (upto n) ≡ count_by (is_counted numbers places limit end) (upto from)

@@ -1,6 +1,8 @@
 //! A list in blocks, with the least number of each block in a list above it.
-ghost use Rattle.std.specs.Prelude.{◌≡◌, ℕ, ◌+◌, ◌*◌, ◌/◌, ◌<◌, ◌≤◌, List, [], length, slice_index, OnOk, OnErr};
-ghost use Rattle.cq_least.specs.Spans.{AreSpans};
+ghost use Rattle.std.specs.Prelude.{◌≡◌, ℕ, ◌+◌, ◌*◌, ◌/◌, ◌<◌, ◌≤◌, List, [], length, slice_index, IfSome, IsNone, OnOk, OnErr};
+ghost use Rattle.cq_least.specs.Firsts.{IsFirst};
+ghost use Rattle.cq_least.specs.Spans.{AreSpans, AreAboveIn};
+ghost use Rattle.cq_least.specs.declared.blocks.TheConstants.{BLOCK};
 ghost use Rattle.cq_least.specs.Summaries.{IsSummary, IsBegun};
 
 use crate::leasts::Leasts;
@@ -58,6 +60,19 @@ impl<T: Leasts> Blocks<T> {
             spans: Vec::new(alloc),
             high,
         }
+    }
+
+    /// The place of the first number from `from` on in its block that is at most the limit. The block is read only where
+    /// the least number of it is.
+    fn first_here(&self, from: usize, limit: u64) -> Option<usize>
+        requires { from < length self.now }
+        ensures some { IfSome result (IsFirst self.now from limit) }
+        ensures none { IsNone result → AreAboveIn self.now limit from (from / BLOCK) }
+    {
+        if self.high.get(from / BLOCK) > limit {
+            return None;
+        }
+        first_in(&self.low, &self.spans, from, limit)
     }
 }
 
@@ -123,7 +138,7 @@ impl<T: Leasts> Leasts for Blocks<T> {
         if from >= len {
             return None;
         }
-        if let Some(i) = first_in(&self.low, &self.spans, from, limit) {
+        if let Some(i) = self.first_here(from, limit) {
             return Some(i);
         }
         let block = self.high.first_at_most(from / BLOCK + 1, limit)?;

@@ -1,8 +1,9 @@
 //! A list of which few numbers are below the largest, and these are side by side.
-ghost use Rattle.std.specs.Prelude.{◌≡◌, ◌≢◌, ℕ, ◌<◌, ◌≤◌, [], length, get_or, set, take, filter, nat_le};
-ghost use Rattle.cq_least.specs.Packing.{ArePlaced, by_place};
+ghost use Rattle.std.specs.Prelude.{◌≡◌, ◌≢◌, ℕ, ◌+◌, ◌<◌, ◌≤◌, [], length, get_or, set, take, filter, count_by, nat_le};
+ghost use Rattle.cq_least.specs.Packing.{ArePlaced, by_place, is_counted, upto};
 ghost use Rattle.cq_least.specs.declared.spans.TheConstants.{LARGEST};
 
+use crate::blocks::BLOCK;
 use crate::leasts::Leasts;
 use crate::number_list::NumberList;
 use crate::spans::LARGEST;
@@ -102,6 +103,63 @@ fn take_out(
     exchange(places, positions, position, last);
 }
 
+/// The end of the block of a position, or of the positions where these end before it.
+fn end_of_block(places: &[usize], position: usize) -> usize
+    requires { position < length places.now }
+    ensures after { position < result }
+    ensures within { result ≤ length places.now }
+{
+    let end = (position / BLOCK + 1) * BLOCK;
+    end.min(places.len())
+}
+
+/// How many of the numbers at the positions from `from` up to `to` are at most the limit: O(to - from), with no search.
+fn count_small_between(numbers: &Tower, from: usize, to: usize, limit: u64) -> u64
+    requires order { from ≤ to }
+    requires within { to ≤ length numbers.now }
+    ensures few { result + from ≤ to }
+    ensures counted { count_by (λ j. nat_le (get_or numbers.now j 0) limit) (upto to)
+        ≡ count_by (λ j. nat_le (get_or numbers.now j 0) limit) (upto from) + result }
+{
+    let mut count = 0;
+    for i in from..to {
+        if numbers.get(i) <= limit {
+            count += 1;
+        }
+    }
+    count
+}
+
+/// How many of the numbers at the positions from `from` up to `to` are at most the limit and have a place before
+/// `end`: O(to - from), with no search. Places are read only where not all of them are before `end`.
+fn count_between(
+    numbers: &Tower,
+    places: &[usize],
+    from: usize,
+    to: usize,
+    limit: u64,
+    end: usize,
+) -> u64
+    requires order { from ≤ to }
+    requires within { to ≤ length numbers.now }
+    requires long { length numbers.now ≡ length places.now }
+    requires places { (j : ℕ) → j < length places.now → get_or places.now j 0 < length places.now }
+    ensures few { result + from ≤ to }
+    ensures counted { count_by (is_counted numbers.now places.now limit end) (upto to)
+        ≡ count_by (is_counted numbers.now places.now limit end) (upto from) + result }
+{
+    if places.len() <= end {
+        return count_small_between(numbers, from, to, limit);
+    }
+    let mut count = 0;
+    for i in from..to {
+        if numbers.get(i) <= limit && places[i] < end {
+            count += 1;
+        }
+    }
+    count
+}
+
 impl Packed {
     /// No number. It takes no memory.
     pub fn new(alloc: Global) -> Packed
@@ -116,7 +174,7 @@ impl Packed {
     }
 
     /// How many of the numbers at the places before `end` are at most the limit, which is below the largest: O(log n)
-    /// for each number in the list that is. It takes no memory.
+    /// for each run of such numbers in the list, and O(1) for each number of a run. It takes no memory.
     pub fn count_at_most(&self, limit: u64, end: usize) -> u64
         requires { limit < LARGEST }
         ensures { result ≡ length (filter (λ n. nat_le n limit) (take end self.now)) }
@@ -126,10 +184,16 @@ impl Packed {
         while from < self.small {
             match self.numbers.first_at_most(from, limit) {
                 Some(position) => {
-                    if self.places[position] < end {
-                        count += 1;
-                    }
-                    from = position + 1;
+                    let run_end = end_of_block(&self.places, position);
+                    count += count_between(
+                        &self.numbers,
+                        &self.places,
+                        position,
+                        run_end,
+                        limit,
+                        end,
+                    );
+                    from = run_end;
                 }
                 None => return count,
             }

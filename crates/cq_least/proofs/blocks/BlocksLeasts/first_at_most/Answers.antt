@@ -18,8 +18,8 @@ returns-clause-none g c = λ no.
     let inside = w.inside in
     let within = w.within in
     let is = w.is in
-    let same : get_or c.deref-3.result.now r.0 0 ≡ get_or low r.0 0 = ap (λ xs. get_or xs r.0 0) c.deref-3.ensures.value in
-    let long : length c.deref-3.result.now ≡ length low = ap length c.deref-3.ensures.value in
-    let above : c.args.limit < get_or c.deref-3.result.now r.0 0 = c.first_in-2.ensures.none no r.0 (omega arith) (omega arith) (omega arith) in
+    let same : get_or c.deref.result.now r.0 0 ≡ get_or low r.0 0 = ap (λ xs. get_or xs r.0 0) c.deref.ensures.value in
+    let long : length c.deref.result.now ≡ length low = ap length c.deref.ensures.value in
+    let above : c.args.limit < get_or c.deref.result.now r.0 0 = c.first_in.ensures.none no r.0 (omega arith) (omega arith) (omega arith) in
     let found = f.found in
     absurd (omega arith)

@@ -1,47 +1,29 @@
--- Each round comes to the next small number, until none is left.
-use Rattle.std.proofs.Common.{◌≡◌, ℕ, ◌+◌, ◌∙◌, ap, sym, refl, List, length, get_or, take, true, false, cond, nat_lt, nat_le, arith}
+-- Each round comes to the next small number and goes on to the end of its block, until none is left.
+use Rattle.std.proofs.Common.{ℕ, ◌∙◌, ap, sym, refl, List, length, take, nat_le, arith}
 use Rattle.std.specs.List.{count_by, filter}
-use Rattle.std.proofs.lemmas.List.{get_or_default}
 use Rattle.cq_least.specs.Firsts.{AreAbove, IsFirst}
 use Rattle.cq_least.specs.Packing.{is_counted, upto}
-use Rattle.cq_least.proofs.Counting.{counted-next, counted-rest, counted-all}
+use Rattle.cq_least.proofs.Counting.{counted-rest, counted-all}
 use Rattle.cq_least.proofs.packed.Packed.count_at_most.Goals as goal
-use Rattle.cq_least.proofs.packed.Packed.count_at_most.Goals.{then-index-end, else-index-end}
 
 pub loop-from-preserved : goal.loop-from-preserved
 loop-from-preserved c =
     let numbers : List ℕ = c.self.inside.numbers in
     let places : List ℕ = c.self.inside.places.items in
-    let i : ℕ = c.in-Some.position in
     let before = c.loop-from.invariant in
-    let first : IsFirst numbers c.loop-from.from c.args.limit i = c.in-Some.ensures.found in
+    let first : IsFirst numbers c.loop-from.from c.args.limit c.in-Some.position = c.in-Some.ensures.found in
     let after = first.after in
-    let within = first.within in
     let long = c.self.invariant.long in
     let long' = c.self.invariant.placed.long in
-    let next = counted-next numbers places c.args.limit c.args.end c.loop-from.from i first in
-    let is : c.index.result.now ≡ get_or places i 0 = c.index.ensures ∙ get_or_default places i c.index.result.now 0 (omega arith) in
     let few = before.few in
-    elim c.if-index-end.branch [
-      | then-index-end w ↦
-          let yes : nat_lt (get_or places i 0) c.args.end ≡ true = let h = w.if-index-end in grind arith in
-          let one = w.count-is in
-          record {
-            within = omega arith;
-            few = omega arith;
-            counted = one ∙ ap (λ n. n + 1) before.counted ∙ sym (next ∙ ap (λ b. count_by (is_counted numbers places c.args.limit c.args.end) (upto c.loop-from.from) + cond b 1 0) yes);
-          }
-      | else-index-end w ↦
-          let no : nat_lt (get_or places i 0) c.args.end ≡ false = let h = w.if-index-end in grind arith in
-          let one = w.count-is in
-          let same = next ∙ ap (λ b. count_by (is_counted numbers places c.args.limit c.args.end) (upto c.loop-from.from) + cond b 1 0) no in
-          let counted = before.counted in
-          record {
-            within = omega arith;
-            few = omega arith;
-            counted = omega arith;
-          }
-    ]
+    let counted = before.counted in
+    let passed = counted-rest numbers places c.args.limit c.args.end c.loop-from.from c.in-Some.position after first.before in
+    let run = c.count_between-count.ensures in
+    record {
+      within = omega arith;
+      few = omega (arith, run.few);
+      counted = omega (arith, rw c.deref-in-Some.ensures.value at run.counted);
+    }
 
 pub returns-in-None : goal.returns-in-None
 returns-in-None c =
