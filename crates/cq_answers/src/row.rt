@@ -1,33 +1,51 @@
 //! A line that is being written at the end of a text.
-ghost use Rattle.std.specs.Prelude.{◌≡◌, [], ◌++◌, IfOk, OnOk, decimal};
-ghost use Rattle.std.specs.Bool.{OnTrue};
-ghost use Rattle.json.specs.Print.{escape, quoted};
+ghost use Rattle.std.specs.Prelude.{◌≡◌, ◌<◌, ◌≤◌, [], ◌++◌, OnOk, decimal, length, take};
+ghost use Rattle.std.specs.Char.{digit_char};
+ghost use Rattle.json.specs.Print.{escape, escape_byte, escape_letter, quoted};
 ghost use Rattle.serde_json.specs.Written.{comma_if};
 
 use cq_base::NoMemory;
-use json::Writer;
-use std::alloc::Global;
 use std::marker::Model;
 
-/// Whether JSON writes the text as it stands, with no escape (RFC 8259, section 7): O(bytes of it).
-fn is_plain(text: &[u8]) -> bool
-    ensures { OnTrue result (escape text.now ≡ text.now) }
+/// How many bytes JSON writes as they stand, up to the first one that it escapes (RFC 8259, section 7): O(that many).
+fn plain_front(text: &[u8]) -> usize
+    ensures bound { result ≤ length text.now }
+    ensures plain { escape (take result text.now) ≡ take result text.now }
 {
-    for byte in text {
-        if *byte < 32 || *byte == b'"' || *byte == b'\\' {
-            return false;
+    for at in 0..text.len() {
+        let byte = text[at];
+        if byte < 32 || byte == b'"' || byte == b'\\' {
+            return at;
         }
     }
-    true
+    text.len()
 }
 
-/// The text as a string of JSON, with its quotes and escapes.
-fn escaped(alloc: Global, text: &str) -> Result<Vec<u8>, NoMemory>
-    ensures { IfOk result (λ made. made.items ≡ quoted text.now) }
+/// The letter behind the backslash where the byte has a short escape; else 0.
+fn escape_letter(byte: u8) -> u8
+    ensures { result ≡ escape_letter byte }
 {
-    let mut writer = Writer::new(Vec::new(alloc));
-    writer.string(text)?;
-    Ok(writer.into_inner())
+    match byte {
+        b'"' | b'\\' => byte,
+        b'\n' => b'n',
+        b'\t' => b't',
+        b'\r' => b'r',
+        8 => b'b',
+        12 => b'f',
+        _ => 0,
+    }
+}
+
+/// The hex digit of a number below 16, in lower case.
+fn hex_digit(number: u8) -> u8
+    requires { number < 16 }
+    ensures { result ≡ digit_char number }
+{
+    if number < 10 {
+        b'0' + number
+    } else {
+        b'a' - 10 + number
+    }
 }
 
 /// A text, and from `start` on what is there of a line.
@@ -101,19 +119,49 @@ impl Row {
         self.put(buffer.format(number).as_bytes())
     }
 
-    /// Writes the text as a string: O(bytes of it). Only one with escapes takes memory of its own. After `NoMemory` a
-    /// front of it may be written.
+    /// Writes what stands in a string for the byte.
+    #[tactic(auto, unfolding(json::specs::Print::escape_byte))]
+    fn put_escape(&mut self, byte: u8) -> Result<(), NoMemory>
+        ensures ok { OnOk result (self.new.told ≡ self.old.told ++ escape_byte byte) }
+        ensures before { self.new.before ≡ self.old.before }
+    {
+        let letter = escape_letter(byte);
+        if letter > 0 {
+            return self.put(&[b'\\', letter]);
+        }
+        if byte < 32 {
+            let high = hex_digit(byte / 16);
+            let low = hex_digit(byte % 16);
+            return self.put(&[b'\\', b'u', b'0', b'0', high, low]);
+        }
+        self.put(&[byte])
+    }
+
+    /// Writes the text with its escapes, without quotes: O(bytes of it).
+    fn put_escaped(&mut self, text: &[u8]) -> Result<(), NoMemory>
+        ensures ok { OnOk result (self.new.told ≡ self.old.told ++ escape text.now) }
+        ensures before { self.new.before ≡ self.old.before }
+    {
+        let mut rest = text;
+        while !rest.is_empty() {
+            let (plain, other) = rest.split_at(plain_front(rest));
+            self.put(plain)?;
+            let Some((byte, later)) = other.split_first() else {
+                return Ok(());
+            };
+            self.put_escape(*byte)?;
+            rest = later;
+        }
+        Ok(())
+    }
+
+    /// Writes the text as a string: O(bytes of it). After `NoMemory` a front of it may be written.
     pub fn put_string(&mut self, text: &str) -> Result<(), NoMemory>
         ensures ok { OnOk result (self.new.told ≡ self.old.told ++ quoted text.now) }
         ensures before { self.new.before ≡ self.old.before }
     {
-        if is_plain(text.as_bytes()) {
-            self.put(b"\"")?;
-            self.put(text.as_bytes())?;
-            return self.put(b"\"");
-        }
-        let alloc = *self.bytes.allocator();
-        let string = escaped(alloc, text)?;
-        self.put(string.as_slice())
+        self.put(b"\"")?;
+        self.put_escaped(text.as_bytes())?;
+        self.put(b"\"")
     }
 }
