@@ -40,9 +40,17 @@ flat_data flat = object (puts (inner_members flat.inner.now) flat.members.now no
 abbrev pub inner_data : Flat → Data
 inner_data flat = object (inner_members flat.inner.now)
 
+-- the data of an object with these members, where the object in it has the inner ones
+abbrev pub data_of : List Member → List Member → Data
+data_of members inner = object (puts (inner_members inner) members no_members)
+
 -- the data of the object and of the one in it
 abbrev pub object_data : FlatObject → Data
-object_data flat = object (puts (inner_members flat.inner.items) flat.members.items no_members)
+object_data flat = data_of flat.members.items flat.inner.items
+
+-- it has no members
+abbrev pub IsEmpty : FlatObject → Type 0
+IsEmpty flat = (flat.members.items ≡ []) × (flat.inner.items ≡ [])
 
 -- the value of the last member of that name, or what was found before
 abbrev pub last_named : List ℕ → Option Scalar → List Member → Option Scalar

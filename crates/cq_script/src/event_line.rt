@@ -53,7 +53,10 @@ fn event_at_once(alloc: Global, scratch: &mut Scratch, bytes: &[u8]) -> Option<E
     ensures { IfSome result (λ event. event_from bytes.now ≡ Ok event) }
 {
     let text = from_utf8(bytes).ok()?;
-    let object = FlatObject::read(text, scratch)?;
+    let mut object = FlatObject::new();
+    if !object.read(text, scratch) {
+        return None;
+    }
     read_flat_event(alloc, object.fields())
 }
 
