@@ -43,13 +43,13 @@ with_member : (k : List ℕ) (j : json.Json) (d : Data) (found : Members) → of
 with_member k j d found e None = refl
 with_member k j d found e (Some p) = rw e
 
-member_read : (depth : ℕ) (found : Members) (n : ℕ) (k : List ℕ) (ts s r : List Token) (d : Data) → 0 < n → read_key ts ≡ Some (Some k, s) → converted of_json (json.value depth s) ≡ Some (d, r)
+pub member_read : (depth : ℕ) (found : Members) (n : ℕ) (k : List ℕ) (ts s r : List Token) (d : Data) → 0 < n → read_key ts ≡ Some (Some k, s) → converted of_json (json.value depth s) ≡ Some (d, r)
     → rest_of found depth n ts ≡ rest_of (put k d found) depth (n - 1) r
 member_read depth found n k ts s r d some key e =
     let j = converted_some of_json (json.value depth s) d r e in
     ap (converted (λ ms. of_members ms found)) (members_more (json.value depth) n k ts s r j.0 some key j.1) ∙ with_member k j.0 d found j.2 _
 
-members_over : (depth : ℕ) (found : Members) (n : ℕ) (ts r : List Token) → length ts ≤ n → read_key ts ≡ Some (None, r) → rest_of found depth n ts ≡ Some (found, r)
+pub members_over : (depth : ℕ) (found : Members) (n : ℕ) (ts r : List Token) → length ts ≤ n → read_key ts ≡ Some (None, r) → rest_of found depth n ts ≡ Some (found, r)
 members_over depth found n ts r enough e = ap (converted (λ ms. of_members ms found)) (members_end (json.value depth) n ts r enough e)
 
 abbrev whole : Option (json.Json × List Token) → Option Data
@@ -126,7 +126,7 @@ adds_end old read now ts r adds key = λ inner depth n enough.
 pub both_flat : (old new : List Token) (ms : List Member) → Ends old [] new ms → EndsBoth old new ms []
 both_flat old new ms ends = λ depth positive. ends no_members depth (length old) (omega arith)
 
-opened : (ts r : List Token) (inner : Members) (depth : ℕ) → 0 < depth → rest_of no_members (depth - 1) (length ts) ts ≡ Some (inner, r)
+pub opened : (ts r : List Token) (inner : Members) (depth : ℕ) → 0 < depth → rest_of no_members (depth - 1) (length ts) ts ≡ Some (inner, r)
     → converted of_json (json.value depth (Token.begin_object ∷ ts)) ≡ Some (object inner, r)
 opened ts r inner depth positive rest =
     ap (converted of_json) (value-begin_object depth ts positive) ∙ converted-object (json.members (json.value (depth - 1)) (length ts) ts) ∙ ap (parse_map object) rest

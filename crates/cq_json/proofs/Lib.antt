@@ -1,7 +1,9 @@
 pub mod JsonText
 pub mod Members
+pub mod PlainLanes
 pub mod FlatMembers
 pub mod FlatReading
+pub mod FlatText
 pub mod Receipts
 -- worked objects
 pub mod Rows

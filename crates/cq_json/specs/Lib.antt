@@ -4,3 +4,4 @@ pub mod Asks
 pub mod Readers
 pub mod Flat
 pub mod FlatReading
+pub mod FlatText

@@ -56,7 +56,7 @@ impl<'a> Default for Member<'a> {
     fn default() -> Member<'a> {
         Member {
             name: "",
-            value: Scalar::Inner,
+            value: Scalar::Text(""),
         }
     }
 }

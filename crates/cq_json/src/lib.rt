@@ -7,6 +7,7 @@ mod fields;
 mod flat;
 mod flat_ask;
 mod flat_reading;
+mod flat_text;
 mod texts;
 
 pub use ask::read_ask;
@@ -15,5 +16,5 @@ pub use fields::{
 };
 pub use flat::Flat;
 pub use flat_ask::read_flat_ask;
-pub use flat_reading::FlatObject;
+pub use flat_reading::{FlatObject, LineScratch};
 pub use texts::queue_name;

@@ -1,6 +1,6 @@
 use Rattle.std.proofs.Common.{◌≡◌, [], arith}
 use Rattle.cq_json.proofs.FlatReading.{text_read}
-use Rattle.cq_json.proofs.flat_reading.FlatObject.read.Goals as goal
+use Rattle.cq_json.proofs.flat_reading.FlatObject.read_tokens.Goals as goal
 
 pub returns : goal.returns
 returns c =

@@ -1,0 +1,282 @@
+-- The text of a flat object is that of its tokens, which say its data.
+use Rattle.std.proofs.Common.{◌≡◌, ℕ, suc, ◌+◌, ◌-◌, ◌*◌, ◌/◌, ◌%◌, ◌<◌, ◌≤◌, List, [], ◌∷◌, ◌++◌, length, take, drop, get_or, Bool, true, false, cond, Option, Some, None, OnSome, IsUtf8, refl, sym, ap, ap₂, ◌∙◌, subst, arith, append_assoc, append-nil, length-append}
+use Rattle.std.proofs.lemmas.Bool.{or_parts, not-true, eqb-false, ltb-false}
+use Rattle.std.proofs.lemmas.List.{take-append-drop, drop_more, take_more as take_next}
+use Rattle.std.proofs.lemmas.Fmt.{decimal_digit, decimal_step}
+use Rattle.std.specs.List.{prefix_len}
+use Rattle.std.specs.Fmt.{decimal}
+use Rattle.json.specs.Token.{Token, begin_object, end_object, key, string, number, boolean}
+use Rattle.json.specs.Lex.{tokens}
+use Rattle.json.specs.Json as json
+use Rattle.json.specs.Run.{is_plain}
+use Rattle.json.specs.Print.{escape, quoted, print_from, print, ArePrintable}
+use Rattle.json.proofs.Printed.Strings.{escape_byte_plain}
+use Rattle.json.proofs.Printed.Decimals.{IsNumber-decimal}
+use Rattle.json.proofs.Printed.Tokens.{tokens-print}
+use Rattle.serde_json.specs.Data.{object, Members, no_members, put}
+use Rattle.serde_json.specs.Read.{of_json, converted, max_depth}
+use Rattle.cq_json.specs.Fields.{json_of}
+use Rattle.cq_json.specs.Flat.{scalar_data, is_inner, puts, inner_members}
+use Rattle.cq_json.specs.FlatReading.{IsInRange, rest_of}
+use Rattle.cq_json.specs.FlatText.{run_end, value_text, member_text, members_text, AreInRange, Takes}
+use Rattle.cq_json.specs.declared.flat_reading.Pause.TheVariants as pauses
+use Rattle.cq_json.proofs.FlatReading.{member_read, members_over, opened, text_read, scalar_read}
+use Rattle.cq_json.specs.declared.flat.Scalar.{Scalar}
+use Rattle.cq_json.specs.declared.flat.Scalar.TheVariants.{Text, Number, Truth, Inner}
+use Rattle.cq_json.specs.declared.flat.Member.{Member}
+
+-- ---- strings
+
+plain_step : (p : Bool) (x n : ℕ) (xs : List ℕ) → p ≡ is_plain x → escape (take n xs) ≡ take n xs → escape (take (cond p (1 + n) 0) (x ∷ xs)) ≡ take (cond p (1 + n) 0) (x ∷ xs)
+plain_step false x n xs e front = refl
+plain_step true x n xs e front =
+    let next : 1 + n ≡ suc n = omega arith in
+    let stops = or_parts _ _ (not-true _ (sym e)) in
+    let quotes = or_parts _ _ stops.0 in
+    ap (λ k. escape (take k (x ∷ xs))) next
+    ∙ ap₂ (λ a b. a ++ b) (escape_byte_plain x (eqb-false x 34 quotes.0) (eqb-false x 92 quotes.1) (ltb-false x 32 stops.1)) front
+    ∙ ap (λ k. take k (x ∷ xs)) (sym next)
+
+-- plain bytes stand for themselves
+pub escape-plain : (xs : List ℕ) → escape (take (prefix_len is_plain xs) xs) ≡ take (prefix_len is_plain xs) xs
+escape-plain [] = refl
+escape-plain (x ∷ xs) = plain_step (is_plain x) x (prefix_len is_plain xs) xs refl (escape-plain xs)
+
+-- the front of a string whose bytes stand for themselves, and the byte behind it
+pub run_front : (d : List ℕ) (n : ℕ) → n ≡ prefix_len is_plain d → n < length d → d ≡ escape (take n d) ++ (get_or d n 0 ∷ drop (n + 1) d)
+run_front d n is within =
+    let plain : take n d ≡ escape (take n d) = rw is (sym (escape-plain d)) in
+    sym (take-append-drop n d) ∙ ap₂ (λ a b. a ++ b) plain (drop_more d n 0 within)
+
+pub run_end_ascii : (ends : Bool) → run_end ends < 128
+run_end_ascii true = omega arith
+run_end_ascii false = omega arith
+
+-- ---- numbers
+
+pub zero_front : (d : List ℕ) → 0 < length d → get_or d 0 0 ≡ 48 → d ≡ decimal 0 ++ drop 1 d
+zero_front d some is = drop_more d 0 0 some ∙ ap (λ x. x ∷ drop 1 d) is ∙ ap (λ t. t ++ drop 1 d) (sym (decimal_digit 0 (omega arith)))
+
+pub first_digit : (d : List ℕ) → 0 < length d → 48 ≤ get_or d 0 0 → get_or d 0 0 ≤ 57 → decimal (get_or d 0 0 - 48) ≡ take 1 d
+first_digit d some low high =
+    let same : 48 + (get_or d 0 0 - 48) ≡ get_or d 0 0 = omega arith in
+    decimal_digit (get_or d 0 0 - 48) (omega arith) ∙ ap (λ x. x ∷ []) same ∙ sym (take_next d 0 0 some)
+
+pub digit_more : (d : List ℕ) (n value : ℕ) → decimal value ≡ take n d → 0 < value → value < 1000000000000000000 → n < length d → 48 ≤ get_or d n 0 → get_or d n 0 ≤ 57
+    → decimal (value * 10 + (get_or d n 0 - 48)) ≡ take (n + 1) d
+digit_more d n value is some small within low high =
+    let x = get_or d n 0 in
+    let front : (value * 10 + (x - 48)) / 10 ≡ value = omega arith in
+    let last : 48 + (value * 10 + (x - 48)) % 10 ≡ x = omega arith in
+    decimal_step (value * 10 + (x - 48)) (omega arith) (omega arith)
+    ∙ ap₂ (λ a b. a ++ b ∷ []) (ap decimal front ∙ is) last ∙ sym (take_next d n 0 within)
+
+-- ---- one member more
+
+abbrev pub opening_of : List Member → ℕ
+opening_of [] = 123
+opening_of (m ∷ ms) = 44
+
+more_behind : (inner : List ℕ) (opening : ℕ) (m : Member) (ms : List Member) (n : Member)
+    → members_text inner opening ((m ∷ ms) ++ n ∷ []) ≡ members_text inner opening (m ∷ ms) ++ (44 ∷ member_text inner n)
+more_behind inner opening m [] n =
+    ap (λ t. opening ∷ (member_text inner m ++ 44 ∷ t)) (append-nil (member_text inner n))
+    ∙ ap (λ t. opening ∷ (t ++ 44 ∷ member_text inner n)) (sym (append-nil (member_text inner m)))
+more_behind inner opening m (l ∷ ms) n =
+    ap (λ t. opening ∷ (member_text inner m ++ t)) (more_behind inner 44 l ms n)
+    ∙ ap (λ t. opening ∷ t) (sym (append_assoc (member_text inner m) (members_text inner 44 (l ∷ ms)) (44 ∷ member_text inner n)))
+
+pub members_text-push : (inner : List ℕ) (ms : List Member) (n : Member) → members_text inner 123 (ms ++ n ∷ []) ≡ members_text inner 123 ms ++ (opening_of ms ∷ member_text inner n)
+members_text-push inner [] n = ap (λ t. 123 ∷ t) (append-nil (member_text inner n))
+members_text-push inner (m ∷ ms) n = more_behind inner 123 m ms n
+
+pub AreInRange-push : (ms : List Member) (n : Member) → IsInRange n.value → AreInRange ms → AreInRange (ms ++ n ∷ [])
+AreInRange-push [] n fits all = (fits, tt)
+AreInRange-push (m ∷ ms) n fits all = (all.0, AreInRange-push ms n fits all.1)
+
+pub opening_first : (ms : List Member) → length ms ≡ 0 → opening_of ms ≡ 123
+opening_first [] none = refl
+opening_first (m ∷ ms) none = absurd (omega arith)
+
+pub opening_later : (ms : List Member) → 0 < length ms → opening_of ms ≡ 44
+opening_later [] some = absurd (omega arith)
+opening_later (m ∷ ms) some = refl
+
+value_apart : (inner : List ℕ) (s : Scalar) → is_inner s ≡ false → value_text [] s ≡ value_text inner s
+value_apart inner (Text t) scalar = refl
+value_apart inner (Number n) scalar = refl
+value_apart inner (Truth b) scalar = refl
+value_apart inner Inner scalar = absurd (cc)
+
+value_inner : (inner after : List ℕ) (s : Scalar) → is_inner s ≡ true → value_text [] s ++ (inner ++ after) ≡ value_text inner s ++ after
+value_inner inner after (Text t) is = absurd (cc)
+value_inner inner after (Number n) is = absurd (cc)
+value_inner inner after (Truth b) is = absurd (cc)
+value_inner inner after Inner is = refl
+
+module _ (text : List ℕ) (read now : List Member) (rest next left : List ℕ) (took : (inner : List ℕ) → members_text inner 123 read ++ text ≡ members_text inner 123 now ++ rest) where
+  take_one : (m : Member) (inner after : List ℕ) → rest ≡ opening_of now ∷ next → next ≡ member_text inner m ++ after
+      → members_text inner 123 read ++ text ≡ members_text inner 123 (now ++ m ∷ []) ++ after
+  take_one m inner after opened member =
+      took inner ∙ ap (λ t. members_text inner 123 now ++ t) (opened ∙ ap (λ t. opening_of now ∷ t) member)
+      ∙ sym (append_assoc (members_text inner 123 now) (opening_of now ∷ member_text inner m) after)
+      ∙ ap (λ t. t ++ after) (sym (members_text-push inner now m))
+
+  pub take_more : (m : Member) → rest ≡ opening_of now ∷ next → next ≡ member_text [] m ++ left → is_inner m.value ≡ false → (inner : List ℕ)
+      → members_text inner 123 read ++ text ≡ members_text inner 123 (now ++ m ∷ []) ++ left
+  take_more m opened member scalar = λ inner.
+      take_one m inner left opened (member ∙ ap (λ v. (quoted m.name.now ++ 58 ∷ v) ++ left) (value_apart inner m.value scalar))
+
+  pub take_inner : (m : Member) → rest ≡ opening_of now ∷ next → next ≡ member_text [] m ++ left → is_inner m.value ≡ true → (inner after : List ℕ) → left ≡ inner ++ after
+      → members_text inner 123 read ++ text ≡ members_text inner 123 (now ++ m ∷ []) ++ after
+  take_inner m opened member is = λ inner after follows.
+      take_one m inner after opened
+      (member ∙ ap (λ t. member_text [] m ++ t) follows
+      ∙ append_assoc (quoted m.name.now) (58 ∷ value_text [] m.value) (inner ++ after)
+      ∙ ap (λ t. quoted m.name.now ++ 58 ∷ t) (value_inner inner after m.value is)
+      ∙ sym (append_assoc (quoted m.name.now) (58 ∷ value_text inner m.value) after))
+
+-- ---- the tokens of a flat object, where the inner one has those after its bracket
+
+abbrev pub value_tokens : List Token → Scalar → List Token
+value_tokens inner (Text text) = string text.now ∷ []
+value_tokens inner (Number n) = number (decimal n) ∷ []
+value_tokens inner (Truth truth) = boolean truth ∷ []
+value_tokens inner Inner = begin_object ∷ inner
+
+abbrev pub members_tokens : List Token → List Member → List Token
+members_tokens inner [] = end_object ∷ []
+members_tokens inner (m ∷ ms) = key m.name.now ∷ (value_tokens inner m.value ++ members_tokens inner ms)
+
+-- a text is that of an object whose bracket has these tokens behind it, which say these members
+pub record SaysObject (text : List ℕ) (ts : List Token) (is : Members) (level : ℕ) : Type 0 where
+  pub printed : (us : List Token) → print_from false (begin_object ∷ (ts ++ us)) ≡ text ++ print_from true us
+  pub printable : ArePrintable ts
+  pub read : (depth : ℕ) → level ≤ depth → (r : List Token) → converted of_json (json.value depth (begin_object ∷ (ts ++ r))) ≡ Some (object is, r)
+
+printable_both : (ts us : List Token) → ArePrintable ts → ArePrintable us → ArePrintable (ts ++ us)
+unfolding ArePrintable
+printable_both [] us h k = k
+printable_both (t ∷ ts) us h k = (h.0, printable_both ts us h.1 k)
+
+pub empty_object : SaysObject (123 ∷ 125 ∷ []) (end_object ∷ []) no_members 1
+unfolding print_from ArePrintable
+empty_object = record {
+  printed = λ us. refl;
+  printable = (tt, tt);
+  read = λ depth deep r. opened (end_object ∷ r) r no_members depth (omega arith) (members_over (depth - 1) no_members _ (end_object ∷ r) r (omega arith) refl);
+}
+
+module _ (text : List ℕ) (ts : List Token) (is : Members) (level : ℕ) (inner : SaysObject text ts is level) where
+  value_printed : (s : Scalar) (us : List Token) → print_from false (value_tokens ts s ++ us) ≡ value_text text s ++ print_from true us
+  unfolding print_from
+  value_printed (Text t) us = refl
+  value_printed (Number n) us = refl
+  value_printed (Truth b) us = refl
+  value_printed Inner us = inner.printed us
+
+  value_printable : (s : Scalar) → IsInRange s → ArePrintable (value_tokens ts s)
+  unfolding ArePrintable
+  value_printable (Text t) fits = (tt, tt)
+  value_printable (Number n) fits = (IsNumber-decimal n fits, tt)
+  value_printable (Truth b) fits = (tt, tt)
+  value_printable Inner fits = (tt, inner.printable)
+
+  value_said : (s : Scalar) → IsInRange s → (depth : ℕ) → level ≤ depth → (r : List Token) → converted of_json (json.value depth (value_tokens ts s ++ r)) ≡ Some (scalar_data is s, r)
+  value_said (Text t) fits depth deep r = scalar_read is depth (Text t) r fits refl
+  value_said (Number n) fits depth deep r = scalar_read is depth (Number n) r fits refl
+  value_said (Truth b) fits depth deep r = scalar_read is depth (Truth b) r fits refl
+  value_said Inner fits depth deep r = inner.read depth deep r
+
+  member_printed : (m : Member) (us : List Token) → print_from false (key m.name.now ∷ (value_tokens ts m.value ++ us)) ≡ member_text text m ++ print_from true us
+  unfolding print_from
+  member_printed m us =
+      append_assoc (quoted m.name.now) (58 ∷ []) _
+      ∙ ap (λ t. quoted m.name.now ++ 58 ∷ t) (value_printed m.value us)
+      ∙ sym (append_assoc (quoted m.name.now) (58 ∷ value_text text m.value) (print_from true us))
+
+  members_printed : (ms : List Member) (us : List Token) → print_from true (members_tokens ts ms ++ us) ≡ members_text text 44 ms ++ (125 ∷ print_from true us)
+  unfolding print_from
+  members_printed [] us = refl
+  members_printed (m ∷ ms) us =
+      ap (λ l. print_from true (key m.name.now ∷ l)) (append_assoc (value_tokens ts m.value) (members_tokens ts ms) us)
+      ∙ ap (λ t. 44 ∷ t) (member_printed m (members_tokens ts ms ++ us) ∙ ap (λ t. member_text text m ++ t) (members_printed ms us)
+      ∙ sym (append_assoc (member_text text m) (members_text text 44 ms) (125 ∷ print_from true us)))
+
+  members_printable : (ms : List Member) → AreInRange ms → ArePrintable (members_tokens ts ms)
+  unfolding ArePrintable
+  members_printable [] fits = (tt, tt)
+  members_printable (m ∷ ms) fits = (tt, printable_both (value_tokens ts m.value) (members_tokens ts ms) (value_printable m.value fits.0) (members_printable ms fits.1))
+
+  members_said : (ms : List Member) → AreInRange ms → (depth : ℕ) → level ≤ depth → (found : Members) (n : ℕ) (r : List Token) → length (members_tokens ts ms ++ r) ≤ n
+      → rest_of found depth n (members_tokens ts ms ++ r) ≡ Some (puts is ms found, r)
+  members_said [] fits depth deep found n r enough = members_over depth found n (end_object ∷ r) r enough refl
+  members_said (m ∷ ms) fits depth deep found n r enough =
+      let rest = members_tokens ts ms ++ r in
+      let apart = append_assoc (value_tokens ts m.value) (members_tokens ts ms) r in
+      let long : length ((value_tokens ts m.value ++ members_tokens ts ms) ++ r) ≡ length (value_tokens ts m.value) + length rest = ap length apart ∙ length-append (value_tokens ts m.value) rest in
+      ap (λ l. rest_of found depth n (key m.name.now ∷ l)) apart
+      ∙ member_read depth found n m.name.now (key m.name.now ∷ (value_tokens ts m.value ++ rest)) (value_tokens ts m.value ++ rest) rest (scalar_data is m.value) (omega arith) refl
+      (value_said m.value fits.0 depth deep rest)
+      ∙ members_said ms fits.1 depth deep (put m.name.now (scalar_data is m.value) found) (n - 1) r (omega arith)
+
+  object_read : (ms : List Member) → AreInRange ms → (depth : ℕ) → suc level ≤ depth → (r : List Token)
+      → converted of_json (json.value depth (begin_object ∷ (members_tokens ts ms ++ r))) ≡ Some (object (puts is ms no_members), r)
+  object_read ms fits depth deep r =
+      opened (members_tokens ts ms ++ r) r (puts is ms no_members) depth (omega arith)
+      (members_said ms fits (depth - 1) (omega arith) no_members (length (members_tokens ts ms ++ r)) r (omega arith))
+
+  object_printed : (ms : List Member) → 0 < length ms → (us : List Token)
+      → print_from false (begin_object ∷ (members_tokens ts ms ++ us)) ≡ (members_text text 123 ms ++ 125 ∷ []) ++ print_from true us
+  unfolding print_from
+  object_printed [] some us = absurd (omega arith)
+  object_printed (m ∷ ms) some us =
+      ap (λ l. print_from false (begin_object ∷ key m.name.now ∷ l)) (append_assoc (value_tokens ts m.value) (members_tokens ts ms) us)
+      ∙ ap (λ t. 123 ∷ t) (member_printed m (members_tokens ts ms ++ us) ∙ ap (λ t. member_text text m ++ t) (members_printed ms us)
+      ∙ sym (append_assoc (member_text text m) (members_text text 44 ms) (125 ∷ print_from true us)))
+      ∙ sym (append_assoc (members_text text 123 (m ∷ ms)) (125 ∷ []) (print_from true us))
+
+  pub outer_object : (ms : List Member) → 0 < length ms → AreInRange ms → SaysObject (members_text text 123 ms ++ 125 ∷ []) (members_tokens ts ms) (puts is ms no_members) (suc level)
+  outer_object ms some fits = record {
+    printed = object_printed ms some;
+    printable = members_printable ms fits;
+    read = object_read ms fits;
+  }
+
+-- the data of the text
+pub object_said : (text : List ℕ) (ts : List Token) (is : Members) (level : ℕ) → SaysObject text ts is level → level ≤ max_depth → IsUtf8 text → json_of text ≡ Some (object is)
+unfolding print_from ArePrintable
+object_said text ts is level says deep utf8 =
+    let printed : print (begin_object ∷ ts) ≡ text = ap (λ l. print (begin_object ∷ l)) (sym (append-nil ts)) ∙ says.printed [] ∙ append-nil text in
+    let read : converted of_json (json.value max_depth (begin_object ∷ ts)) ≡ Some (object is, []) = ap (λ l. converted of_json (json.value max_depth (begin_object ∷ l))) (sym (append-nil ts)) ∙ says.read max_depth deep [] in
+    text_read text (begin_object ∷ ts) (object is) utf8 (sym (tokens-print (begin_object ∷ ts) (tt, says.printable)) ∙ ap tokens printed) read
+
+-- ---- the whole text
+
+abbrev two_braces : List ℕ
+two_braces = 123 ∷ 125 ∷ []
+
+text_said : (text inner_text : List ℕ) (ts : List Token) (is : Members) (level : ℕ) (ms : List Member) → SaysObject inner_text ts is level → suc level ≤ max_depth → IsUtf8 text
+    → text ≡ members_text inner_text 123 ms ++ 125 ∷ [] → 0 < length ms → AreInRange ms → json_of text ≡ Some (object (puts is ms no_members))
+text_said text inner_text ts is level ms inner deep utf8 same some fits =
+    subst (λ t. json_of t ≡ Some (object (puts is ms no_members))) (sym same)
+    (object_said (members_text inner_text 123 ms ++ 125 ∷ []) (members_tokens ts ms) (puts is ms no_members) (suc level) (outer_object inner_text ts is level inner ms some fits) deep (subst IsUtf8 same utf8))
+
+pub flat_said : (text rest : List ℕ) (members : List Member) → IsUtf8 text → Takes text [] pauses.End rest members → rest ≡ []
+    → json_of text ≡ Some (object (puts (inner_members []) members no_members))
+flat_said text rest members utf8 takes none =
+    text_said text two_braces (end_object ∷ []) no_members 1 members empty_object (omega arith) utf8
+    (takes.0 two_braces ∙ ap (λ t. members_text two_braces 123 members ++ 125 ∷ t) none) takes.1.1 (takes.1.0 tt)
+
+pub nested_said : (text opened closed rest : List ℕ) (ms inner members : List Member) → IsUtf8 text → Takes text [] pauses.Inner opened ms → Takes opened [] pauses.End closed inner
+    → Takes closed ms pauses.End rest members → rest ≡ [] → json_of text ≡ Some (object (puts (inner_members inner) members no_members))
+nested_said text opened closed rest ms inner members utf8 front within back none =
+    let inner_text = members_text two_braces 123 inner ++ 125 ∷ [] in
+    let is = within.0 two_braces ∙ sym (append_assoc (members_text two_braces 123 inner) (125 ∷ []) closed) in
+    text_said text inner_text (members_tokens (end_object ∷ []) inner) (inner_members inner) 2 members
+    (outer_object two_braces (end_object ∷ []) no_members 1 empty_object inner within.1.1 (within.1.0 tt)) (omega arith) utf8
+    (front.0 inner_text closed is ∙ back.0 inner_text ∙ ap (λ t. members_text inner_text 123 members ++ 125 ∷ t) none) back.1.1 (back.1.0 (front.1.0 tt))
+
+pub on_some : {A P Q : Type 0} (o : Option A) → (P → Q) → OnSome o P → OnSome o Q
+on_some (Some x) f p = f p
+on_some None f p = p

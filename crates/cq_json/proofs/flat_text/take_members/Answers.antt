@@ -1,0 +1,38 @@
+use Rattle.std.proofs.Common.{◌≡◌, [], ◌∷◌, length, sym, ap, ◌∙◌, arith, length-append, rules}
+use Rattle.std.proofs.lemmas.Bool.{eqb-true, eqb-false}
+use Rattle.cq_json.proofs.FlatText.{opening_of, opening_first, opening_later, take_more, take_inner, AreInRange-push}
+use Rattle.cq_json.proofs.flat_text.take_members.Goals as goal
+use Rattle.cq_json.proofs.flat_text.take_members.Goals.{then-is_empty, else-is_empty}
+
+pub returns-then-is_inner : goal.returns-then-is_inner
+returns-then-is_inner c =
+    let ms = c.members.members.items in
+    let m = c.in_ok-member.member in
+    let opening : c.if-is_empty.opening ≡ opening_of ms = elim c.if-is_empty.branch [
+      | then-is_empty w ↦ w.opening-is ∙ sym (opening_first ms (eqb-true (length ms) 0 (sym c.is_empty.ensures ∙ w.if-is_empty.true)))
+      | else-is_empty w ↦ w.opening-is ∙ sym (opening_later ms (omega (arith, eqb-false (length ms) 0 (sym c.is_empty.ensures ∙ w.if-is_empty.false))))
+    ] in
+    let opened = c.in-Some.ensures ∙ ap (λ b. b ∷ c.in-Some.next.now) opening in
+    rw c.push.ensures.items (
+      take_inner c.args.text.now c.args.members.now.items ms c.members.rest.now c.in-Some.next.now c.in_ok-member.left.now c.members.invariant.1.0 m opened c.in_ok-member.ensures.0
+          (sym c.is_inner.ensures ∙ c.if-is_inner.true),
+      ((λ all. AreInRange-push ms m c.in_ok-member.ensures.1 (c.members.invariant.1.1 all)), omega (arith, length-append ms (m ∷ []))),
+    )
+
+pub members-preserved : goal.members-preserved
+members-preserved c =
+    let ms = c.members.members.items in
+    let m = c.in_ok-member.member in
+    let opening : c.if-is_empty.opening ≡ opening_of ms = elim c.if-is_empty.branch [
+      | then-is_empty w ↦ w.opening-is ∙ sym (opening_first ms (eqb-true (length ms) 0 (sym c.is_empty.ensures ∙ w.if-is_empty.true)))
+      | else-is_empty w ↦ w.opening-is ∙ sym (opening_later ms (omega (arith, eqb-false (length ms) 0 (sym c.is_empty.ensures ∙ w.if-is_empty.false))))
+    ] in
+    let opened = c.in-Some.ensures ∙ ap (λ b. b ∷ c.in-Some.next.now) opening in
+    rw c.push.ensures.items (
+      search rules,
+      (
+        take_more c.args.text.now c.args.members.now.items ms c.members.rest.now c.in-Some.next.now c.in_ok-member.left.now c.members.invariant.1.0 m opened c.in_ok-member.ensures.0
+            (sym c.is_inner.ensures ∙ c.if-is_inner.false),
+        (λ all. AreInRange-push ms m c.in_ok-member.ensures.1 (c.members.invariant.1.1 all)),
+      ),
+    )

@@ -1,0 +1,49 @@
+-- The text of a flat object in its most common form: no spaces, and the shortest escapes. Only the clauses of private
+-- functions cite it.
+use Rattle.std.specs.Prelude.{Bool, true, false, ◌≡◌, ◌<◌, ℕ, List, [], ◌∷◌, ◌++◌, length}
+use Rattle.std.specs.Fmt.{decimal}
+use Rattle.json.specs.Token.{boolean}
+use Rattle.json.specs.Print.{quoted, token_text}
+use Rattle.cq_json.specs.FlatReading.{IsInRange}
+use Rattle.cq_json.specs.declared.flat.Scalar.{Scalar}
+use Rattle.cq_json.specs.declared.flat.Scalar.TheVariants.{Text, Number, Truth, Inner}
+use Rattle.cq_json.specs.declared.flat.Member.{Member}
+use Rattle.cq_json.specs.declared.flat_reading.Pause.{Pause}
+use Rattle.cq_json.specs.declared.flat_reading.Pause.TheVariants as pauses
+
+-- what a run of bytes that stand for themselves ends with: the string's quote, or an escape's backslash
+abbrev pub run_end : Bool → ℕ
+run_end true = 34
+run_end false = 92
+
+-- the text of a value, where the inner object has that text
+abbrev pub value_text : List ℕ → Scalar → List ℕ
+value_text inner (Text text) = quoted text.now
+value_text inner (Number n) = decimal n
+value_text inner (Truth truth) = token_text (boolean truth)
+value_text inner Inner = inner
+
+-- the text of a member
+abbrev pub member_text : List ℕ → Member → List ℕ
+member_text inner m = quoted m.name.now ++ (58 ∷ value_text inner m.value)
+
+-- the texts of members, with that byte before the first and a comma before each other one
+abbrev pub members_text : List ℕ → ℕ → List Member → List ℕ
+members_text inner opening [] = []
+members_text inner opening (m ∷ ms) = opening ∷ (member_text inner m ++ members_text inner 44 ms)
+
+-- the number of each member that has one is below 2^64
+abbrev pub AreInRange : List Member → Type 0
+AreInRange [] = Unit {0}
+AreInRange (m ∷ ms) = IsInRange m.value × AreInRange ms
+
+-- Before the text there were the members `read`, and with what was taken of it there are those `now`. Before the end of
+-- the object `rest` is left; else the inner object comes next.
+abbrev pub Took : Pause → List ℕ → List Member → List ℕ → List Member → Type 0
+Took pauses.End text read rest now = (inner : List ℕ) → members_text inner 123 read ++ text ≡ members_text inner 123 now ++ (125 ∷ rest)
+Took pauses.Inner text read rest now =
+    (inner after : List ℕ) → rest ≡ inner ++ after → members_text inner 123 read ++ text ≡ members_text inner 123 now ++ after
+
+-- the members that were read up to where the reading came to a stop
+abbrev pub Takes : List ℕ → List Member → Pause → List ℕ → List Member → Type 0
+Takes text read pause rest now = Took pause text read rest now × ((AreInRange read → AreInRange now) × (0 < length now))

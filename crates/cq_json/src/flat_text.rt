@@ -1,0 +1,331 @@
+//! A flat object's text in its most common form, read straight from its bytes: no spaces, and the shortest
+//! escapes.
+ghost use Rattle.std.specs.Prelude.{◌≡◌, ◌<◌, ◌^◌, [], ◌∷◌, ◌++◌, length, IfSome, OnSome, Some};
+ghost use Rattle.std.specs.List.{prefix_len};
+ghost use Rattle.std.specs.Fmt.{decimal};
+ghost use Rattle.std.specs.String.{string_bytes};
+ghost use Rattle.json.specs.Run.{is_plain};
+ghost use Rattle.json.specs.Print.{escape, escape_byte, quoted};
+ghost use Rattle.serde_json.specs.Data.{object, no_members};
+ghost use Rattle.cq_json.specs.Fields.{json_of};
+ghost use Rattle.cq_json.specs.Flat.{puts, inner_members};
+ghost use Rattle.cq_json.specs.FlatReading.{IsInRange};
+ghost use Rattle.cq_json.specs.FlatText.{run_end, value_text, member_text, Takes};
+
+use crate::flat::{Member, Members, Scalar};
+use crate::flat_reading::Pause;
+use std::simd::prelude::*;
+
+/// How many bytes are looked at together.
+const LANES: usize = 16;
+
+/// Numbers from here on are not read.
+const NUMBER_END: u64 = 1_000_000_000_000_000_000;
+
+/// How many of the bytes stand for themselves in a string, before the first that doesn't.
+fn plain_lanes(bytes: u8x16) -> usize
+    ensures { result ≡ prefix_len is_plain bytes }
+{
+    let quotes = bytes.simd_eq(u8x16::splat(b'"')) | bytes.simd_eq(u8x16::splat(b'\\'));
+    let stops = (quotes | bytes.simd_lt(u8x16::splat(b' '))).to_bitmask();
+    if stops == 0 {
+        LANES
+    } else {
+        stops.trailing_zeros() as usize
+    }
+}
+
+/// The length of the front whose bytes stand for themselves in a string, found byte by byte: O(that length).
+fn plain_len_by_bytes(bytes: &[u8]) -> usize
+    ensures { result ≡ prefix_len is_plain bytes.now }
+{
+    let mut len = 0;
+    while len < bytes.len() && bytes[len] != b'"' && bytes[len] != b'\\' && bytes[len] >= b' ' {
+        len += 1;
+    }
+    len
+}
+
+/// The length of the front whose bytes stand for themselves in a string: O(that length).
+fn plain_len(bytes: &[u8]) -> usize
+    ensures { result ≡ prefix_len is_plain bytes.now }
+{
+    let mut len = 0;
+    while bytes.len() - len >= LANES {
+        let plain = plain_lanes(u8x16::from_slice(&bytes[len..]));
+        if plain < LANES {
+            return len + plain;
+        }
+        len += LANES;
+    }
+    len + plain_len_by_bytes(&bytes[len..])
+}
+
+/// What follows that ASCII character, if the text begins with it.
+fn after(text: &str, character: u8) -> Option<&str>
+    requires { character < 128 }
+    ensures { IfSome result (λ rest. text.now ≡ character ∷ rest.now) }
+{
+    if *text.as_bytes().first()? != character {
+        return None;
+    }
+    Some(&text[1..])
+}
+
+/// Whether a string ends at that byte; none for one that is neither a quote nor a backslash.
+fn ends_at(byte: u8) -> Option<bool>
+    ensures { IfSome result (λ ends. byte ≡ run_end ends) }
+{
+    match byte {
+        b'"' => Some(true),
+        b'\\' => Some(false),
+        _ => None,
+    }
+}
+
+/// The front of a string's text whose bytes stand for themselves, whether the string ends behind it or has an escape
+/// there, and what follows the quote or the backslash: O(bytes of the front).
+fn next_run(text: &str) -> Option<(&str, bool, &str)>
+    ensures { IfSome result (λ parts.
+        text.now ≡ escape parts.0.now ++ (run_end parts.1 ∷ parts.2.now)) }
+{
+    let bytes = text.as_bytes();
+    let len = plain_len(bytes);
+    if len == bytes.len() {
+        return None;
+    }
+    let ends = ends_at(bytes[len])?;
+    Some((&text[..len], ends, &text[len + 1..]))
+}
+
+/// The string at the front, if it has no escapes, and what follows it: O(its bytes).
+fn read_string(text: &str) -> Option<(&str, &str)>
+    ensures { IfSome result (λ parts. text.now ≡ quoted parts.0.now ++ parts.1.now) }
+{
+    let (string, ends, rest) = next_run(after(text, b'"')?)?;
+    if ends { Some((string, rest)) } else { None }
+}
+
+/// The character whose short escape has that letter.
+#[tactic(auto, unfolding(json::specs::Print::escape_byte))]
+fn escaped_by(letter: u8) -> Option<char>
+    ensures value { IfSome result (λ character. escape_byte character ≡ 92 ∷ letter ∷ []) }
+    ensures ascii { IfSome result (λ character. (character < 128) × (letter < 128)) }
+{
+    match letter {
+        b'"' => Some('"'),
+        b'\\' => Some('\\'),
+        b'b' => Some('\u{8}'),
+        b'f' => Some('\u{c}'),
+        b'n' => Some('\n'),
+        b'r' => Some('\r'),
+        b't' => Some('\t'),
+        _ => None,
+    }
+}
+
+/// The character whose escape stands at the front, behind its backslash, and what follows it.
+fn read_escape(text: &str) -> Option<(char, &str)>
+    ensures value { IfSome result (λ parts. 92 ∷ text.now ≡ escape_byte parts.0 ++ parts.1.now) }
+    ensures ascii { IfSome result (λ parts. parts.0 < 128) }
+    ensures shorter { IfSome result (λ parts. length parts.1.now < length text.now) }
+{
+    let character = escaped_by(*text.as_bytes().first()?)?;
+    Some((character, &text[1..]))
+}
+
+/// Makes `out` that text. None where there is no memory.
+fn begin(out: &mut String, front: &str) -> Option<()>
+    ensures { OnSome result (string_bytes out.new ≡ front.now) }
+{
+    out.clear();
+    out.push_str(front).ok()
+}
+
+/// Adds an ASCII character and a text. None where there is no memory.
+fn append(out: &mut String, character: char, run: &str) -> Option<()>
+    requires { character < 128 }
+    ensures { OnSome result (string_bytes out.new
+        ≡ (string_bytes out.old ++ character ∷ []) ++ run.now) }
+{
+    out.push(character).ok()?;
+    out.push_str(run).ok()
+}
+
+/// The string that has this front, and behind it an escape of which the backslash was passed; and what follows it. It is
+/// written to `out`: O(its bytes). None also where there is no memory.
+fn read_escaped<'a>(front: &str, text: &'a str, out: &'a mut String) -> Option<(&'a str, &'a str)>
+    ensures { IfSome result (λ parts.
+        escape front.now ++ (92 ∷ text.now) ≡ escape parts.0.now ++ (34 ∷ parts.1.now)) }
+{
+    begin(out, front)?;
+    let mut rest = text;
+    let mut ended = false;
+    'escapes: while !ended {
+        let (character, behind) = read_escape(rest)?;
+        let (run, ends, next) = next_run(behind)?;
+        append(out, character, run)?;
+        ended = ends;
+        rest = next;
+    }
+    Some((out.as_str(), rest))
+}
+
+/// The string at the front, and what follows it: O(its bytes). One with escapes is written to `spare`, which is there for
+/// one alone.
+fn read_text<'a>(text: &'a str, spare: &mut Option<&'a mut String>) -> Option<(&'a str, &'a str)>
+    ensures { IfSome result (λ parts. text.now ≡ quoted parts.0.now ++ parts.1.now) }
+{
+    let (front, ends, rest) = next_run(after(text, b'"')?)?;
+    if ends {
+        return Some((front, rest));
+    }
+    let (string, rest) = read_escaped(front, rest, spare.take()?)?;
+    Some((string, rest))
+}
+
+/// The number at the front, and what follows it: O(its digits). None also for one that has 20 digits or begins with a
+/// `0` it doesn't need.
+fn read_number(text: &str) -> Option<(u64, &str)>
+    ensures { IfSome result (λ parts. (text.now ≡ decimal parts.0 ++ parts.1.now) × (parts.0 < 2 ^ 64)) }
+{
+    let bytes = text.as_bytes();
+    let first = *bytes.first()?;
+    if first == b'0' {
+        return Some((0, &text[1..]));
+    }
+    if !first.is_ascii_digit() {
+        return None;
+    }
+    let mut number = u64::from(first - b'0');
+    let mut len = 1;
+    while len < bytes.len() && bytes[len].is_ascii_digit() {
+        if number >= NUMBER_END {
+            return None;
+        }
+        number = number * 10 + u64::from(bytes[len] - b'0');
+        len += 1;
+    }
+    Some((number, &text[len..]))
+}
+
+/// The truth value at the front, and what follows it.
+fn read_truth(text: &str) -> Option<(bool, &str)>
+    ensures { IfSome result (λ parts. text.now ≡ value_text [] (Scalar.Truth parts.0) ++ parts.1.now) }
+{
+    if let Some(rest) = text.strip_prefix("true") {
+        return Some((true, rest));
+    }
+    Some((false, text.strip_prefix("false")?))
+}
+
+/// The value at the front, and what follows it; of the inner object nothing is passed.
+fn read_value<'a>(
+    text: &'a str,
+    spare: &mut Option<&'a mut String>,
+) -> Option<(Scalar<'a>, &'a str)>
+    ensures { IfSome result (λ parts. (text.now ≡ value_text [] parts.0 ++ parts.1.now) × IsInRange parts.0) }
+{
+    match *text.as_bytes().first()? {
+        b'"' => {
+            let (string, rest) = read_text(text, spare)?;
+            Some((Scalar::Text(string), rest))
+        }
+        b'{' => Some((Scalar::Inner, text)),
+        b't' | b'f' => {
+            let (truth, rest) = read_truth(text)?;
+            Some((Scalar::Truth(truth), rest))
+        }
+        _ => {
+            let (number, rest) = read_number(text)?;
+            Some((Scalar::Number(number), rest))
+        }
+    }
+}
+
+/// The member at the front, and what follows it.
+fn read_member<'a>(
+    text: &'a str,
+    spare: &mut Option<&'a mut String>,
+) -> Option<(Member<'a>, &'a str)>
+    ensures { IfSome result (λ parts. (text.now ≡ member_text [] parts.0 ++ parts.1.now) × IsInRange parts.0.value) }
+{
+    let (name, rest) = read_string(text)?;
+    let (value, rest) = read_value(after(rest, b':')?, spare)?;
+    Some((Member { name, value }, rest))
+}
+
+/// Takes members up to the end of the object, or up to one whose value is an object, and gives what follows: O(bytes).
+/// Before the first of an object stands its bracket. None also where there is no room for them.
+fn take_members<'a>(
+    text: &'a str,
+    members: &mut Members<'a>,
+    spare: &mut Option<&'a mut String>,
+) -> Option<(Pause, &'a str)>
+    ensures { IfSome result (λ parts. Takes text.now members.old.items parts.0 parts.1.now members.new.items) }
+{
+    let mut rest = text;
+    'members: loop {
+        let opening = if members.is_empty() { b'{' } else { b',' };
+        let Some(next) = after(rest, opening) else {
+            break 'members;
+        };
+        if members.is_full() {
+            return None;
+        }
+        let (member, left) = read_member(next, spare)?;
+        members.push(member);
+        rest = left;
+        if member.value.is_inner() {
+            return Some((Pause::Inner, rest));
+        }
+    }
+    if members.is_empty() {
+        return None;
+    }
+    let rest = after(rest, b'}')?;
+    Some((Pause::End, rest))
+}
+
+/// Takes members up to the end of the object, and gives what follows. None where the value of one is an object.
+fn take_rest<'a>(
+    text: &'a str,
+    members: &mut Members<'a>,
+    spare: &mut Option<&'a mut String>,
+) -> Option<&'a str>
+    ensures { IfSome result (λ rest. Takes text.now members.old.items Pause.End rest.now members.new.items) }
+{
+    match take_members(text, members, spare)? {
+        (Pause::End, rest) => Some(rest),
+        (Pause::Inner, _) => None,
+    }
+}
+
+/// Something, if nothing is left.
+fn ended(rest: &str) -> Option<()>
+    ensures { OnSome result (rest.now ≡ []) }
+{
+    if rest.is_empty() { Some(()) } else { None }
+}
+
+/// Takes the members of the object that the text is, and those of the object in it: O(bytes). None for any text of
+/// another form, and the members are then of no use.
+pub(crate) fn take_object<'a>(
+    text: &'a str,
+    members: &mut Members<'a>,
+    inner: &mut Members<'a>,
+    spare: &mut Option<&'a mut String>,
+) -> Option<()>
+    requires members { members.old.items ≡ [] }
+    requires inner { inner.old.items ≡ [] }
+    ensures { OnSome result (json_of text.now
+        ≡ Some (object (puts (inner_members inner.new.items) members.new.items no_members))) }
+{
+    match take_members(text, members, spare)? {
+        (Pause::End, rest) => ended(rest),
+        (Pause::Inner, rest) => {
+            let rest = take_rest(rest, inner, spare)?;
+            ended(take_rest(rest, members, spare)?)
+        }
+    }
+}
