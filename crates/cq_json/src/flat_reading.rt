@@ -1,11 +1,12 @@
 //! From a text to a flat object: of the most common form in one pass over its bytes, and of any other in one over its
 //! tokens.
 ghost use Rattle.std.specs.Prelude.{◌≡◌, ◌<◌, ◌^◌, [], ◌∷◌, IfSome, IfOk, OnOk, Some};
+ghost use Rattle.std.specs.Bool.{OnTrue};
 ghost use Rattle.std.specs.Fmt.{decimal};
 ghost use Rattle.json.specs.Json as json;
 ghost use Rattle.serde_json.specs.Read.{of_json, converted, max_depth};
 ghost use Rattle.cq_json.specs.Fields as spec;
-ghost use Rattle.cq_json.specs.Flat.{flat_data, object_data};
+ghost use Rattle.cq_json.specs.Flat.{data_of, flat_data, object_data, IsEmpty};
 ghost use Rattle.cq_json.specs.FlatReading.{scalar_token, IsInRange, ReadsTo, Ends, EndsBoth};
 
 use crate::flat::{Flat, Member, Members, Scalar};
@@ -126,62 +127,68 @@ fn read_both<'a>(
     }
 }
 
-/// The object that comes next.
-fn read_object<'a>(reader: &mut Reader<'a>) -> Result<FlatObject<'a>, Invalid>
-    ensures { IfOk result (λ object. converted of_json (json.value max_depth reader.old)
-        ≡ Some (object_data object, reader.new)) }
+/// The members of the object that comes next, and those of the object in it.
+fn read_object<'a>(
+    reader: &mut Reader<'a>,
+    members: &mut Members<'a>,
+    inner: &mut Members<'a>,
+) -> Result<(), Invalid>
+    requires members { members.old.items ≡ [] }
+    requires inner { inner.old.items ≡ [] }
+    ensures { OnOk result (converted of_json (json.value max_depth reader.old)
+        ≡ Some (data_of members.new.items inner.new.items, reader.new)) }
 {
     if !read_scalar(reader)?.is_inner() {
         return Err(Invalid);
     }
-    let mut members = Members::new();
-    let mut inner = Members::new();
-    read_both(reader, &mut members, &mut inner)?;
-    Ok(FlatObject { members, inner })
+    read_both(reader, members, inner)?;
+    Ok(())
 }
 
 impl<'a> FlatObject<'a> {
-    /// The object that the text is: O(bytes). None for any other text, for one with more than eight
-    /// members or with other values than a flat object has, and where there is no memory for the
-    /// scratch. A text without spaces and escapes is read in one pass.
-    pub fn read(text: &'a str, scratch: &'a mut Scratch) -> Option<FlatObject<'a>>
-        ensures { IfSome result (λ object. spec.json_of text.now ≡ Some (object_data object)) }
+    /// An object with no members.
+    pub fn new() -> FlatObject<'a>
+        ensures { IsEmpty result }
     {
-        let mut members = Members::new();
-        let mut inner = Members::new();
-        if take_object(text, &mut members, &mut inner, &mut None).is_some() {
-            return Some(FlatObject { members, inner });
+        FlatObject {
+            members: Members::new(),
+            inner: Members::new(),
         }
-        FlatObject::read_tokens(text, scratch)
     }
 
-    /// The same. A text without spaces is read in one pass also where one value in it has escapes.
-    pub fn read_line(text: &'a str, scratch: &'a mut LineScratch) -> Option<FlatObject<'a>>
-        ensures { IfSome result (λ object. spec.json_of text.now ≡ Some (object_data object)) }
+    /// Reads the object that the text is: O(bytes), and in one pass over these where there are no spaces and at most one
+    /// value has escapes, which are the shortest. It answers false, and has some of the members then, for any other text,
+    /// for one with more than eight members or with other values than a flat object has, and where there is no memory for
+    /// the scratch.
+    pub fn read(&mut self, text: &'a str, scratch: &'a mut LineScratch) -> bool
+        requires { IsEmpty self.old }
+        ensures { OnTrue result (spec.json_of text.now ≡ Some (object_data self.new)) }
     {
         let LineScratch { tokens, decoded } = scratch;
-        let mut members = Members::new();
-        let mut inner = Members::new();
-        if take_object(text, &mut members, &mut inner, &mut Some(decoded)).is_some() {
-            return Some(FlatObject { members, inner });
+        let mut spare = Some(decoded);
+        if let Some(()) = take_object(text, &mut self.members, &mut self.inner, &mut spare) {
+            return true;
         }
-        FlatObject::read_tokens(text, tokens)
+        self.members.clear();
+        self.inner.clear();
+        self.read_tokens(text, tokens)
     }
 
-    /// The same of a text in any form.
-    fn read_tokens(text: &'a str, scratch: &'a mut Scratch) -> Option<FlatObject<'a>>
-        ensures { IfSome result (λ object. spec.json_of text.now ≡ Some (object_data object)) }
+    /// The same of a text in any form, from its tokens.
+    fn read_tokens(&mut self, text: &'a str, scratch: &'a mut Scratch) -> bool
+        requires { IsEmpty self.old }
+        ensures { OnTrue result (spec.json_of text.now ≡ Some (object_data self.new)) }
     {
         let Ok(mut reader) = Reader::new(text, scratch) else {
-            return None;
+            return false;
         };
-        let Ok(object) = read_object(&mut reader) else {
-            return None;
+        let Ok(()) = read_object(&mut reader, &mut self.members, &mut self.inner) else {
+            return false;
         };
         if reader.next().is_some() {
-            return None;
+            return false;
         }
-        Some(object)
+        true
     }
 
     /// The same, to be looked at.

@@ -8,9 +8,8 @@ ghost use Rattle.cq_script.specs.declared.event_line.Line.TheVariants as lines;
 use crate::event::read_event;
 use crate::flat_event::read_flat_event;
 use cq_base::BaseFault;
-use cq_json::{FlatObject, Stop, parse};
+use cq_json::{FlatObject, LineScratch, Stop, parse};
 use cq_world::Event;
-use json::Scratch;
 use simdutf8::basic::from_utf8;
 use std::alloc::Global;
 use thiserror::Error;
@@ -49,7 +48,7 @@ pub fn is_blank(bytes: &[u8]) -> bool
 /// The event that the bytes say, if their object is a flat one: read without a map, and with no memory
 /// but that of the scratch and of the event. None also for bytes that say no event, or one with a text that
 /// breaks its rule, and where there is no memory. O(bytes).
-fn event_at_once(alloc: Global, scratch: &mut Scratch, bytes: &[u8]) -> Option<Event>
+fn event_at_once(alloc: Global, scratch: &mut LineScratch, bytes: &[u8]) -> Option<Event>
     ensures { IfSome result (λ event. event_from bytes.now ≡ Ok event) }
 {
     let text = from_utf8(bytes).ok()?;
@@ -72,7 +71,7 @@ fn read_object(alloc: Global, bytes: &[u8]) -> Result<Event, Stop>
 #[tactic(auto, unfolding(crate::specs::Line::line_of))]
 pub(crate) fn event_with(
     alloc: Global,
-    scratch: &mut Scratch,
+    scratch: &mut LineScratch,
     bytes: &[u8],
 ) -> Result<Line, LineFault>
     ensures says { Reads result (line_of bytes.now) }
@@ -99,6 +98,6 @@ pub fn event_of(alloc: Global, bytes: &[u8]) -> Result<Line, LineFault>
     ensures says { Reads result (line_of bytes.now) }
     ensures blank { list_all is_blank_byte bytes.now ≡ true → result ≡ Ok lines.Blank }
 {
-    let mut scratch = Scratch::new(alloc);
+    let mut scratch = LineScratch::new(alloc);
     event_with(alloc, &mut scratch, bytes)
 }

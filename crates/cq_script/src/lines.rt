@@ -6,8 +6,8 @@ ghost use Rattle.cq_script.specs.within.Readings.{nothing_read, forgotten, judge
 
 use crate::event_line::{Line, LineFault, event_with};
 use crate::fault::{LineRefusal, ScriptFault};
+use cq_json::LineScratch;
 use cq_world::Event;
-use json::Scratch;
 use memchr::memchr;
 use std::alloc::{AllocError, Global};
 use std::marker::Model;
@@ -30,7 +30,7 @@ pub struct Item {
 #[derive(Drop)]
 pub struct Reading {
     alloc: Global,
-    scratch: Scratch,
+    scratch: LineScratch,
     items: Vec<Item>,
     lines: u64,
     begun: Vec<u8>,
@@ -56,7 +56,7 @@ impl Reading {
     {
         Reading {
             alloc,
-            scratch: Scratch::new(alloc),
+            scratch: LineScratch::new(alloc),
             items: Vec::new(alloc),
             lines: 0,
             begun: Vec::new(alloc),

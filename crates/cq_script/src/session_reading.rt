@@ -8,8 +8,8 @@ use crate::event_line::{Line, LineFault, event_with};
 use crate::fault::{LineRefusal, ScriptFault};
 use crate::lines::{Item, LINE_LIMIT, cut_line};
 use cq_base::NoMemory;
+use cq_json::LineScratch;
 use cq_world::Event;
-use json::Scratch;
 use std::alloc::Global;
 use std::marker::Model;
 
@@ -20,7 +20,7 @@ pub const BYTES_LIMIT: u64 = u64::MAX;
 #[derive(Drop)]
 pub struct SessionReading {
     alloc: Global,
-    scratch: Scratch,
+    scratch: LineScratch,
     items: Vec<Item>,
     lines: u64,
     bytes: u64,
@@ -51,7 +51,7 @@ impl SessionReading {
     {
         SessionReading {
             alloc,
-            scratch: Scratch::new(alloc),
+            scratch: LineScratch::new(alloc),
             items: Vec::new(alloc),
             lines: 0,
             bytes: 0,
@@ -111,7 +111,7 @@ impl SessionReading {
         if self.begun.is_empty() {
             return Ok(None);
         }
-        let mut scratch = Scratch::new(self.alloc);
+        let mut scratch = LineScratch::new(self.alloc);
         said_by(self.alloc, &mut scratch, self.begun.as_slice())
     }
 
@@ -173,7 +173,7 @@ impl SessionReading {
 /// What the line with these bytes says in a session, if it isn't blank.
 fn said_by(
     alloc: Global,
-    scratch: &mut Scratch,
+    scratch: &mut LineScratch,
     bytes: &[u8],
 ) -> Result<Option<Result<Event, LineRefusal>>, NoMemory>
     ensures { IfOk result (λ said. said ≡ said_in (line_of bytes.now)) }
@@ -190,7 +190,7 @@ fn said_by(
 /// The same of a line that has begun with some bytes and ends with others. One that came whole isn't copied.
 fn said_by_parts(
     alloc: Global,
-    scratch: &mut Scratch,
+    scratch: &mut LineScratch,
     begun: &mut Vec<u8>,
     part: &[u8],
 ) -> Result<Option<Result<Event, LineRefusal>>, NoMemory>
