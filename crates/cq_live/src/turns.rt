@@ -4,13 +4,13 @@ use std::hint::spin_loop;
 use std::thread::yield_now;
 
 /// After so many turns in a row without work a node lets other threads run, each time.
-const IDLE_LIMIT: u32 = 16;
+const IDLE_LIMIT: u32 = 64;
 
-/// How often a node pauses after a turn without work. Such a turn takes some 100 ns, and so many pauses some 900: turns are
-/// what a live run may run out of, and a node is not to have more of them in a second because each is short.
+/// How often a node pauses after a turn without work, each time for 15 to 60 ns by the processor: turns are what a live run
+/// may run out of, and a node is not to have many more of them in a second because each is short.
 const PAUSES: u32 = 16;
 
-/// Lets somewhat less than a microsecond go by.
+/// Lets some hundred nanoseconds go by.
 fn pause() {
     for _ in 0..PAUSES {
         spin_loop();
