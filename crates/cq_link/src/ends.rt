@@ -38,15 +38,6 @@ pub trait TakeEnd<T: Drop> {
     /// The link that it is an end of.
     ghost link: { Self → Id };
 
-    /// Whether a take may find an item. Where it answers false, none was there when it looked; an end that doesn't look
-    /// answers true. It costs less than a take that finds nothing.
-    fn may_take(&mut self) -> bool
-        ensures link { link self.new ≡ link self.old }
-        ensures list { list self.new ≡ list self.old }
-    {
-        true
-    }
-
     /// Takes the first item that is there.
     fn take<R: Wait>(&mut self, rt: &R) -> Option<T>
         ensures link { link self.new ≡ link self.old }
@@ -75,10 +66,6 @@ impl<T: Drop> TakeEnd<T> for Taker<T> {
     ghost list = { taken_from };
 
     ghost link = { taker_link };
-
-    fn may_take(&mut self) -> bool {
-        !self.is_empty()
-    }
 
     fn take<R: Wait>(&mut self, _rt: &R) -> Option<T> {
         Taker::take(self)

@@ -65,14 +65,6 @@ impl<T: Drop> Putter<T> {
 }
 
 impl<T: Drop> Taker<T> {
-    /// Whether no message is there. One may be put at any time: O(1).
-    pub fn is_empty(&mut self) -> bool
-        ensures link { taker_link self.new ≡ taker_link self.old }
-        ensures taken { taken_from self.new ≡ taken_from self.old }
-    {
-        self.consumer.is_empty()
-    }
-
     /// Takes the first message that is there. It never waits and takes no memory: O(1).
     pub fn take(&mut self) -> Option<T>
         ensures link { taker_link self.new ≡ taker_link self.old }

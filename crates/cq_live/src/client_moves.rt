@@ -50,18 +50,6 @@ pub fn put_at<R: Wait, P: PutEnd<Request> + Drop>(
     }
 }
 
-/// Whether there may be a message to take from the link of that place: false where none is there, and where there is no such
-/// place. That is a look, and costs less than a take that finds nothing.
-pub fn may_take_at<T: TakeEnd<Message> + Drop>(ins: &mut Vec<T>, place: usize) -> bool
-    ensures links { map T.link ins.new.items ≡ map T.link ins.old.items }
-    ensures kept { (message : rust_message.Message) → IsTaken T.list message ins.old.items → IsTaken T.list message ins.new.items }
-{
-    match ins.get_mut(place) {
-        Some(end) => end.may_take(),
-        None => false,
-    }
-}
-
 /// Takes the next message from the link of that place: none where none is there, and where there is no such place.
 pub fn take_at<R: Wait, T: TakeEnd<Message> + Drop>(
     rt: &R,

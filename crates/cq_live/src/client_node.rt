@@ -4,7 +4,7 @@ ghost use Rattle.std.specs.Option.{IfSome};
 ghost use Rattle.cq_live.specs.ClientMoves.{IsAskOf};
 ghost use Rattle.cq_live.specs.ClientNodes.{AreFresh, ClientDid, IsSameClient, client_held};
 
-use crate::client_moves::{ask_again, ask_next, closing, may_take_at, put_at, take_at};
+use crate::client_moves::{ask_again, ask_next, closing, put_at, take_at};
 use crate::flags::Flags;
 use crate::turns::{Rest, Stop, Turn};
 use cq_base::{Ask, NoMemory, Request};
@@ -200,21 +200,11 @@ impl<'a, P: PutEnd<Request> + Drop, T: TakeEnd<Message> + Drop> ClientNode<'a, P
         }
     }
 
-    /// Whether there may be a message to take from the link of that place.
-    fn may_take_from(&mut self, place: usize) -> bool
-        ensures { IsSameClient P.link T.link self.old self.new }
-    {
-        may_take_at(&mut self.ins, place)
-    }
-
     /// Takes the next message from the link of that place, and closes the open request if the message is its answer. It
     /// answers false where there is no message.
     fn take_from<R: Wait>(&mut self, rt: &R, place: usize) -> Result<bool, NoMemory>
         ensures { IsSameClient P.link T.link self.old self.new }
     {
-        if !self.may_take_from(place) {
-            return Ok(false);
-        }
         self.closed.reserve(1)?;
         let Some(message) = take_at(rt, &mut self.ins, place) else {
             return Ok(false);

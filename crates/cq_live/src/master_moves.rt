@@ -92,7 +92,7 @@ fn take_one<R: Wait, T: TakeEnd<Message> + Drop>(
 }
 
 /// The place of the ends to and from a server.
-pub fn place_of(id: ServerId) -> usize
+fn place_of(id: ServerId) -> usize
     ensures { result + 1 ≡ id }
 {
     (id.get() - 1) as usize

@@ -6,8 +6,7 @@ ghost use Rattle.cq_live.specs.MasterNodes.{IsSameNode, MasterLived};
 use crate::ends::{In, Out};
 use crate::flags::Flags;
 use crate::links::Links;
-use crate::master_moves::{detect_one, join_one, place_of, put_at, take_at};
-use crate::moves::may_take_at;
+use crate::master_moves::{detect_one, join_one, put_at, take_at};
 use crate::turns::{Gate, Rest, Stop, Turn};
 use cq_base::{ChainSize, NoMemory, Party, ServerId};
 use cq_chain::{Master, Message};
@@ -36,9 +35,6 @@ pub struct MasterNode<'a, P: PutEnd<Message> + Drop, T: TakeEnd<Message> + Drop>
     trace: Vec<Event>,
     servers: u32,
     turns: u64,
-    /// Whether something may wait to be put. It is false only where the last look at each link and outbox found nothing,
-    /// and the core has done nothing since.
-    unsent: bool,
     starved: bool,
     flags: &'a Flags,
 }
@@ -55,7 +51,6 @@ impl<'a, P: PutEnd<Message> + Drop, T: TakeEnd<Message> + Drop> Drop for MasterN
             trace: _,
             servers: _,
             turns: _,
-            unsent: _,
             starved: _,
             flags: _,
         } = self;
@@ -122,7 +117,6 @@ impl<'a, P: PutEnd<Message> + Drop, T: TakeEnd<Message> + Drop> MasterNode<'a, P
             trace: Vec::new(alloc),
             servers,
             turns: 0,
-            unsent: true,
             starved: false,
             flags,
         })
@@ -140,22 +134,11 @@ impl<'a, P: PutEnd<Message> + Drop, T: TakeEnd<Message> + Drop> MasterNode<'a, P
         self.starved
     }
 
-    /// Whether a message waits for that server.
-    fn has_for(&self, to: ServerId) -> bool {
-        match self.outs.get(place_of(to)) {
-            Some(out) => out.kept.is_some() || self.core.waiting(to) > 0,
-            None => false,
-        }
-    }
-
     /// Puts the first message for that server on its link. It answers false where there is no message and no such link,
     /// and where the link is full.
     fn put_on<R: Wait>(&mut self, rt: &R, to: ServerId) -> Result<bool, NoMemory>
         ensures { IsSameNode P.link T.link self.old self.new }
     {
-        if !self.has_for(to) {
-            return Ok(false);
-        }
         self.trace.reserve(1)?;
         let put = put_at(rt, &mut self.core, &mut self.outs, to);
         if put {
@@ -167,21 +150,11 @@ impl<'a, P: PutEnd<Message> + Drop, T: TakeEnd<Message> + Drop> MasterNode<'a, P
         Ok(put)
     }
 
-    /// Whether there may be a message to take from that server.
-    fn may_take_from(&mut self, from: ServerId) -> bool
-        ensures { IsSameNode P.link T.link self.old self.new }
-    {
-        may_take_at(&mut self.ins, place_of(from))
-    }
-
     /// The core takes the next message of that server. It answers false where there is no message and no such link. One
     /// for which there is no memory stays unread.
     fn take_from<R: Wait>(&mut self, rt: &R, from: ServerId) -> Result<bool, NoMemory>
         ensures { IsSameNode P.link T.link self.old self.new }
     {
-        if !self.may_take_from(from) {
-            return Ok(false);
-        }
         self.trace.reserve(1)?;
         let taken = take_at(rt, &mut self.core, &mut self.ins, from)?;
         if taken {
@@ -297,23 +270,14 @@ impl<'a, P: PutEnd<Message> + Drop, T: TakeEnd<Message> + Drop> MasterNode<'a, P
         Ok(any)
     }
 
-    /// Whether a link handed a message back.
-    fn has_kept(&self) -> bool {
-        self.outs.iter().any(|out| out.kept.is_some())
-    }
-
-    /// The steps of a turn: whether one of them did anything. Nothing is put where nothing can wait to be.
+    /// The steps of a turn: whether one of them did anything.
     fn work<R: Wait>(&mut self, rt: &R) -> Result<bool, NoMemory>
         ensures { IsSameNode P.link T.link self.old self.new }
     {
         let taken = self.take_all(rt)?;
         let detected = self.detect_all()?;
         let joined = self.join_all()?;
-        if !taken && !detected && !joined && !self.unsent {
-            return Ok(false);
-        }
         let put = self.put_all(rt)?;
-        self.unsent = put || self.has_kept();
         Ok(taken | detected | joined | put)
     }
 
@@ -372,7 +336,6 @@ impl<'a, P: PutEnd<Message> + Drop, T: TakeEnd<Message> + Drop> MasterNode<'a, P
             trace,
             servers: _,
             turns: _,
-            unsent: _,
             starved: _,
             flags: _,
         } = self;

@@ -75,28 +75,6 @@ pub fn next_message<R: Wait, T: TakeEnd<Message> + Drop>(rt: &R, end: &mut In<T>
     }
 }
 
-/// Whether there may be a message to take at an end: one that stayed unread, or one of the link. That is a look, and costs
-/// less than a take that finds nothing.
-fn may_take<T: TakeEnd<Message> + Drop>(end: &mut In<T>) -> bool
-    ensures link { T.link end.new.end ≡ T.link end.old.end }
-    ensures list { (seen : List rust_message.Message) → T.list end.old.end ≡ seen ++ listed end.old.unread
-        → T.list end.new.end ≡ seen ++ listed end.new.unread }
-{
-    end.unread.is_some() || end.end.may_take()
-}
-
-/// Whether there may be a message to take at that place: false where there is none, and no such place.
-pub fn may_take_at<T: TakeEnd<Message> + Drop>(ins: &mut Vec<In<T>>, place: usize) -> bool
-    ensures links { map T.link (in_ends_of ins.new.items) ≡ map T.link (in_ends_of ins.old.items) }
-    ensures lists { (seen : ℕ → List rust_message.Message)
-        → AreTaken T.list ins.old.items seen → AreTaken T.list ins.new.items seen }
-{
-    match ins.get_mut(place) {
-        Some(end) => may_take(end),
-        None => false,
-    }
-}
-
 /// Gives the core the next message of a link: false where there is none. One for which the core has no room stays
 /// unread.
 pub fn take_one<R: Wait, T: TakeEnd<Message> + Drop>(

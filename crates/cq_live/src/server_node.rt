@@ -6,7 +6,7 @@ use crate::crashes::{crash, is_due};
 use crate::ends::{In, Out, ToClients, party_at};
 use crate::first_core::first_core;
 use crate::flags::Flags;
-use crate::moves::{may_take_at, put_at, take_at};
+use crate::moves::{put_at, take_at};
 use crate::server_ends::{ServerEnds, ServerParts};
 use crate::to_clients::put_to_one;
 use crate::turns::{Gate, Rest, Stop, Turn};
@@ -40,9 +40,6 @@ pub struct ServerNode<
     flags: &'a Flags,
     crash_after: Option<u64>,
     turns: u64,
-    /// Whether something may wait to be put. It is false only where the last look at each link and outbox found nothing,
-    /// and the core has done nothing since.
-    unsent: bool,
     starved: bool,
     ended: bool,
 }
@@ -63,7 +60,6 @@ impl<'a, P: PutEnd<Message> + Drop, T: TakeEnd<Message> + Drop, I: TakeEnd<Reque
             flags: _,
             crash_after: _,
             turns: _,
-            unsent: _,
             starved: _,
             ended: _,
         } = self;
@@ -127,23 +123,9 @@ impl<
             flags,
             crash_after,
             turns: 0,
-            unsent: true,
             starved: false,
             ended: false,
         })
-    }
-
-    /// Whether a message waits for the party at that place.
-    fn has_for(&self, place: u32) -> bool {
-        match self.outs.get(place as usize) {
-            Some(out) => out.kept.is_some() || self.core.waiting(party_at(place)) > 0,
-            None => false,
-        }
-    }
-
-    /// Whether a message waits for a client.
-    fn has_for_clients(&self) -> bool {
-        self.clients.kept.is_some() || self.core.waiting(Party::Clients) > 0
     }
 
     /// Puts the first message for the party at that place on its link. It answers false where there is no message and
@@ -151,9 +133,6 @@ impl<
     fn put_on<R: Wait>(&mut self, rt: &R, place: u32) -> Result<bool, NoMemory>
         ensures same { IsSameServer P.link T.link I.link self.old self.new }
     {
-        if !self.has_for(place) {
-            return Ok(false);
-        }
         self.trace.reserve(2)?;
         let put = put_at(rt, &mut self.core, &mut self.outs, place);
         if put {
@@ -165,21 +144,11 @@ impl<
         Ok(put)
     }
 
-    /// Whether there may be a message to take from the party at that place.
-    fn may_take_from(&mut self, place: u32) -> bool
-        ensures same { IsSameServer P.link T.link I.link self.old self.new }
-    {
-        may_take_at(&mut self.ins, place as usize)
-    }
-
     /// The core takes the next message of the party at that place. It answers false where there is no message and no
     /// such place. After a fault the message stays unread.
     fn take_from<R: Wait>(&mut self, rt: &R, place: u32) -> Result<bool, WorldFault>
         ensures same { IsSameServer P.link T.link I.link self.old self.new }
     {
-        if !self.may_take_from(place) {
-            return Ok(false);
-        }
         self.trace.reserve(2)?;
         let taken = take_at(rt, &mut self.core, &mut self.ins, place)?;
         if taken {
@@ -196,9 +165,6 @@ impl<
     fn put_to_clients<R: Wait>(&mut self, rt: &R) -> Result<bool, NoMemory>
         ensures same { IsSameServer P.link T.link I.link self.old self.new }
     {
-        if !self.has_for_clients() {
-            return Ok(false);
-        }
         self.trace.reserve(2)?;
         let put = put_to_one(rt, &mut self.core, &mut self.clients);
         if put {
@@ -284,24 +250,14 @@ impl<
         Ok(any)
     }
 
-    /// Whether a link handed a message back.
-    fn has_kept(&self) -> bool {
-        self.clients.kept.is_some() || self.outs.iter().any(|out| out.kept.is_some())
-    }
-
-    /// One take from each link and from the inbox, then one put on each link, unless nothing can wait to be put. It answers
-    /// whether anything was done.
+    /// One take from each link and from the inbox, then one put on each link. It answers whether anything was done.
     fn work<R: Wait>(&mut self, rt: &R) -> Result<bool, WorldFault>
         ensures same { IsSameServer P.link T.link I.link self.old self.new }
     {
         let taken = self.take_all(rt)?;
         let arrived = self.take_request(rt)?;
-        if !taken && !arrived && !self.unsent {
-            return Ok(false);
-        }
         let put = self.put_all(rt)?;
         let answered = self.put_to_clients(rt)?;
-        self.unsent = put || answered || self.has_kept();
         Ok(taken || arrived || put || answered)
     }
 
@@ -385,7 +341,6 @@ impl<
             flags: _,
             crash_after,
             turns: _,
-            unsent: _,
             starved,
             ended: _,
         } = self;

@@ -1,21 +1,9 @@
 //! Turns of nodes, and the gate before them.
 use cq_base::Party;
-use std::hint::spin_loop;
 use std::thread::yield_now;
 
 /// After so many turns in a row without work a node lets other threads run, each time.
 const IDLE_LIMIT: u32 = 64;
-
-/// How often a node pauses after a turn without work, each time for 15 to 60 ns by the processor: turns are what a live run
-/// may run out of, and a node is not to have many more of them in a second because each is short.
-const PAUSES: u32 = 16;
-
-/// Lets some hundred nanoseconds go by.
-fn pause() {
-    for _ in 0..PAUSES {
-        spin_loop();
-    }
-}
 
 /// What a node did in a turn.
 #[derive(Clone, Copy, Debug, PartialEq, Eq)]
@@ -51,15 +39,11 @@ impl Rest {
         Rest { idle: 0 }
     }
 
-    /// After a turn. One that found no work is followed by a pause, and where the last turns found none, another thread may
-    /// run.
+    /// After a turn. Where the last turns found no work, another thread may run.
     pub(crate) fn after(&mut self, turn: Turn) {
         if turn == Turn::Worked {
             self.idle = 0;
-            return;
-        }
-        pause();
-        if self.idle < IDLE_LIMIT {
+        } else if self.idle < IDLE_LIMIT {
             self.idle += 1;
         } else {
             yield_now();
