@@ -1,5 +1,5 @@
 //! Queue names, ids and bodies: texts that keep their rules.
-ghost use Rattle.std.specs.Prelude.{◌≡◌, ◌↔◌, true, false, List, ℕ, length, Some, IfOk, IfErr, IsErrOf};
+ghost use Rattle.std.specs.Prelude.{◌≡◌, ◌↔◌, ◌<◌, true, false, List, ℕ, length, get_or, Some, IfOk, IfErr, IsErrOf};
 ghost use Rattle.std.specs.Arc.{arc_str_bytes};
 ghost use Rattle.std.specs.Bool.{OnTrue};
 ghost use Rattle.std.specs.List.{list_all};
@@ -17,6 +17,9 @@ use std::fmt;
 use std::hash::{Hash, Hasher};
 use std::marker::Model;
 use std::sync::ArcStr;
+
+/// How many bytes of a body are looked at before it is asked whether one isn't plain.
+const PIECE: usize = 256;
 
 fn is_name_byte(byte: u8) -> bool
     ensures { result ≡ is_name_byte byte }
@@ -74,16 +77,34 @@ fn is_plain_byte(byte: u8) -> bool
     ((b' ' <= byte) | is_space) & (byte != 0xEF)
 }
 
-/// Whether the bytes alone show that a body may have each character: O(bytes of the text). It goes on past a byte that
-/// isn't plain, since a loop with no other way out is compiled to look at many bytes at once.
-fn are_plain_bytes(text: &str) -> bool
-    ensures { OnTrue result (has_body_characters text.now ≡ true) }
+/// Whether all these bytes are plain: O(bytes). It goes on past one that isn't, since a loop with no other way out is
+/// compiled to look at many bytes at once.
+fn are_all_plain(bytes: &[u8]) -> bool
+    ensures { OnTrue result ((k : ℕ) → k < length bytes.now
+        → (is_body_character (get_or bytes.now k 0) ≡ true) × (get_or bytes.now k 0 ≡ 0xEF → ⊥)) }
 {
     let mut plain = true;
-    for byte in text.as_bytes() {
+    for byte in bytes {
         plain &= is_plain_byte(*byte);
     }
     plain
+}
+
+/// Whether the bytes alone show that a body may have each character. It looks at no piece of the text behind the first
+/// with a byte that isn't plain: O(bytes before that one, and one piece).
+fn are_plain_bytes(text: &str) -> bool
+    ensures { OnTrue result (has_body_characters text.now ≡ true) }
+{
+    let bytes = text.as_bytes();
+    let mut from = 0;
+    while from < bytes.len() {
+        let to = from + PIECE.min(bytes.len() - from);
+        if !are_all_plain(&bytes[from..to]) {
+            return false;
+        }
+        from = to;
+    }
+    true
 }
 
 /// Whether a body may have each character: O(bytes of the text). Only a text with a byte that isn't plain is decoded.

@@ -1,11 +1,18 @@
-use Rattle.std.proofs.Common.{◌≡◌, true, arith}
-use Rattle.std.proofs.lemmas.Bool.{OnTrue_from}
-use Rattle.cq_base.specs.Texts.{has_body_characters}
-use Rattle.cq_base.proofs.PlainBytes.{plain_text}
+-- Where each piece is plain the text is.
+use Rattle.std.proofs.Common.{◌+◌, ◌≤◌, length, subst, arith}
+use Rattle.cq_base.proofs.PlainBytes.{ArePlain, plain_text, with_piece}
 use Rattle.cq_base.proofs.text.are_plain_bytes.Goals as goal
+
+pub loop-from-preserved : goal.loop-from-preserved
+loop-from-preserved c =
+    let bytes = c.as_bytes-bytes.result.now in
+    let from = c.loop-from.from in
+    let to = from + c.min.result in
+    let within : to ≤ length bytes = omega arith in
+    (with_piece bytes from to (omega arith) within c.loop-from.invariant.0 c.if-not-are_all_plain.ensures, within)
 
 pub returns : goal.returns
 returns c =
-    let d = c.args.text.now in
-    OnTrue_from c.loop-byte.plain (has_body_characters d ≡ true) (λ plain.
-    plain_text d c.utf8.text (λ k below. c.loop-byte.invariant plain k (omega arith)))
+    let bytes = c.as_bytes-bytes.result.now in
+    let all : ArePlain bytes (length bytes) = λ k below. c.loop-from.invariant.0 k (omega arith) in
+    plain_text c.args.text.now c.utf8.text (subst (λ t. ArePlain t (length t)) c.as_bytes-bytes.ensures.value all)

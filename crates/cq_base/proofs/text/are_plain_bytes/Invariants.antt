@@ -1,7 +1,10 @@
--- So far each byte is plain, unless one was found that isn't.
-use Rattle.std.proofs.Common.{◌≡◌, true}
+-- So far each byte is plain.
+use Rattle.std.proofs.Common.{◌≤◌, ◌-◌, length}
 use Rattle.cq_base.proofs.PlainBytes.{ArePlain}
 use Rattle.cq_base.proofs.text.are_plain_bytes.Given as goal
 
-abbrev pub invariant-loop-byte : goal.invariant-loop-byte
-invariant-loop-byte l = l.plain ≡ true → ArePlain l.text l.byte-index
+abbrev pub invariant-loop-from : goal.invariant-loop-from
+invariant-loop-from l = ArePlain l.bytes l.from × (l.from ≤ length l.bytes)
+
+abbrev pub decreases-loop-from : goal.decreases-loop-from
+decreases-loop-from l = length l.bytes - l.from
