@@ -1,4 +1,4 @@
-use Rattle.std.proofs.Common.{◌≡◌, ◌≤◌, take, get_or, sym, subst, arith}
+use Rattle.std.proofs.Common.{◌≡◌, take, get_or, sym, subst, arith}
 use Rattle.std.proofs.lemmas.List.{take_more}
 use Rattle.json.specs.Print.{escape}
 use Rattle.cq_answers.proofs.Plain.{plain-more}

@@ -1,4 +1,3 @@
-use Rattle.std.proofs.Common.{refl}
 use Rattle.json.specs.Print.{escape_byte}
 use Rattle.cq_answers.proofs.row_reply.put_deleted.Goals as goal
 

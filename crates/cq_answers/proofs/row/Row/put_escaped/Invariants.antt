@@ -1,5 +1,5 @@
 -- What is written, and what the rest will be, are the whole.
-use Rattle.std.proofs.Common.{◌≡◌, ℕ, ◌++◌, length}
+use Rattle.std.proofs.Common.{◌≡◌, ◌++◌, length}
 use Rattle.json.specs.Print.{escape}
 use Rattle.cq_answers.proofs.row.Row.put_escaped.Given as goal
 
