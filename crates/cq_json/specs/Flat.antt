@@ -1,8 +1,11 @@
 -- The data of a flat object, whose members are kept in the order of its text.
-use Rattle.std.specs.Prelude.{◌≡◌, ℕ, List, [], ◌∷◌, cond, Bool, true, false, Option, Some, None, Result, Ok}
+use Rattle.std.specs.Prelude.{◌≡◌, ℕ, List, [], ◌∷◌, cond, Bool, true, false, Option, Some, None, Result, Ok, Err}
 use Rattle.std.specs.Str.{bytes_eq}
 use Rattle.serde_json.specs.Data.{Data, unsigned, boolean, number, string, object, Members, no_members, put}
-use Rattle.cq_json.specs.Fields.{Reason}
+use Rattle.serde_json.specs.Find.{as_object}
+use Rattle.cq_base.specs.declared.ask.Ask.{Ask}
+use Rattle.cq_json.specs.Fields.{Reason, bad, member_at, ◌>>=◌}
+use Rattle.cq_json.specs.Asks.{ask_in}
 use Rattle.cq_json.specs.declared.flat.Scalar.{Scalar}
 use Rattle.cq_json.specs.declared.flat.Scalar.TheVariants.{Text, Number, Truth, Inner}
 use Rattle.cq_json.specs.declared.flat.Member.{Member}
@@ -57,7 +60,11 @@ abbrev pub last_named : List ℕ → Option Scalar → List Member → Option Sc
 last_named key found [] = found
 last_named key found (m ∷ ms) = last_named key (cond (bytes_eq m.name.now key) (Some m.value) found) ms
 
--- if there is something, the reading gives it, as it is seen
-abbrev pub Finds : {X Y : Type 0} → (X → Y) → Option X → Result Y Reason → Type 0
-Finds seen (Some x) reading = reading ≡ Ok (seen x)
-Finds seen None reading = Unit {0}
+-- there is no value, or it has no members
+abbrev pub IsNoObject : Result Data Reason → Type 0
+IsNoObject (Ok d) = as_object d ≡ None
+IsNoObject (Err reason) = reason ≡ bad
+
+-- the ask that the value under the key says
+abbrev pub ask_at : List ℕ → Data → Result Ask Reason
+ask_at key d = member_at key d >>= ask_in

@@ -17,7 +17,6 @@ use serde_json::{Map, Value};
 use std::alloc::Global;
 
 /// Why reading a line stopped before an event was made.
-#[derive(Drop)]
 pub enum Stop {
     /// The line is none of the script's.
     Bad,

@@ -1,16 +1,16 @@
 //! A flat object: at most eight members, whose values are texts, whole numbers and truth values, and
 //! one inner object of the same kind at most. It takes no memory.
-ghost use Rattle.std.specs.Prelude.{◌≡◌, ◌≤◌, None, map, option_map, IfSome, true};
+ghost use Rattle.std.specs.Prelude.{◌≡◌, ◌≤◌, None, map, option_map, IfSome, IfOk, IsNone, Ok, true};
 ghost use Rattle.std.specs.List.{list_any, list_all};
 ghost use Rattle.std.specs.Str.{bytes_eq};
 ghost use Rattle.std.specs.Option.{option_copied};
 ghost use Rattle.serde_json.specs.Find.{get};
 ghost use Rattle.cq_base.specs.declared.limits.TheConstants.{MOMENT_LIMIT, SECONDS_LIMIT, BATCH_LIMIT, PARTY_LIMIT, NUMBER_LIMIT};
 ghost use Rattle.cq_json.specs.Fields as spec;
-ghost use Rattle.cq_json.specs.Flat.{scalar_data, inner_members, flat_data, inner_data, is_inner, last_named, Finds};
-ghost use Rattle.cq_json.specs.Readers.{same};
+ghost use Rattle.cq_json.specs.Flat.{scalar_data, inner_members, flat_data, inner_data, is_inner, last_named, IsNoObject};
+ghost use Rattle.cq_json.specs.Readers.{Gives, same};
 
-use crate::fields::{is_among, party_named};
+use crate::fields::{Stop, is_among, party_named};
 use arrayvec::ArrayVec;
 use cq_base::{
     BATCH_LIMIT, BatchSize, MOMENT_LIMIT, Moment, NUMBER_LIMIT, PARTY_LIMIT, Party, SECONDS_LIMIT,
@@ -84,6 +84,19 @@ fn last_named<'a>(members: &[Member<'a>], key: &str) -> Option<Scalar<'a>>
     found
 }
 
+/// The number, if it is from `low` to `high`.
+fn within(number: u64, low: u64, high: u64) -> Result<u64, Stop>
+    ensures value { Gives same result (spec.within low high number) }
+    ensures least { IfOk result (λ found. low ≤ found) }
+    ensures most { IfOk result (λ found. found ≤ high) }
+{
+    if low <= number && number <= high {
+        Ok(number)
+    } else {
+        Err(Stop::Bad)
+    }
+}
+
 /// Whether each member has one of these names: O(members x keys).
 fn are_among(members: &[Member<'_>], keys: &[&str]) -> bool
     ensures { result ≡ list_all
@@ -102,7 +115,7 @@ impl<'o, 'a> Flat<'o, 'a> {
     }
 
     /// The inner object.
-    pub fn inner(self) -> Flat<'o, 'a>
+    fn inner(self) -> Flat<'o, 'a>
         ensures { flat_data result ≡ inner_data self.entry }
     {
         Flat {
@@ -119,148 +132,137 @@ impl<'o, 'a> Flat<'o, 'a> {
         last_named(self.members, key)
     }
 
-    /// The inner object, if it is under the key.
-    pub fn object_at(self, key: &str) -> Option<Flat<'o, 'a>>
-        ensures { Finds flat_data result (spec.member_at key.now (flat_data self.entry)) }
-    {
-        match self.get(key)? {
-            Scalar::Inner => Some(self.inner()),
-            Scalar::Text(_) | Scalar::Number(_) | Scalar::Truth(_) => None,
-        }
-    }
-
     /// The text under the key.
-    pub fn text_at(self, key: &str) -> Option<&'a str>
-        ensures { Finds (λ t. t.now) result (spec.text_at key.now (flat_data self.entry)) }
+    pub fn text_at(self, key: &str) -> Result<&'a str, Stop>
+        ensures { Gives (λ t. t.now) result (spec.text_at key.now (flat_data self.entry)) }
     {
-        match self.get(key)? {
-            Scalar::Text(text) => Some(text),
-            Scalar::Number(_) | Scalar::Truth(_) | Scalar::Inner => None,
+        match self.get(key) {
+            Some(Scalar::Text(text)) => Ok(text),
+            Some(Scalar::Number(_) | Scalar::Truth(_) | Scalar::Inner) | None => Err(Stop::Bad),
         }
     }
 
     /// The text under the key, which may be missing.
-    pub fn text_if_at(self, key: &str) -> Option<Option<&'a str>>
-        ensures { Finds option_copied result (spec.text_if_at key.now (flat_data self.entry)) }
+    pub fn text_if_at(self, key: &str) -> Result<Option<&'a str>, Stop>
+        ensures { Gives option_copied result (spec.text_if_at key.now (flat_data self.entry)) }
     {
         match self.get(key) {
-            Some(Scalar::Text(text)) => Some(Some(text)),
-            Some(Scalar::Number(_) | Scalar::Truth(_) | Scalar::Inner) => None,
-            None => Some(None),
+            Some(Scalar::Text(text)) => Ok(Some(text)),
+            Some(Scalar::Number(_) | Scalar::Truth(_) | Scalar::Inner) => Err(Stop::Bad),
+            None => Ok(None),
         }
     }
 
     /// The truth value under the key, which may be missing.
-    pub fn truth_if_at(self, key: &str) -> Option<Option<bool>>
-        ensures { Finds same result (spec.truth_if_at key.now (flat_data self.entry)) }
+    pub fn truth_if_at(self, key: &str) -> Result<Option<bool>, Stop>
+        ensures { Gives same result (spec.truth_if_at key.now (flat_data self.entry)) }
     {
         match self.get(key) {
-            Some(Scalar::Truth(truth)) => Some(Some(truth)),
-            Some(Scalar::Number(_) | Scalar::Text(_) | Scalar::Inner) => None,
-            None => Some(None),
+            Some(Scalar::Truth(truth)) => Ok(Some(truth)),
+            Some(Scalar::Number(_) | Scalar::Text(_) | Scalar::Inner) => Err(Stop::Bad),
+            None => Ok(None),
         }
     }
 
     /// The number under the key, if it is from `low` to `high`.
-    fn number_at(self, low: u64, high: u64, key: &str) -> Option<u64>
-        ensures value { Finds same result (spec.number_at low high key.now (flat_data self.entry)) }
-        ensures least { IfSome result (λ number. low ≤ number) }
-        ensures most { IfSome result (λ number. number ≤ high) }
+    fn number_at(self, low: u64, high: u64, key: &str) -> Result<u64, Stop>
+        ensures value { Gives same result (spec.number_at low high key.now (flat_data self.entry)) }
+        ensures least { IfOk result (λ number. low ≤ number) }
+        ensures most { IfOk result (λ number. number ≤ high) }
     {
-        match self.get(key)? {
-            Scalar::Number(number) => {
-                if low <= number && number <= high {
-                    Some(number)
-                } else {
-                    None
-                }
-            }
-            Scalar::Text(_) | Scalar::Truth(_) | Scalar::Inner => None,
+        match self.get(key) {
+            Some(Scalar::Number(number)) => within(number, low, high),
+            Some(Scalar::Text(_) | Scalar::Truth(_) | Scalar::Inner) | None => Err(Stop::Bad),
         }
     }
 
     /// The server under the key.
-    pub fn server_at(self, key: &str) -> Option<ServerId>
-        ensures { Finds same result (spec.number_at 1 PARTY_LIMIT key.now (flat_data self.entry)) }
+    pub fn server_at(self, key: &str) -> Result<ServerId, Stop>
+        ensures { Gives same result (spec.number_at 1 PARTY_LIMIT key.now (flat_data self.entry)) }
     {
-        Some(ServerId::new(self.number_at(1, u64::from(PARTY_LIMIT), key)? as u32).unwrap())
+        Ok(ServerId::new(self.number_at(1, u64::from(PARTY_LIMIT), key)? as u32).unwrap())
     }
 
     /// The number under the key.
-    pub fn u32_at(self, key: &str) -> Option<u32>
-        ensures { Finds same result (spec.number_at 0 PARTY_LIMIT key.now (flat_data self.entry)) }
+    pub fn u32_at(self, key: &str) -> Result<u32, Stop>
+        ensures { Gives same result (spec.number_at 0 PARTY_LIMIT key.now (flat_data self.entry)) }
     {
-        Some(self.number_at(0, u64::from(PARTY_LIMIT), key)? as u32)
+        Ok(self.number_at(0, u64::from(PARTY_LIMIT), key)? as u32)
     }
 
     /// The number under the key.
-    pub fn u64_at(self, key: &str) -> Option<u64>
-        ensures { Finds same result (spec.number_at 0 NUMBER_LIMIT key.now (flat_data self.entry)) }
+    pub fn u64_at(self, key: &str) -> Result<u64, Stop>
+        ensures { Gives same result (spec.number_at 0 NUMBER_LIMIT key.now (flat_data self.entry)) }
     {
         self.number_at(0, NUMBER_LIMIT, key)
     }
 
     /// The moment under the key.
-    pub fn moment_at(self, key: &str) -> Option<Moment>
-        ensures { Finds same result (spec.number_at 0 MOMENT_LIMIT key.now (flat_data self.entry)) }
+    pub fn moment_at(self, key: &str) -> Result<Moment, Stop>
+        ensures { Gives same result (spec.number_at 0 MOMENT_LIMIT key.now (flat_data self.entry)) }
     {
-        Some(Moment::new(self.number_at(0, MOMENT_LIMIT, key)?).unwrap())
+        Ok(Moment::new(self.number_at(0, MOMENT_LIMIT, key)?).unwrap())
     }
 
     /// The visibility timeout under the key.
-    pub fn seconds_at(self, key: &str) -> Option<Seconds>
-        ensures { Finds same result (spec.number_at 0 SECONDS_LIMIT key.now (flat_data self.entry)) }
+    pub fn seconds_at(self, key: &str) -> Result<Seconds, Stop>
+        ensures { Gives same result (spec.number_at 0 SECONDS_LIMIT key.now (flat_data self.entry)) }
     {
-        Some(Seconds::new(self.number_at(0, u64::from(SECONDS_LIMIT), key)? as u32).unwrap())
+        Ok(Seconds::new(self.number_at(0, u64::from(SECONDS_LIMIT), key)? as u32).unwrap())
     }
 
     /// The number under the key, which may be missing, if it is from `low` to `high`.
-    fn number_if_at(self, low: u64, high: u64, key: &str) -> Option<Option<u64>>
-        ensures value { Finds same result (spec.number_if_at low high key.now (flat_data self.entry)) }
-        ensures least { IfSome result (λ found. IfSome found (λ number. low ≤ number)) }
-        ensures most { IfSome result (λ found. IfSome found (λ number. number ≤ high)) }
+    fn number_if_at(self, low: u64, high: u64, key: &str) -> Result<Option<u64>, Stop>
+        ensures value { Gives same result (spec.number_if_at low high key.now (flat_data self.entry)) }
+        ensures least { IfOk result (λ found. IfSome found (λ number. low ≤ number)) }
+        ensures most { IfOk result (λ found. IfSome found (λ number. number ≤ high)) }
     {
         match self.get(key) {
-            Some(Scalar::Number(number)) => {
-                if low <= number && number <= high {
-                    Some(Some(number))
-                } else {
-                    None
-                }
-            }
-            Some(Scalar::Text(_) | Scalar::Truth(_) | Scalar::Inner) => None,
-            None => Some(None),
+            Some(Scalar::Number(number)) => Ok(Some(within(number, low, high)?)),
+            Some(Scalar::Text(_) | Scalar::Truth(_) | Scalar::Inner) => Err(Stop::Bad),
+            None => Ok(None),
         }
     }
 
     /// The visibility timeout under the key, which may be missing.
-    pub fn seconds_if_at(self, key: &str) -> Option<Option<Seconds>>
-        ensures { Finds same result (spec.number_if_at 0 SECONDS_LIMIT key.now (flat_data self.entry)) }
+    pub fn seconds_if_at(self, key: &str) -> Result<Option<Seconds>, Stop>
+        ensures { Gives same result (spec.number_if_at 0 SECONDS_LIMIT key.now (flat_data self.entry)) }
     {
         match self.number_if_at(0, u64::from(SECONDS_LIMIT), key)? {
-            Some(seconds) => Some(Some(Seconds::new(seconds as u32).unwrap())),
-            None => Some(None),
+            Some(seconds) => Ok(Some(Seconds::new(seconds as u32).unwrap())),
+            None => Ok(None),
         }
     }
 
     /// The number of messages under the key, which may be missing.
-    pub fn batch_size_if_at(self, key: &str) -> Option<Option<BatchSize>>
-        ensures { Finds same result (spec.number_if_at 1 BATCH_LIMIT key.now (flat_data self.entry)) }
+    pub fn batch_size_if_at(self, key: &str) -> Result<Option<BatchSize>, Stop>
+        ensures { Gives same result (spec.number_if_at 1 BATCH_LIMIT key.now (flat_data self.entry)) }
     {
         match self.number_if_at(1, u64::from(BATCH_LIMIT), key)? {
-            Some(size) => Some(Some(BatchSize::new(size as u8).unwrap())),
-            None => Some(None),
+            Some(size) => Ok(Some(BatchSize::new(size as u8).unwrap())),
+            None => Ok(None),
         }
     }
 
     /// The party under the key.
-    pub fn party_at(self, key: &str) -> Option<Party>
-        ensures { Finds same result (spec.party_at key.now (flat_data self.entry)) }
+    pub fn party_at(self, key: &str) -> Result<Party, Stop>
+        ensures { Gives same result (spec.party_at key.now (flat_data self.entry)) }
     {
-        match self.get(key)? {
-            Scalar::Text(name) => party_named(name).ok(),
-            Scalar::Number(_) => Some(Party::Server(self.server_at(key)?)),
-            Scalar::Truth(_) | Scalar::Inner => None,
+        match self.get(key) {
+            Some(Scalar::Text(name)) => party_named(name),
+            Some(Scalar::Number(_)) => Ok(Party::Server(self.server_at(key)?)),
+            Some(Scalar::Truth(_) | Scalar::Inner) | None => Err(Stop::Bad),
+        }
+    }
+
+    /// The inner object, if it is under the key.
+    pub(crate) fn inner_at(self, key: &str) -> Option<Flat<'o, 'a>>
+        ensures some { IfSome result (λ inner. spec.member_at key.now (flat_data self.entry) ≡ Ok (flat_data inner)) }
+        ensures none { IsNone result → IsNoObject (spec.member_at key.now (flat_data self.entry)) }
+    {
+        match self.get(key) {
+            Some(Scalar::Inner) => Some(self.inner()),
+            Some(Scalar::Text(_) | Scalar::Number(_) | Scalar::Truth(_)) | None => None,
         }
     }
 }

@@ -1,108 +1,108 @@
-//! The asks of flat objects. None for an object that says no ask, or one with a text that breaks its
-//! rule.
+//! The asks of flat objects.
 ghost use Rattle.cq_json.specs.Asks as spec;
-ghost use Rattle.cq_json.specs.Flat.{Finds, flat_data};
-ghost use Rattle.cq_json.specs.Readers.{same};
+ghost use Rattle.cq_json.specs.Flat.{flat_data, ask_at};
+ghost use Rattle.cq_json.specs.Readers.{Gives, same};
 
 use crate::ask::{DEFAULT_BATCH, DEFAULT_SECONDS};
+use crate::fields::Stop;
 use crate::flat::Flat;
 use crate::texts::{dedup_id_if, group_id, message_body, queue_name, receipt};
 use cq_base::{Ask, BatchSize, Seconds};
 use std::alloc::Global;
 
 #[tactic(auto, unfolding(crate::specs::Asks::create_in))]
-fn read_create(alloc: Global, object: Flat<'_, '_>) -> Option<Ask>
-    ensures { Finds same result (spec.create_in (flat_data object.entry)) }
+fn read_create(alloc: Global, object: Flat<'_, '_>) -> Result<Ask, Stop>
+    ensures { Gives same result (spec.create_in (flat_data object.entry)) }
 {
     if !object.has_only(&["kind", "queue", "visibility", "content_dedup"]) {
-        return None;
+        return Err(Stop::Bad);
     }
     let queue = object.text_at("queue")?;
     let visibility = object.seconds_if_at("visibility")?;
     let content = object.truth_if_at("content_dedup")?;
-    Some(Ask::Create {
-        queue: queue_name(alloc, queue).ok()?,
+    Ok(Ask::Create {
+        queue: queue_name(alloc, queue)?,
         visibility: visibility.unwrap_or(Seconds::new(DEFAULT_SECONDS).unwrap()),
         content: content.unwrap_or(false),
     })
 }
 
 #[tactic(auto, unfolding(crate::specs::Asks::remove_in))]
-fn read_remove(alloc: Global, object: Flat<'_, '_>) -> Option<Ask>
-    ensures { Finds same result (spec.remove_in (flat_data object.entry)) }
+fn read_remove(alloc: Global, object: Flat<'_, '_>) -> Result<Ask, Stop>
+    ensures { Gives same result (spec.remove_in (flat_data object.entry)) }
 {
     if !object.has_only(&["kind", "queue"]) {
-        return None;
+        return Err(Stop::Bad);
     }
     let queue = object.text_at("queue")?;
-    Some(Ask::Remove {
-        queue: queue_name(alloc, queue).ok()?,
+    Ok(Ask::Remove {
+        queue: queue_name(alloc, queue)?,
     })
 }
 
 #[tactic(auto, unfolding(crate::specs::Asks::send_in))]
-fn read_send(alloc: Global, object: Flat<'_, '_>) -> Option<Ask>
-    ensures { Finds same result (spec.send_in (flat_data object.entry)) }
+fn read_send(alloc: Global, object: Flat<'_, '_>) -> Result<Ask, Stop>
+    ensures { Gives same result (spec.send_in (flat_data object.entry)) }
 {
     if !object.has_only(&["kind", "queue", "group", "dedup", "body"]) {
-        return None;
+        return Err(Stop::Bad);
     }
     let queue = object.text_at("queue")?;
     let group = object.text_at("group")?;
     let dedup = object.text_if_at("dedup")?;
     let body = object.text_at("body")?;
-    Some(Ask::Send {
-        queue: queue_name(alloc, queue).ok()?,
-        group: group_id(alloc, group).ok()?,
-        dedup: dedup_id_if(alloc, dedup).ok()?,
-        body: message_body(alloc, body).ok()?,
+    Ok(Ask::Send {
+        queue: queue_name(alloc, queue)?,
+        group: group_id(alloc, group)?,
+        dedup: dedup_id_if(alloc, dedup)?,
+        body: message_body(alloc, body)?,
     })
 }
 
 #[tactic(auto, unfolding(crate::specs::Asks::receive_in))]
-fn read_receive(alloc: Global, object: Flat<'_, '_>) -> Option<Ask>
-    ensures { Finds same result (spec.receive_in (flat_data object.entry)) }
+fn read_receive(alloc: Global, object: Flat<'_, '_>) -> Result<Ask, Stop>
+    ensures { Gives same result (spec.receive_in (flat_data object.entry)) }
 {
     if !object.has_only(&["kind", "queue", "size", "visibility"]) {
-        return None;
+        return Err(Stop::Bad);
     }
     let queue = object.text_at("queue")?;
     let size = object.batch_size_if_at("size")?;
     let visibility = object.seconds_if_at("visibility")?;
-    Some(Ask::Receive {
-        queue: queue_name(alloc, queue).ok()?,
+    Ok(Ask::Receive {
+        queue: queue_name(alloc, queue)?,
         size: size.unwrap_or(BatchSize::new(DEFAULT_BATCH).unwrap()),
         visibility,
     })
 }
 
 #[tactic(auto, unfolding(crate::specs::Asks::delete_in))]
-fn read_delete(alloc: Global, object: Flat<'_, '_>) -> Option<Ask>
-    ensures { Finds same result (spec.delete_in (flat_data object.entry)) }
+fn read_delete(alloc: Global, object: Flat<'_, '_>) -> Result<Ask, Stop>
+    ensures { Gives same result (spec.delete_in (flat_data object.entry)) }
 {
     if !object.has_only(&["kind", "queue", "receipt"]) {
-        return None;
+        return Err(Stop::Bad);
     }
     let queue = object.text_at("queue")?;
-    let receipt = receipt(object.text_at("receipt")?).ok()?;
-    Some(Ask::Delete {
-        queue: queue_name(alloc, queue).ok()?,
+    let receipt = receipt(object.text_at("receipt")?)?;
+    Ok(Ask::Delete {
+        queue: queue_name(alloc, queue)?,
         receipt,
     })
 }
 
 #[tactic(auto, unfolding(crate::specs::Asks::change_in))]
-fn read_change(alloc: Global, object: Flat<'_, '_>) -> Option<Ask>
-    ensures { Finds same result (spec.change_in (flat_data object.entry)) }
+fn read_change(alloc: Global, object: Flat<'_, '_>) -> Result<Ask, Stop>
+    ensures { Gives same result (spec.change_in (flat_data object.entry)) }
 {
     if !object.has_only(&["kind", "queue", "receipt", "visibility"]) {
-        return None;
+        return Err(Stop::Bad);
     }
     let queue = object.text_at("queue")?;
-    let receipt = receipt(object.text_at("receipt")?).ok()?;
+    let receipt = receipt(object.text_at("receipt")?)?;
     let visibility = object.seconds_at("visibility")?;
-    Some(Ask::Change {
-        queue: queue_name(alloc, queue).ok()?,
+    Ok(Ask::Change {
+        queue: queue_name(alloc, queue)?,
         receipt,
         visibility,
     })
@@ -110,8 +110,8 @@ fn read_change(alloc: Global, object: Flat<'_, '_>) -> Option<Ask>
 
 /// The ask that the object says.
 #[tactic(auto, unfolding(crate::specs::Asks::ask_in))]
-pub fn read_flat_ask(alloc: Global, object: Flat<'_, '_>) -> Option<Ask>
-    ensures { Finds same result (spec.ask_in (flat_data object.entry)) }
+pub fn read_flat_ask(alloc: Global, object: Flat<'_, '_>) -> Result<Ask, Stop>
+    ensures { Gives same result (spec.ask_in (flat_data object.entry)) }
 {
     let kind = object.text_at("kind")?;
     if kind == "create" {
@@ -127,6 +127,17 @@ pub fn read_flat_ask(alloc: Global, object: Flat<'_, '_>) -> Option<Ask>
     } else if kind == "change" {
         read_change(alloc, object)
     } else {
-        None
+        Err(Stop::Bad)
+    }
+}
+
+/// The ask that the object under the key says.
+#[tactic(auto, unfolding(crate::specs::Asks::ask_in))]
+pub fn read_flat_ask_at(alloc: Global, object: Flat<'_, '_>, key: &str) -> Result<Ask, Stop>
+    ensures { Gives same result (ask_at key.now (flat_data object.entry)) }
+{
+    match object.inner_at(key) {
+        Some(inner) => read_flat_ask(alloc, inner),
+        None => Err(Stop::Bad),
     }
 }

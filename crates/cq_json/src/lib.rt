@@ -15,6 +15,6 @@ pub use fields::{
     Stop, has_only, member_at, moment_at, parse, party_at, server_at, text_at, u32_at, u64_at,
 };
 pub use flat::Flat;
-pub use flat_ask::read_flat_ask;
+pub use flat_ask::{read_flat_ask, read_flat_ask_at};
 pub use flat_reading::{FlatObject, LineScratch};
 pub use texts::queue_name;

@@ -14,6 +14,9 @@ use simdutf8::basic::from_utf8;
 use std::alloc::Global;
 use thiserror::Error;
 
+/// The most bytes of a line after which the scratch is kept.
+const KEPT_LEN: usize = 65_536;
+
 /// What a line of a script is.
 #[derive(Debug, PartialEq, Eq, Drop)]
 pub enum Line {
@@ -45,18 +48,17 @@ pub fn is_blank(bytes: &[u8]) -> bool
         .all(|byte| *byte == b' ' || *byte == b'\t' || *byte == b'\r')
 }
 
-/// The event that the bytes say, if their object is a flat one: read without a map, and with no memory
-/// but that of the scratch and of the event. None also for bytes that say no event, or one with a text that
-/// breaks its rule, and where there is no memory. O(bytes).
-fn event_at_once(alloc: Global, scratch: &mut LineScratch, bytes: &[u8]) -> Option<Event>
-    ensures { IfSome result (λ event. event_from bytes.now ≡ Ok event) }
+/// What the bytes say, if their object is a flat one: read without a map, and with no memory but that of the scratch and of
+/// the event. None also where there is no memory for the scratch. O(bytes).
+fn read_at_once(alloc: Global, scratch: &mut LineScratch, bytes: &[u8]) -> Option<Result<Event, Stop>>
+    ensures { IfSome result (λ read. Gives same read (event_from bytes.now)) }
 {
     let text = from_utf8(bytes).ok()?;
     let mut object = FlatObject::new();
     if !object.read(text, scratch) {
         return None;
     }
-    read_flat_event(alloc, object.fields())
+    Some(read_flat_event(alloc, object.fields()))
 }
 
 fn read_object(alloc: Global, bytes: &[u8]) -> Result<Event, Stop>
@@ -66,8 +68,18 @@ fn read_object(alloc: Global, bytes: &[u8]) -> Result<Event, Stop>
     read_event(alloc, &value)
 }
 
+/// The event that the bytes say, from a flat object, or else from any other.
+fn read_line(alloc: Global, scratch: &mut LineScratch, bytes: &[u8]) -> Result<Event, Stop>
+    ensures { Gives same result (event_from bytes.now) }
+{
+    match read_at_once(alloc, scratch, bytes) {
+        Some(read) => read,
+        None => read_object(alloc, bytes),
+    }
+}
+
 /// What the line with these bytes, its line feed left out, says, as `event_of` tells it. The scratch is kept from line to
-/// line, and grows to the bytes of the longest. O(bytes).
+/// line, unless the line is a long one. O(bytes).
 #[tactic(auto, unfolding(crate::specs::Line::line_of))]
 pub(crate) fn event_with(
     alloc: Global,
@@ -80,10 +92,11 @@ pub(crate) fn event_with(
     if is_blank(bytes) {
         return Ok(Line::Blank);
     }
-    if let Some(event) = event_at_once(alloc, scratch, bytes) {
-        return Ok(Line::Event(event));
+    let read = read_line(alloc, scratch, bytes);
+    if bytes.len() > KEPT_LEN {
+        *scratch = LineScratch::new(alloc);
     }
-    match read_object(alloc, bytes) {
+    match read {
         Ok(event) => Ok(Line::Event(event)),
         Err(Stop::Bad) => Err(LineFault::Bad),
         Err(Stop::Text(fault)) => Ok(Line::Refused(fault)),

@@ -1,27 +1,26 @@
-//! The events of flat objects. None for an object that says no event, or one with a text that breaks
-//! its rule.
+//! The events of flat objects.
 ghost use Rattle.cq_script.specs.Events as spec;
-ghost use Rattle.cq_json.specs.Flat.{Finds, flat_data};
-ghost use Rattle.cq_json.specs.Readers.{same};
+ghost use Rattle.cq_json.specs.Flat.{flat_data};
+ghost use Rattle.cq_json.specs.Readers.{Gives, same};
 
 use cq_base::{Party, Query, Request, ServerId};
-use cq_json::{Flat, queue_name, read_flat_ask};
+use cq_json::{Flat, Stop, queue_name, read_flat_ask_at};
 use cq_world::Event;
 use std::alloc::Global;
 
 #[tactic(auto, unfolding(crate::specs::Events::arrive_in))]
-fn read_arrive(alloc: Global, object: Flat<'_, '_>) -> Option<Event>
-    ensures { Finds same result (spec.arrive_in (flat_data object.entry)) }
+fn read_arrive(alloc: Global, object: Flat<'_, '_>) -> Result<Event, Stop>
+    ensures { Gives same result (spec.arrive_in (flat_data object.entry)) }
 {
     if !object.has_only(&["op", "at", "clock", "client", "number", "ask"]) {
-        return None;
+        return Err(Stop::Bad);
     }
     let at = object.server_at("at")?;
     let clock = object.moment_at("clock")?;
     let client = object.u32_at("client")?;
     let number = object.u64_at("number")?;
-    let ask = read_flat_ask(alloc, object.object_at("ask")?)?;
-    Some(Event::Arrive {
+    let ask = read_flat_ask_at(alloc, object, "ask")?;
+    Ok(Event::Arrive {
         at,
         clock,
         request: Request {
@@ -33,54 +32,54 @@ fn read_arrive(alloc: Global, object: Flat<'_, '_>) -> Option<Event>
 }
 
 #[tactic(auto, unfolding(crate::specs::Events::query_in))]
-fn read_query(alloc: Global, object: Flat<'_, '_>) -> Option<Event>
-    ensures { Finds same result (spec.query_in (flat_data object.entry)) }
+fn read_query(alloc: Global, object: Flat<'_, '_>) -> Result<Event, Stop>
+    ensures { Gives same result (spec.query_in (flat_data object.entry)) }
 {
     if !object.has_only(&["op", "at", "client", "tag", "queue"]) {
-        return None;
+        return Err(Stop::Bad);
     }
     let at = object.server_at("at")?;
     let client = object.u32_at("client")?;
     let tag = object.u64_at("tag")?;
     let queue = object.text_at("queue")?;
-    Some(Event::Ask {
+    Ok(Event::Ask {
         at,
         query: Query {
             client,
             tag,
-            queue: queue_name(alloc, queue).ok()?,
+            queue: queue_name(alloc, queue)?,
         },
     })
 }
 
 /// Both ends of an event that has nothing else.
 #[tactic(auto, unfolding(crate::specs::Events::ends_in))]
-fn read_ends(object: Flat<'_, '_>) -> Option<(Party, Party)>
-    ensures { Finds same result (spec.ends_in (flat_data object.entry)) }
+fn read_ends(object: Flat<'_, '_>) -> Result<(Party, Party), Stop>
+    ensures { Gives same result (spec.ends_in (flat_data object.entry)) }
 {
     if !object.has_only(&["op", "from", "to"]) {
-        return None;
+        return Err(Stop::Bad);
     }
     let from = object.party_at("from")?;
     let to = object.party_at("to")?;
-    Some((from, to))
+    Ok((from, to))
 }
 
 /// The server of an event that has nothing else.
 #[tactic(auto, unfolding(crate::specs::Events::server_in))]
-fn read_server(object: Flat<'_, '_>) -> Option<ServerId>
-    ensures { Finds same result (spec.server_in (flat_data object.entry)) }
+fn read_server(object: Flat<'_, '_>) -> Result<ServerId, Stop>
+    ensures { Gives same result (spec.server_in (flat_data object.entry)) }
 {
     if !object.has_only(&["op", "server"]) {
-        return None;
+        return Err(Stop::Bad);
     }
     object.server_at("server")
 }
 
 /// The event that the object says.
 #[tactic(auto, unfolding(crate::specs::Events::event_in))]
-pub(crate) fn read_flat_event(alloc: Global, object: Flat<'_, '_>) -> Option<Event>
-    ensures { Finds same result (spec.event_in (flat_data object.entry)) }
+pub(crate) fn read_flat_event(alloc: Global, object: Flat<'_, '_>) -> Result<Event, Stop>
+    ensures { Gives same result (spec.event_in (flat_data object.entry)) }
 {
     let op = object.text_at("op")?;
     if op == "arrive" {
@@ -89,23 +88,23 @@ pub(crate) fn read_flat_event(alloc: Global, object: Flat<'_, '_>) -> Option<Eve
         read_query(alloc, object)
     } else if op == "put" {
         let (from, to) = read_ends(object)?;
-        Some(Event::Put { from, to })
+        Ok(Event::Put { from, to })
     } else if op == "take" {
         let (from, to) = read_ends(object)?;
-        Some(Event::Take { from, to })
+        Ok(Event::Take { from, to })
     } else if op == "crash" {
-        Some(Event::Crash {
+        Ok(Event::Crash {
             server: read_server(object)?,
         })
     } else if op == "detect" {
-        Some(Event::Detect {
+        Ok(Event::Detect {
             server: read_server(object)?,
         })
     } else if op == "join" {
-        Some(Event::Join {
+        Ok(Event::Join {
             server: read_server(object)?,
         })
     } else {
-        None
+        Err(Stop::Bad)
     }
 }
