@@ -10,6 +10,7 @@ use Rattle.serde_json.specs.Read.{of_json, of_members, converted, max_depth}
 use Rattle.serde_json.proofs.Numbers.{number_of-decimal}
 use Rattle.cq_json.specs.Fields.{json_of}
 use Rattle.cq_json.proofs.JsonText.{json_of_read}
+use Rattle.cq_json.specs.Keys.{key_text}
 use Rattle.cq_json.specs.Flat.{scalar_data, is_inner, puts, inner_members}
 use Rattle.cq_json.specs.FlatReading.{scalar_token, IsInRange, rest_of, Ends, Adds, Opens, EndsBoth}
 use Rattle.cq_json.specs.declared.flat.Scalar.{Scalar}
@@ -92,28 +93,28 @@ turn found depth n k ts s r d enough key value =
     let less = skip_value-shorter depth s r (ap left j.1) in
     (n - 1, omega (arith, key_less, less), member_read depth found n k ts s r d (omega (arith, key_less, less)) key value)
 
-puts_push : (inner : Members) (ms : List Member) (m : Member) (found : Members) → puts inner (ms ++ m ∷ []) found ≡ put m.name.now (scalar_data inner m.value) (puts inner ms found)
+puts_push : (inner : Members) (ms : List Member) (m : Member) (found : Members) → puts inner (ms ++ m ∷ []) found ≡ put (key_text m.key) (scalar_data inner m.value) (puts inner ms found)
 puts_push inner [] m found = refl
-puts_push inner (l ∷ ms) m found = puts_push inner ms m (put l.name.now (scalar_data inner l.value) found)
+puts_push inner (l ∷ ms) m found = puts_push inner ms m (put (key_text l.key) (scalar_data inner l.value) found)
 
 pub adds_none : (ts : List Token) (ms : List Member) → Adds ts ms ts ms
 adds_none ts ms = λ inner depth n enough. (n, enough, refl)
 
 module _ (old : List Token) (read now : List Member) (ts s r : List Token) (adds : Adds old read ts now) where
-  pub adds_more : (m : Member) → read_key ts ≡ Some (Some m.name.now, s) → s ≡ scalar_token m.value ∷ r → IsInRange m.value → is_inner m.value ≡ false
+  pub adds_more : (m : Member) → read_key ts ≡ Some (Some (key_text m.key), s) → s ≡ scalar_token m.value ∷ r → IsInRange m.value → is_inner m.value ≡ false
       → Adds old read r (now ++ m ∷ [])
   adds_more m key first fits scalar = λ inner depth n enough.
       let a = adds inner depth n enough in
       let value : converted of_json (json.value depth s) ≡ Some (scalar_data inner m.value, r) = rw first (scalar_read inner depth m.value r fits scalar) in
-      let t = turn (puts inner now no_members) depth a.0 m.name.now ts s r (scalar_data inner m.value) a.1 key value in
+      let t = turn (puts inner now no_members) depth a.0 (key_text m.key) ts s r (scalar_data inner m.value) a.1 key value in
       (t.0, t.1, a.2 ∙ t.2 ∙ ap (λ found. rest_of found depth t.0 r) (sym (puts_push inner now m no_members)))
 
-  pub adds_inner : (m : Member) → read_key ts ≡ Some (Some m.name.now, s) → s ≡ scalar_token m.value ∷ r → is_inner m.value ≡ true
+  pub adds_inner : (m : Member) → read_key ts ≡ Some (Some (key_text m.key), s) → s ≡ scalar_token m.value ∷ r → is_inner m.value ≡ true
       → Opens old read r (now ++ m ∷ [])
   adds_inner m key first is = λ inner depth n rest enough reads.
       let a = adds inner depth n enough in
       let value : converted of_json (json.value depth s) ≡ Some (scalar_data inner m.value, rest) = rw first (inner_read inner depth m.value r rest is reads) in
-      let t = turn (puts inner now no_members) depth a.0 m.name.now ts s rest (scalar_data inner m.value) a.1 key value in
+      let t = turn (puts inner now no_members) depth a.0 (key_text m.key) ts s rest (scalar_data inner m.value) a.1 key value in
       (t.0, t.1, a.2 ∙ t.2 ∙ ap (λ found. rest_of found depth t.0 rest) (sym (puts_push inner now m no_members)))
 
 pub adds_end : (old : List Token) (read now : List Member) (ts r : List Token) → Adds old read ts now → read_key ts ≡ Some (None, r) → Ends old read r now

@@ -16,6 +16,7 @@ use Rattle.json.proofs.Printed.Tokens.{tokens-print}
 use Rattle.serde_json.specs.Data.{object, Members, no_members, put}
 use Rattle.serde_json.specs.Read.{of_json, converted, max_depth}
 use Rattle.cq_json.specs.Fields.{json_of}
+use Rattle.cq_json.specs.Keys.{key_text}
 use Rattle.cq_json.specs.Flat.{scalar_data, is_inner, puts, inner_members}
 use Rattle.cq_json.specs.FlatReading.{IsInRange, rest_of}
 use Rattle.cq_json.specs.FlatText.{run_end, value_text, member_text, members_text, AreInRange, Takes}
@@ -125,16 +126,16 @@ module _ (text : List ℕ) (read now : List Member) (rest next left : List ℕ) 
   pub take_more : (m : Member) → rest ≡ opening_of now ∷ next → next ≡ member_text [] m ++ left → is_inner m.value ≡ false → (inner : List ℕ)
       → members_text inner 123 read ++ text ≡ members_text inner 123 (now ++ m ∷ []) ++ left
   take_more m opened member scalar = λ inner.
-      take_one m inner left opened (member ∙ ap (λ v. (quoted m.name.now ++ 58 ∷ v) ++ left) (value_apart inner m.value scalar))
+      take_one m inner left opened (member ∙ ap (λ v. (quoted (key_text m.key) ++ 58 ∷ v) ++ left) (value_apart inner m.value scalar))
 
   pub take_inner : (m : Member) → rest ≡ opening_of now ∷ next → next ≡ member_text [] m ++ left → is_inner m.value ≡ true → (inner after : List ℕ) → left ≡ inner ++ after
       → members_text inner 123 read ++ text ≡ members_text inner 123 (now ++ m ∷ []) ++ after
   take_inner m opened member is = λ inner after follows.
       take_one m inner after opened
       (member ∙ ap (λ t. member_text [] m ++ t) follows
-      ∙ append_assoc (quoted m.name.now) (58 ∷ value_text [] m.value) (inner ++ after)
-      ∙ ap (λ t. quoted m.name.now ++ 58 ∷ t) (value_inner inner after m.value is)
-      ∙ sym (append_assoc (quoted m.name.now) (58 ∷ value_text inner m.value) after))
+      ∙ append_assoc (quoted (key_text m.key)) (58 ∷ value_text [] m.value) (inner ++ after)
+      ∙ ap (λ t. quoted (key_text m.key) ++ 58 ∷ t) (value_inner inner after m.value is)
+      ∙ sym (append_assoc (quoted (key_text m.key)) (58 ∷ value_text inner m.value) after))
 
 -- ---- the tokens of a flat object, where the inner one has those after its bracket
 
@@ -146,7 +147,7 @@ value_tokens inner Inner = begin_object ∷ inner
 
 abbrev pub members_tokens : List Token → List Member → List Token
 members_tokens inner [] = end_object ∷ []
-members_tokens inner (m ∷ ms) = key m.name.now ∷ (value_tokens inner m.value ++ members_tokens inner ms)
+members_tokens inner (m ∷ ms) = key (key_text m.key) ∷ (value_tokens inner m.value ++ members_tokens inner ms)
 
 -- a text is that of an object whose bracket has these tokens behind it, which say these members
 pub record SaysObject (text : List ℕ) (ts : List Token) (is : Members) (level : ℕ) : Type 0 where
@@ -188,18 +189,18 @@ module _ (text : List ℕ) (ts : List Token) (is : Members) (level : ℕ) (inner
   value_said (Truth b) fits depth deep r = scalar_read is depth (Truth b) r fits refl
   value_said Inner fits depth deep r = inner.read depth deep r
 
-  member_printed : (m : Member) (us : List Token) → print_from false (key m.name.now ∷ (value_tokens ts m.value ++ us)) ≡ member_text text m ++ print_from true us
+  member_printed : (m : Member) (us : List Token) → print_from false (key (key_text m.key) ∷ (value_tokens ts m.value ++ us)) ≡ member_text text m ++ print_from true us
   unfolding print_from
   member_printed m us =
-      append_assoc (quoted m.name.now) (58 ∷ []) _
-      ∙ ap (λ t. quoted m.name.now ++ 58 ∷ t) (value_printed m.value us)
-      ∙ sym (append_assoc (quoted m.name.now) (58 ∷ value_text text m.value) (print_from true us))
+      append_assoc (quoted (key_text m.key)) (58 ∷ []) _
+      ∙ ap (λ t. quoted (key_text m.key) ++ 58 ∷ t) (value_printed m.value us)
+      ∙ sym (append_assoc (quoted (key_text m.key)) (58 ∷ value_text text m.value) (print_from true us))
 
   members_printed : (ms : List Member) (us : List Token) → print_from true (members_tokens ts ms ++ us) ≡ members_text text 44 ms ++ (125 ∷ print_from true us)
   unfolding print_from
   members_printed [] us = refl
   members_printed (m ∷ ms) us =
-      ap (λ l. print_from true (key m.name.now ∷ l)) (append_assoc (value_tokens ts m.value) (members_tokens ts ms) us)
+      ap (λ l. print_from true (key (key_text m.key) ∷ l)) (append_assoc (value_tokens ts m.value) (members_tokens ts ms) us)
       ∙ ap (λ t. 44 ∷ t) (member_printed m (members_tokens ts ms ++ us) ∙ ap (λ t. member_text text m ++ t) (members_printed ms us)
       ∙ sym (append_assoc (member_text text m) (members_text text 44 ms) (125 ∷ print_from true us)))
 
@@ -215,10 +216,10 @@ module _ (text : List ℕ) (ts : List Token) (is : Members) (level : ℕ) (inner
       let rest = members_tokens ts ms ++ r in
       let apart = append_assoc (value_tokens ts m.value) (members_tokens ts ms) r in
       let long : length ((value_tokens ts m.value ++ members_tokens ts ms) ++ r) ≡ length (value_tokens ts m.value) + length rest = ap length apart ∙ length-append (value_tokens ts m.value) rest in
-      ap (λ l. rest_of found depth n (key m.name.now ∷ l)) apart
-      ∙ member_read depth found n m.name.now (key m.name.now ∷ (value_tokens ts m.value ++ rest)) (value_tokens ts m.value ++ rest) rest (scalar_data is m.value) (omega arith) refl
+      ap (λ l. rest_of found depth n (key (key_text m.key) ∷ l)) apart
+      ∙ member_read depth found n (key_text m.key) (key (key_text m.key) ∷ (value_tokens ts m.value ++ rest)) (value_tokens ts m.value ++ rest) rest (scalar_data is m.value) (omega arith) refl
       (value_said m.value fits.0 depth deep rest)
-      ∙ members_said ms fits.1 depth deep (put m.name.now (scalar_data is m.value) found) (n - 1) r (omega arith)
+      ∙ members_said ms fits.1 depth deep (put (key_text m.key) (scalar_data is m.value) found) (n - 1) r (omega arith)
 
   object_read : (ms : List Member) → AreInRange ms → (depth : ℕ) → suc level ≤ depth → (r : List Token)
       → converted of_json (json.value depth (begin_object ∷ (members_tokens ts ms ++ r))) ≡ Some (object (puts is ms no_members), r)
@@ -231,7 +232,7 @@ module _ (text : List ℕ) (ts : List Token) (is : Members) (level : ℕ) (inner
   unfolding print_from
   object_printed [] some us = absurd (omega arith)
   object_printed (m ∷ ms) some us =
-      ap (λ l. print_from false (begin_object ∷ key m.name.now ∷ l)) (append_assoc (value_tokens ts m.value) (members_tokens ts ms) us)
+      ap (λ l. print_from false (begin_object ∷ key (key_text m.key) ∷ l)) (append_assoc (value_tokens ts m.value) (members_tokens ts ms) us)
       ∙ ap (λ t. 123 ∷ t) (member_printed m (members_tokens ts ms ++ us) ∙ ap (λ t. member_text text m ++ t) (members_printed ms us)
       ∙ sym (append_assoc (member_text text m) (members_text text 44 ms) (125 ∷ print_from true us)))
       ∙ sym (append_assoc (members_text text 123 (m ∷ ms)) (125 ∷ []) (print_from true us))

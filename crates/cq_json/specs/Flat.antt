@@ -6,6 +6,7 @@ use Rattle.serde_json.specs.Find.{as_object}
 use Rattle.cq_base.specs.declared.ask.Ask.{Ask}
 use Rattle.cq_json.specs.Fields.{Reason, bad, member_at, ◌>>=◌}
 use Rattle.cq_json.specs.Asks.{ask_in}
+use Rattle.cq_json.specs.Keys.{key_text}
 use Rattle.cq_json.specs.declared.flat.Scalar.{Scalar}
 use Rattle.cq_json.specs.declared.flat.Scalar.TheVariants.{Text, Number, Truth, Inner}
 use Rattle.cq_json.specs.declared.flat.Member.{Member}
@@ -29,7 +30,7 @@ is_inner Inner = true
 -- the members that were found, and then these: of a name that comes twice the last value stays
 abbrev pub puts : Members → List Member → Members → Members
 puts inner [] found = found
-puts inner (m ∷ ms) found = puts inner ms (put m.name.now (scalar_data inner m.value) found)
+puts inner (m ∷ ms) found = puts inner ms (put (key_text m.key) (scalar_data inner m.value) found)
 
 -- the members of an inner object, in which there is none
 abbrev pub inner_members : List Member → Members
@@ -58,7 +59,7 @@ IsEmpty flat = (flat.members.items ≡ []) × (flat.inner.items ≡ [])
 -- the value of the last member of that name, or what was found before
 abbrev pub last_named : List ℕ → Option Scalar → List Member → Option Scalar
 last_named key found [] = found
-last_named key found (m ∷ ms) = last_named key (cond (bytes_eq m.name.now key) (Some m.value) found) ms
+last_named key found (m ∷ ms) = last_named key (cond (bytes_eq (key_text m.key) key) (Some m.value) found) ms
 
 -- there is no value, or it has no members
 abbrev pub IsNoObject : Result Data Reason → Type 0

@@ -5,6 +5,7 @@ use Rattle.std.specs.Fmt.{decimal}
 use Rattle.json.specs.Token.{boolean}
 use Rattle.json.specs.Print.{quoted, token_text}
 use Rattle.cq_json.specs.FlatReading.{IsInRange}
+use Rattle.cq_json.specs.Keys.{key_text}
 use Rattle.cq_json.specs.declared.flat.Scalar.{Scalar}
 use Rattle.cq_json.specs.declared.flat.Scalar.TheVariants.{Text, Number, Truth, Inner}
 use Rattle.cq_json.specs.declared.flat.Member.{Member}
@@ -25,7 +26,7 @@ value_text inner Inner = inner
 
 -- the text of a member
 abbrev pub member_text : List ℕ → Member → List ℕ
-member_text inner m = quoted m.name.now ++ (58 ∷ value_text inner m.value)
+member_text inner m = quoted (key_text m.key) ++ (58 ∷ value_text inner m.value)
 
 -- the texts of members, with that byte before the first and a comma before each other one
 abbrev pub members_text : List ℕ → ℕ → List Member → List ℕ

@@ -2,6 +2,7 @@ pub mod Fields
 pub mod Receipts
 pub mod Asks
 pub mod Readers
+pub mod Keys
 pub mod Flat
 pub mod FlatReading
 pub mod FlatText

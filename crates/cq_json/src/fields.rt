@@ -57,7 +57,7 @@ pub fn parse(alloc: Global, bytes: &[u8]) -> Result<Value, Stop>
     }
 }
 
-pub(crate) fn is_among(keys: &[&str], name: &str) -> bool
+fn is_among(keys: &[&str], name: &str) -> bool
     ensures { result ≡ list_any (λ key. bytes_eq key.now name.now) keys.now }
 {
     keys.iter().any(|key| *key == name)

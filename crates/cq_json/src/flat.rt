@@ -7,10 +7,12 @@ ghost use Rattle.std.specs.Option.{option_copied};
 ghost use Rattle.serde_json.specs.Find.{get};
 ghost use Rattle.cq_base.specs.declared.limits.TheConstants.{MOMENT_LIMIT, SECONDS_LIMIT, BATCH_LIMIT, PARTY_LIMIT, NUMBER_LIMIT};
 ghost use Rattle.cq_json.specs.Fields as spec;
+ghost use Rattle.cq_json.specs.Keys.{key_text};
 ghost use Rattle.cq_json.specs.Flat.{scalar_data, inner_members, flat_data, inner_data, is_inner, last_named, IsNoObject};
 ghost use Rattle.cq_json.specs.Readers.{Gives, same};
 
-use crate::fields::{Stop, is_among, party_named};
+use crate::fields::{Stop, party_named};
+use crate::key::Key;
 use arrayvec::ArrayVec;
 use cq_base::{
     BATCH_LIMIT, BatchSize, MOMENT_LIMIT, Moment, NUMBER_LIMIT, PARTY_LIMIT, Party, SECONDS_LIMIT,
@@ -48,14 +50,14 @@ impl<'a> Scalar<'a> {
 /// A member of an object.
 #[derive(Clone, Copy)]
 pub struct Member<'a> {
-    pub(crate) name: &'a str,
+    pub(crate) key: Key,
     pub(crate) value: Scalar<'a>,
 }
 
 impl<'a> Default for Member<'a> {
     fn default() -> Member<'a> {
         Member {
-            name: "",
+            key: Key::Op,
             value: Scalar::Text(""),
         }
     }
@@ -71,13 +73,13 @@ pub struct Flat<'o, 'a> {
     pub(crate) inner: &'o [Member<'a>],
 }
 
-/// The value of the last member of that name: O(members).
-fn last_named<'a>(members: &[Member<'a>], key: &str) -> Option<Scalar<'a>>
-    ensures { result ≡ last_named key.now None members.now }
+/// The value of the last member with that key: O(members).
+fn last_named<'a>(members: &[Member<'a>], key: Key) -> Option<Scalar<'a>>
+    ensures { result ≡ last_named (key_text key) None members.now }
 {
     let mut found = None;
     for member in members {
-        if member.name == key {
+        if member.key.is(key) {
             found = Some(member.value);
         }
     }
@@ -97,19 +99,26 @@ fn within(number: u64, low: u64, high: u64) -> Result<u64, Stop>
     }
 }
 
-/// Whether each member has one of these names: O(members x keys).
-fn are_among(members: &[Member<'_>], keys: &[&str]) -> bool
-    ensures { result ≡ list_all
-        (λ m. list_any (λ key. bytes_eq key.now m.name.now) keys.now) members.now }
+/// Whether the key is one of these.
+fn is_one_of(keys: &[Key], key: Key) -> bool
+    ensures { result ≡ list_any (λ k. bytes_eq (key_text k) (key_text key)) keys.now }
 {
-    members.iter().all(|member| is_among(keys, member.name))
+    keys.iter().any(|one| one.is(key))
+}
+
+/// Whether each member has one of these keys: O(members x keys).
+fn are_among(members: &[Member<'_>], keys: &[Key]) -> bool
+    ensures { result ≡ list_all
+        (λ m. list_any (λ k. bytes_eq (key_text k) (key_text m.key)) keys.now) members.now }
+{
+    members.iter().all(|member| is_one_of(keys, member.key))
 }
 
 impl<'o, 'a> Flat<'o, 'a> {
     /// Whether no key in the object is another than these.
     #[tactic(auto, using(crate::proofs::FlatMembers::among_flat))]
-    pub fn has_only(self, keys: &[&str]) -> bool
-        ensures { result ≡ spec.has_only (map (λ key. key.now) keys.now) (flat_data self.entry) }
+    pub fn has_only(self, keys: &[Key]) -> bool
+        ensures { result ≡ spec.has_only (map key_text keys.now) (flat_data self.entry) }
     {
         are_among(self.members, keys)
     }
@@ -126,15 +135,15 @@ impl<'o, 'a> Flat<'o, 'a> {
 
     /// The value under the key.
     #[tactic(auto, using(crate::proofs::FlatMembers::found_flat))]
-    fn get(self, key: &str) -> Option<Scalar<'a>>
-        ensures { option_map (scalar_data (inner_members self.entry.inner.now)) result ≡ get key.now (flat_data self.entry) }
+    fn get(self, key: Key) -> Option<Scalar<'a>>
+        ensures { option_map (scalar_data (inner_members self.entry.inner.now)) result ≡ get (key_text key) (flat_data self.entry) }
     {
         last_named(self.members, key)
     }
 
     /// The text under the key.
-    pub fn text_at(self, key: &str) -> Result<&'a str, Stop>
-        ensures { Gives (λ t. t.now) result (spec.text_at key.now (flat_data self.entry)) }
+    pub fn text_at(self, key: Key) -> Result<&'a str, Stop>
+        ensures { Gives (λ t. t.now) result (spec.text_at (key_text key) (flat_data self.entry)) }
     {
         match self.get(key) {
             Some(Scalar::Text(text)) => Ok(text),
@@ -143,8 +152,8 @@ impl<'o, 'a> Flat<'o, 'a> {
     }
 
     /// The text under the key, which may be missing.
-    pub fn text_if_at(self, key: &str) -> Result<Option<&'a str>, Stop>
-        ensures { Gives option_copied result (spec.text_if_at key.now (flat_data self.entry)) }
+    pub fn text_if_at(self, key: Key) -> Result<Option<&'a str>, Stop>
+        ensures { Gives option_copied result (spec.text_if_at (key_text key) (flat_data self.entry)) }
     {
         match self.get(key) {
             Some(Scalar::Text(text)) => Ok(Some(text)),
@@ -154,8 +163,8 @@ impl<'o, 'a> Flat<'o, 'a> {
     }
 
     /// The truth value under the key, which may be missing.
-    pub fn truth_if_at(self, key: &str) -> Result<Option<bool>, Stop>
-        ensures { Gives same result (spec.truth_if_at key.now (flat_data self.entry)) }
+    pub fn truth_if_at(self, key: Key) -> Result<Option<bool>, Stop>
+        ensures { Gives same result (spec.truth_if_at (key_text key) (flat_data self.entry)) }
     {
         match self.get(key) {
             Some(Scalar::Truth(truth)) => Ok(Some(truth)),
@@ -165,8 +174,8 @@ impl<'o, 'a> Flat<'o, 'a> {
     }
 
     /// The number under the key, if it is from `low` to `high`.
-    fn number_at(self, low: u64, high: u64, key: &str) -> Result<u64, Stop>
-        ensures value { Gives same result (spec.number_at low high key.now (flat_data self.entry)) }
+    fn number_at(self, low: u64, high: u64, key: Key) -> Result<u64, Stop>
+        ensures value { Gives same result (spec.number_at low high (key_text key) (flat_data self.entry)) }
         ensures least { IfOk result (λ number. low ≤ number) }
         ensures most { IfOk result (λ number. number ≤ high) }
     {
@@ -177,43 +186,43 @@ impl<'o, 'a> Flat<'o, 'a> {
     }
 
     /// The server under the key.
-    pub fn server_at(self, key: &str) -> Result<ServerId, Stop>
-        ensures { Gives same result (spec.number_at 1 PARTY_LIMIT key.now (flat_data self.entry)) }
+    pub fn server_at(self, key: Key) -> Result<ServerId, Stop>
+        ensures { Gives same result (spec.number_at 1 PARTY_LIMIT (key_text key) (flat_data self.entry)) }
     {
         Ok(ServerId::new(self.number_at(1, u64::from(PARTY_LIMIT), key)? as u32).unwrap())
     }
 
     /// The number under the key.
-    pub fn u32_at(self, key: &str) -> Result<u32, Stop>
-        ensures { Gives same result (spec.number_at 0 PARTY_LIMIT key.now (flat_data self.entry)) }
+    pub fn u32_at(self, key: Key) -> Result<u32, Stop>
+        ensures { Gives same result (spec.number_at 0 PARTY_LIMIT (key_text key) (flat_data self.entry)) }
     {
         Ok(self.number_at(0, u64::from(PARTY_LIMIT), key)? as u32)
     }
 
     /// The number under the key.
-    pub fn u64_at(self, key: &str) -> Result<u64, Stop>
-        ensures { Gives same result (spec.number_at 0 NUMBER_LIMIT key.now (flat_data self.entry)) }
+    pub fn u64_at(self, key: Key) -> Result<u64, Stop>
+        ensures { Gives same result (spec.number_at 0 NUMBER_LIMIT (key_text key) (flat_data self.entry)) }
     {
         self.number_at(0, NUMBER_LIMIT, key)
     }
 
     /// The moment under the key.
-    pub fn moment_at(self, key: &str) -> Result<Moment, Stop>
-        ensures { Gives same result (spec.number_at 0 MOMENT_LIMIT key.now (flat_data self.entry)) }
+    pub fn moment_at(self, key: Key) -> Result<Moment, Stop>
+        ensures { Gives same result (spec.number_at 0 MOMENT_LIMIT (key_text key) (flat_data self.entry)) }
     {
         Ok(Moment::new(self.number_at(0, MOMENT_LIMIT, key)?).unwrap())
     }
 
     /// The visibility timeout under the key.
-    pub fn seconds_at(self, key: &str) -> Result<Seconds, Stop>
-        ensures { Gives same result (spec.number_at 0 SECONDS_LIMIT key.now (flat_data self.entry)) }
+    pub fn seconds_at(self, key: Key) -> Result<Seconds, Stop>
+        ensures { Gives same result (spec.number_at 0 SECONDS_LIMIT (key_text key) (flat_data self.entry)) }
     {
         Ok(Seconds::new(self.number_at(0, u64::from(SECONDS_LIMIT), key)? as u32).unwrap())
     }
 
     /// The number under the key, which may be missing, if it is from `low` to `high`.
-    fn number_if_at(self, low: u64, high: u64, key: &str) -> Result<Option<u64>, Stop>
-        ensures value { Gives same result (spec.number_if_at low high key.now (flat_data self.entry)) }
+    fn number_if_at(self, low: u64, high: u64, key: Key) -> Result<Option<u64>, Stop>
+        ensures value { Gives same result (spec.number_if_at low high (key_text key) (flat_data self.entry)) }
         ensures least { IfOk result (λ found. IfSome found (λ number. low ≤ number)) }
         ensures most { IfOk result (λ found. IfSome found (λ number. number ≤ high)) }
     {
@@ -225,8 +234,8 @@ impl<'o, 'a> Flat<'o, 'a> {
     }
 
     /// The visibility timeout under the key, which may be missing.
-    pub fn seconds_if_at(self, key: &str) -> Result<Option<Seconds>, Stop>
-        ensures { Gives same result (spec.number_if_at 0 SECONDS_LIMIT key.now (flat_data self.entry)) }
+    pub fn seconds_if_at(self, key: Key) -> Result<Option<Seconds>, Stop>
+        ensures { Gives same result (spec.number_if_at 0 SECONDS_LIMIT (key_text key) (flat_data self.entry)) }
     {
         match self.number_if_at(0, u64::from(SECONDS_LIMIT), key)? {
             Some(seconds) => Ok(Some(Seconds::new(seconds as u32).unwrap())),
@@ -235,8 +244,8 @@ impl<'o, 'a> Flat<'o, 'a> {
     }
 
     /// The number of messages under the key, which may be missing.
-    pub fn batch_size_if_at(self, key: &str) -> Result<Option<BatchSize>, Stop>
-        ensures { Gives same result (spec.number_if_at 1 BATCH_LIMIT key.now (flat_data self.entry)) }
+    pub fn batch_size_if_at(self, key: Key) -> Result<Option<BatchSize>, Stop>
+        ensures { Gives same result (spec.number_if_at 1 BATCH_LIMIT (key_text key) (flat_data self.entry)) }
     {
         match self.number_if_at(1, u64::from(BATCH_LIMIT), key)? {
             Some(size) => Ok(Some(BatchSize::new(size as u8).unwrap())),
@@ -245,8 +254,8 @@ impl<'o, 'a> Flat<'o, 'a> {
     }
 
     /// The party under the key.
-    pub fn party_at(self, key: &str) -> Result<Party, Stop>
-        ensures { Gives same result (spec.party_at key.now (flat_data self.entry)) }
+    pub fn party_at(self, key: Key) -> Result<Party, Stop>
+        ensures { Gives same result (spec.party_at (key_text key) (flat_data self.entry)) }
     {
         match self.get(key) {
             Some(Scalar::Text(name)) => party_named(name),
@@ -256,9 +265,9 @@ impl<'o, 'a> Flat<'o, 'a> {
     }
 
     /// The inner object, if it is under the key.
-    pub(crate) fn inner_at(self, key: &str) -> Option<Flat<'o, 'a>>
-        ensures some { IfSome result (λ inner. spec.member_at key.now (flat_data self.entry) ≡ Ok (flat_data inner)) }
-        ensures none { IsNone result → IsNoObject (spec.member_at key.now (flat_data self.entry)) }
+    pub(crate) fn inner_at(self, key: Key) -> Option<Flat<'o, 'a>>
+        ensures some { IfSome result (λ inner. spec.member_at (key_text key) (flat_data self.entry) ≡ Ok (flat_data inner)) }
+        ensures none { IsNone result → IsNoObject (spec.member_at (key_text key) (flat_data self.entry)) }
     {
         match self.get(key) {
             Some(Scalar::Inner) => Some(self.inner()),

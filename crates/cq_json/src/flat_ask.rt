@@ -1,11 +1,13 @@
 //! The asks of flat objects.
 ghost use Rattle.cq_json.specs.Asks as spec;
 ghost use Rattle.cq_json.specs.Flat.{flat_data, ask_at};
+ghost use Rattle.cq_json.specs.Keys.{key_text};
 ghost use Rattle.cq_json.specs.Readers.{Gives, same};
 
 use crate::ask::{DEFAULT_BATCH, DEFAULT_SECONDS};
 use crate::fields::Stop;
 use crate::flat::Flat;
+use crate::key::Key;
 use crate::texts::{dedup_id_if, group_id, message_body, queue_name, receipt};
 use cq_base::{Ask, BatchSize, Seconds};
 use std::alloc::Global;
@@ -14,12 +16,12 @@ use std::alloc::Global;
 fn read_create(alloc: Global, object: Flat<'_, '_>) -> Result<Ask, Stop>
     ensures { Gives same result (spec.create_in (flat_data object.entry)) }
 {
-    if !object.has_only(&["kind", "queue", "visibility", "content_dedup"]) {
+    if !object.has_only(&[Key::Kind, Key::Queue, Key::Visibility, Key::ContentDedup]) {
         return Err(Stop::Bad);
     }
-    let queue = object.text_at("queue")?;
-    let visibility = object.seconds_if_at("visibility")?;
-    let content = object.truth_if_at("content_dedup")?;
+    let queue = object.text_at(Key::Queue)?;
+    let visibility = object.seconds_if_at(Key::Visibility)?;
+    let content = object.truth_if_at(Key::ContentDedup)?;
     Ok(Ask::Create {
         queue: queue_name(alloc, queue)?,
         visibility: visibility.unwrap_or(Seconds::new(DEFAULT_SECONDS).unwrap()),
@@ -31,10 +33,10 @@ fn read_create(alloc: Global, object: Flat<'_, '_>) -> Result<Ask, Stop>
 fn read_remove(alloc: Global, object: Flat<'_, '_>) -> Result<Ask, Stop>
     ensures { Gives same result (spec.remove_in (flat_data object.entry)) }
 {
-    if !object.has_only(&["kind", "queue"]) {
+    if !object.has_only(&[Key::Kind, Key::Queue]) {
         return Err(Stop::Bad);
     }
-    let queue = object.text_at("queue")?;
+    let queue = object.text_at(Key::Queue)?;
     Ok(Ask::Remove {
         queue: queue_name(alloc, queue)?,
     })
@@ -44,13 +46,13 @@ fn read_remove(alloc: Global, object: Flat<'_, '_>) -> Result<Ask, Stop>
 fn read_send(alloc: Global, object: Flat<'_, '_>) -> Result<Ask, Stop>
     ensures { Gives same result (spec.send_in (flat_data object.entry)) }
 {
-    if !object.has_only(&["kind", "queue", "group", "dedup", "body"]) {
+    if !object.has_only(&[Key::Kind, Key::Queue, Key::Group, Key::Dedup, Key::Body]) {
         return Err(Stop::Bad);
     }
-    let queue = object.text_at("queue")?;
-    let group = object.text_at("group")?;
-    let dedup = object.text_if_at("dedup")?;
-    let body = object.text_at("body")?;
+    let queue = object.text_at(Key::Queue)?;
+    let group = object.text_at(Key::Group)?;
+    let dedup = object.text_if_at(Key::Dedup)?;
+    let body = object.text_at(Key::Body)?;
     Ok(Ask::Send {
         queue: queue_name(alloc, queue)?,
         group: group_id(alloc, group)?,
@@ -63,12 +65,12 @@ fn read_send(alloc: Global, object: Flat<'_, '_>) -> Result<Ask, Stop>
 fn read_receive(alloc: Global, object: Flat<'_, '_>) -> Result<Ask, Stop>
     ensures { Gives same result (spec.receive_in (flat_data object.entry)) }
 {
-    if !object.has_only(&["kind", "queue", "size", "visibility"]) {
+    if !object.has_only(&[Key::Kind, Key::Queue, Key::Size, Key::Visibility]) {
         return Err(Stop::Bad);
     }
-    let queue = object.text_at("queue")?;
-    let size = object.batch_size_if_at("size")?;
-    let visibility = object.seconds_if_at("visibility")?;
+    let queue = object.text_at(Key::Queue)?;
+    let size = object.batch_size_if_at(Key::Size)?;
+    let visibility = object.seconds_if_at(Key::Visibility)?;
     Ok(Ask::Receive {
         queue: queue_name(alloc, queue)?,
         size: size.unwrap_or(BatchSize::new(DEFAULT_BATCH).unwrap()),
@@ -80,11 +82,11 @@ fn read_receive(alloc: Global, object: Flat<'_, '_>) -> Result<Ask, Stop>
 fn read_delete(alloc: Global, object: Flat<'_, '_>) -> Result<Ask, Stop>
     ensures { Gives same result (spec.delete_in (flat_data object.entry)) }
 {
-    if !object.has_only(&["kind", "queue", "receipt"]) {
+    if !object.has_only(&[Key::Kind, Key::Queue, Key::Receipt]) {
         return Err(Stop::Bad);
     }
-    let queue = object.text_at("queue")?;
-    let receipt = receipt(object.text_at("receipt")?)?;
+    let queue = object.text_at(Key::Queue)?;
+    let receipt = receipt(object.text_at(Key::Receipt)?)?;
     Ok(Ask::Delete {
         queue: queue_name(alloc, queue)?,
         receipt,
@@ -95,12 +97,12 @@ fn read_delete(alloc: Global, object: Flat<'_, '_>) -> Result<Ask, Stop>
 fn read_change(alloc: Global, object: Flat<'_, '_>) -> Result<Ask, Stop>
     ensures { Gives same result (spec.change_in (flat_data object.entry)) }
 {
-    if !object.has_only(&["kind", "queue", "receipt", "visibility"]) {
+    if !object.has_only(&[Key::Kind, Key::Queue, Key::Receipt, Key::Visibility]) {
         return Err(Stop::Bad);
     }
-    let queue = object.text_at("queue")?;
-    let receipt = receipt(object.text_at("receipt")?)?;
-    let visibility = object.seconds_at("visibility")?;
+    let queue = object.text_at(Key::Queue)?;
+    let receipt = receipt(object.text_at(Key::Receipt)?)?;
+    let visibility = object.seconds_at(Key::Visibility)?;
     Ok(Ask::Change {
         queue: queue_name(alloc, queue)?,
         receipt,
@@ -113,7 +115,7 @@ fn read_change(alloc: Global, object: Flat<'_, '_>) -> Result<Ask, Stop>
 pub fn read_flat_ask(alloc: Global, object: Flat<'_, '_>) -> Result<Ask, Stop>
     ensures { Gives same result (spec.ask_in (flat_data object.entry)) }
 {
-    let kind = object.text_at("kind")?;
+    let kind = object.text_at(Key::Kind)?;
     if kind == "create" {
         read_create(alloc, object)
     } else if kind == "remove" {
@@ -133,8 +135,8 @@ pub fn read_flat_ask(alloc: Global, object: Flat<'_, '_>) -> Result<Ask, Stop>
 
 /// The ask that the object under the key says.
 #[tactic(auto, unfolding(crate::specs::Asks::ask_in))]
-pub fn read_flat_ask_at(alloc: Global, object: Flat<'_, '_>, key: &str) -> Result<Ask, Stop>
-    ensures { Gives same result (ask_at key.now (flat_data object.entry)) }
+pub fn read_flat_ask_at(alloc: Global, object: Flat<'_, '_>, key: Key) -> Result<Ask, Stop>
+    ensures { Gives same result (ask_at (key_text key) (flat_data object.entry)) }
 {
     match object.inner_at(key) {
         Some(inner) => read_flat_ask(alloc, inner),

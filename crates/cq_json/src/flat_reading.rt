@@ -11,6 +11,7 @@ ghost use Rattle.cq_json.specs.FlatReading.{scalar_token, IsInRange, ReadsTo, En
 
 use crate::flat::{Flat, Member, Members, Scalar};
 use crate::flat_text::take_object;
+use crate::key::Key;
 use json::{Invalid, Reader, Scratch, Token};
 use std::alloc::Global;
 
@@ -86,11 +87,12 @@ fn read_members<'a>(reader: &mut Reader<'a>, members: &mut Members<'a>) -> Resul
     ensures { ReadsTo result reader.old members.old.items reader.new members.new.items }
 {
     'members: while let Some(name) = reader.next_key()? {
+        let key = Key::named(name).ok_or(Invalid)?;
         let value = read_scalar(reader)?;
         if members.is_full() {
             return Err(Invalid);
         }
-        members.push(Member { name, value });
+        members.push(Member { key, value });
         if value.is_inner() {
             return Ok(Pause::Inner);
         }

@@ -14,6 +14,7 @@ ghost use Rattle.cq_json.specs.FlatText.{run_end, value_text, member_text, Takes
 
 use crate::flat::{Member, Members, Scalar};
 use crate::flat_reading::Pause;
+use crate::key::Key;
 use std::simd::prelude::*;
 
 /// How many bytes are looked at together.
@@ -251,8 +252,9 @@ fn read_member<'a>(
     ensures { IfSome result (λ parts. (text.now ≡ member_text [] parts.0 ++ parts.1.now) × IsInRange parts.0.value) }
 {
     let (name, rest) = read_string(text)?;
+    let key = Key::named(name)?;
     let (value, rest) = read_value(after(rest, b':')?, spare)?;
-    Some((Member { name, value }, rest))
+    Some((Member { key, value }, rest))
 }
 
 /// Takes members up to the end of the object, or up to one whose value is an object, and gives what follows: O(bytes).

@@ -8,6 +8,7 @@ mod flat;
 mod flat_ask;
 mod flat_reading;
 mod flat_text;
+mod key;
 mod texts;
 
 pub use ask::read_ask;
@@ -17,4 +18,5 @@ pub use fields::{
 pub use flat::Flat;
 pub use flat_ask::{read_flat_ask, read_flat_ask_at};
 pub use flat_reading::{FlatObject, LineScratch};
+pub use key::Key;
 pub use texts::queue_name;

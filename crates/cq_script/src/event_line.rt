@@ -50,7 +50,11 @@ pub fn is_blank(bytes: &[u8]) -> bool
 
 /// What the bytes say, if their object is a flat one: read without a map, and with no memory but that of the scratch and of
 /// the event. None also where there is no memory for the scratch. O(bytes).
-fn read_at_once(alloc: Global, scratch: &mut LineScratch, bytes: &[u8]) -> Option<Result<Event, Stop>>
+fn read_at_once(
+    alloc: Global,
+    scratch: &mut LineScratch,
+    bytes: &[u8],
+) -> Option<Result<Event, Stop>>
     ensures { IfSome result (λ read. Gives same read (event_from bytes.now)) }
 {
     let text = from_utf8(bytes).ok()?;

@@ -4,7 +4,7 @@ ghost use Rattle.cq_json.specs.Flat.{flat_data};
 ghost use Rattle.cq_json.specs.Readers.{Gives, same};
 
 use cq_base::{Party, Query, Request, ServerId};
-use cq_json::{Flat, Stop, queue_name, read_flat_ask_at};
+use cq_json::{Flat, Key, Stop, queue_name, read_flat_ask_at};
 use cq_world::Event;
 use std::alloc::Global;
 
@@ -12,14 +12,21 @@ use std::alloc::Global;
 fn read_arrive(alloc: Global, object: Flat<'_, '_>) -> Result<Event, Stop>
     ensures { Gives same result (spec.arrive_in (flat_data object.entry)) }
 {
-    if !object.has_only(&["op", "at", "clock", "client", "number", "ask"]) {
+    if !object.has_only(&[
+        Key::Op,
+        Key::At,
+        Key::Clock,
+        Key::Client,
+        Key::Number,
+        Key::Ask,
+    ]) {
         return Err(Stop::Bad);
     }
-    let at = object.server_at("at")?;
-    let clock = object.moment_at("clock")?;
-    let client = object.u32_at("client")?;
-    let number = object.u64_at("number")?;
-    let ask = read_flat_ask_at(alloc, object, "ask")?;
+    let at = object.server_at(Key::At)?;
+    let clock = object.moment_at(Key::Clock)?;
+    let client = object.u32_at(Key::Client)?;
+    let number = object.u64_at(Key::Number)?;
+    let ask = read_flat_ask_at(alloc, object, Key::Ask)?;
     Ok(Event::Arrive {
         at,
         clock,
@@ -35,13 +42,13 @@ fn read_arrive(alloc: Global, object: Flat<'_, '_>) -> Result<Event, Stop>
 fn read_query(alloc: Global, object: Flat<'_, '_>) -> Result<Event, Stop>
     ensures { Gives same result (spec.query_in (flat_data object.entry)) }
 {
-    if !object.has_only(&["op", "at", "client", "tag", "queue"]) {
+    if !object.has_only(&[Key::Op, Key::At, Key::Client, Key::Tag, Key::Queue]) {
         return Err(Stop::Bad);
     }
-    let at = object.server_at("at")?;
-    let client = object.u32_at("client")?;
-    let tag = object.u64_at("tag")?;
-    let queue = object.text_at("queue")?;
+    let at = object.server_at(Key::At)?;
+    let client = object.u32_at(Key::Client)?;
+    let tag = object.u64_at(Key::Tag)?;
+    let queue = object.text_at(Key::Queue)?;
     Ok(Event::Ask {
         at,
         query: Query {
@@ -57,11 +64,11 @@ fn read_query(alloc: Global, object: Flat<'_, '_>) -> Result<Event, Stop>
 fn read_ends(object: Flat<'_, '_>) -> Result<(Party, Party), Stop>
     ensures { Gives same result (spec.ends_in (flat_data object.entry)) }
 {
-    if !object.has_only(&["op", "from", "to"]) {
+    if !object.has_only(&[Key::Op, Key::From, Key::To]) {
         return Err(Stop::Bad);
     }
-    let from = object.party_at("from")?;
-    let to = object.party_at("to")?;
+    let from = object.party_at(Key::From)?;
+    let to = object.party_at(Key::To)?;
     Ok((from, to))
 }
 
@@ -70,10 +77,10 @@ fn read_ends(object: Flat<'_, '_>) -> Result<(Party, Party), Stop>
 fn read_server(object: Flat<'_, '_>) -> Result<ServerId, Stop>
     ensures { Gives same result (spec.server_in (flat_data object.entry)) }
 {
-    if !object.has_only(&["op", "server"]) {
+    if !object.has_only(&[Key::Op, Key::Server]) {
         return Err(Stop::Bad);
     }
-    object.server_at("server")
+    object.server_at(Key::Server)
 }
 
 /// The event that the object says.
@@ -81,7 +88,7 @@ fn read_server(object: Flat<'_, '_>) -> Result<ServerId, Stop>
 pub(crate) fn read_flat_event(alloc: Global, object: Flat<'_, '_>) -> Result<Event, Stop>
     ensures { Gives same result (spec.event_in (flat_data object.entry)) }
 {
-    let op = object.text_at("op")?;
+    let op = object.text_at(Key::Op)?;
     if op == "arrive" {
         read_arrive(alloc, object)
     } else if op == "ask" {
