@@ -1,5 +1,5 @@
 //! Queue names, ids and bodies: texts that keep their rules.
-ghost use Rattle.std.specs.Prelude.{◌≡◌, ◌↔◌, ◌<◌, true, false, List, ℕ, length, get_or, Some, IfOk, IfErr, IsErrOf};
+ghost use Rattle.std.specs.Prelude.{◌≡◌, ◌↔◌, ◌<◌, ◌≤◌, ◌-◌, true, false, List, ℕ, length, get_or, Some, IfOk, IfErr, IsErrOf};
 ghost use Rattle.std.specs.Arc.{arc_str_bytes};
 ghost use Rattle.std.specs.Bool.{OnTrue};
 ghost use Rattle.std.specs.List.{list_all};
@@ -67,25 +67,29 @@ fn are_body_characters(text: &str) -> bool
     text.chars().all(|character| is_body_character(character))
 }
 
-/// Whether a body may have each character that begins with this byte. The only characters that it may not have are
-/// controls, of one byte below 32, and U+FFFE and U+FFFF, which begin with 0xEF.
+/// Whether this byte, behind that one, shows no character that a body may not have. These are the controls, of one byte
+/// below 32, and U+FFFE and U+FFFF, which end with 0xBF and one of 0xBE and 0xBF.
 #[inline(always)]
-fn is_plain_byte(byte: u8) -> bool
-    ensures { OnTrue result ((is_body_character byte ≡ true) × (byte ≡ 0xEF → ⊥)) }
+fn is_plain(before: u8, byte: u8) -> bool
+    ensures { OnTrue result ((is_body_character byte ≡ true) × (before ≡ 0xBF → 0xBE ≤ byte → byte ≤ 0xBF → ⊥)) }
 {
     let is_space = (byte == b'\t') | (byte == b'\n') | (byte == b'\r');
-    ((b' ' <= byte) | is_space) & (byte != 0xEF)
+    let is_end = (before == 0xBF) & (0xBE <= byte) & (byte <= 0xBF);
+    ((b' ' <= byte) | is_space) & !is_end
 }
 
-/// Whether all these bytes are plain: O(bytes). It goes on past one that isn't, since a loop with no other way out is
-/// compiled to look at many bytes at once.
-fn are_all_plain(bytes: &[u8]) -> bool
-    ensures { OnTrue result ((k : ℕ) → k < length bytes.now
-        → (is_body_character (get_or bytes.now k 0) ≡ true) × (get_or bytes.now k 0 ≡ 0xEF → ⊥)) }
+/// Whether the bytes at the places from the one up to the other are plain: O(places). It goes on past one that isn't,
+/// since a loop with no other way out is compiled to look at many bytes at once.
+fn are_plain(bytes: &[u8], from: usize, to: usize) -> bool
+    requires from { 0 < from }
+    requires to { to ≤ length bytes.now }
+    ensures { OnTrue result ((k : ℕ) → from ≤ k → k < to
+        → (is_body_character (get_or bytes.now k 0) ≡ true)
+        × (get_or bytes.now (k - 1) 0 ≡ 0xBF → 0xBE ≤ get_or bytes.now k 0 → get_or bytes.now k 0 ≤ 0xBF → ⊥)) }
 {
     let mut plain = true;
-    for byte in bytes {
-        plain &= is_plain_byte(*byte);
+    for at in from..to {
+        plain &= is_plain(bytes[at - 1], bytes[at]);
     }
     plain
 }
@@ -96,10 +100,13 @@ fn are_plain_bytes(text: &str) -> bool
     ensures { OnTrue result (has_body_characters text.now ≡ true) }
 {
     let bytes = text.as_bytes();
-    let mut from = 0;
+    if bytes.is_empty() || !is_plain(0, bytes[0]) {
+        return false;
+    }
+    let mut from = 1;
     while from < bytes.len() {
         let to = from + PIECE.min(bytes.len() - from);
-        if !are_all_plain(&bytes[from..to]) {
+        if !are_plain(bytes, from, to) {
             return false;
         }
         from = to;
