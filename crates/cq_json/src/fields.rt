@@ -102,19 +102,26 @@ pub fn text_at<'v>(value: &'v Value, key: &str) -> Result<&'v str, Stop>
     }
 }
 
+/// The number, if it is from `low` to `high`.
+pub(crate) fn within(number: u64, low: u64, high: u64) -> Result<u64, Stop>
+    ensures value { Gives same result (spec.within low high number) }
+    ensures least { IfOk result (λ found. low ≤ found) }
+    ensures most { IfOk result (λ found. found ≤ high) }
+{
+    if low <= number && number <= high {
+        Ok(number)
+    } else {
+        Err(Stop::Bad)
+    }
+}
+
 fn whole(value: &Value, low: u64, high: u64) -> Result<u64, Stop>
     ensures value { Gives same result (spec.whole low high (view value.now)) }
     ensures least { IfOk result (λ number. low ≤ number) }
     ensures most { IfOk result (λ number. number ≤ high) }
 {
     match value.as_u64() {
-        Some(number) => {
-            if low <= number && number <= high {
-                Ok(number)
-            } else {
-                Err(Stop::Bad)
-            }
-        }
+        Some(number) => within(number, low, high),
         None => Err(Stop::Bad),
     }
 }

@@ -11,7 +11,7 @@ ghost use Rattle.cq_json.specs.Keys.{key_text};
 ghost use Rattle.cq_json.specs.Flat.{scalar_data, inner_members, flat_data, inner_data, is_inner, last_named, IsNoObject};
 ghost use Rattle.cq_json.specs.Readers.{Gives, same};
 
-use crate::fields::{Stop, party_named};
+use crate::fields::{Stop, party_named, within};
 use crate::key::Key;
 use arrayvec::ArrayVec;
 use cq_base::{
@@ -84,19 +84,6 @@ fn last_named<'a>(members: &[Member<'a>], key: Key) -> Option<Scalar<'a>>
         }
     }
     found
-}
-
-/// The number, if it is from `low` to `high`.
-fn within(number: u64, low: u64, high: u64) -> Result<u64, Stop>
-    ensures value { Gives same result (spec.within low high number) }
-    ensures least { IfOk result (λ found. low ≤ found) }
-    ensures most { IfOk result (λ found. found ≤ high) }
-{
-    if low <= number && number <= high {
-        Ok(number)
-    } else {
-        Err(Stop::Bad)
-    }
 }
 
 /// Whether the key is one of these.
