@@ -112,7 +112,7 @@ fn read_change(alloc: Global, object: Flat<'_, '_>) -> Result<Ask, Stop>
 
 /// The ask that the object says.
 #[tactic(auto, unfolding(crate::specs::Asks::ask_in))]
-pub fn read_flat_ask(alloc: Global, object: Flat<'_, '_>) -> Result<Ask, Stop>
+fn read_flat_ask(alloc: Global, object: Flat<'_, '_>) -> Result<Ask, Stop>
     ensures { Gives same result (spec.ask_in (flat_data object.entry)) }
 {
     let kind = object.text_at(Key::Kind)?;

@@ -16,7 +16,7 @@ pub use fields::{
     Stop, has_only, member_at, moment_at, parse, party_at, server_at, text_at, u32_at, u64_at,
 };
 pub use flat::Flat;
-pub use flat_ask::{read_flat_ask, read_flat_ask_at};
+pub use flat_ask::read_flat_ask_at;
 pub use flat_reading::{FlatObject, LineScratch};
 pub use key::Key;
 pub use texts::queue_name;
