@@ -1,7 +1,6 @@
 -- Texts that JSON writes as they stand.
-use Rattle.std.proofs.Common.{◌≡◌, ℕ, ◌+◌, ◌-◌, ◌%◌, ◌<◌, ◌≤◌, ◌^◌, List, [], ◌∷◌, ◌++◌, decimal, take, drop, refl, ap, sym, subst, ◌∙◌, append_assoc, append-nil, arith}
+use Rattle.std.proofs.Common.{◌≡◌, ℕ, ◌+◌, ◌%◌, ◌<◌, ◌≤◌, ◌^◌, List, [], ◌∷◌, ◌++◌, decimal, refl, ap, sym, ◌∙◌, append_assoc, append-nil, arith}
 use Rattle.std.proofs.lemmas.Fmt.{decimal_by_steps}
-use Rattle.std.proofs.Math.Seq.{take-add}
 use Rattle.json.specs.Print.{escape, escape_byte}
 use Rattle.json.proofs.Printed.Strings.{escape_byte_plain}
 
@@ -14,16 +13,6 @@ pub plain-more : (xs : List ℕ) (x : ℕ) → escape xs ≡ xs → (x ≡ 34 �
 plain-more xs x is quote slash low =
     escape-more xs (x ∷ []) ∙ ap (λ t. t ++ (escape_byte x ++ [])) is
     ∙ ap (λ t. xs ++ t) (append-nil (escape_byte x) ∙ escape_byte_plain x quote slash low)
-
--- a piece more
-pub plain-piece : (xs : List ℕ) (from to : ℕ) → from ≤ to → escape (take from xs) ≡ take from xs
-    → escape (take (to - from) (drop from xs)) ≡ take (to - from) (drop from xs) → escape (take to xs) ≡ take to xs
-plain-piece xs from to order before after =
-    let back : from + (to - from) ≡ to = omega arith in
-    let piece = take (to - from) (drop from xs) in
-    subst (λ n. escape (take n xs) ≡ take n xs) back (
-    subst (λ t. escape t ≡ t) (sym (take-add from (to - from) xs)) (
-    escape-more (take from xs) piece ∙ ap (λ t. t ++ escape piece) before ∙ ap (λ t. take from xs ++ t) after))
 
 pub plain-decimal : (n : ℕ) → n < 2 ^ 64 → escape (decimal n) ≡ decimal n
 plain-decimal = decimal_by_steps (λ m ds. escape ds ≡ ds)

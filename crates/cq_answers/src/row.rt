@@ -1,64 +1,20 @@
 //! A line that is being written at the end of a text.
-ghost use Rattle.std.specs.Prelude.{◌≡◌, ◌≢◌, ◌<◌, ◌≤◌, [], ◌++◌, OnOk, decimal, length, take};
-ghost use Rattle.std.specs.Bool.{OnTrue};
+ghost use Rattle.std.specs.Prelude.{◌≡◌, ◌<◌, ◌≤◌, [], ◌++◌, OnOk, decimal, length, take};
 ghost use Rattle.std.specs.Char.{digit_char};
 ghost use Rattle.json.specs.Print.{escape, escape_byte, escape_letter, quoted};
 ghost use Rattle.serde_json.specs.Written.{comma_if};
 
 use cq_base::NoMemory;
+use cq_json::plain_len;
 use std::marker::Model;
 
-/// How many bytes are looked at together.
-const PIECE: usize = 32;
-
-/// Whether JSON writes the byte as it stands (RFC 8259, section 7).
-#[inline(always)]
-fn is_plain(byte: u8) -> bool
-    ensures { OnTrue result ((32 ≤ byte) × (byte ≢ 34) × (byte ≢ 92)) }
-{
-    (b' ' <= byte) & (byte != b'"') & (byte != b'\\')
-}
-
-/// Whether JSON writes all these bytes as they stand: O(bytes). It goes on past one that it escapes,
-/// since a loop with no other way out is compiled to look at many bytes at once.
-fn are_plain(bytes: &[u8]) -> bool
-    ensures { OnTrue result (escape bytes.now ≡ bytes.now) }
-{
-    let mut plain = true;
-    for byte in bytes {
-        plain &= is_plain(*byte);
-    }
-    plain
-}
-
-/// The length of a front that JSON writes as it stands: whole pieces, up to the first that has a byte with an escape, or
-/// to where fewer bytes are left. O(that length).
-fn plain_pieces(text: &[u8]) -> usize
-    ensures bound { result ≤ length text.now }
-    ensures plain { escape (take result text.now) ≡ take result text.now }
-{
-    let mut len = 0;
-    while text.len() - len >= PIECE {
-        if !are_plain(&text[len..len + PIECE]) {
-            return len;
-        }
-        len += PIECE;
-    }
-    len
-}
-
 /// How many bytes JSON writes as they stand, up to the first one that it escapes: O(that many).
+#[tactic(auto, using(cq_json::proofs::PlainText::escape_plain, cq_json::proofs::PlainText::plain_within))]
 fn plain_front(text: &[u8]) -> usize
     ensures bound { result ≤ length text.now }
     ensures plain { escape (take result text.now) ≡ take result text.now }
 {
-    for at in plain_pieces(text)..text.len() {
-        let byte = text[at];
-        if byte < 32 || byte == b'"' || byte == b'\\' {
-            return at;
-        }
-    }
-    text.len()
+    plain_len(text)
 }
 
 /// The letter behind the backslash where the byte has a short escape; else 0.

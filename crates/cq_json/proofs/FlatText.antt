@@ -1,6 +1,5 @@
 -- The text of a flat object is that of its tokens, which say its data.
-use Rattle.std.proofs.Common.{◌≡◌, ℕ, suc, ◌+◌, ◌-◌, ◌*◌, ◌/◌, ◌%◌, ◌<◌, ◌≤◌, List, [], ◌∷◌, ◌++◌, length, take, drop, get_or, Bool, true, false, cond, Option, Some, None, OnSome, IsUtf8, refl, sym, ap, ap₂, ◌∙◌, subst, arith, append_assoc, append-nil, length-append}
-use Rattle.std.proofs.lemmas.Bool.{or_parts, not-true, eqb-false, ltb-false}
+use Rattle.std.proofs.Common.{◌≡◌, ℕ, suc, ◌+◌, ◌-◌, ◌*◌, ◌/◌, ◌%◌, ◌<◌, ◌≤◌, List, [], ◌∷◌, ◌++◌, length, take, drop, get_or, Bool, true, false, Option, Some, None, OnSome, IsUtf8, refl, sym, ap, ap₂, ◌∙◌, subst, arith, append_assoc, append-nil, length-append}
 use Rattle.std.proofs.lemmas.List.{take-append-drop, drop_more, take_more as take_next}
 use Rattle.std.proofs.lemmas.Fmt.{decimal_digit, decimal_step}
 use Rattle.std.specs.List.{prefix_len}
@@ -10,7 +9,6 @@ use Rattle.json.specs.Lex.{tokens}
 use Rattle.json.specs.Json as json
 use Rattle.json.specs.Run.{is_plain}
 use Rattle.json.specs.Print.{escape, quoted, print_from, print, ArePrintable}
-use Rattle.json.proofs.Printed.Strings.{escape_byte_plain}
 use Rattle.json.proofs.Printed.Decimals.{IsNumber-decimal}
 use Rattle.json.proofs.Printed.Tokens.{tokens-print}
 use Rattle.serde_json.specs.Data.{object, Members, no_members, put}
@@ -21,6 +19,7 @@ use Rattle.cq_json.specs.Flat.{scalar_data, is_inner, puts, inner_members}
 use Rattle.cq_json.specs.FlatReading.{IsInRange, rest_of}
 use Rattle.cq_json.specs.FlatText.{run_end, value_text, member_text, members_text, AreInRange, Takes}
 use Rattle.cq_json.specs.declared.flat_reading.Pause.TheVariants as pauses
+use Rattle.cq_json.proofs.PlainText.{escape_plain}
 use Rattle.cq_json.proofs.FlatReading.{member_read, members_over, opened, text_read, scalar_read}
 use Rattle.cq_json.specs.declared.flat.Scalar.{Scalar}
 use Rattle.cq_json.specs.declared.flat.Scalar.TheVariants.{Text, Number, Truth, Inner}
@@ -28,25 +27,10 @@ use Rattle.cq_json.specs.declared.flat.Member.{Member}
 
 -- ---- strings
 
-plain_step : (p : Bool) (x n : ℕ) (xs : List ℕ) → p ≡ is_plain x → escape (take n xs) ≡ take n xs → escape (take (cond p (1 + n) 0) (x ∷ xs)) ≡ take (cond p (1 + n) 0) (x ∷ xs)
-plain_step false x n xs e front = refl
-plain_step true x n xs e front =
-    let next : 1 + n ≡ suc n = omega arith in
-    let stops = or_parts _ _ (not-true _ (sym e)) in
-    let quotes = or_parts _ _ stops.0 in
-    ap (λ k. escape (take k (x ∷ xs))) next
-    ∙ ap₂ (λ a b. a ++ b) (escape_byte_plain x (eqb-false x 34 quotes.0) (eqb-false x 92 quotes.1) (ltb-false x 32 stops.1)) front
-    ∙ ap (λ k. take k (x ∷ xs)) (sym next)
-
--- plain bytes stand for themselves
-pub escape-plain : (xs : List ℕ) → escape (take (prefix_len is_plain xs) xs) ≡ take (prefix_len is_plain xs) xs
-escape-plain [] = refl
-escape-plain (x ∷ xs) = plain_step (is_plain x) x (prefix_len is_plain xs) xs refl (escape-plain xs)
-
 -- the front of a string whose bytes stand for themselves, and the byte behind it
 pub run_front : (d : List ℕ) (n : ℕ) → n ≡ prefix_len is_plain d → n < length d → d ≡ escape (take n d) ++ (get_or d n 0 ∷ drop (n + 1) d)
 run_front d n is within =
-    let plain : take n d ≡ escape (take n d) = rw is (sym (escape-plain d)) in
+    let plain : take n d ≡ escape (take n d) = rw is (sym (escape_plain d)) in
     sym (take-append-drop n d) ∙ ap₂ (λ a b. a ++ b) plain (drop_more d n 0 within)
 
 pub run_end_ascii : (ends : Bool) → run_end ends < 128

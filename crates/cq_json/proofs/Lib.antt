@@ -1,6 +1,7 @@
 pub mod JsonText
 pub mod Members
 pub mod PlainLanes
+pub mod PlainText
 pub mod Keys
 pub mod FlatMembers
 pub mod FlatReading

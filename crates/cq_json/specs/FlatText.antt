@@ -12,6 +12,10 @@ use Rattle.cq_json.specs.declared.flat.Member.{Member}
 use Rattle.cq_json.specs.declared.flat_reading.Pause.{Pause}
 use Rattle.cq_json.specs.declared.flat_reading.Pause.TheVariants as pauses
 
+-- a character of one byte
+abbrev pub IsAscii : ℕ → Type 0
+IsAscii c = c < 128
+
 -- what a run of bytes that stand for themselves ends with: the string's quote, or an escape's backslash
 abbrev pub run_end : Bool → ℕ
 run_end true = 34

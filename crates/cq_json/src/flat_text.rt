@@ -1,70 +1,26 @@
 //! A flat object's text in its most common form, read straight from its bytes: no spaces, and the shortest
 //! escapes.
 ghost use Rattle.std.specs.Prelude.{◌≡◌, ◌<◌, ◌^◌, [], ◌∷◌, ◌++◌, length, IfSome, OnSome, Some};
-ghost use Rattle.std.specs.List.{prefix_len};
 ghost use Rattle.std.specs.Fmt.{decimal};
 ghost use Rattle.std.specs.String.{string_bytes};
-ghost use Rattle.json.specs.Run.{is_plain};
 ghost use Rattle.json.specs.Print.{escape, escape_byte, quoted};
 ghost use Rattle.serde_json.specs.Data.{object, no_members};
 ghost use Rattle.cq_json.specs.Fields.{json_of};
 ghost use Rattle.cq_json.specs.Flat.{puts, inner_members};
 ghost use Rattle.cq_json.specs.FlatReading.{IsInRange};
-ghost use Rattle.cq_json.specs.FlatText.{run_end, value_text, member_text, Takes};
+ghost use Rattle.cq_json.specs.FlatText.{IsAscii, run_end, value_text, member_text, Takes};
 
 use crate::flat::{Member, Members, Scalar};
 use crate::flat_reading::Pause;
 use crate::key::Key;
-use std::simd::prelude::*;
-
-/// How many bytes are looked at together.
-const LANES: usize = 16;
+use crate::plain::plain_len;
 
 /// Numbers from here on are not read.
 const NUMBER_END: u64 = 1_000_000_000_000_000_000;
 
-/// How many of the bytes stand for themselves in a string, before the first that doesn't.
-fn plain_lanes(bytes: u8x16) -> usize
-    ensures { result ≡ prefix_len is_plain bytes }
-{
-    let quotes = bytes.simd_eq(u8x16::splat(b'"')) | bytes.simd_eq(u8x16::splat(b'\\'));
-    let stops = (quotes | bytes.simd_lt(u8x16::splat(b' '))).to_bitmask();
-    if stops == 0 {
-        LANES
-    } else {
-        stops.trailing_zeros() as usize
-    }
-}
-
-/// The length of the front whose bytes stand for themselves in a string, found byte by byte: O(that length).
-fn plain_len_by_bytes(bytes: &[u8]) -> usize
-    ensures { result ≡ prefix_len is_plain bytes.now }
-{
-    let mut len = 0;
-    while len < bytes.len() && bytes[len] != b'"' && bytes[len] != b'\\' && bytes[len] >= b' ' {
-        len += 1;
-    }
-    len
-}
-
-/// The length of the front whose bytes stand for themselves in a string: O(that length).
-fn plain_len(bytes: &[u8]) -> usize
-    ensures { result ≡ prefix_len is_plain bytes.now }
-{
-    let mut len = 0;
-    while bytes.len() - len >= LANES {
-        let plain = plain_lanes(u8x16::from_slice(&bytes[len..]));
-        if plain < LANES {
-            return len + plain;
-        }
-        len += LANES;
-    }
-    len + plain_len_by_bytes(&bytes[len..])
-}
-
 /// What follows that ASCII character, if the text begins with it.
 fn after(text: &str, character: u8) -> Option<&str>
-    requires { character < 128 }
+    requires { IsAscii character }
     ensures { IfSome result (λ rest. text.now ≡ character ∷ rest.now) }
 {
     if *text.as_bytes().first()? != character {
@@ -111,7 +67,7 @@ fn read_string(text: &str) -> Option<(&str, &str)>
 #[tactic(auto, unfolding(json::specs::Print::escape_byte))]
 fn escaped_by(letter: u8) -> Option<char>
     ensures value { IfSome result (λ character. escape_byte character ≡ 92 ∷ letter ∷ []) }
-    ensures ascii { IfSome result (λ character. (character < 128) × (letter < 128)) }
+    ensures ascii { IfSome result (λ character. IsAscii character × IsAscii letter) }
 {
     match letter {
         b'"' => Some('"'),
@@ -128,7 +84,7 @@ fn escaped_by(letter: u8) -> Option<char>
 /// The character whose escape stands at the front, behind its backslash, and what follows it.
 fn read_escape(text: &str) -> Option<(char, &str)>
     ensures value { IfSome result (λ parts. 92 ∷ text.now ≡ escape_byte parts.0 ++ parts.1.now) }
-    ensures ascii { IfSome result (λ parts. parts.0 < 128) }
+    ensures ascii { IfSome result (λ parts. IsAscii parts.0) }
     ensures shorter { IfSome result (λ parts. length parts.1.now < length text.now) }
 {
     let character = escaped_by(*text.as_bytes().first()?)?;
@@ -145,7 +101,7 @@ fn begin(out: &mut String, front: &str) -> Option<()>
 
 /// Adds an ASCII character and a text. None where there is no memory.
 fn append(out: &mut String, character: char, run: &str) -> Option<()>
-    requires { character < 128 }
+    requires { IsAscii character }
     ensures { OnSome result (string_bytes out.new
         ≡ (string_bytes out.old ++ character ∷ []) ++ run.now) }
 {

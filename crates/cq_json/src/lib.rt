@@ -9,6 +9,7 @@ mod flat_ask;
 mod flat_reading;
 mod flat_text;
 mod key;
+mod plain;
 mod texts;
 
 pub use ask::read_ask;
@@ -19,4 +20,5 @@ pub use flat::Flat;
 pub use flat_ask::read_flat_ask_at;
 pub use flat_reading::{FlatObject, LineScratch};
 pub use key::Key;
+pub use plain::plain_len;
 pub use texts::queue_name;

@@ -2,7 +2,7 @@
 use Rattle.std.proofs.Common.{◌≡◌, ◌+◌, ◌-◌, ◌≤◌, length, drop}
 use Rattle.std.specs.List.{prefix_len}
 use Rattle.json.specs.Run.{is_plain}
-use Rattle.cq_json.proofs.flat_text.plain_len.Given as goal
+use Rattle.cq_json.proofs.plain.plain_len.Given as goal
 
 abbrev pub invariant-loop-len : goal.invariant-loop-len
 invariant-loop-len l = (prefix_len is_plain l.bytes ≡ l.len + prefix_len is_plain (drop l.len l.bytes)) × (l.len ≤ length l.bytes)

@@ -3,7 +3,7 @@ use Rattle.std.proofs.lemmas.List.{length-take}
 use Rattle.std.proofs.lemmas.List.Sums.{prefix_len-le-length}
 use Rattle.json.specs.Run.{is_plain}
 use Rattle.cq_json.proofs.PlainLanes.{plain_on, plain_up_to}
-use Rattle.cq_json.proofs.flat_text.plain_len.Goals as goal
+use Rattle.cq_json.proofs.plain.plain_len.Goals as goal
 
 pub returns-then-plain-lt-LANES : goal.returns-then-plain-lt-LANES
 returns-then-plain-lt-LANES c =
