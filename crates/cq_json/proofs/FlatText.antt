@@ -1,11 +1,11 @@
 -- The text of a flat object is that of its tokens, which say its data.
-use Rattle.std.proofs.Common.{◌≡◌, ℕ, suc, ◌+◌, ◌-◌, ◌*◌, ◌/◌, ◌%◌, ◌<◌, ◌≤◌, List, [], ◌∷◌, ◌++◌, length, take, drop, get_or, Bool, true, false, Option, Some, None, OnSome, IsUtf8, refl, sym, ap, ap₂, ◌∙◌, subst, arith, append_assoc, append-nil, length-append}
+use Rattle.std.proofs.Common.{◌≡◌, ℕ, suc, ◌+◌, ◌-◌, ◌*◌, ◌/◌, ◌%◌, ◌<◌, ◌≤◌, List, [], ◌∷◌, ◌++◌, length, take, drop, get_or, Bool, true, false, Option, Some, None, OnSome, IsUtf8, refl, sym, ap, ap₂, ◌∙◌, arith, append_assoc, append-nil, length-append}
 use Rattle.std.proofs.lemmas.List.{take-append-drop, drop_more, take_more as take_next}
 use Rattle.std.proofs.lemmas.Fmt.{decimal_digit, decimal_step}
 use Rattle.std.specs.List.{prefix_len}
 use Rattle.std.specs.Fmt.{decimal}
 use Rattle.json.specs.Token.{Token, begin_object, end_object, key, string, number, boolean}
-use Rattle.json.specs.Lex.{tokens}
+use Rattle.json.specs.Lex.{lex, between, fresh, punctuate, tokens}
 use Rattle.json.specs.Json as json
 use Rattle.json.specs.Run.{is_plain}
 use Rattle.json.specs.Print.{escape, quoted, print_from, print, ArePrintable}
@@ -17,9 +17,10 @@ use Rattle.cq_json.specs.Fields.{json_of}
 use Rattle.cq_json.specs.Keys.{key_text}
 use Rattle.cq_json.specs.Flat.{scalar_data, is_inner, puts, inner_members}
 use Rattle.cq_json.specs.FlatReading.{IsInRange, rest_of}
-use Rattle.cq_json.specs.FlatText.{run_end, value_text, member_text, members_text, AreInRange, Takes}
+use Rattle.cq_json.specs.FlatText.{run_end, Same, separator, IsWhole, value_text, member_text, members_text, AreInRange, Takes}
 use Rattle.cq_json.specs.declared.flat_reading.Pause.TheVariants as pauses
 use Rattle.cq_json.proofs.PlainText.{escape_plain}
+use Rattle.cq_json.proofs.SameText.{behind_brace, behind_comma, behind_colon, behind_end, behind_quoted, members_whole}
 use Rattle.cq_json.proofs.FlatReading.{member_read, members_over, opened, text_read, scalar_read}
 use Rattle.cq_json.specs.declared.flat.Scalar.{Scalar}
 use Rattle.cq_json.specs.declared.flat.Scalar.TheVariants.{Text, Number, Truth, Inner}
@@ -93,33 +94,49 @@ value_apart inner (Number n) scalar = refl
 value_apart inner (Truth b) scalar = refl
 value_apart inner Inner scalar = absurd (cc)
 
+value_empty : (s : Scalar) (t : List ℕ) → is_inner s ≡ true → value_text [] s ++ t ≡ t
+value_empty (Text x) t is = absurd (cc)
+value_empty (Number n) t is = absurd (cc)
+value_empty (Truth b) t is = absurd (cc)
+value_empty Inner t is = refl
+
 value_inner : (inner after : List ℕ) (s : Scalar) → is_inner s ≡ true → value_text [] s ++ (inner ++ after) ≡ value_text inner s ++ after
 value_inner inner after (Text t) is = absurd (cc)
 value_inner inner after (Number n) is = absurd (cc)
 value_inner inner after (Truth b) is = absurd (cc)
 value_inner inner after Inner is = refl
 
-module _ (text : List ℕ) (read now : List Member) (rest next left : List ℕ) (took : (inner : List ℕ) → members_text inner 123 read ++ text ≡ members_text inner 123 now ++ rest) where
-  take_one : (m : Member) (inner after : List ℕ) → rest ≡ opening_of now ∷ next → next ≡ member_text inner m ++ after
-      → members_text inner 123 read ++ text ≡ members_text inner 123 (now ++ m ∷ []) ++ after
-  take_one m inner after opened member =
-      took inner ∙ ap (λ t. members_text inner 123 now ++ t) (opened ∙ ap (λ t. opening_of now ∷ t) member)
-      ∙ sym (append_assoc (members_text inner 123 now) (opening_of now ∷ member_text inner m) after)
-      ∙ ap (λ t. t ++ after) (sym (members_text-push inner now m))
+-- what comes behind members, and the next one's bracket or comma
+front_same : (inner : List ℕ) → IsWhole inner → (ms : List Member) → AreInRange ms → (a b : List ℕ) → Same a b
+    → Same (members_text inner 123 ms ++ (opening_of ms ∷ a)) (members_text inner 123 ms ++ (opening_of ms ∷ b))
+front_same inner whole [] fits a b same = behind_brace a b same
+front_same inner whole (m ∷ ms) fits a b same = members_whole inner whole m ms fits true a b (behind_comma a b same)
 
-  pub take_more : (m : Member) → rest ≡ opening_of now ∷ next → next ≡ member_text [] m ++ left → is_inner m.value ≡ false → (inner : List ℕ)
-      → members_text inner 123 read ++ text ≡ members_text inner 123 (now ++ m ∷ []) ++ left
-  take_more m opened member scalar = λ inner.
-      take_one m inner left opened (member ∙ ap (λ v. (quoted (key_text m.key) ++ 58 ∷ v) ++ left) (value_apart inner m.value scalar))
+module _ (text : List ℕ) (read now : List Member) (rest next left : List ℕ)
+    (took : (inner : List ℕ) → IsWhole inner → AreInRange read → Same (members_text inner 123 read ++ text) (members_text inner 123 now ++ rest))
+    (fits : AreInRange read → AreInRange now) where
+  take_one : (m : Member) (inner after : List ℕ) → IsWhole inner → AreInRange read → rest ≡ opening_of now ∷ next → Same next (member_text inner m ++ after)
+      → Same (members_text inner 123 read ++ text) (members_text inner 123 (now ++ m ∷ []) ++ after)
+  take_one m inner after whole all opened member =
+      took inner whole all ∙ ap (λ t. lex between (members_text inner 123 now ++ t)) opened
+      ∙ front_same inner whole now (fits all) next (member_text inner m ++ after) member
+      ∙ ap (lex between) (sym (append_assoc (members_text inner 123 now) (opening_of now ∷ member_text inner m) after)
+      ∙ ap (λ t. t ++ after) (sym (members_text-push inner now m)))
 
-  pub take_inner : (m : Member) → rest ≡ opening_of now ∷ next → next ≡ member_text [] m ++ left → is_inner m.value ≡ true → (inner after : List ℕ) → left ≡ inner ++ after
-      → members_text inner 123 read ++ text ≡ members_text inner 123 (now ++ m ∷ []) ++ after
-  take_inner m opened member is = λ inner after follows.
-      take_one m inner after opened
-      (member ∙ ap (λ t. member_text [] m ++ t) follows
-      ∙ append_assoc (quoted (key_text m.key)) (58 ∷ value_text [] m.value) (inner ++ after)
-      ∙ ap (λ t. quoted (key_text m.key) ++ 58 ∷ t) (value_inner inner after m.value is)
-      ∙ sym (append_assoc (quoted (key_text m.key)) (58 ∷ value_text inner m.value) after))
+  pub take_more : (m : Member) → rest ≡ opening_of now ∷ next → Same next (member_text [] m ++ left) → is_inner m.value ≡ false → (inner : List ℕ) → IsWhole inner → AreInRange read
+      → Same (members_text inner 123 read ++ text) (members_text inner 123 (now ++ m ∷ []) ++ left)
+  take_more m opened member scalar = λ inner whole all.
+      take_one m inner left whole all opened (member ∙ ap (λ v. lex between ((quoted (key_text m.key) ++ 58 ∷ v) ++ left)) (value_apart inner m.value scalar))
+
+  pub take_inner : (m : Member) → rest ≡ opening_of now ∷ next → Same next (member_text [] m ++ left) → is_inner m.value ≡ true → (inner after : List ℕ) → IsWhole inner → AreInRange read
+      → Same left (inner ++ after) → Same (members_text inner 123 read ++ text) (members_text inner 123 (now ++ m ∷ []) ++ after)
+  take_inner m opened member is = λ inner after whole all follows.
+      take_one m inner after whole all opened
+      (member
+      ∙ ap (lex between) (append_assoc (quoted (key_text m.key)) (58 ∷ value_text [] m.value) left ∙ ap (λ t. quoted (key_text m.key) ++ 58 ∷ t) (value_empty m.value left is))
+      ∙ behind_quoted (key_text m.key) (58 ∷ left) (58 ∷ (inner ++ after)) (behind_colon left (inner ++ after) follows)
+      ∙ ap (lex between) (ap (λ t. quoted (key_text m.key) ++ 58 ∷ t) (sym (value_empty m.value (inner ++ after) is) ∙ value_inner inner after m.value is)
+      ∙ sym (append_assoc (quoted (key_text m.key)) (58 ∷ value_text inner m.value) after)))
 
 -- ---- the tokens of a flat object, where the inner one has those after its bracket
 
@@ -228,39 +245,51 @@ module _ (text : List ℕ) (ts : List Token) (is : Members) (level : ℕ) (inner
     read = object_read ms fits;
   }
 
--- the data of the text
-pub object_said : (text : List ℕ) (ts : List Token) (is : Members) (level : ℕ) → SaysObject text ts is level → level ≤ max_depth → IsUtf8 text → json_of text ≡ Some (object is)
+-- the data of a text with the same tokens
+object_said : (text other : List ℕ) (ts : List Token) (is : Members) (level : ℕ) → SaysObject other ts is level → Same text other → level ≤ max_depth → IsUtf8 text → json_of text ≡ Some (object is)
 unfolding print_from ArePrintable
-object_said text ts is level says deep utf8 =
-    let printed : print (begin_object ∷ ts) ≡ text = ap (λ l. print (begin_object ∷ l)) (sym (append-nil ts)) ∙ says.printed [] ∙ append-nil text in
+object_said text other ts is level says same deep utf8 =
+    let printed : print (begin_object ∷ ts) ≡ other = ap (λ l. print (begin_object ∷ l)) (sym (append-nil ts)) ∙ says.printed [] ∙ append-nil other in
     let read : converted of_json (json.value max_depth (begin_object ∷ ts)) ≡ Some (object is, []) = ap (λ l. converted of_json (json.value max_depth (begin_object ∷ l))) (sym (append-nil ts)) ∙ says.read max_depth deep [] in
-    text_read text (begin_object ∷ ts) (object is) utf8 (sym (tokens-print (begin_object ∷ ts) (tt, says.printable)) ∙ ap tokens printed) read
+    text_read text (begin_object ∷ ts) (object is) utf8 (sym (tokens-print (begin_object ∷ ts) (tt, says.printable)) ∙ ap tokens printed ∙ ap (punctuate fresh) (sym same)) read
 
 -- ---- the whole text
 
 abbrev two_braces : List ℕ
 two_braces = 123 ∷ 125 ∷ []
 
+braces_whole : IsWhole two_braces
+braces_whole more a b same = behind_brace _ _ (behind_end _ _ same)
+
+-- a whole object stands there
+object_whole : (inner : List ℕ) → IsWhole inner → (ms : List Member) → 0 < length ms → AreInRange ms → IsWhole (members_text inner 123 ms ++ 125 ∷ [])
+object_whole inner whole [] some fits more a b same = absurd (omega arith)
+object_whole inner whole (m ∷ ms) some fits more a b same =
+    let text = members_text inner 123 (m ∷ ms) in
+    ap (lex between) (append_assoc text (125 ∷ []) (separator more ∷ a))
+    ∙ members_whole inner whole m ms fits false (separator more ∷ a) (separator more ∷ b) (behind_end _ _ same)
+    ∙ ap (lex between) (sym (append_assoc text (125 ∷ []) (separator more ∷ b)))
+
 text_said : (text inner_text : List ℕ) (ts : List Token) (is : Members) (level : ℕ) (ms : List Member) → SaysObject inner_text ts is level → suc level ≤ max_depth → IsUtf8 text
-    → text ≡ members_text inner_text 123 ms ++ 125 ∷ [] → 0 < length ms → AreInRange ms → json_of text ≡ Some (object (puts is ms no_members))
+    → Same text (members_text inner_text 123 ms ++ 125 ∷ []) → 0 < length ms → AreInRange ms → json_of text ≡ Some (object (puts is ms no_members))
 text_said text inner_text ts is level ms inner deep utf8 same some fits =
-    subst (λ t. json_of t ≡ Some (object (puts is ms no_members))) (sym same)
-    (object_said (members_text inner_text 123 ms ++ 125 ∷ []) (members_tokens ts ms) (puts is ms no_members) (suc level) (outer_object inner_text ts is level inner ms some fits) deep (subst IsUtf8 same utf8))
+    object_said text (members_text inner_text 123 ms ++ 125 ∷ []) (members_tokens ts ms) (puts is ms no_members) (suc level) (outer_object inner_text ts is level inner ms some fits) same deep utf8
 
 pub flat_said : (text rest : List ℕ) (members : List Member) → IsUtf8 text → Takes text [] pauses.End rest members → rest ≡ []
     → json_of text ≡ Some (object (puts (inner_members []) members no_members))
 flat_said text rest members utf8 takes none =
     text_said text two_braces (end_object ∷ []) no_members 1 members empty_object (omega arith) utf8
-    (takes.0 two_braces ∙ ap (λ t. members_text two_braces 123 members ++ 125 ∷ t) none) takes.1.1 (takes.1.0 tt)
+    (takes.0 two_braces braces_whole tt ∙ ap (λ t. lex between (members_text two_braces 123 members ++ 125 ∷ t)) none) takes.1.1 (takes.1.0 tt)
 
 pub nested_said : (text opened closed rest : List ℕ) (ms inner members : List Member) → IsUtf8 text → Takes text [] pauses.Inner opened ms → Takes opened [] pauses.End closed inner
     → Takes closed ms pauses.End rest members → rest ≡ [] → json_of text ≡ Some (object (puts (inner_members inner) members no_members))
 nested_said text opened closed rest ms inner members utf8 front within back none =
     let inner_text = members_text two_braces 123 inner ++ 125 ∷ [] in
-    let is = within.0 two_braces ∙ sym (append_assoc (members_text two_braces 123 inner) (125 ∷ []) closed) in
+    let whole = object_whole two_braces braces_whole inner within.1.1 (within.1.0 tt) in
+    let is = within.0 two_braces braces_whole tt ∙ ap (lex between) (sym (append_assoc (members_text two_braces 123 inner) (125 ∷ []) closed)) in
     text_said text inner_text (members_tokens (end_object ∷ []) inner) (inner_members inner) 2 members
     (outer_object two_braces (end_object ∷ []) no_members 1 empty_object inner within.1.1 (within.1.0 tt)) (omega arith) utf8
-    (front.0 inner_text closed is ∙ back.0 inner_text ∙ ap (λ t. members_text inner_text 123 members ++ 125 ∷ t) none) back.1.1 (back.1.0 (front.1.0 tt))
+    (front.0 inner_text closed whole tt is ∙ back.0 inner_text whole (front.1.0 tt) ∙ ap (λ t. lex between (members_text inner_text 123 members ++ 125 ∷ t)) none) back.1.1 (back.1.0 (front.1.0 tt))
 
 pub on_some : {A P Q : Type 0} (o : Option A) → (P → Q) → OnSome o P → OnSome o Q
 on_some (Some x) f p = f p

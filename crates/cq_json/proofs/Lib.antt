@@ -2,6 +2,8 @@ pub mod JsonText
 pub mod Members
 pub mod PlainLanes
 pub mod PlainText
+pub mod SameText
+pub mod Escapes
 pub mod Keys
 pub mod FlatMembers
 pub mod FlatReading

@@ -1,8 +1,9 @@
--- The text of a flat object in its most common form: no spaces, and the shortest escapes. Only the clauses of private
--- functions cite it.
-use Rattle.std.specs.Prelude.{Bool, true, false, ◌≡◌, ◌<◌, ℕ, List, [], ◌∷◌, ◌++◌, length}
+-- The text of a flat object in its most common form, without spaces. Only the clauses of private functions cite it.
+use Rattle.std.specs.Prelude.{Bool, true, false, ◌≡◌, ◌<◌, ◌≤◌, ℕ, List, [], ◌∷◌, ◌++◌, length, get_or, drop, Some}
 use Rattle.std.specs.Fmt.{decimal}
 use Rattle.json.specs.Token.{boolean}
+use Rattle.json.specs.Text.{Within, content, plain, prepend, code_unit}
+use Rattle.json.specs.Lex.{lex, between, in_string}
 use Rattle.json.specs.Print.{quoted, token_text}
 use Rattle.cq_json.specs.FlatReading.{IsInRange}
 use Rattle.cq_json.specs.Keys.{key_text}
@@ -20,6 +21,31 @@ IsAscii c = c < 128
 abbrev pub run_end : Bool → ℕ
 run_end true = 34
 run_end false = 92
+
+-- Inside a string, and within an escape where w says so, the text is those bytes, and then the rest.
+abbrev pub SpelledFrom : Within → List ℕ → List ℕ → List ℕ → Type 0
+SpelledFrom w text bytes rest = (content w text ≡ prepend bytes (content plain rest)) × (lex in_string text ≡ lex in_string rest)
+
+-- Inside a string the text is that string's next bytes, however they are escaped, and then the rest.
+abbrev pub Spelled : List ℕ → List ℕ → List ℕ → Type 0
+Spelled text bytes rest = SpelledFrom plain text bytes rest
+
+-- the text's first four bytes are the hex digits of that code unit, and the rest comes behind them
+abbrev pub IsUnit : List ℕ → ℕ → List ℕ → Type 0
+IsUnit text unit rest = (4 ≤ length text) × ((code_unit (get_or text 0 0) (get_or text 1 0) (get_or text 2 0) (get_or text 3 0) ≡ Some unit) × (rest ≡ drop 4 text))
+
+-- both texts have the same tokens, commas and colons
+abbrev pub Same : List ℕ → List ℕ → Type 0
+Same a b = lex between a ≡ lex between b
+
+-- what stands behind a member: a comma, or the bracket that closes the object
+abbrev pub separator : Bool → ℕ
+separator true = 44
+separator false = 125
+
+-- texts that are the same from a separator on are so with the text before them
+abbrev pub IsWhole : List ℕ → Type 0
+IsWhole text = (more : Bool) (a b : List ℕ) → Same (separator more ∷ a) (separator more ∷ b) → Same (text ++ separator more ∷ a) (text ++ separator more ∷ b)
 
 -- the text of a value, where the inner object has that text
 abbrev pub value_text : List ℕ → Scalar → List ℕ
@@ -45,9 +71,10 @@ AreInRange (m ∷ ms) = IsInRange m.value × AreInRange ms
 -- Before the text there were the members `read`, and with what was taken of it there are those `now`. Before the end of
 -- the object `rest` is left; else the inner object comes next.
 abbrev pub Took : Pause → List ℕ → List Member → List ℕ → List Member → Type 0
-Took pauses.End text read rest now = (inner : List ℕ) → members_text inner 123 read ++ text ≡ members_text inner 123 now ++ (125 ∷ rest)
+Took pauses.End text read rest now =
+    (inner : List ℕ) → IsWhole inner → AreInRange read → Same (members_text inner 123 read ++ text) (members_text inner 123 now ++ (125 ∷ rest))
 Took pauses.Inner text read rest now =
-    (inner after : List ℕ) → rest ≡ inner ++ after → members_text inner 123 read ++ text ≡ members_text inner 123 now ++ after
+    (inner after : List ℕ) → IsWhole inner → AreInRange read → Same rest (inner ++ after) → Same (members_text inner 123 read ++ text) (members_text inner 123 now ++ after)
 
 -- the members that were read up to where the reading came to a stop
 abbrev pub Takes : List ℕ → List Member → Pause → List ℕ → List Member → Type 0

@@ -1,14 +1,15 @@
-//! A flat object's text in its most common form, read straight from its bytes: no spaces, and the shortest
-//! escapes.
-ghost use Rattle.std.specs.Prelude.{◌≡◌, ◌<◌, ◌^◌, [], ◌∷◌, ◌++◌, length, IfSome, OnSome, Some};
+//! A flat object's text in its most common form, without spaces, read straight from its bytes.
+ghost use Rattle.std.specs.Prelude.{◌≡◌, ◌<◌, ◌^◌, [], ◌∷◌, ◌++◌, length, IfSome, IsNone, OnSome, Some, true};
 ghost use Rattle.std.specs.Fmt.{decimal};
+ghost use Rattle.std.specs.Char.{encode_utf8};
 ghost use Rattle.std.specs.String.{string_bytes};
-ghost use Rattle.json.specs.Print.{escape, escape_byte, quoted};
+ghost use Rattle.json.specs.Print.{escape, quoted};
+ghost use Rattle.json.specs.Text.{short_escape, is_high_surrogate, after_u, after_high};
 ghost use Rattle.serde_json.specs.Data.{object, no_members};
 ghost use Rattle.cq_json.specs.Fields.{json_of};
 ghost use Rattle.cq_json.specs.Flat.{puts, inner_members};
 ghost use Rattle.cq_json.specs.FlatReading.{IsInRange};
-ghost use Rattle.cq_json.specs.FlatText.{IsAscii, run_end, value_text, member_text, Takes};
+ghost use Rattle.cq_json.specs.FlatText.{IsAscii, run_end, Spelled, SpelledFrom, IsUnit, Same, value_text, member_text, Takes};
 
 use crate::flat::{Member, Members, Scalar};
 use crate::flat_reading::Pause;
@@ -43,8 +44,9 @@ fn ends_at(byte: u8) -> Option<bool>
 /// The front of a string's text whose bytes stand for themselves, whether the string ends behind it or has an escape
 /// there, and what follows the quote or the backslash: O(bytes of the front).
 fn next_run(text: &str) -> Option<(&str, bool, &str)>
-    ensures { IfSome result (λ parts.
+    ensures value { IfSome result (λ parts.
         text.now ≡ escape parts.0.now ++ (run_end parts.1 ∷ parts.2.now)) }
+    ensures spelled { IfSome result (λ parts. Spelled text.now parts.0.now (run_end parts.1 ∷ parts.2.now)) }
 {
     let bytes = text.as_bytes();
     let len = plain_len(bytes);
@@ -64,14 +66,16 @@ fn read_string(text: &str) -> Option<(&str, &str)>
 }
 
 /// The character whose short escape has that letter.
-#[tactic(auto, unfolding(json::specs::Print::escape_byte))]
+#[tactic(auto, unfolding(json::specs::Text::short_escape))]
 fn escaped_by(letter: u8) -> Option<char>
-    ensures value { IfSome result (λ character. escape_byte character ≡ 92 ∷ letter ∷ []) }
+    ensures value { IfSome result (λ character. short_escape letter ≡ Some character) }
     ensures ascii { IfSome result (λ character. IsAscii character × IsAscii letter) }
+    ensures short { letter ≡ 117 → IsNone result }
 {
     match letter {
         b'"' => Some('"'),
         b'\\' => Some('\\'),
+        b'/' => Some('/'),
         b'b' => Some('\u{8}'),
         b'f' => Some('\u{c}'),
         b'n' => Some('\n'),
@@ -81,12 +85,58 @@ fn escaped_by(letter: u8) -> Option<char>
     }
 }
 
-/// The character whose escape stands at the front, behind its backslash, and what follows it.
-fn read_escape(text: &str) -> Option<(char, &str)>
-    ensures value { IfSome result (λ parts. 92 ∷ text.now ≡ escape_byte parts.0 ++ parts.1.now) }
-    ensures ascii { IfSome result (λ parts. IsAscii parts.0) }
+/// The UTF-16 code unit that four hex digits at the front spell (RFC 8259, section 7), and what follows them.
+fn read_unit(text: &str) -> Option<(u32, &str)>
+    ensures { IfSome result (λ parts. IsUnit text.now parts.0 parts.1.now) }
+{
+    let bytes = text.as_bytes();
+    if bytes.len() < 4 {
+        return None;
+    }
+    let a = char::from(bytes[0]).to_digit(16)?;
+    let b = char::from(bytes[1]).to_digit(16)?;
+    let c = char::from(bytes[2]).to_digit(16)?;
+    let d = char::from(bytes[3]).to_digit(16)?;
+    Some((a * 4096 + b * 256 + c * 16 + d, &text[4..]))
+}
+
+/// The character of a surrogate pair with that first half, where the escape of the second stands at the front, and what
+/// follows it.
+fn read_second_half(high: u32, text: &str) -> Option<(char, &str)>
+    requires { is_high_surrogate high ≡ true }
+    ensures value { IfSome result (λ parts. SpelledFrom (after_high high) text.now (encode_utf8 parts.0) parts.1.now) }
     ensures shorter { IfSome result (λ parts. length parts.1.now < length text.now) }
 {
+    let (low, rest) = read_unit(text.strip_prefix("\\u")?)?;
+    if !(0xdc00..0xe000).contains(&low) {
+        return None;
+    }
+    let character = char::from_u32(0x1_0000 + (high - 0xd800) * 1024 + (low - 0xdc00))?;
+    Some((character, rest))
+}
+
+/// The character whose escape by numbers stands at the front, behind its backslash and its `u`, and what follows it.
+fn read_numbered(text: &str) -> Option<(char, &str)>
+    ensures value { IfSome result (λ parts. SpelledFrom after_u text.now (encode_utf8 parts.0) parts.1.now) }
+    ensures shorter { IfSome result (λ parts. length parts.1.now < length text.now) }
+{
+    let (unit, rest) = read_unit(text)?;
+    if (0xd800..0xdc00).contains(&unit) {
+        let (character, behind) = read_second_half(unit, rest)?;
+        return Some((character, behind));
+    }
+    Some((char::from_u32(unit)?, rest))
+}
+
+/// The character whose escape stands at the front, behind its backslash, and what follows it.
+fn read_escape(text: &str) -> Option<(char, &str)>
+    ensures value { IfSome result (λ parts. Spelled (92 ∷ text.now) (encode_utf8 parts.0) parts.1.now) }
+    ensures shorter { IfSome result (λ parts. length parts.1.now < length text.now) }
+{
+    if let Some(digits) = after(text, b'u') {
+        let (character, rest) = read_numbered(digits)?;
+        return Some((character, rest));
+    }
     let character = escaped_by(*text.as_bytes().first()?)?;
     Some((character, &text[1..]))
 }
@@ -99,11 +149,10 @@ fn begin(out: &mut String, front: &str) -> Option<()>
     out.push_str(front).ok()
 }
 
-/// Adds an ASCII character and a text. None where there is no memory.
+/// Adds a character and a text. None where there is no memory.
 fn append(out: &mut String, character: char, run: &str) -> Option<()>
-    requires { IsAscii character }
     ensures { OnSome result (string_bytes out.new
-        ≡ (string_bytes out.old ++ character ∷ []) ++ run.now) }
+        ≡ (string_bytes out.old ++ encode_utf8 character) ++ run.now) }
 {
     out.push(character).ok()?;
     out.push_str(run).ok()
@@ -112,8 +161,8 @@ fn append(out: &mut String, character: char, run: &str) -> Option<()>
 /// The string that has this front, and behind it an escape of which the backslash was passed; and what follows it. It is
 /// written to `out`: O(its bytes). None also where there is no memory.
 fn read_escaped<'a>(front: &str, text: &'a str, out: &'a mut String) -> Option<(&'a str, &'a str)>
-    ensures { IfSome result (λ parts.
-        escape front.now ++ (92 ∷ text.now) ≡ escape parts.0.now ++ (34 ∷ parts.1.now)) }
+    requires { Spelled (escape front.now ++ (92 ∷ text.now)) front.now (92 ∷ text.now) }
+    ensures { IfSome result (λ parts. Spelled (escape front.now ++ (92 ∷ text.now)) parts.0.now (34 ∷ parts.1.now)) }
 {
     begin(out, front)?;
     let mut rest = text;
@@ -131,7 +180,7 @@ fn read_escaped<'a>(front: &str, text: &'a str, out: &'a mut String) -> Option<(
 /// The string at the front, and what follows it: O(its bytes). One with escapes is written to `spare`, which is there for
 /// one alone.
 fn read_text<'a>(text: &'a str, spare: &mut Option<&'a mut String>) -> Option<(&'a str, &'a str)>
-    ensures { IfSome result (λ parts. text.now ≡ quoted parts.0.now ++ parts.1.now) }
+    ensures { IfSome result (λ parts. Same text.now (quoted parts.0.now ++ parts.1.now)) }
 {
     let (front, ends, rest) = next_run(after(text, b'"')?)?;
     if ends {
@@ -181,7 +230,7 @@ fn read_value<'a>(
     text: &'a str,
     spare: &mut Option<&'a mut String>,
 ) -> Option<(Scalar<'a>, &'a str)>
-    ensures { IfSome result (λ parts. (text.now ≡ value_text [] parts.0 ++ parts.1.now) × IsInRange parts.0) }
+    ensures { IfSome result (λ parts. Same text.now (value_text [] parts.0 ++ parts.1.now) × IsInRange parts.0) }
 {
     match *text.as_bytes().first()? {
         b'"' => {
@@ -205,7 +254,7 @@ fn read_member<'a>(
     text: &'a str,
     spare: &mut Option<&'a mut String>,
 ) -> Option<(Member<'a>, &'a str)>
-    ensures { IfSome result (λ parts. (text.now ≡ member_text [] parts.0 ++ parts.1.now) × IsInRange parts.0.value) }
+    ensures { IfSome result (λ parts. Same text.now (member_text [] parts.0 ++ parts.1.now) × IsInRange parts.0.value) }
 {
     let (name, rest) = read_string(text)?;
     let key = Key::named(name)?;

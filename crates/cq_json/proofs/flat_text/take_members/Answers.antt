@@ -14,7 +14,7 @@ returns-then-is_inner c =
     ] in
     let opened = c.in-Some.ensures ∙ ap (λ b. b ∷ c.in-Some.next.now) opening in
     rw c.push.ensures.items (
-      take_inner c.args.text.now c.args.members.now.items ms c.members.rest.now c.in-Some.next.now c.in_ok-member.left.now c.members.invariant.1.0 m opened c.in_ok-member.ensures.0
+      take_inner c.args.text.now c.args.members.now.items ms c.members.rest.now c.in-Some.next.now c.in_ok-member.left.now c.members.invariant.1.0 c.members.invariant.1.1 m opened c.in_ok-member.ensures.0
           (sym c.is_inner.ensures ∙ c.if-is_inner.true),
       ((λ all. AreInRange-push ms m c.in_ok-member.ensures.1 (c.members.invariant.1.1 all)), omega (arith, length-append ms (m ∷ []))),
     )
@@ -31,7 +31,7 @@ members-preserved c =
     rw c.push.ensures.items (
       search rules,
       (
-        take_more c.args.text.now c.args.members.now.items ms c.members.rest.now c.in-Some.next.now c.in_ok-member.left.now c.members.invariant.1.0 m opened c.in_ok-member.ensures.0
+        take_more c.args.text.now c.args.members.now.items ms c.members.rest.now c.in-Some.next.now c.in_ok-member.left.now c.members.invariant.1.0 c.members.invariant.1.1 m opened c.in_ok-member.ensures.0
             (sym c.is_inner.ensures ∙ c.if-is_inner.false),
         (λ all. AreInRange-push ms m c.in_ok-member.ensures.1 (c.members.invariant.1.1 all)),
       ),
