@@ -33,6 +33,10 @@ pub behind_end : (a b : List ℕ) → Same a b → Same (125 ∷ a) (125 ∷ b)
 unfolding lex
 behind_end a b same = ap (λ l. token end_object ∷ l) same
 
+pub behind_space : (a : List ℕ) → Same (32 ∷ a) a
+unfolding lex
+behind_space a = refl
+
 ends : (more : Bool) (a : List ℕ) → ends_word (separator more ∷ a) ≡ true
 ends true a = refl
 ends false a = refl

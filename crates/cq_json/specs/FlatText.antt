@@ -1,4 +1,4 @@
--- The text of a flat object in its most common form, without spaces. Only the clauses of private functions cite it.
+-- The text of a flat object, read straight from its bytes. Only the clauses of private functions cite it.
 use Rattle.std.specs.Prelude.{Bool, true, false, ◌≡◌, ◌<◌, ◌≤◌, ℕ, List, [], ◌∷◌, ◌++◌, length, get_or, drop, Some}
 use Rattle.std.specs.Fmt.{decimal}
 use Rattle.json.specs.Token.{boolean}

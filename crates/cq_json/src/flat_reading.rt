@@ -158,8 +158,8 @@ impl<'a> FlatObject<'a> {
         }
     }
 
-    /// Reads the object that the text is: O(bytes), and in one pass over these where there are no spaces and at most one
-    /// value has escapes. It answers false, and has some of the members then, for any other text,
+    /// Reads the object that the text is: O(bytes), and in one pass over these where spaces stand behind colons and commas
+    /// alone, if anywhere, and at most one value has escapes. It answers false, and has some of the members then, for any other text,
     /// for one with more than eight members or with other values than a flat object has, and where there is no memory for
     /// the scratch.
     pub fn read(&mut self, text: &'a str, scratch: &'a mut LineScratch) -> bool

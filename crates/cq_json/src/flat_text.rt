@@ -1,4 +1,5 @@
-//! A flat object's text in its most common form, without spaces, read straight from its bytes.
+//! A flat object's text in its most common forms, read straight from its bytes: spaces stand behind colons and commas
+//! alone, if anywhere.
 ghost use Rattle.std.specs.Prelude.{◌≡◌, ◌<◌, ◌^◌, [], ◌∷◌, ◌++◌, length, IfSome, IsNone, OnSome, Some, true};
 ghost use Rattle.std.specs.Fmt.{decimal};
 ghost use Rattle.std.specs.Char.{encode_utf8};
@@ -57,11 +58,35 @@ fn next_run(text: &str) -> Option<(&str, bool, &str)>
     Some((&text[..len], ends, &text[len + 1..]))
 }
 
-/// The string at the front, if it has no escapes, and what follows it: O(its bytes).
-fn read_string(text: &str) -> Option<(&str, &str)>
-    ensures { IfSome result (λ parts. text.now ≡ quoted parts.0.now ++ parts.1.now) }
+/// What follows the spaces at the front: O(spaces).
+#[inline(never)]
+fn after_spaces(text: &str) -> &str
+    ensures { Same text.now result.now }
 {
-    let (string, ends, rest) = next_run(after(text, b'"')?)?;
+    let mut rest = text;
+    'spaces: while let Some(behind) = after(rest, b' ') {
+        rest = behind;
+    }
+    rest
+}
+
+/// What follows the quote that opens a string, which may stand behind spaces.
+#[inline(always)]
+fn after_quote(text: &str) -> Option<&str>
+    ensures { IfSome result (λ rest. Same text.now (34 ∷ rest.now)) }
+{
+    if let Some(inside) = after(text, b'"') {
+        return Some(inside);
+    }
+    let inside = after(after_spaces(text), b'"')?;
+    Some(inside)
+}
+
+/// The string at the front, which may stand behind spaces, if it has no escapes, and what follows it: O(its bytes).
+fn read_string(text: &str) -> Option<(&str, &str)>
+    ensures { IfSome result (λ parts. Same text.now (quoted parts.0.now ++ parts.1.now)) }
+{
+    let (string, ends, rest) = next_run(after_quote(text)?)?;
     if ends { Some((string, rest)) } else { None }
 }
 
@@ -225,13 +250,26 @@ fn read_truth(text: &str) -> Option<(bool, &str)>
     Some((false, text.strip_prefix("false")?))
 }
 
-/// The value at the front, and what follows it; of the inner object nothing is passed.
+/// The same text without the spaces at its front: O(spaces).
+#[inline(always)]
+fn without_spaces(text: &str) -> &str
+    ensures { Same text.now result.now }
+{
+    if text.starts_with(' ') {
+        after_spaces(text)
+    } else {
+        text
+    }
+}
+
+/// The value at the front, which may stand behind spaces, and what follows it; of the inner object nothing is passed.
 fn read_value<'a>(
     text: &'a str,
     spare: &mut Option<&'a mut String>,
 ) -> Option<(Scalar<'a>, &'a str)>
     ensures { IfSome result (λ parts. Same text.now (value_text [] parts.0 ++ parts.1.now) × IsInRange parts.0) }
 {
+    let text = without_spaces(text);
     match *text.as_bytes().first()? {
         b'"' => {
             let (string, rest) = read_text(text, spare)?;

@@ -11,8 +11,8 @@ returns c =
     let name = quoted (key_text c.in_ok-key.key) in
     let value = value_text [] c.in_ok-value.value in
     let rest = c.in_ok-value.rest.now in
-    let apart : c.args.text.now ≡ name ++ (58 ∷ c.in_ok-after.field-0.now) = c.in_ok-name.ensures ∙ ap₂ (λ k t. quoted k ++ t) c.in_ok-key.ensures c.in_ok-after.ensures in (
-      ap (lex between) apart
+    let apart : quoted c.in_ok-name.name.now ++ c.in_ok-name.rest.now ≡ name ++ (58 ∷ c.in_ok-after.field-0.now) = ap₂ (λ k t. quoted k ++ t) c.in_ok-key.ensures c.in_ok-after.ensures in (
+      c.in_ok-name.ensures ∙ ap (lex between) apart
           ∙ behind_quoted (key_text c.in_ok-key.key) (58 ∷ c.in_ok-after.field-0.now) (58 ∷ (value ++ rest)) (behind_colon c.in_ok-after.field-0.now (value ++ rest) c.in_ok-value.ensures.0)
           ∙ ap (lex between) (sym (append_assoc name (58 ∷ value) rest)),
       c.in_ok-value.ensures.1,

@@ -1,0 +1,12 @@
+-- Only spaces were passed.
+use Rattle.std.proofs.Common.{length}
+use denote.Text.{Utf8}
+use denote.Shadow.{shadow}
+use Rattle.cq_json.specs.FlatText.{Same}
+use Rattle.cq_json.proofs.flat_text.after_spaces.Given as goal
+
+abbrev pub invariant-spaces : goal.invariant-spaces
+invariant-spaces l = shadow (Utf8 l.rest) × Same l.fn.text l.rest
+
+abbrev pub decreases-spaces : goal.decreases-spaces
+decreases-spaces l = length l.rest
