@@ -1,21 +1,19 @@
 -- The members of a flat object, as they are read.
-use Rattle.std.proofs.Common.{◌≡◌, ℕ, ◌-◌, ◌<◌, ◌≤◌, List, [], ◌∷◌, ◌++◌, length, true, false, Option, Some, None, option_map, option_and_then, Result, Ok, Err, OnOk, IsUtf8, refl, sym, ap, ◌∙◌, arith}
+use Rattle.std.proofs.Common.{◌≡◌, ℕ, ◌-◌, ◌<◌, ◌≤◌, List, [], ◌∷◌, length, false, Option, Some, None, option_map, option_and_then, IsUtf8, refl, ap, ◌∙◌}
 use Rattle.json.specs.Token.{Token}
 use Rattle.json.specs.Lex.{tokens}
 use Rattle.json.specs.Json as json
 use Rattle.json.specs.Json.{read_key, parse_map, if_last}
-use Rattle.json.proofs.Grammar.{value_is, value-begin_object, read_key-shorter, skip_value-shorter, left, members_end, members_more}
+use Rattle.json.proofs.Grammar.{value_is, value-begin_object, members_end, members_more}
 use Rattle.serde_json.specs.Data.{Data, object, Members, no_members, put}
 use Rattle.serde_json.specs.Read.{of_json, of_members, converted, max_depth}
 use Rattle.serde_json.proofs.Numbers.{number_of-decimal}
 use Rattle.cq_json.specs.Fields.{json_of}
 use Rattle.cq_json.proofs.JsonText.{json_of_read}
-use Rattle.cq_json.specs.Keys.{key_text}
-use Rattle.cq_json.specs.Flat.{scalar_data, is_inner, puts, inner_members}
-use Rattle.cq_json.specs.FlatReading.{scalar_token, IsInRange, rest_of, Ends, Adds, Opens, EndsBoth}
+use Rattle.cq_json.specs.Flat.{scalar_data, is_inner}
+use Rattle.cq_json.specs.FlatReading.{scalar_token, IsInRange, rest_of}
 use Rattle.cq_json.specs.declared.flat.Scalar.{Scalar}
-use Rattle.cq_json.specs.declared.flat.Scalar.TheVariants.{Text, Number, Truth, Inner}
-use Rattle.cq_json.specs.declared.flat.Member.{Member}
+use Rattle.cq_json.specs.declared.flat.Scalar.TheVariants.{Text, Number, Truth, Null, Inner}
 
 -- ---- what was read, as data
 
@@ -62,10 +60,6 @@ text_read text ts d utf8 is e =
     let j = converted_some of_json (json.value max_depth ts) d [] e in
     json_of_read text d utf8 (rw (← is) (ap whole j.1 ∙ j.2))
 
-pub on_ok : {T E P Q : Type 0} (r : Result T E) → (P → Q) → OnOk r P → OnOk r Q
-on_ok (Ok x) f p = f p
-on_ok (Err e) f p = p
-
 -- ---- one value
 
 pub scalar_read : (inner : Members) (depth : ℕ) (s : Scalar) (ts : List Token) → IsInRange s → is_inner s ≡ false
@@ -73,75 +67,12 @@ pub scalar_read : (inner : Members) (depth : ℕ) (s : Scalar) (ts : List Token)
 scalar_read inner depth (Text text) ts fits not_inner = ap (converted of_json) (value_is depth _)
 scalar_read inner depth (Number n) ts fits not_inner = ap (converted of_json) (value_is depth _) ∙ rw (number_of-decimal n fits)
 scalar_read inner depth (Truth truth) ts fits not_inner = ap (converted of_json) (value_is depth _)
+scalar_read inner depth Null ts fits not_inner = ap (converted of_json) (value_is depth _)
 scalar_read inner depth Inner ts fits not_inner = absurd (cc)
 
-inner_read : (inner : Members) (depth : ℕ) (s : Scalar) (ts rest : List Token) → is_inner s ≡ true
-    → converted of_json (json.value depth (Token.begin_object ∷ ts)) ≡ Some (object inner, rest)
-    → converted of_json (json.value depth (scalar_token s ∷ ts)) ≡ Some (scalar_data inner s, rest)
-inner_read inner depth (Text text) ts rest is reads = absurd (cc)
-inner_read inner depth (Number n) ts rest is reads = absurd (cc)
-inner_read inner depth (Truth truth) ts rest is reads = absurd (cc)
-inner_read inner depth Inner ts rest is reads = reads
-
--- ---- one member
-
-turn : (found : Members) (depth n : ℕ) (k : List ℕ) (ts s r : List Token) (d : Data) → length ts ≤ n → read_key ts ≡ Some (Some k, s)
-    → converted of_json (json.value depth s) ≡ Some (d, r) → (m : ℕ) × (length r ≤ m) × (rest_of found depth n ts ≡ rest_of (put k d found) depth m r)
-turn found depth n k ts s r d enough key value =
-    let j = converted_some of_json (json.value depth s) d r value in
-    let key_less = read_key-shorter ts (Some k) s key in
-    let less = skip_value-shorter depth s r (ap left j.1) in
-    (n - 1, omega (arith, key_less, less), member_read depth found n k ts s r d (omega (arith, key_less, less)) key value)
-
-puts_push : (inner : Members) (ms : List Member) (m : Member) (found : Members) → puts inner (ms ++ m ∷ []) found ≡ put (key_text m.key) (scalar_data inner m.value) (puts inner ms found)
-puts_push inner [] m found = refl
-puts_push inner (l ∷ ms) m found = puts_push inner ms m (put (key_text l.key) (scalar_data inner l.value) found)
-
-pub adds_none : (ts : List Token) (ms : List Member) → Adds ts ms ts ms
-adds_none ts ms = λ inner depth n enough. (n, enough, refl)
-
-module _ (old : List Token) (read now : List Member) (ts s r : List Token) (adds : Adds old read ts now) where
-  pub adds_more : (m : Member) → read_key ts ≡ Some (Some (key_text m.key), s) → s ≡ scalar_token m.value ∷ r → IsInRange m.value → is_inner m.value ≡ false
-      → Adds old read r (now ++ m ∷ [])
-  adds_more m key first fits scalar = λ inner depth n enough.
-      let a = adds inner depth n enough in
-      let value : converted of_json (json.value depth s) ≡ Some (scalar_data inner m.value, r) = rw first (scalar_read inner depth m.value r fits scalar) in
-      let t = turn (puts inner now no_members) depth a.0 (key_text m.key) ts s r (scalar_data inner m.value) a.1 key value in
-      (t.0, t.1, a.2 ∙ t.2 ∙ ap (λ found. rest_of found depth t.0 r) (sym (puts_push inner now m no_members)))
-
-  pub adds_inner : (m : Member) → read_key ts ≡ Some (Some (key_text m.key), s) → s ≡ scalar_token m.value ∷ r → is_inner m.value ≡ true
-      → Opens old read r (now ++ m ∷ [])
-  adds_inner m key first is = λ inner depth n rest enough reads.
-      let a = adds inner depth n enough in
-      let value : converted of_json (json.value depth s) ≡ Some (scalar_data inner m.value, rest) = rw first (inner_read inner depth m.value r rest is reads) in
-      let t = turn (puts inner now no_members) depth a.0 (key_text m.key) ts s rest (scalar_data inner m.value) a.1 key value in
-      (t.0, t.1, a.2 ∙ t.2 ∙ ap (λ found. rest_of found depth t.0 rest) (sym (puts_push inner now m no_members)))
-
-pub adds_end : (old : List Token) (read now : List Member) (ts r : List Token) → Adds old read ts now → read_key ts ≡ Some (None, r) → Ends old read r now
-adds_end old read now ts r adds key = λ inner depth n enough.
-    let a = adds inner depth n enough in
-    a.2 ∙ members_over depth (puts inner now no_members) a.0 ts r a.1 key
-
 -- ---- an object
-
-pub both_flat : (old new : List Token) (ms : List Member) → Ends old [] new ms → EndsBoth old new ms []
-both_flat old new ms ends = λ depth positive. ends no_members depth (length old) (omega arith)
 
 pub opened : (ts r : List Token) (inner : Members) (depth : ℕ) → 0 < depth → rest_of no_members (depth - 1) (length ts) ts ≡ Some (inner, r)
     → converted of_json (json.value depth (Token.begin_object ∷ ts)) ≡ Some (object inner, r)
 opened ts r inner depth positive rest =
     ap (converted of_json) (value-begin_object depth ts positive) ∙ converted-object (json.members (json.value (depth - 1)) (length ts) ts) ∙ ap (parse_map object) rest
-
-pub both_nested : (old ts us new : List Token) (ms members inner : List Member) → Opens old [] ts ms → Ends ts [] us inner → Ends us ms new members → EndsBoth old new members inner
-both_nested old ts us new ms members inner opens ends_inner ends = λ depth positive.
-    let value = opened ts us (inner_members inner) depth positive (ends_inner no_members (depth - 1) (length ts) (omega arith)) in
-    let o = opens (inner_members inner) depth (length old) us (omega arith) value in
-    o.2 ∙ ends (inner_members inner) depth o.0 o.1
-
-pub object_read : (s : Scalar) (old ts new : List Token) (members inner : List Member) (depth : ℕ) → old ≡ scalar_token s ∷ ts → is_inner s ≡ true → EndsBoth ts new members inner → 1 < depth
-    → converted of_json (json.value depth old) ≡ Some (object (puts (inner_members inner) members no_members), new)
-object_read (Text text) old ts new members inner depth first is both deep = absurd (cc)
-object_read (Number n) old ts new members inner depth first is both deep = absurd (cc)
-object_read (Truth truth) old ts new members inner depth first is both deep = absurd (cc)
-object_read Inner old ts new members inner depth first is both deep =
-    rw first (opened ts new (puts (inner_members inner) members no_members) depth (omega arith) (both (depth - 1) (omega arith)))

@@ -4,9 +4,10 @@ use Rattle.std.proofs.lemmas.List.{take-append-drop, drop_more, take_more as tak
 use Rattle.std.proofs.lemmas.Fmt.{decimal_digit, decimal_step}
 use Rattle.std.specs.List.{prefix_len}
 use Rattle.std.specs.Fmt.{decimal}
-use Rattle.json.specs.Token.{Token, begin_object, end_object, key, string, number, boolean}
+use Rattle.json.specs.Token.{Token, begin_object, end_object, key, string, number, boolean, null}
 use Rattle.json.specs.Lex.{lex, between, fresh, punctuate, tokens}
 use Rattle.json.specs.Json as json
+use Rattle.json.specs.Word.{ends_word, is_operator}
 use Rattle.json.specs.Run.{is_plain}
 use Rattle.json.specs.Print.{escape, quoted, print_from, print, ArePrintable}
 use Rattle.json.proofs.Printed.Decimals.{IsNumber-decimal}
@@ -17,13 +18,13 @@ use Rattle.cq_json.specs.Fields.{json_of}
 use Rattle.cq_json.specs.Keys.{key_text}
 use Rattle.cq_json.specs.Flat.{scalar_data, is_inner, puts, inner_members}
 use Rattle.cq_json.specs.FlatReading.{IsInRange, rest_of}
-use Rattle.cq_json.specs.FlatText.{run_end, Same, separator, IsWhole, value_text, member_text, members_text, AreInRange, Takes}
-use Rattle.cq_json.specs.declared.flat_reading.Pause.TheVariants as pauses
+use Rattle.cq_json.specs.FlatText.{run_end, Same, IsWhole, value_text, member_text, members_text, AreInRange, Takes}
+use Rattle.cq_json.specs.declared.flat_text.Pause.TheVariants as pauses
 use Rattle.cq_json.proofs.PlainText.{escape_plain}
 use Rattle.cq_json.proofs.SameText.{behind_brace, behind_comma, behind_colon, behind_end, behind_quoted, members_whole}
 use Rattle.cq_json.proofs.FlatReading.{member_read, members_over, opened, text_read, scalar_read}
 use Rattle.cq_json.specs.declared.flat.Scalar.{Scalar}
-use Rattle.cq_json.specs.declared.flat.Scalar.TheVariants.{Text, Number, Truth, Inner}
+use Rattle.cq_json.specs.declared.flat.Scalar.TheVariants.{Text, Number, Truth, Null, Inner}
 use Rattle.cq_json.specs.declared.flat.Member.{Member}
 
 -- ---- strings
@@ -92,46 +93,55 @@ value_apart : (inner : List ℕ) (s : Scalar) → is_inner s ≡ false → value
 value_apart inner (Text t) scalar = refl
 value_apart inner (Number n) scalar = refl
 value_apart inner (Truth b) scalar = refl
+value_apart inner Null scalar = refl
 value_apart inner Inner scalar = absurd (cc)
 
 value_empty : (s : Scalar) (t : List ℕ) → is_inner s ≡ true → value_text [] s ++ t ≡ t
 value_empty (Text x) t is = absurd (cc)
 value_empty (Number n) t is = absurd (cc)
 value_empty (Truth b) t is = absurd (cc)
+value_empty Null t is = absurd (cc)
 value_empty Inner t is = refl
 
 value_inner : (inner after : List ℕ) (s : Scalar) → is_inner s ≡ true → value_text [] s ++ (inner ++ after) ≡ value_text inner s ++ after
 value_inner inner after (Text t) is = absurd (cc)
 value_inner inner after (Number n) is = absurd (cc)
 value_inner inner after (Truth b) is = absurd (cc)
+value_inner inner after Null is = absurd (cc)
 value_inner inner after Inner is = refl
 
--- what comes behind members, and the next one's bracket or comma
-front_same : (inner : List ℕ) → IsWhole inner → (ms : List Member) → AreInRange ms → (a b : List ℕ) → Same a b
-    → Same (members_text inner 123 ms ++ (opening_of ms ∷ a)) (members_text inner 123 ms ++ (opening_of ms ∷ b))
-front_same inner whole [] fits a b same = behind_brace a b same
-front_same inner whole (m ∷ ms) fits a b same = members_whole inner whole m ms fits true a b (behind_comma a b same)
+opening_ends : (ms : List Member) (a : List ℕ) → ends_word (opening_of ms ∷ a) ≡ true
+opening_ends [] a = refl
+opening_ends (m ∷ ms) a = refl
+
+pub opening_operator : (ms : List Member) → is_operator (opening_of ms) ≡ true
+opening_operator [] = refl
+opening_operator (m ∷ ms) = refl
+
+opening_same : (ms : List Member) (a b : List ℕ) → Same a b → Same (opening_of ms ∷ a) (opening_of ms ∷ b)
+opening_same [] a b same = behind_brace a b same
+opening_same (m ∷ ms) a b same = behind_comma a b same
 
 module _ (text : List ℕ) (read now : List Member) (rest next left : List ℕ)
     (took : (inner : List ℕ) → IsWhole inner → AreInRange read → Same (members_text inner 123 read ++ text) (members_text inner 123 now ++ rest))
     (fits : AreInRange read → AreInRange now) where
-  take_one : (m : Member) (inner after : List ℕ) → IsWhole inner → AreInRange read → rest ≡ opening_of now ∷ next → Same next (member_text inner m ++ after)
+  take_one : (m : Member) (inner after : List ℕ) → IsWhole inner → AreInRange read → Same rest (opening_of now ∷ next) → ends_word rest ≡ true → Same next (member_text inner m ++ after)
       → Same (members_text inner 123 read ++ text) (members_text inner 123 (now ++ m ∷ []) ++ after)
-  take_one m inner after whole all opened member =
-      took inner whole all ∙ ap (λ t. lex between (members_text inner 123 now ++ t)) opened
-      ∙ front_same inner whole now (fits all) next (member_text inner m ++ after) member
+  take_one m inner after whole all opened ends member =
+      let behind = opening_of now ∷ (member_text inner m ++ after) in
+      took inner whole all ∙ members_whole inner whole now (fits all) rest behind ends (opening_ends now (member_text inner m ++ after)) (opened ∙ opening_same now next (member_text inner m ++ after) member)
       ∙ ap (lex between) (sym (append_assoc (members_text inner 123 now) (opening_of now ∷ member_text inner m) after)
       ∙ ap (λ t. t ++ after) (sym (members_text-push inner now m)))
 
-  pub take_more : (m : Member) → rest ≡ opening_of now ∷ next → Same next (member_text [] m ++ left) → is_inner m.value ≡ false → (inner : List ℕ) → IsWhole inner → AreInRange read
+  pub take_more : (m : Member) → Same rest (opening_of now ∷ next) → ends_word rest ≡ true → Same next (member_text [] m ++ left) → is_inner m.value ≡ false → (inner : List ℕ) → IsWhole inner → AreInRange read
       → Same (members_text inner 123 read ++ text) (members_text inner 123 (now ++ m ∷ []) ++ left)
-  take_more m opened member scalar = λ inner whole all.
-      take_one m inner left whole all opened (member ∙ ap (λ v. lex between ((quoted (key_text m.key) ++ 58 ∷ v) ++ left)) (value_apart inner m.value scalar))
+  take_more m opened ends member scalar = λ inner whole all.
+      take_one m inner left whole all opened ends (member ∙ ap (λ v. lex between ((quoted (key_text m.key) ++ 58 ∷ v) ++ left)) (value_apart inner m.value scalar))
 
-  pub take_inner : (m : Member) → rest ≡ opening_of now ∷ next → Same next (member_text [] m ++ left) → is_inner m.value ≡ true → (inner after : List ℕ) → IsWhole inner → AreInRange read
+  pub take_inner : (m : Member) → Same rest (opening_of now ∷ next) → ends_word rest ≡ true → Same next (member_text [] m ++ left) → is_inner m.value ≡ true → (inner after : List ℕ) → IsWhole inner → AreInRange read
       → Same left (inner ++ after) → Same (members_text inner 123 read ++ text) (members_text inner 123 (now ++ m ∷ []) ++ after)
-  take_inner m opened member is = λ inner after whole all follows.
-      take_one m inner after whole all opened
+  take_inner m opened ends member is = λ inner after whole all follows.
+      take_one m inner after whole all opened ends
       (member
       ∙ ap (lex between) (append_assoc (quoted (key_text m.key)) (58 ∷ value_text [] m.value) left ∙ ap (λ t. quoted (key_text m.key) ++ 58 ∷ t) (value_empty m.value left is))
       ∙ behind_quoted (key_text m.key) (58 ∷ left) (58 ∷ (inner ++ after)) (behind_colon left (inner ++ after) follows)
@@ -144,6 +154,7 @@ abbrev pub value_tokens : List Token → Scalar → List Token
 value_tokens inner (Text text) = string text.now ∷ []
 value_tokens inner (Number n) = number (decimal n) ∷ []
 value_tokens inner (Truth truth) = boolean truth ∷ []
+value_tokens inner Null = null ∷ []
 value_tokens inner Inner = begin_object ∷ inner
 
 abbrev pub members_tokens : List Token → List Member → List Token
@@ -175,6 +186,7 @@ module _ (text : List ℕ) (ts : List Token) (is : Members) (level : ℕ) (inner
   value_printed (Text t) us = refl
   value_printed (Number n) us = refl
   value_printed (Truth b) us = refl
+  value_printed Null us = refl
   value_printed Inner us = inner.printed us
 
   value_printable : (s : Scalar) → IsInRange s → ArePrintable (value_tokens ts s)
@@ -182,12 +194,14 @@ module _ (text : List ℕ) (ts : List Token) (is : Members) (level : ℕ) (inner
   value_printable (Text t) fits = (tt, tt)
   value_printable (Number n) fits = (IsNumber-decimal n fits, tt)
   value_printable (Truth b) fits = (tt, tt)
+  value_printable Null fits = (tt, tt)
   value_printable Inner fits = (tt, inner.printable)
 
   value_said : (s : Scalar) → IsInRange s → (depth : ℕ) → level ≤ depth → (r : List Token) → converted of_json (json.value depth (value_tokens ts s ++ r)) ≡ Some (scalar_data is s, r)
   value_said (Text t) fits depth deep r = scalar_read is depth (Text t) r fits refl
   value_said (Number n) fits depth deep r = scalar_read is depth (Number n) r fits refl
   value_said (Truth b) fits depth deep r = scalar_read is depth (Truth b) r fits refl
+  value_said Null fits depth deep r = scalar_read is depth Null r fits refl
   value_said Inner fits depth deep r = inner.read depth deep r
 
   member_printed : (m : Member) (us : List Token) → print_from false (key (key_text m.key) ∷ (value_tokens ts m.value ++ us)) ≡ member_text text m ++ print_from true us
@@ -259,37 +273,48 @@ abbrev two_braces : List ℕ
 two_braces = 123 ∷ 125 ∷ []
 
 braces_whole : IsWhole two_braces
-braces_whole more a b same = behind_brace _ _ (behind_end _ _ same)
+braces_whole a b x y same = behind_brace _ _ (behind_end _ _ same)
 
 -- a whole object stands there
-object_whole : (inner : List ℕ) → IsWhole inner → (ms : List Member) → 0 < length ms → AreInRange ms → IsWhole (members_text inner 123 ms ++ 125 ∷ [])
-object_whole inner whole [] some fits more a b same = absurd (omega arith)
-object_whole inner whole (m ∷ ms) some fits more a b same =
-    let text = members_text inner 123 (m ∷ ms) in
-    ap (lex between) (append_assoc text (125 ∷ []) (separator more ∷ a))
-    ∙ members_whole inner whole m ms fits false (separator more ∷ a) (separator more ∷ b) (behind_end _ _ same)
-    ∙ ap (lex between) (sym (append_assoc text (125 ∷ []) (separator more ∷ b)))
+object_whole : (inner : List ℕ) → IsWhole inner → (ms : List Member) → AreInRange ms → IsWhole (members_text inner 123 ms ++ 125 ∷ [])
+object_whole inner whole ms fits a b x y same =
+    let text = members_text inner 123 ms in
+    ap (lex between) (append_assoc text (125 ∷ []) a)
+    ∙ members_whole inner whole ms fits (125 ∷ a) (125 ∷ b) refl refl (behind_end _ _ same)
+    ∙ ap (lex between) (sym (append_assoc text (125 ∷ []) b))
+
+-- the bracket that closes an object, behind its members
+pub take_end : (text : List ℕ) (read now : List Member) (behind rest : List ℕ)
+    → ((inner : List ℕ) → IsWhole inner → AreInRange read → Same (members_text inner 123 read ++ text) (members_text inner 123 now ++ behind))
+    → (AreInRange read → AreInRange now) → Same behind (125 ∷ rest) → ends_word behind ≡ true
+    → (inner : List ℕ) → IsWhole inner → AreInRange read → Same (members_text inner 123 read ++ text) (members_text inner 123 now ++ (125 ∷ rest))
+take_end text read now behind rest took fits closed ends = λ inner whole all.
+    took inner whole all ∙ members_whole inner whole now (fits all) behind (125 ∷ rest) ends refl closed
+
+-- nothing but white space behind the last bracket
+last_same : (inner : List ℕ) → IsWhole inner → (ms : List Member) → AreInRange ms → (rest : List ℕ) → Same rest [] → Same (members_text inner 123 ms ++ (125 ∷ rest)) (members_text inner 123 ms ++ 125 ∷ [])
+last_same inner whole ms fits rest none = members_whole inner whole ms fits (125 ∷ rest) (125 ∷ []) refl refl (behind_end rest [] none)
 
 text_said : (text inner_text : List ℕ) (ts : List Token) (is : Members) (level : ℕ) (ms : List Member) → SaysObject inner_text ts is level → suc level ≤ max_depth → IsUtf8 text
     → Same text (members_text inner_text 123 ms ++ 125 ∷ []) → 0 < length ms → AreInRange ms → json_of text ≡ Some (object (puts is ms no_members))
 text_said text inner_text ts is level ms inner deep utf8 same some fits =
     object_said text (members_text inner_text 123 ms ++ 125 ∷ []) (members_tokens ts ms) (puts is ms no_members) (suc level) (outer_object inner_text ts is level inner ms some fits) same deep utf8
 
-pub flat_said : (text rest : List ℕ) (members : List Member) → IsUtf8 text → Takes text [] pauses.End rest members → rest ≡ []
+pub flat_said : (text rest : List ℕ) (members : List Member) → IsUtf8 text → Takes text [] pauses.End rest members → Same rest []
     → json_of text ≡ Some (object (puts (inner_members []) members no_members))
 flat_said text rest members utf8 takes none =
     text_said text two_braces (end_object ∷ []) no_members 1 members empty_object (omega arith) utf8
-    (takes.0 two_braces braces_whole tt ∙ ap (λ t. lex between (members_text two_braces 123 members ++ 125 ∷ t)) none) takes.1.1 (takes.1.0 tt)
+    (takes.0 two_braces braces_whole tt ∙ last_same two_braces braces_whole members (takes.1.0 tt) rest none) takes.1.1 (takes.1.0 tt)
 
 pub nested_said : (text opened closed rest : List ℕ) (ms inner members : List Member) → IsUtf8 text → Takes text [] pauses.Inner opened ms → Takes opened [] pauses.End closed inner
-    → Takes closed ms pauses.End rest members → rest ≡ [] → json_of text ≡ Some (object (puts (inner_members inner) members no_members))
+    → Takes closed ms pauses.End rest members → Same rest [] → json_of text ≡ Some (object (puts (inner_members inner) members no_members))
 nested_said text opened closed rest ms inner members utf8 front within back none =
     let inner_text = members_text two_braces 123 inner ++ 125 ∷ [] in
-    let whole = object_whole two_braces braces_whole inner within.1.1 (within.1.0 tt) in
+    let whole = object_whole two_braces braces_whole inner (within.1.0 tt) in
     let is = within.0 two_braces braces_whole tt ∙ ap (lex between) (sym (append_assoc (members_text two_braces 123 inner) (125 ∷ []) closed)) in
     text_said text inner_text (members_tokens (end_object ∷ []) inner) (inner_members inner) 2 members
     (outer_object two_braces (end_object ∷ []) no_members 1 empty_object inner within.1.1 (within.1.0 tt)) (omega arith) utf8
-    (front.0 inner_text closed whole tt is ∙ back.0 inner_text whole (front.1.0 tt) ∙ ap (λ t. lex between (members_text inner_text 123 members ++ 125 ∷ t)) none) back.1.1 (back.1.0 (front.1.0 tt))
+    (front.0 inner_text closed whole tt is ∙ back.0 inner_text whole (front.1.0 tt) ∙ last_same inner_text whole members (back.1.0 (front.1.0 tt)) rest none) back.1.1 (back.1.0 (front.1.0 tt))
 
 pub on_some : {A P Q : Type 0} (o : Option A) → (P → Q) → OnSome o P → OnSome o Q
 on_some (Some x) f p = f p

@@ -1,8 +1,8 @@
 -- Texts with the same tokens, commas and colons.
-use Rattle.std.proofs.Common.{◌≡◌, ℕ, List, [], ◌∷◌, ◌++◌, Bool, true, false, cond, refl, sym, ap, ap₂, ◌∙◌, append_assoc}
+use Rattle.std.proofs.Common.{◌≡◌, ℕ, List, [], ◌∷◌, ◌++◌, true, false, cond, ◌||◌, refl, sym, ap, ap₂, ◌∙◌, append_assoc}
 use Rattle.std.specs.Fmt.{decimal}
-use Rattle.json.specs.Token.{begin_object, end_object, string, number, boolean, bad}
-use Rattle.json.specs.Word.{ends_word, word}
+use Rattle.json.specs.Token.{begin_object, end_object, string, number, boolean, null, bad}
+use Rattle.json.specs.Word.{ends_word, is_operator, is_space, word}
 use Rattle.json.specs.Lex.{token, comma, colon, string_token, lex, between}
 use Rattle.json.specs.Print.{escape, quoted}
 use Rattle.json.proofs.Printed.Strings.{content-escape, lex-escape}
@@ -10,9 +10,9 @@ use Rattle.json.proofs.Printed.Numbers.{lex-number, in_word-ended}
 use Rattle.json.proofs.Printed.Decimals.{IsNumber-decimal}
 use Rattle.cq_json.specs.Keys.{key_text}
 use Rattle.cq_json.specs.FlatReading.{IsInRange}
-use Rattle.cq_json.specs.FlatText.{Same, separator, IsWhole, value_text, member_text, members_text, AreInRange}
+use Rattle.cq_json.specs.FlatText.{Same, IsWhole, value_text, member_text, members_text, AreInRange}
 use Rattle.cq_json.specs.declared.flat.Scalar.{Scalar}
-use Rattle.cq_json.specs.declared.flat.Scalar.TheVariants.{Text, Number, Truth, Inner}
+use Rattle.cq_json.specs.declared.flat.Scalar.TheVariants.{Text, Number, Truth, Null, Inner}
 use Rattle.cq_json.specs.declared.flat.Member.{Member}
 
 -- ---- one byte
@@ -33,13 +33,31 @@ pub behind_end : (a b : List ℕ) → Same a b → Same (125 ∷ a) (125 ∷ b)
 unfolding lex
 behind_end a b same = ap (λ l. token end_object ∷ l) same
 
-pub behind_space : (a : List ℕ) → Same (32 ∷ a) a
-unfolding lex
-behind_space a = refl
+-- ---- white space
 
-ends : (more : Bool) (a : List ℕ) → ends_word (separator more ∷ a) ≡ true
-ends true a = refl
-ends false a = refl
+pub space_passed : (text rest : List ℕ) → text ≡ 32 ∷ rest → Same text rest
+unfolding lex
+space_passed text rest is = ap (lex between) is
+
+pub tab_passed : (text rest : List ℕ) → text ≡ 9 ∷ rest → Same text rest
+unfolding lex
+tab_passed text rest is = ap (lex between) is
+
+pub return_passed : (text rest : List ℕ) → text ≡ 13 ∷ rest → Same text rest
+unfolding lex
+return_passed text rest is = ap (lex between) is
+
+pub space_ends : (text rest : List ℕ) → text ≡ 32 ∷ rest → ends_word text ≡ true
+space_ends text rest is = ap ends_word is
+
+pub tab_ends : (text rest : List ℕ) → text ≡ 9 ∷ rest → ends_word text ≡ true
+tab_ends text rest is = ap ends_word is
+
+pub return_ends : (text rest : List ℕ) → text ≡ 13 ∷ rest → ends_word text ≡ true
+return_ends text rest is = ap ends_word is
+
+pub operator_ends : (text rest : List ℕ) (c : ℕ) → text ≡ c ∷ rest → is_operator c ≡ true → ends_word text ≡ true
+operator_ends text rest c is operator = ap ends_word is ∙ ap (λ b. b || is_space c) operator
 
 -- ---- a value
 
@@ -59,18 +77,19 @@ lex-false : (r : List ℕ) → ends_word r ≡ true → lex between (102 ∷ 97 
 unfolding lex word
 lex-false r ended = ap₂ (λ b l. token (cond b (boolean false) bad) ∷ l) ended (in_word-ended r ended)
 
+lex-null : (r : List ℕ) → ends_word r ≡ true → lex between (110 ∷ 117 ∷ 108 ∷ 108 ∷ r) ≡ token null ∷ lex between r
+unfolding lex word
+lex-null r ended = ap₂ (λ b l. token (cond b null bad) ∷ l) ended (in_word-ended r ended)
+
 module _ (inner : List ℕ) (whole : IsWhole inner) where
   value_whole : (s : Scalar) → IsInRange s → IsWhole (value_text inner s)
-  value_whole (Text t) fits more a b same = behind_quoted t.now (separator more ∷ a) (separator more ∷ b) same
-  value_whole (Number n) fits more a b same =
-      let left = lex-number (decimal n) (separator more ∷ a) (IsNumber-decimal n fits) (ends more a) in
-      let right = lex-number (decimal n) (separator more ∷ b) (IsNumber-decimal n fits) (ends more b) in
-      left ∙ ap (λ l. token (number (decimal n)) ∷ l) same ∙ sym right
-  value_whole (Truth true) fits more a b same =
-      lex-true (separator more ∷ a) (ends more a) ∙ ap (λ l. token (boolean true) ∷ l) same ∙ sym (lex-true (separator more ∷ b) (ends more b))
-  value_whole (Truth false) fits more a b same =
-      lex-false (separator more ∷ a) (ends more a) ∙ ap (λ l. token (boolean false) ∷ l) same ∙ sym (lex-false (separator more ∷ b) (ends more b))
-  value_whole Inner fits more a b same = whole more a b same
+  value_whole (Text t) fits a b x y same = behind_quoted t.now a b same
+  value_whole (Number n) fits a b x y same =
+      lex-number (decimal n) a (IsNumber-decimal n fits) x ∙ ap (λ l. token (number (decimal n)) ∷ l) same ∙ sym (lex-number (decimal n) b (IsNumber-decimal n fits) y)
+  value_whole (Truth true) fits a b x y same = lex-true a x ∙ ap (λ l. token (boolean true) ∷ l) same ∙ sym (lex-true b y)
+  value_whole (Truth false) fits a b x y same = lex-false a x ∙ ap (λ l. token (boolean false) ∷ l) same ∙ sym (lex-false b y)
+  value_whole Null fits a b x y same = lex-null a x ∙ ap (λ l. token null ∷ l) same ∙ sym (lex-null b y)
+  value_whole Inner fits a b x y same = whole a b x y same
 
   -- ---- members
 
@@ -78,34 +97,27 @@ module _ (inner : List ℕ) (whole : IsWhole inner) where
   member_apart m r = append_assoc (quoted (key_text m.key)) (58 ∷ value_text inner m.value) r
 
   member_whole : (m : Member) → IsInRange m.value → IsWhole (member_text inner m)
-  member_whole m fits more a b same =
-      let values = value_whole m.value fits more a b same in
+  member_whole m fits a b x y same =
+      let values = value_whole m.value fits a b x y same in
       let keys = behind_quoted (key_text m.key) _ _ (behind_colon _ _ values) in
-      ap (lex between) (member_apart m (separator more ∷ a)) ∙ keys ∙ sym (ap (lex between) (member_apart m (separator more ∷ b)))
+      ap (lex between) (member_apart m a) ∙ keys ∙ sym (ap (lex between) (member_apart m b))
 
   -- members behind others
   later_whole : (ms : List Member) → AreInRange ms → IsWhole (members_text inner 44 ms)
-  later_whole [] fits more a b same = same
-  later_whole (m ∷ []) fits more a b same =
-      let r = separator more ∷ a in
-      let t = separator more ∷ b in
-      let apart = λ (x : List ℕ). ap (λ l. lex between (44 ∷ l)) (append_assoc (member_text inner m) [] x) in
-      apart r ∙ behind_comma _ _ (member_whole m fits.0 more a b same) ∙ sym (apart t)
-  later_whole (m ∷ n ∷ ms) fits more a b same =
-      let r = separator more ∷ a in
-      let t = separator more ∷ b in
-      let rest = members_text inner 44 (n ∷ ms) in
-      let apart = λ (x : List ℕ). ap (λ l. lex between (44 ∷ l)) (append_assoc (member_text inner m) rest x) in
-      apart r ∙ behind_comma _ _ (member_whole m fits.0 true _ _ (later_whole (n ∷ ms) fits.1 more a b same)) ∙ sym (apart t)
+  later_whole [] fits a b x y same = same
+  later_whole (m ∷ []) fits a b x y same =
+      let apart = λ (r : List ℕ). ap (λ l. lex between (44 ∷ l)) (append_assoc (member_text inner m) [] r) in
+      apart a ∙ behind_comma _ _ (member_whole m fits.0 a b x y same) ∙ sym (apart b)
+  later_whole (m ∷ n ∷ ms) fits a b x y same =
+      let apart = λ (r : List ℕ). ap (λ l. lex between (44 ∷ l)) (append_assoc (member_text inner m) (members_text inner 44 (n ∷ ms)) r) in
+      apart a ∙ behind_comma _ _ (member_whole m fits.0 _ _ refl refl (later_whole (n ∷ ms) fits.1 a b x y same)) ∙ sym (apart b)
 
-  first_apart : (m : Member) (ms : List Member) (x : List ℕ) → Same (members_text inner 123 (m ∷ ms) ++ x) (123 ∷ (member_text inner m ++ (members_text inner 44 ms ++ x)))
-  first_apart m ms x = ap (λ l. lex between (123 ∷ l)) (append_assoc (member_text inner m) (members_text inner 44 ms) x)
+  first_apart : (m : Member) (ms : List Member) (r : List ℕ) → Same (members_text inner 123 (m ∷ ms) ++ r) (123 ∷ (member_text inner m ++ (members_text inner 44 ms ++ r)))
+  first_apart m ms r = ap (λ l. lex between (123 ∷ l)) (append_assoc (member_text inner m) (members_text inner 44 ms) r)
 
   -- all members from the object's bracket on
-  pub members_whole : (m : Member) (ms : List Member) → AreInRange (m ∷ ms) → IsWhole (members_text inner 123 (m ∷ ms))
-  members_whole m [] fits more a b same =
-      first_apart m [] (separator more ∷ a) ∙ behind_brace _ _ (member_whole m fits.0 more a b same) ∙ sym (first_apart m [] (separator more ∷ b))
-  members_whole m (n ∷ ms) fits more a b same =
-      first_apart m (n ∷ ms) (separator more ∷ a)
-      ∙ behind_brace _ _ (member_whole m fits.0 true _ _ (later_whole (n ∷ ms) fits.1 more a b same))
-      ∙ sym (first_apart m (n ∷ ms) (separator more ∷ b))
+  pub members_whole : (ms : List Member) → AreInRange ms → IsWhole (members_text inner 123 ms)
+  members_whole [] fits a b x y same = same
+  members_whole (m ∷ []) fits a b x y same = first_apart m [] a ∙ behind_brace _ _ (member_whole m fits.0 a b x y same) ∙ sym (first_apart m [] b)
+  members_whole (m ∷ n ∷ ms) fits a b x y same =
+      first_apart m (n ∷ ms) a ∙ behind_brace _ _ (member_whole m fits.0 _ _ refl refl (later_whole (n ∷ ms) fits.1 a b x y same)) ∙ sym (first_apart m (n ∷ ms) b)

@@ -1,14 +1,14 @@
 -- The data of a flat object, whose members are kept in the order of its text.
 use Rattle.std.specs.Prelude.{◌≡◌, ℕ, List, [], ◌∷◌, cond, Bool, true, false, Option, Some, None, Result, Ok, Err}
 use Rattle.std.specs.Str.{bytes_eq}
-use Rattle.serde_json.specs.Data.{Data, unsigned, boolean, number, string, object, Members, no_members, put}
+use Rattle.serde_json.specs.Data.{Data, unsigned, null, boolean, number, string, object, Members, no_members, put}
 use Rattle.serde_json.specs.Find.{as_object}
 use Rattle.cq_base.specs.declared.ask.Ask.{Ask}
 use Rattle.cq_json.specs.Fields.{Reason, bad, member_at, ◌>>=◌}
 use Rattle.cq_json.specs.Asks.{ask_in}
 use Rattle.cq_json.specs.Keys.{key_text}
 use Rattle.cq_json.specs.declared.flat.Scalar.{Scalar}
-use Rattle.cq_json.specs.declared.flat.Scalar.TheVariants.{Text, Number, Truth, Inner}
+use Rattle.cq_json.specs.declared.flat.Scalar.TheVariants.{Text, Number, Truth, Null, Inner}
 use Rattle.cq_json.specs.declared.flat.Member.{Member}
 use Rattle.cq_json.specs.declared.flat.Flat.{Flat}
 use Rattle.cq_json.specs.declared.flat_reading.FlatObject.{FlatObject}
@@ -18,6 +18,7 @@ abbrev pub scalar_data : Members → Scalar → Data
 scalar_data inner (Text text) = string text.now
 scalar_data inner (Number n) = number (unsigned n)
 scalar_data inner (Truth truth) = boolean truth
+scalar_data inner Null = null
 scalar_data inner Inner = object inner
 
 -- whether it is the inner object
@@ -25,6 +26,7 @@ abbrev pub is_inner : Scalar → Bool
 is_inner (Text text) = false
 is_inner (Number n) = false
 is_inner (Truth truth) = false
+is_inner Null = false
 is_inner Inner = true
 
 -- the members that were found, and then these: of a name that comes twice the last value stays

@@ -1,17 +1,18 @@
 -- The text of a flat object, read straight from its bytes. Only the clauses of private functions cite it.
 use Rattle.std.specs.Prelude.{Bool, true, false, ◌≡◌, ◌<◌, ◌≤◌, ℕ, List, [], ◌∷◌, ◌++◌, length, get_or, drop, Some}
 use Rattle.std.specs.Fmt.{decimal}
-use Rattle.json.specs.Token.{boolean}
+use Rattle.json.specs.Token.{boolean, null}
 use Rattle.json.specs.Text.{Within, content, plain, prepend, code_unit}
 use Rattle.json.specs.Lex.{lex, between, in_string}
+use Rattle.json.specs.Word.{ends_word}
 use Rattle.json.specs.Print.{quoted, token_text}
 use Rattle.cq_json.specs.FlatReading.{IsInRange}
 use Rattle.cq_json.specs.Keys.{key_text}
 use Rattle.cq_json.specs.declared.flat.Scalar.{Scalar}
-use Rattle.cq_json.specs.declared.flat.Scalar.TheVariants.{Text, Number, Truth, Inner}
+use Rattle.cq_json.specs.declared.flat.Scalar.TheVariants.{Text, Number, Truth, Null, Inner}
 use Rattle.cq_json.specs.declared.flat.Member.{Member}
-use Rattle.cq_json.specs.declared.flat_reading.Pause.{Pause}
-use Rattle.cq_json.specs.declared.flat_reading.Pause.TheVariants as pauses
+use Rattle.cq_json.specs.declared.flat_text.Pause.{Pause}
+use Rattle.cq_json.specs.declared.flat_text.Pause.TheVariants as pauses
 
 -- a character of one byte
 abbrev pub IsAscii : ℕ → Type 0
@@ -38,20 +39,16 @@ IsUnit text unit rest = (4 ≤ length text) × ((code_unit (get_or text 0 0) (ge
 abbrev pub Same : List ℕ → List ℕ → Type 0
 Same a b = lex between a ≡ lex between b
 
--- what stands behind a member: a comma, or the bracket that closes the object
-abbrev pub separator : Bool → ℕ
-separator true = 44
-separator false = 125
-
--- texts that are the same from a separator on are so with the text before them
+-- texts that are the same, and begin where a word ends, are so behind the text
 abbrev pub IsWhole : List ℕ → Type 0
-IsWhole text = (more : Bool) (a b : List ℕ) → Same (separator more ∷ a) (separator more ∷ b) → Same (text ++ separator more ∷ a) (text ++ separator more ∷ b)
+IsWhole text = (a b : List ℕ) → ends_word a ≡ true → ends_word b ≡ true → Same a b → Same (text ++ a) (text ++ b)
 
 -- the text of a value, where the inner object has that text
 abbrev pub value_text : List ℕ → Scalar → List ℕ
 value_text inner (Text text) = quoted text.now
 value_text inner (Number n) = decimal n
 value_text inner (Truth truth) = token_text (boolean truth)
+value_text inner Null = token_text null
 value_text inner Inner = inner
 
 -- the text of a member

@@ -1,4 +1,4 @@
-//! A flat object: at most eight members, whose values are texts, whole numbers and truth values, and
+//! A flat object: at most eight members, whose values are texts, whole numbers, truth values and `null`, and
 //! one inner object of the same kind at most. It takes no memory.
 ghost use Rattle.std.specs.Prelude.{◌≡◌, ◌≤◌, None, map, option_map, IfSome, IfOk, IsNone, Ok, true};
 ghost use Rattle.std.specs.List.{list_any, list_all};
@@ -31,6 +31,8 @@ pub enum Scalar<'a> {
     Number(u64),
     /// A truth value.
     Truth(bool),
+    /// `null`.
+    Null,
     /// The inner object, whose members are kept apart.
     Inner,
 }
@@ -42,7 +44,7 @@ impl<'a> Scalar<'a> {
     {
         match self {
             Scalar::Inner => true,
-            Scalar::Text(_) | Scalar::Number(_) | Scalar::Truth(_) => false,
+            Scalar::Text(_) | Scalar::Number(_) | Scalar::Truth(_) | Scalar::Null => false,
         }
     }
 }
@@ -134,7 +136,9 @@ impl<'o, 'a> Flat<'o, 'a> {
     {
         match self.get(key) {
             Some(Scalar::Text(text)) => Ok(text),
-            Some(Scalar::Number(_) | Scalar::Truth(_) | Scalar::Inner) | None => Err(Stop::Bad),
+            Some(Scalar::Number(_) | Scalar::Truth(_) | Scalar::Null | Scalar::Inner) | None => {
+                Err(Stop::Bad)
+            }
         }
     }
 
@@ -144,7 +148,9 @@ impl<'o, 'a> Flat<'o, 'a> {
     {
         match self.get(key) {
             Some(Scalar::Text(text)) => Ok(Some(text)),
-            Some(Scalar::Number(_) | Scalar::Truth(_) | Scalar::Inner) => Err(Stop::Bad),
+            Some(Scalar::Number(_) | Scalar::Truth(_) | Scalar::Null | Scalar::Inner) => {
+                Err(Stop::Bad)
+            }
             None => Ok(None),
         }
     }
@@ -155,7 +161,9 @@ impl<'o, 'a> Flat<'o, 'a> {
     {
         match self.get(key) {
             Some(Scalar::Truth(truth)) => Ok(Some(truth)),
-            Some(Scalar::Number(_) | Scalar::Text(_) | Scalar::Inner) => Err(Stop::Bad),
+            Some(Scalar::Number(_) | Scalar::Text(_) | Scalar::Null | Scalar::Inner) => {
+                Err(Stop::Bad)
+            }
             None => Ok(None),
         }
     }
@@ -168,7 +176,9 @@ impl<'o, 'a> Flat<'o, 'a> {
     {
         match self.get(key) {
             Some(Scalar::Number(number)) => within(number, low, high),
-            Some(Scalar::Text(_) | Scalar::Truth(_) | Scalar::Inner) | None => Err(Stop::Bad),
+            Some(Scalar::Text(_) | Scalar::Truth(_) | Scalar::Null | Scalar::Inner) | None => {
+                Err(Stop::Bad)
+            }
         }
     }
 
@@ -215,7 +225,9 @@ impl<'o, 'a> Flat<'o, 'a> {
     {
         match self.get(key) {
             Some(Scalar::Number(number)) => Ok(Some(within(number, low, high)?)),
-            Some(Scalar::Text(_) | Scalar::Truth(_) | Scalar::Inner) => Err(Stop::Bad),
+            Some(Scalar::Text(_) | Scalar::Truth(_) | Scalar::Null | Scalar::Inner) => {
+                Err(Stop::Bad)
+            }
             None => Ok(None),
         }
     }
@@ -247,7 +259,7 @@ impl<'o, 'a> Flat<'o, 'a> {
         match self.get(key) {
             Some(Scalar::Text(name)) => party_named(name),
             Some(Scalar::Number(_)) => Ok(Party::Server(self.server_at(key)?)),
-            Some(Scalar::Truth(_) | Scalar::Inner) | None => Err(Stop::Bad),
+            Some(Scalar::Truth(_) | Scalar::Null | Scalar::Inner) | None => Err(Stop::Bad),
         }
     }
 
@@ -258,7 +270,9 @@ impl<'o, 'a> Flat<'o, 'a> {
     {
         match self.get(key) {
             Some(Scalar::Inner) => Some(self.inner()),
-            Some(Scalar::Text(_) | Scalar::Number(_) | Scalar::Truth(_)) | None => None,
+            Some(Scalar::Text(_) | Scalar::Number(_) | Scalar::Truth(_) | Scalar::Null) | None => {
+                None
+            }
         }
     }
 }

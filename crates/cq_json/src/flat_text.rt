@@ -1,10 +1,10 @@
-//! A flat object's text in its most common forms, read straight from its bytes: spaces stand behind colons and commas
-//! alone, if anywhere.
+//! A flat object's text, read straight from its bytes.
 ghost use Rattle.std.specs.Prelude.{◌≡◌, ◌<◌, ◌^◌, [], ◌∷◌, ◌++◌, length, IfSome, IsNone, OnSome, Some, true};
 ghost use Rattle.std.specs.Fmt.{decimal};
 ghost use Rattle.std.specs.Char.{encode_utf8};
 ghost use Rattle.std.specs.String.{string_bytes};
 ghost use Rattle.json.specs.Print.{escape, quoted};
+ghost use Rattle.json.specs.Word.{ends_word, is_operator};
 ghost use Rattle.json.specs.Text.{short_escape, is_high_surrogate, after_u, after_high};
 ghost use Rattle.serde_json.specs.Data.{object, no_members};
 ghost use Rattle.cq_json.specs.Fields.{json_of};
@@ -13,12 +13,20 @@ ghost use Rattle.cq_json.specs.FlatReading.{IsInRange};
 ghost use Rattle.cq_json.specs.FlatText.{IsAscii, run_end, Spelled, SpelledFrom, IsUnit, Same, value_text, member_text, Takes};
 
 use crate::flat::{Member, Members, Scalar};
-use crate::flat_reading::Pause;
 use crate::key::Key;
 use crate::plain::plain_len;
+use crate::spares::Spares;
 
 /// Numbers from here on are not read.
 const NUMBER_END: u64 = 1_000_000_000_000_000_000;
+
+/// Where the reading of members came to a stop.
+enum Pause {
+    /// Behind the end of the object.
+    End,
+    /// Before the bracket that opens the inner object, which is the value of the last member.
+    Inner,
+}
 
 /// What follows that ASCII character, if the text begins with it.
 fn after(text: &str, character: u8) -> Option<&str>
@@ -58,35 +66,54 @@ fn next_run(text: &str) -> Option<(&str, bool, &str)>
     Some((&text[..len], ends, &text[len + 1..]))
 }
 
-/// What follows the spaces at the front: O(spaces).
+/// What follows the space, tab or carriage return at the front.
+fn after_space(text: &str) -> Option<&str>
+    ensures same { IfSome result (λ rest. Same text.now rest.now) }
+    ensures ends { IfSome result (λ rest. ends_word text.now ≡ true) }
+    ensures shorter { IfSome result (λ rest. length rest.now < length text.now) }
+{
+    if let Some(rest) = after(text, b' ') {
+        return Some(rest);
+    }
+    if let Some(rest) = after(text, b'\t') {
+        return Some(rest);
+    }
+    let rest = after(text, b'\r')?;
+    Some(rest)
+}
+
+/// What follows the white space at the front: O(its bytes).
 #[inline(never)]
 fn after_spaces(text: &str) -> &str
-    ensures { Same text.now result.now }
+    ensures same { Same text.now result.now }
+    ensures ends { ends_word result.now ≡ true → ends_word text.now ≡ true }
 {
     let mut rest = text;
-    'spaces: while let Some(behind) = after(rest, b' ') {
+    'spaces: while let Some(behind) = after_space(rest) {
         rest = behind;
     }
     rest
 }
 
-/// What follows the quote that opens a string, which may stand behind spaces.
+/// What follows that ASCII character, which may stand behind white space.
 #[inline(always)]
-fn after_quote(text: &str) -> Option<&str>
-    ensures { IfSome result (λ rest. Same text.now (34 ∷ rest.now)) }
+fn after_mark(text: &str, mark: u8) -> Option<&str>
+    requires { IsAscii mark }
+    ensures same { IfSome result (λ rest. Same text.now (mark ∷ rest.now)) }
+    ensures ends { is_operator mark ≡ true → IfSome result (λ rest. ends_word text.now ≡ true) }
 {
-    if let Some(inside) = after(text, b'"') {
-        return Some(inside);
+    if let Some(rest) = after(text, mark) {
+        return Some(rest);
     }
-    let inside = after(after_spaces(text), b'"')?;
-    Some(inside)
+    let rest = after(after_spaces(text), mark)?;
+    Some(rest)
 }
 
-/// The string at the front, which may stand behind spaces, if it has no escapes, and what follows it: O(its bytes).
+/// The string at the front, which may stand behind white space, if it has no escapes, and what follows it: O(its bytes).
 fn read_string(text: &str) -> Option<(&str, &str)>
     ensures { IfSome result (λ parts. Same text.now (quoted parts.0.now ++ parts.1.now)) }
 {
-    let (string, ends, rest) = next_run(after_quote(text)?)?;
+    let (string, ends, rest) = next_run(after_mark(text, b'"')?)?;
     if ends { Some((string, rest)) } else { None }
 }
 
@@ -202,16 +229,15 @@ fn read_escaped<'a>(front: &str, text: &'a str, out: &'a mut String) -> Option<(
     Some((out.as_str(), rest))
 }
 
-/// The string at the front, and what follows it: O(its bytes). One with escapes is written to `spare`, which is there for
-/// one alone.
-fn read_text<'a>(text: &'a str, spare: &mut Option<&'a mut String>) -> Option<(&'a str, &'a str)>
+/// The string at the front, and what follows it: O(its bytes). One with escapes is written to a spare string.
+fn read_text<'a>(text: &'a str, spares: &mut Spares<'a>) -> Option<(&'a str, &'a str)>
     ensures { IfSome result (λ parts. Same text.now (quoted parts.0.now ++ parts.1.now)) }
 {
     let (front, ends, rest) = next_run(after(text, b'"')?)?;
     if ends {
         return Some((front, rest));
     }
-    let (string, rest) = read_escaped(front, rest, spare.take()?)?;
+    let (string, rest) = read_escaped(front, rest, spares.take()?)?;
     Some((string, rest))
 }
 
@@ -250,29 +276,25 @@ fn read_truth(text: &str) -> Option<(bool, &str)>
     Some((false, text.strip_prefix("false")?))
 }
 
-/// The same text without the spaces at its front: O(spaces).
+/// The same text without the white space at its front: O(bytes of that).
 #[inline(always)]
 fn without_spaces(text: &str) -> &str
     ensures { Same text.now result.now }
 {
-    if text.starts_with(' ') {
-        after_spaces(text)
-    } else {
-        text
+    match text.as_bytes().first() {
+        Some(first) if *first <= b' ' => after_spaces(text),
+        _ => text,
     }
 }
 
-/// The value at the front, which may stand behind spaces, and what follows it; of the inner object nothing is passed.
-fn read_value<'a>(
-    text: &'a str,
-    spare: &mut Option<&'a mut String>,
-) -> Option<(Scalar<'a>, &'a str)>
+/// The value at the front, which may stand behind white space, and what follows it; of the inner object nothing is passed.
+fn read_value<'a>(text: &'a str, spares: &mut Spares<'a>) -> Option<(Scalar<'a>, &'a str)>
     ensures { IfSome result (λ parts. Same text.now (value_text [] parts.0 ++ parts.1.now) × IsInRange parts.0) }
 {
     let text = without_spaces(text);
     match *text.as_bytes().first()? {
         b'"' => {
-            let (string, rest) = read_text(text, spare)?;
+            let (string, rest) = read_text(text, spares)?;
             Some((Scalar::Text(string), rest))
         }
         b'{' => Some((Scalar::Inner, text)),
@@ -280,6 +302,7 @@ fn read_value<'a>(
             let (truth, rest) = read_truth(text)?;
             Some((Scalar::Truth(truth), rest))
         }
+        b'n' => Some((Scalar::Null, text.strip_prefix("null")?)),
         _ => {
             let (number, rest) = read_number(text)?;
             Some((Scalar::Number(number), rest))
@@ -288,15 +311,12 @@ fn read_value<'a>(
 }
 
 /// The member at the front, and what follows it.
-fn read_member<'a>(
-    text: &'a str,
-    spare: &mut Option<&'a mut String>,
-) -> Option<(Member<'a>, &'a str)>
+fn read_member<'a>(text: &'a str, spares: &mut Spares<'a>) -> Option<(Member<'a>, &'a str)>
     ensures { IfSome result (λ parts. Same text.now (member_text [] parts.0 ++ parts.1.now) × IsInRange parts.0.value) }
 {
     let (name, rest) = read_string(text)?;
     let key = Key::named(name)?;
-    let (value, rest) = read_value(after(rest, b':')?, spare)?;
+    let (value, rest) = read_value(after_mark(rest, b':')?, spares)?;
     Some((Member { key, value }, rest))
 }
 
@@ -305,20 +325,20 @@ fn read_member<'a>(
 fn take_members<'a>(
     text: &'a str,
     members: &mut Members<'a>,
-    spare: &mut Option<&'a mut String>,
+    spares: &mut Spares<'a>,
 ) -> Option<(Pause, &'a str)>
     ensures { IfSome result (λ parts. Takes text.now members.old.items parts.0 parts.1.now members.new.items) }
 {
     let mut rest = text;
     'members: loop {
         let opening = if members.is_empty() { b'{' } else { b',' };
-        let Some(next) = after(rest, opening) else {
+        let Some(next) = after_mark(rest, opening) else {
             break 'members;
         };
         if members.is_full() {
             return None;
         }
-        let (member, left) = read_member(next, spare)?;
+        let (member, left) = read_member(next, spares)?;
         members.push(member);
         rest = left;
         if member.value.is_inner() {
@@ -328,7 +348,7 @@ fn take_members<'a>(
     if members.is_empty() {
         return None;
     }
-    let rest = after(rest, b'}')?;
+    let rest = after_mark(rest, b'}')?;
     Some((Pause::End, rest))
 }
 
@@ -336,21 +356,25 @@ fn take_members<'a>(
 fn take_rest<'a>(
     text: &'a str,
     members: &mut Members<'a>,
-    spare: &mut Option<&'a mut String>,
+    spares: &mut Spares<'a>,
 ) -> Option<&'a str>
     ensures { IfSome result (λ rest. Takes text.now members.old.items Pause.End rest.now members.new.items) }
 {
-    match take_members(text, members, spare)? {
+    match take_members(text, members, spares)? {
         (Pause::End, rest) => Some(rest),
         (Pause::Inner, _) => None,
     }
 }
 
-/// Something, if nothing is left.
+/// Something, if nothing but white space is left.
 fn ended(rest: &str) -> Option<()>
-    ensures { OnSome result (rest.now ≡ []) }
+    ensures { OnSome result (Same rest.now []) }
 {
-    if rest.is_empty() { Some(()) } else { None }
+    if without_spaces(rest).is_empty() {
+        Some(())
+    } else {
+        None
+    }
 }
 
 /// Takes the members of the object that the text is, and those of the object in it: O(bytes). None for any text of
@@ -359,18 +383,18 @@ pub(crate) fn take_object<'a>(
     text: &'a str,
     members: &mut Members<'a>,
     inner: &mut Members<'a>,
-    spare: &mut Option<&'a mut String>,
+    spares: &mut Spares<'a>,
 ) -> Option<()>
     requires members { members.old.items ≡ [] }
     requires inner { inner.old.items ≡ [] }
     ensures { OnSome result (json_of text.now
         ≡ Some (object (puts (inner_members inner.new.items) members.new.items no_members))) }
 {
-    match take_members(text, members, spare)? {
+    match take_members(text, members, spares)? {
         (Pause::End, rest) => ended(rest),
         (Pause::Inner, rest) => {
-            let rest = take_rest(rest, inner, spare)?;
-            ended(take_rest(rest, members, spare)?)
+            let rest = take_rest(rest, inner, spares)?;
+            ended(take_rest(rest, members, spares)?)
         }
     }
 }

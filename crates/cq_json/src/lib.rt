@@ -10,6 +10,7 @@ mod flat_reading;
 mod flat_text;
 mod key;
 mod plain;
+mod spares;
 mod texts;
 
 pub use ask::read_ask;

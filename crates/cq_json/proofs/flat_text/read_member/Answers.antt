@@ -1,4 +1,4 @@
-use Rattle.std.proofs.Common.{◌≡◌, ◌++◌, ◌∷◌, [], ap, ap₂, sym, ◌∙◌, append_assoc}
+use Rattle.std.proofs.Common.{◌++◌, ◌∷◌, [], ap, sym, ◌∙◌, append_assoc}
 use Rattle.json.specs.Lex.{lex, between}
 use Rattle.json.specs.Print.{quoted}
 use Rattle.cq_json.specs.FlatText.{value_text}
@@ -8,12 +8,13 @@ use Rattle.cq_json.proofs.flat_text.read_member.Goals as goal
 
 pub returns : goal.returns
 returns c =
-    let name = quoted (key_text c.in_ok-key.key) in
+    let name = key_text c.in_ok-key.key in
     let value = value_text [] c.in_ok-value.value in
     let rest = c.in_ok-value.rest.now in
-    let apart : quoted c.in_ok-name.name.now ++ c.in_ok-name.rest.now ≡ name ++ (58 ∷ c.in_ok-after.field-0.now) = ap₂ (λ k t. quoted k ++ t) c.in_ok-key.ensures c.in_ok-after.ensures in (
-      c.in_ok-name.ensures ∙ ap (lex between) apart
-          ∙ behind_quoted (key_text c.in_ok-key.key) (58 ∷ c.in_ok-after.field-0.now) (58 ∷ (value ++ rest)) (behind_colon c.in_ok-after.field-0.now (value ++ rest) c.in_ok-value.ensures.0)
-          ∙ ap (lex between) (sym (append_assoc name (58 ∷ value) rest)),
+    let behind = c.in_ok-after_mark.field-0.now in (
+      c.in_ok-name.ensures ∙ ap (λ k. lex between (quoted k ++ c.in_ok-name.rest.now)) c.in_ok-key.ensures
+          ∙ behind_quoted name c.in_ok-name.rest.now (58 ∷ behind) c.in_ok-after_mark.ensures.same
+          ∙ behind_quoted name (58 ∷ behind) (58 ∷ (value ++ rest)) (behind_colon behind (value ++ rest) c.in_ok-value.ensures.0)
+          ∙ ap (lex between) (sym (append_assoc (quoted name) (58 ∷ value) rest)),
       c.in_ok-value.ensures.1,
     )

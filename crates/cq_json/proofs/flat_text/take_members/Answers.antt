@@ -1,6 +1,8 @@
-use Rattle.std.proofs.Common.{◌≡◌, [], ◌∷◌, length, sym, ap, ◌∙◌, arith, length-append, rules}
+use Rattle.std.proofs.Common.{◌≡◌, ◌<◌, [], ◌∷◌, true, length, refl, subst, sym, ap, ◌∙◌, arith, length-append, rules}
 use Rattle.std.proofs.lemmas.Bool.{eqb-true, eqb-false}
-use Rattle.cq_json.proofs.FlatText.{opening_of, opening_first, opening_later, take_more, take_inner, AreInRange-push}
+use Rattle.json.specs.Lex.{lex, between}
+use Rattle.json.specs.Word.{is_operator}
+use Rattle.cq_json.proofs.FlatText.{opening_of, opening_operator, opening_first, opening_later, take_more, take_inner, take_end, AreInRange-push}
 use Rattle.cq_json.proofs.flat_text.take_members.Goals as goal
 use Rattle.cq_json.proofs.flat_text.take_members.Goals.{then-is_empty, else-is_empty}
 
@@ -12,9 +14,10 @@ returns-then-is_inner c =
       | then-is_empty w ↦ w.opening-is ∙ sym (opening_first ms (eqb-true (length ms) 0 (sym c.is_empty.ensures ∙ w.if-is_empty.true)))
       | else-is_empty w ↦ w.opening-is ∙ sym (opening_later ms (omega (arith, eqb-false (length ms) 0 (sym c.is_empty.ensures ∙ w.if-is_empty.false))))
     ] in
-    let opened = c.in-Some.ensures ∙ ap (λ b. b ∷ c.in-Some.next.now) opening in
+    let opened = c.in-Some.ensures.same ∙ ap (λ b. lex between (b ∷ c.in-Some.next.now)) opening in
+    let ends = c.in-Some.ensures.ends (subst (λ b. is_operator b ≡ true) (sym opening) (opening_operator ms)) in
     rw c.push.ensures.items (
-      take_inner c.args.text.now c.args.members.now.items ms c.members.rest.now c.in-Some.next.now c.in_ok-member.left.now c.members.invariant.1.0 c.members.invariant.1.1 m opened c.in_ok-member.ensures.0
+      take_inner c.args.text.now c.args.members.now.items ms c.members.rest.now c.in-Some.next.now c.in_ok-member.left.now c.members.invariant.1.0 c.members.invariant.1.1 m opened ends c.in_ok-member.ensures.0
           (sym c.is_inner.ensures ∙ c.if-is_inner.true),
       ((λ all. AreInRange-push ms m c.in_ok-member.ensures.1 (c.members.invariant.1.1 all)), omega (arith, length-append ms (m ∷ []))),
     )
@@ -27,12 +30,20 @@ members-preserved c =
       | then-is_empty w ↦ w.opening-is ∙ sym (opening_first ms (eqb-true (length ms) 0 (sym c.is_empty.ensures ∙ w.if-is_empty.true)))
       | else-is_empty w ↦ w.opening-is ∙ sym (opening_later ms (omega (arith, eqb-false (length ms) 0 (sym c.is_empty.ensures ∙ w.if-is_empty.false))))
     ] in
-    let opened = c.in-Some.ensures ∙ ap (λ b. b ∷ c.in-Some.next.now) opening in
+    let opened = c.in-Some.ensures.same ∙ ap (λ b. lex between (b ∷ c.in-Some.next.now)) opening in
+    let ends = c.in-Some.ensures.ends (subst (λ b. is_operator b ≡ true) (sym opening) (opening_operator ms)) in
     rw c.push.ensures.items (
       search rules,
       (
-        take_more c.args.text.now c.args.members.now.items ms c.members.rest.now c.in-Some.next.now c.in_ok-member.left.now c.members.invariant.1.0 c.members.invariant.1.1 m opened c.in_ok-member.ensures.0
+        take_more c.args.text.now c.args.members.now.items ms c.members.rest.now c.in-Some.next.now c.in_ok-member.left.now c.members.invariant.1.0 c.members.invariant.1.1 m opened ends c.in_ok-member.ensures.0
             (sym c.is_inner.ensures ∙ c.if-is_inner.false),
         (λ all. AreInRange-push ms m c.in_ok-member.ensures.1 (c.members.invariant.1.1 all)),
       ),
     )
+
+pub returns : goal.returns
+returns c =
+    let ms = c.members.members.items in
+    let took = c.members.invariant.1 in
+    let some : 0 < length ms = omega (arith, eqb-false (length ms) 0 (sym c.is_empty-2.ensures ∙ c.if-is_empty-2.false)) in
+    (take_end c.args.text.now c.args.members.now.items ms c.members.rest.now c.in_ok-rest.rest.now took.0 took.1 c.in_ok-rest.ensures.same (c.in_ok-rest.ensures.ends refl), (took.1, some))
