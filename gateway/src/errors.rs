@@ -51,6 +51,24 @@ pub enum SqsError {
     InternalFailure(String),
     #[error("{0}")]
     ServiceUnavailable(String),
+    #[error("Request is missing Authentication Token")]
+    MissingAuthenticationToken,
+    #[error("{0}")]
+    IncompleteSignature(String),
+    /// The access key is unknown.
+    #[error("The security token included in the request is invalid.")]
+    UnrecognizedClient,
+    #[error("{0}")]
+    InvalidSignature(String),
+    /// A presigned request is over.
+    #[error("Request has expired.")]
+    RequestExpired,
+    /// `action` is in lower case, and `resource` an ARN.
+    #[error(
+        "User: {user} is not authorized to perform: sqs:{action} on resource: {resource} \
+         because no identity-based policy allows the sqs:{action} action"
+    )]
+    AccessDenied { user: String, action: String, resource: String },
 }
 
 /// How both protocols name an error.
@@ -125,6 +143,20 @@ impl SqsError {
             SqsError::OverLimit(_) => ("com.amazonaws.sqs#OverLimit", "OverLimit", 403),
             SqsError::InternalFailure(_) => ("com.amazonaws.sqs#InternalFailure", "InternalFailure", 500),
             SqsError::ServiceUnavailable(_) => ("com.amazonaws.sqs#ServiceUnavailable", "ServiceUnavailable", 503),
+            SqsError::MissingAuthenticationToken => {
+                ("com.amazon.coral.service#MissingAuthenticationTokenException", "MissingAuthenticationToken", 403)
+            }
+            SqsError::IncompleteSignature(_) => {
+                ("com.amazon.coral.service#IncompleteSignatureException", "IncompleteSignature", 400)
+            }
+            SqsError::UnrecognizedClient => {
+                ("com.amazon.coral.service#UnrecognizedClientException", "InvalidClientTokenId", 403)
+            }
+            SqsError::InvalidSignature(_) => {
+                ("com.amazon.coral.service#InvalidSignatureException", "SignatureDoesNotMatch", 403)
+            }
+            SqsError::RequestExpired => ("com.amazon.coral.service#RequestExpired", "RequestExpired", 403),
+            SqsError::AccessDenied { .. } => ("com.amazon.coral.service#AccessDeniedException", "AccessDenied", 403),
         };
         Coded { type_name, code, status }
     }
@@ -151,6 +183,15 @@ impl SqsError {
     pub fn missing_dedup_id() -> SqsError {
         SqsError::InvalidParameterValue(
             "The queue should either have ContentBasedDeduplication enabled or MessageDeduplicationId provided explicitly"
+                .into(),
+        )
+    }
+
+    /// A signature isn't that of the request by the secret of its key.
+    pub fn wrong_signature() -> SqsError {
+        SqsError::InvalidSignature(
+            "The request signature we calculated does not match the signature you provided. Check your AWS Secret \
+             Access Key and signing method. Consult the service documentation for details."
                 .into(),
         )
     }
@@ -186,5 +227,28 @@ mod tests {
         assert!(!SqsError::of_refusal(99).is_sender_fault());
         let error = SqsError::attribute_value("DelaySeconds", "It must be 0.");
         assert_eq!(error.to_string(), "Invalid value for the parameter DelaySeconds. It must be 0.");
+    }
+
+    #[test]
+    fn codes_of_who_may_come_in() {
+        let denied = SqsError::AccessDenied { user: "a".into(), action: "b".into(), resource: "c".into() };
+        for (error, type_name, code, status) in [
+            (
+                SqsError::MissingAuthenticationToken,
+                "MissingAuthenticationTokenException",
+                "MissingAuthenticationToken",
+                403,
+            ),
+            (SqsError::IncompleteSignature("a".into()), "IncompleteSignatureException", "IncompleteSignature", 400),
+            (SqsError::UnrecognizedClient, "UnrecognizedClientException", "InvalidClientTokenId", 403),
+            (SqsError::wrong_signature(), "InvalidSignatureException", "SignatureDoesNotMatch", 403),
+            (SqsError::RequestExpired, "RequestExpired", "RequestExpired", 403),
+            (denied, "AccessDeniedException", "AccessDenied", 403),
+        ] {
+            let type_name = format!("com.amazon.coral.service#{type_name}");
+            let coded = error.coded();
+            assert_eq!((coded.type_name, coded.code, coded.status), (type_name.as_str(), code, status));
+            assert!(error.is_sender_fault());
+        }
     }
 }
