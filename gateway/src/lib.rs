@@ -4,6 +4,7 @@
 //! writes them as lines (`lines`) to the program (`cq`). What comes back changes the tables (`queues`), is kept
 //! (`journal`), and goes to the client (`http`).
 
+pub mod access;
 pub mod actions;
 pub mod attributes;
 pub mod clock;
