@@ -26,4 +26,5 @@ pub mod rolling;
 pub mod serve;
 pub mod store;
 pub mod texts;
+pub mod tls;
 pub mod wire;
