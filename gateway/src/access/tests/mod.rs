@@ -2,6 +2,7 @@
 
 mod botocore;
 mod files;
+mod properties;
 mod published;
 mod refusals;
 mod spoilt;
