@@ -6,6 +6,7 @@ The secrets are those of AWS's own examples.
 """
 
 import datetime
+import hashlib
 import json
 import os
 import sys
@@ -127,6 +128,8 @@ def main():
         data=b"{}",
         context={"payload_signing_enabled": False},
     )
+    digest = {"X-Amz-Content-SHA256": hashlib.sha256(b'{"a": 1}').hexdigest()}
+    by_signer("POST with the hash of its payload", header, "POST", data=b'{"a": 1}', headers=digest)
     by_signer("presigned GET", query, "GET", params=FIELDS)
     by_signer("presigned GET with a token", SigV4QueryAuth(with_token, "sqs", "us-east-1"), "GET", params=FIELDS)
     by_signer("presigned GET with a field in the URL", query, "GET", url=QUEUE + "?a=%2B", params={"Action": "b c"})

@@ -12,7 +12,7 @@ const HOUR: Duration = Duration::from_secs(3600);
 #[test]
 fn all_that_it_signs_is_let_in() {
     let requests = all_signed();
-    assert_eq!(requests.len(), 40);
+    assert_eq!(requests.len(), 42);
     for request in requests {
         let identity = request.verify().unwrap_or_else(|error| panic!("{}: {error}", request.name));
         assert_eq!(identity.name(), "AKIDEXAMPLE");

@@ -212,7 +212,7 @@ fn a_signed_header_that_is_gone_or_doubled() {
     request.headers.append("content-type", "application/json".parse().unwrap());
     assert_eq!(refusal(&request), WRONG);
     request.headers.remove("content-type");
-    assert_eq!(refusal(&request), WRONG);
+    assert_eq!(request.verify(), Err(SqsError::InvalidSignature("A header that was signed isn't there.".into())));
 }
 
 #[test]
@@ -226,6 +226,10 @@ fn hashes_that_are_not_of_the_body() {
         assert_eq!((error.coded().code, error.coded().status), WRONG, "{said}");
         assert_ne!(error, SqsError::wrong_signature(), "{said}");
     }
+    let mut spoilt = signed("POST with the hash of its payload");
+    spoilt.body = "{\"a\": 2}".into();
+    let message = "The value passed in as x-amz-content-sha256 does not match the computed hash.";
+    assert_eq!(spoilt.verify(), Err(SqsError::InvalidSignature(message.into())));
     // The right hash isn't what was signed.
     let own = hex(&Sha256::digest(&request.body));
     request.set("x-amz-content-sha256", &own);

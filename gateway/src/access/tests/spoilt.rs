@@ -21,7 +21,8 @@ fn any_byte_of_a_body() {
     for request in all_signed().iter().filter(|request| request.name != "POST without its payload") {
         let added = [format!("{} ", request.body), format!("x{}", request.body)];
         for body in spoilt(&request.body).chain(added) {
-            assert_eq!(Request { body, ..request.clone() }.verify(), Err(SqsError::wrong_signature()));
+            let error = Request { body, ..request.clone() }.verify().unwrap_err();
+            assert!(matches!(error, SqsError::InvalidSignature(_)), "{}: {error}", request.name);
         }
     }
 }
