@@ -281,9 +281,9 @@ fn moments_are_those_that_another_calendar_has() {
     check(5_000, 0u64..253_402_300_800, |seconds| {
         let moment = SystemTime::UNIX_EPOCH + Duration::from_secs(seconds);
         let timestamp = Timestamp::of_system_time(moment).unwrap();
-        prop_assert_eq!(Timestamp::parse(&timestamp.to_string()), Some(timestamp.clone()));
+        prop_assert_eq!(Timestamp::parse(&timestamp.to_string()), Some(timestamp));
         let text = httpdate::fmt_http_date(moment);
-        prop_assert_eq!(Timestamp::of_http_date(&text), Some(timestamp.clone()));
+        prop_assert_eq!(Timestamp::of_http_date(&text), Some(timestamp));
         // "Sun, 06 Nov 1994 08:49:37 GMT": day, year and time stand at the same places.
         let basic = timestamp.to_string();
         prop_assert_eq!(&basic[..4], &text[12..16]);
