@@ -16,6 +16,7 @@ pub mod handles;
 pub mod http;
 pub mod inspect;
 pub mod journal;
+pub mod limits;
 pub mod lines;
 pub mod messages;
 pub mod polling;

@@ -208,6 +208,14 @@ impl Form {
             Form::Split { stub, .. } => stub,
         }
     }
+
+    /// How many bytes it has, in the store and beside it.
+    pub fn bytes(&self) -> u64 {
+        match self {
+            Form::Whole(whole) => whole.len() as u64,
+            Form::Split { stub, whole } => (stub.len() + whole.len()) as u64,
+        }
+    }
 }
 
 /// What is kept of a message, and its body, read from its whole form. None if the text is no form.

@@ -1,7 +1,7 @@
 //! Queues at rest go over to fresh names of the store, so that the records of their messages can go.
 
 use std::sync::Arc;
-use std::time::Duration;
+use std::time::{Duration, Instant};
 
 use crate::errors::SqsError;
 use crate::queues::ask::{Ask, Before, Creation};
@@ -11,36 +11,45 @@ use crate::store::Store;
 /// So often queues are looked at.
 const PAUSE: Duration = Duration::from_secs(10);
 
+/// So often while space of the journal is wanted back.
+const SHORT_PAUSE: Duration = Duration::from_millis(250);
+
 /// A queue that was sent fewer messages since it has its name keeps it.
 const WORTH_ROLLING: u64 = 1000;
 
 /// Rolls queues for as long as the gateway serves.
 pub async fn keep_rolling(store: Store) {
+    let mut looked = Instant::now();
     loop {
-        tokio::time::sleep(PAUSE).await;
+        tokio::time::sleep(SHORT_PAUSE).await;
+        let least = if store.wants_space() { 1 } else { WORTH_ROLLING };
+        if least == WORTH_ROLLING && looked.elapsed() < PAUSE {
+            continue;
+        }
+        looked = Instant::now();
         for queue in store.queues().all() {
-            if !is_due(&queue.state(), store.clock().now()) {
+            if !is_due(&queue.state(), least, store.clock().now()) {
                 continue;
             }
-            if let Err(error) = roll(&store, &queue).await {
+            if let Err(error) = roll(&store, &queue, least).await {
                 tracing::warn!("{} keeps its name in the store: {error}", queue.name);
             }
         }
     }
 }
 
-/// Empty, no deduplication id that counts, and enough to gain.
-fn is_due(state: &State, now: u64) -> bool {
-    !state.removed && state.is_at_rest(now) && state.last_sequence - state.base >= WORTH_ROLLING
+/// Empty, no deduplication id that counts, and at least so many messages to gain.
+fn is_due(state: &State, least: u64, now: u64) -> bool {
+    !state.removed && state.is_at_rest(now) && state.last_sequence - state.base >= least
 }
 
 /// Gives a queue a fresh name, while nobody else has it, and removes the old one. If this ends half way, the next start
 /// removes it.
-async fn roll(store: &Store, queue: &Arc<Queue>) -> Result<(), SqsError> {
+async fn roll(store: &Store, queue: &Arc<Queue>, least: u64) -> Result<(), SqsError> {
     let held = store.hold(queue).await?;
     let (old, visibility, creation) = {
         let state = queue.state();
-        if !is_due(&state, store.clock().now()) {
+        if !is_due(&state, least, store.clock().now()) {
             return Ok(());
         }
         (state.store, state.attributes.visibility_timeout(), creation_of(queue, &state))

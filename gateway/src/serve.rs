@@ -15,6 +15,7 @@ use crate::clock::Clock;
 use crate::cq::{test_built, test_version, Cq};
 use crate::http::Listening;
 use crate::journal::{self, Taken};
+use crate::limits::Bounds;
 use crate::queues::ask::Ask;
 use crate::queues::Queues;
 use crate::store::{self, Ended, Replayed, Start, Store, Tables};
@@ -60,7 +61,8 @@ pub async fn serve(settings: Settings) -> Result<()> {
         say(&format!("replayed {} records of the journal", replayed.records));
     }
     let program = settings.program.clone();
-    let (store, ended) = store::start(Start { program, cq, queues, clock, journal: journal.clone() });
+    let bounds = Bounds::default();
+    let (store, ended) = store::start(Start { program, cq, queues, clock, journal: journal.clone(), bounds });
     remove_left_over(&store, &replayed).await?;
     if journal.is_some() {
         tokio::spawn(crate::rolling::keep_rolling(store.clone()));

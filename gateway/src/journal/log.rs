@@ -131,6 +131,11 @@ impl<F: Folder> Log<F> {
         if self.active.end < self.sizes.segment {
             return Ok(None);
         }
+        self.close()
+    }
+
+    /// Begins another segment, as `go_on` does, however long this one is.
+    pub fn close(&mut self) -> Result<Option<Span>, JournalError> {
         let segment = self.active.segment + 1;
         let Ok((file, active)) = prepare(self.folder.as_ref(), segment, self.active.last, self.sizes) else {
             return Ok(None);

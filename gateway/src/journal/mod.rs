@@ -21,6 +21,7 @@ use rustix::fs::{flock, fstatfs, FlockOperation};
 use tokio::sync::{oneshot, Notify};
 
 use crate::errors::SqsError;
+use crate::limits::Bound;
 use crate::queues::ask::StoreName;
 use crate::store::Answer;
 pub use disk::Files;
@@ -83,6 +84,11 @@ struct Shared {
     is_full: AtomicBool,
     /// Told when the disk was asked for space.
     grown: Notify,
+    /// What was promised to records that aren't written yet.
+    promised: AtomicU64,
+    /// How many bytes the segments have, without those that are allocated ahead.
+    bytes: AtomicU64,
+    bound: Bound,
     /// How many records the segments have.
     count: AtomicU64,
     /// What is on disk. While it is held no segment is replaced or begun.
@@ -98,6 +104,8 @@ struct Shared {
 #[derive(Default)]
 struct Rewriting {
     goes_on: bool,
+    /// It failed the last time.
+    has_failed: bool,
     /// How many names had been removed then.
     removed: usize,
     /// Not before this moment again.
@@ -108,6 +116,8 @@ struct Rewriting {
 struct Waiting {
     batch: Batch,
     wants_room: bool,
+    /// Segments may be written anew again.
+    may_rewrite: bool,
     is_closed: bool,
 }
 
@@ -153,6 +163,9 @@ impl Taken {
             room: AtomicI64::new(log.room() as i64),
             is_full: AtomicBool::new(false),
             grown: Notify::new(),
+            promised: AtomicU64::new(0),
+            bytes: AtomicU64::new(bytes_of(&spans)),
+            bound: Bound::default(),
             count: AtomicU64::new(0),
             spans: Mutex::new(spans),
             removed: Mutex::new(removed),
@@ -220,11 +233,30 @@ impl Journal {
         self.0.more.notify_one();
     }
 
+    /// Bounds the bytes of the segments.
+    pub fn set_bound(&self, bytes: Option<u64>) {
+        self.0.bound.set(bytes);
+    }
+
+    /// How many bytes the segments have and will have by what is on its way.
+    fn bytes(&self) -> u64 {
+        self.0.bytes.load(Ordering::Relaxed) + self.0.promised.load(Ordering::Relaxed)
+    }
+
+    /// Whether the bound or the disk is full, so that records that can go should go at once.
+    pub fn wants_space(&self) -> bool {
+        self.0.bound.is_full(self.bytes()) || self.0.is_full.load(Ordering::Relaxed)
+    }
+
     /// Sets space aside for a record of up to `bytes`, and tells how much that was; none where it must be asked for
-    /// first, which `grown` tells of. Where the disk is full, what needs more is `OverLimit`, and what moves things
-    /// `ServiceUnavailable`, before a commit fails.
+    /// first, which `grown` tells of. Where the bound is full, what needs more is `OverLimit`. Where the disk is, that
+    /// is too, and what moves things is `ServiceUnavailable`, before a commit fails.
     pub fn set_aside(&self, need: Need, bytes: u64) -> Result<Option<u64>, SqsError> {
         let bytes = bytes + frame::HEAD as u64;
+        if need == Need::More && self.0.bound.is_full(self.bytes() + bytes) {
+            return Err(SqsError::OverLimit("The journal is full.".into()));
+        }
+        self.0.promised.fetch_add(bytes, Ordering::Relaxed);
         let left = self.0.room.fetch_sub(bytes as i64, Ordering::Relaxed) - bytes as i64;
         let is_enough = match need {
             Need::More => left >= RESERVE,
@@ -251,12 +283,14 @@ impl Journal {
     }
 
     pub fn give_back(&self, bytes: u64) {
+        self.0.promised.fetch_sub(bytes, Ordering::Relaxed);
         self.0.room.fetch_add(bytes as i64, Ordering::Relaxed);
     }
 
     /// A record of so many bytes is on its way.
     pub fn use_room(&self, bytes: u64) {
         let bytes = bytes + frame::HEAD as u64;
+        self.0.promised.fetch_add(bytes, Ordering::Relaxed);
         self.0.room.fetch_sub(bytes as i64, Ordering::Relaxed);
     }
 
@@ -285,6 +319,10 @@ impl Journal {
         self.0.more.notify_one();
         self.0.ended.notified().await;
     }
+}
+
+fn bytes_of(spans: &[Span]) -> u64 {
+    spans.iter().map(|span| span.end).sum()
 }
 
 enum Source {

@@ -261,8 +261,11 @@ pub fn rewrite<F: Folder>(
     }
     let span = scan(last.segment, &bytes)?;
     let file = folder.create(last.segment)?;
-    file.write_at(0, &bytes)?;
-    file.sync()?;
+    if let Err(error) = file.write_at(0, &bytes).and_then(|()| file.sync()) {
+        // What a full disk took of it is wanted for commits.
+        let _ = file.set_length(0);
+        return Err(error.into());
+    }
     let replaced = spans[..consumed - 1].iter().map(|span| span.segment).collect();
     Ok(Some(Rewritten { span, replaced, dropped, consumed }))
 }

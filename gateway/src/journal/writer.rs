@@ -6,8 +6,8 @@ use std::time::{Duration, Instant};
 
 use super::disk::Files;
 use super::log::Log;
-use super::segments::{removed_by, rewrite, JournalError};
-use super::{locked, Batch, Journal};
+use super::segments::{removed_by, rewrite, JournalError, Span};
+use super::{bytes_of, locked, Batch, Journal};
 
 /// After so long without a commit an empty one is written, so that damage of the last real one is seen.
 const QUIET: Duration = Duration::from_secs(1);
@@ -22,6 +22,11 @@ const REST_SHARE: u32 = 20;
 /// A segment that is written anew takes in others until it has so many bytes.
 const REWRITTEN: u64 = 64 << 20;
 
+/// Where space is wanted back, the last segment is closed and written anew too if it has this part of the bound, or so
+/// many bytes where there is none.
+const PART_WORTH_CLOSING: u64 = 16;
+const BYTES_WORTH_CLOSING: u64 = 4 << 20;
+
 pub fn start(log: Log<Files>, journal: Journal, failed: fn(&str)) -> Result<(), JournalError> {
     let thread = std::thread::Builder::new().name("journal".into());
     thread.spawn(move || {
@@ -35,6 +40,7 @@ pub fn start(log: Log<Files>, journal: Journal, failed: fn(&str)) -> Result<(), 
 /// What there is to do next.
 enum Next {
     Grow,
+    Rewrite,
     Write(Batch),
     Quiet,
     Close(Batch),
@@ -43,9 +49,10 @@ enum Next {
 fn keep_writing(mut log: Log<Files>, journal: &Journal, failed: fn(&str)) -> Result<(), JournalError> {
     let mut is_quiet = true;
     loop {
-        rewrite_aside(journal, failed)?;
+        rewrite_aside(&mut log, journal, failed)?;
         match wait(journal, is_quiet) {
             Next::Grow => grow(&mut log, journal),
+            Next::Rewrite => {}
             Next::Write(mut batch) => {
                 if !batch.records.is_empty() {
                     commit(&mut log, journal, &batch)?;
@@ -80,6 +87,9 @@ fn wait(journal: &Journal, is_quiet: bool) -> Next {
         if std::mem::take(&mut waiting.wants_room) {
             return Next::Grow;
         }
+        if std::mem::take(&mut waiting.may_rewrite) {
+            return Next::Rewrite;
+        }
         if !waiting.batch.is_empty() {
             return Next::Write(std::mem::take(&mut waiting.batch));
         }
@@ -104,6 +114,8 @@ fn commit(log: &mut Log<Files>, journal: &Journal, batch: &Batch) -> Result<(), 
     // What was promised for the records is taken back, and what they took is counted instead.
     let promised = batch.records.len() as u64 + batch.count * super::frame::HEAD as u64;
     shared.room.fetch_add(promised as i64 - taken as i64, Ordering::Relaxed);
+    shared.bytes.fetch_add(taken, Ordering::Relaxed);
+    shared.promised.fetch_sub(promised, Ordering::Relaxed);
     shared.count.fetch_add(batch.count, Ordering::Relaxed);
     let removed = removed_by(&batch.records).unwrap_or_default();
     if !removed.is_empty() {
@@ -117,14 +129,24 @@ fn commit(log: &mut Log<Files>, journal: &Journal, batch: &Batch) -> Result<(), 
     if log.is_short() {
         grow(log, journal);
     }
-    let before = log.room();
+    begin_segment(log, journal, Log::go_on)
+}
+
+/// Has the log begin another segment, if it does.
+fn begin_segment(
+    log: &mut Log<Files>,
+    journal: &Journal,
+    begin: fn(&mut Log<Files>) -> Result<Option<Span>, JournalError>,
+) -> Result<(), JournalError> {
+    let (shared, before) = (&journal.0, log.room());
     let mut spans = locked(&shared.spans);
-    if let Some(closed) = log.go_on()? {
+    if let Some(closed) = begin(log)? {
         if let Some(last) = spans.last_mut() {
             *last = closed;
         }
         spans.push(log.active().clone());
     }
+    shared.bytes.store(bytes_of(&spans), Ordering::Relaxed);
     shared.room.fetch_add(log.room() as i64 - before as i64, Ordering::Relaxed);
     Ok(())
 }
@@ -146,14 +168,22 @@ fn grow(log: &mut Log<Files>, journal: &Journal) {
     shared.grown.notify_one();
 }
 
-/// Has the closed segments written anew by a thread of its own, where names were removed since the last time.
-fn rewrite_aside(journal: &Journal, failed: fn(&str)) -> Result<(), JournalError> {
+/// Has the closed segments written anew by a thread of its own, where names were removed since the last time: now and
+/// then, and at once where space is wanted back.
+fn rewrite_aside(log: &mut Log<Files>, journal: &Journal, failed: fn(&str)) -> Result<(), JournalError> {
     let shared = &journal.0;
     let removed = locked(&shared.removed).len();
     let mut rewriting = locked(&shared.rewriting);
-    let is_early = rewriting.next.is_some_and(|next| Instant::now() < next);
-    if rewriting.goes_on || is_early || removed == rewriting.removed || closed_bytes(journal) < WORTH_REWRITING {
+    if rewriting.goes_on || removed == rewriting.removed {
         return Ok(());
+    }
+    let is_early = rewriting.next.is_some_and(|next| Instant::now() < next);
+    let is_urgent = journal.wants_space() && !(is_early && rewriting.has_failed);
+    if !is_urgent && (is_early || closed_bytes(journal) < WORTH_REWRITING) {
+        return Ok(());
+    }
+    if is_urgent && log.active().end >= worth_closing(journal) {
+        begin_segment(log, journal, Log::close)?;
     }
     rewriting.goes_on = true;
     rewriting.removed = removed;
@@ -162,14 +192,28 @@ fn rewrite_aside(journal: &Journal, failed: fn(&str)) -> Result<(), JournalError
     let thread = std::thread::Builder::new().name("rewriting".into());
     thread.spawn(move || {
         let since = Instant::now();
-        if let Err(error) = rewrite_closed(&journal) {
+        let is_done = rewrite_closed(&journal).unwrap_or_else(|error| {
             failed(&format!("the journal can't be written anew: {error}"));
+            false
+        });
+        let took = since.elapsed();
+        if is_urgent {
+            // Half of the time is left to others, also where names go one after the other.
+            std::thread::sleep(took.min(REST));
         }
         let mut rewriting = locked(&journal.0.rewriting);
         rewriting.goes_on = false;
-        rewriting.next = Some(Instant::now() + REST.max(REST_SHARE * since.elapsed()));
+        rewriting.has_failed = !is_done;
+        rewriting.next = Some(Instant::now() + REST.max(REST_SHARE * took));
+        drop(rewriting);
+        journal.waiting().may_rewrite = true;
+        journal.0.more.notify_one();
     })?;
     Ok(())
+}
+
+fn worth_closing(journal: &Journal) -> u64 {
+    journal.0.bound.limit().map_or(BYTES_WORTH_CLOSING, |limit| limit / PART_WORTH_CLOSING)
 }
 
 fn closed_bytes(journal: &Journal) -> u64 {
@@ -177,8 +221,8 @@ fn closed_bytes(journal: &Journal) -> u64 {
     spans[..spans.len().saturating_sub(1)].iter().map(|span| span.end).sum()
 }
 
-/// An error leaves it open which segments there are.
-fn rewrite_closed(journal: &Journal) -> Result<(), JournalError> {
+/// Tells whether it was done, or must be tried again later. An error leaves it open which segments there are.
+fn rewrite_closed(journal: &Journal) -> Result<bool, JournalError> {
     let shared = &journal.0;
     let removed = locked(&shared.removed).clone();
     let mut closed = {
@@ -189,21 +233,21 @@ fn rewrite_closed(journal: &Journal) -> Result<(), JournalError> {
     loop {
         let rewritten = match rewrite(&shared.files, &closed, &removed, REWRITTEN) {
             Ok(Some(rewritten)) => rewritten,
-            Ok(None) => break,
+            Ok(None) => return Ok(true),
             Err(error) => {
                 // A full disk: nothing has changed, and it is tried again later.
                 tracing::warn!("the journal isn't written anew: {error}");
                 locked(&shared.rewriting).removed = 0;
-                break;
+                return Ok(false);
             }
         };
         let (dropped, consumed) = (rewritten.dropped, rewritten.consumed);
         let mut spans = locked(&shared.spans);
         let span = rewritten.publish(&shared.files)?;
         spans.splice(done..done + consumed, [span]);
+        shared.bytes.store(bytes_of(&spans), Ordering::Relaxed);
         shared.count.fetch_sub(dropped, Ordering::Relaxed);
         closed.drain(..consumed);
         done += 1;
     }
-    Ok(())
 }

@@ -66,6 +66,8 @@ pub struct Queues {
     /// When the queue of a name was removed, of names whose pause may not be over.
     removed: Mutex<HashMap<QueueName, Moment>>,
     last_store_name: AtomicU64,
+    /// What all queues take of memory, in bytes.
+    bytes_in_use: AtomicU64,
 }
 
 impl Queues {
@@ -119,7 +121,7 @@ impl Queues {
         reply: Reply,
         moment: Moment,
     ) -> Result<(Outcome, bool), SqsError> {
-        let settled = queue.state().settle(ask, reply, moment)?;
+        let settled = self.counted(queue, |state| state.settle(ask, reply, moment))?;
         match ask {
             Ask::Create { .. } => self.insert(queue),
             Ask::Remove { name: Some(name), .. } => self.remove(queue, name, moment),
@@ -131,13 +133,35 @@ impl Queues {
         Ok((settled.outcome, settled.changed))
     }
 
+    /// Does something to a queue, and counts what it takes of memory from then on.
+    fn counted<T>(&self, queue: &Queue, act: impl FnOnce(&mut State) -> T) -> T {
+        let mut state = queue.state();
+        let before = state.bytes_in_use();
+        let done = act(&mut state);
+        // The difference may be below zero: it wraps, and the sum wraps back.
+        self.bytes_in_use.fetch_add(state.bytes_in_use().wrapping_sub(before), Ordering::Relaxed);
+        done
+    }
+
+    /// What all queues take of memory, in bytes. What has become too old to count may be in it until `look_at_ages`.
+    pub fn bytes_in_use(&self) -> u64 {
+        self.bytes_in_use.load(Ordering::Relaxed)
+    }
+
+    /// Takes out of the count what counts no more at this moment. Takes time in proportion to the number of queues.
+    pub fn look_at_ages(&self, now: Moment) {
+        for queue in self.all() {
+            self.counted(&queue, |state| state.look_at_ages(now));
+        }
+    }
+
     fn insert(&self, queue: &Arc<Queue>) {
         let mut queues = self.by_name.write().unwrap_or_else(PoisonError::into_inner);
         queues.insert(queue.name.clone(), queue.clone());
     }
 
     fn remove(&self, queue: &Arc<Queue>, name: &QueueName, moment: Moment) {
-        queue.state().removed = true;
+        self.counted(queue, |state| state.removed = true);
         let mut queues = self.by_name.write().unwrap_or_else(PoisonError::into_inner);
         queues.remove(name);
         drop(queues);

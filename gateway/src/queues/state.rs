@@ -11,6 +11,7 @@ use crate::attributes::QueueAttributes;
 use crate::clock::Moment;
 use crate::errors::SqsError;
 use crate::handles::{Handle, Receipt};
+use crate::limits::{ID_BYTES, MESSAGE_BYTES};
 use crate::lines::{read_receipt, Given, Reply};
 use crate::messages::{id_of_form, Form};
 use crate::texts::AttemptId;
@@ -24,6 +25,8 @@ struct Message {
     last: Option<Handing>,
     /// Its whole form, where the store has a stub in its place.
     form: Option<Arc<str>>,
+    /// What its form takes, here and in the store.
+    bytes: u64,
 }
 
 /// The last handing of a message.
@@ -42,6 +45,12 @@ struct Handing {
 struct Attempt {
     moment: Moment,
     handed: Vec<Handed>,
+}
+
+impl Attempt {
+    fn bytes(&self) -> u64 {
+        self.handed.iter().map(|handed| handed.form.len() as u64).sum()
+    }
 }
 
 /// What is known of one incarnation of a queue.
@@ -63,6 +72,11 @@ pub struct State {
     messages: HashMap<u64, Message>,
     /// The ids of the messages that were sent within the window, in order; the last is `last_sequence`'s.
     recent: VecDeque<(Moment, Uuid)>,
+    /// How many of them were found to count no more. They stay for requests that are still on their way.
+    old: usize,
+    /// What the forms of the messages take, and those that attempts keep.
+    form_bytes: u64,
+    attempt_bytes: u64,
     attempts: HashMap<AttemptId, Attempt>,
     attempts_by_age: VecDeque<(Moment, AttemptId)>,
     ends: BinaryHeap<Reverse<(Moment, u64)>>,
@@ -110,6 +124,9 @@ impl State {
             openings: 0,
             messages: HashMap::new(),
             recent: VecDeque::new(),
+            old: 0,
+            form_bytes: 0,
+            attempt_bytes: 0,
             attempts: HashMap::new(),
             attempts_by_age: VecDeque::new(),
             ends: BinaryHeap::new(),
@@ -156,11 +173,13 @@ impl State {
         self.last_sequence = sequence;
         self.last_send = moment;
         self.remember(moment, id);
+        let bytes = form.bytes();
         let form = match form {
             Form::Whole(_) => None,
             Form::Split { whole, .. } => Some(whole.as_str().into()),
         };
-        self.messages.insert(sequence, Message { last: None, form });
+        self.form_bytes += bytes;
+        self.messages.insert(sequence, Message { last: None, form, bytes });
         self.open();
         Ok(Settled { outcome: Outcome::Sent { sequence, id }, changed: true, opened: true })
     }
@@ -168,6 +187,7 @@ impl State {
     fn remember(&mut self, moment: Moment, id: Uuid) {
         while self.recent.front().is_some_and(|(sent, _)| sent + WINDOW <= moment) {
             self.recent.pop_front();
+            self.old = self.old.saturating_sub(1);
         }
         self.recent.push_back((moment, id));
     }
@@ -216,7 +236,9 @@ impl State {
         if !removed {
             return Settled::unchanged(Outcome::Done);
         }
-        self.messages.remove(&receipt.sequence);
+        if let Some(message) = self.messages.remove(&receipt.sequence) {
+            self.form_bytes -= message.bytes;
+        }
         self.open();
         Settled::done(true)
     }
@@ -295,17 +317,42 @@ impl State {
 
     fn keep_attempt(&mut self, id: &AttemptId, attempt: Attempt) {
         let now = attempt.moment;
+        self.forget_attempts(now);
+        self.attempts_by_age.push_back((now, id.clone()));
+        self.attempt_bytes += attempt.bytes();
+        if let Some(earlier) = self.attempts.insert(id.clone(), attempt) {
+            self.attempt_bytes -= earlier.bytes();
+        }
+    }
+
+    fn forget_attempts(&mut self, now: Moment) {
         while let Some((moment, oldest)) = self.attempts_by_age.front() {
             if now < moment + WINDOW {
                 break;
             }
             if self.attempts.get(oldest).is_some_and(|attempt| attempt.moment == *moment) {
-                self.attempts.remove(oldest);
+                if let Some(attempt) = self.attempts.remove(oldest) {
+                    self.attempt_bytes -= attempt.bytes();
+                }
             }
             self.attempts_by_age.pop_front();
         }
-        self.attempts_by_age.push_back((now, id.clone()));
-        self.attempts.insert(id.clone(), attempt);
+    }
+
+    /// Finds what counts no more at this moment: ids, and what attempts were given.
+    pub fn look_at_ages(&mut self, now: Moment) {
+        self.old = self.recent.partition_point(|(sent, _)| sent + WINDOW <= now);
+        self.forget_attempts(now);
+    }
+
+    /// What the queue takes of memory, in bytes: forms, and estimates for messages and ids that count.
+    pub fn bytes_in_use(&self) -> u64 {
+        if self.removed {
+            return 0;
+        }
+        let messages = MESSAGE_BYTES * self.messages.len() as u64;
+        let ids = ID_BYTES * (self.recent.len() - self.old) as u64;
+        self.form_bytes + self.attempt_bytes + messages + ids
     }
 
     /// What the attempt was given, if that is still all in the hands of who asked
@@ -342,7 +389,9 @@ impl State {
         self.store = store;
         self.base = self.last_sequence;
         self.recent = VecDeque::new();
+        self.old = 0;
         self.messages = HashMap::new();
+        self.form_bytes = 0;
         self.ends = BinaryHeap::new();
     }
 }

@@ -1,5 +1,6 @@
 //! The store: asks in, answers out. One task owns the program's pipe.
 
+mod admission;
 mod replay;
 mod task;
 
@@ -10,6 +11,7 @@ use tokio::sync::{mpsc, oneshot};
 use crate::clock::Clock;
 use crate::errors::SqsError;
 use crate::handles::Mark;
+use crate::journal::Journal;
 use crate::queues::ask::{Ask, Change, Outcome};
 use crate::queues::{Queue, Queues};
 
@@ -45,6 +47,7 @@ pub struct Store {
     jobs: mpsc::UnboundedSender<Job>,
     queues: Arc<Queues>,
     clock: Arc<Clock>,
+    journal: Option<Journal>,
 }
 
 fn gone() -> SqsError {
@@ -58,6 +61,11 @@ impl Store {
 
     pub fn clock(&self) -> &Clock {
         &self.clock
+    }
+
+    /// Whether space of the journal is wanted back: its bound or its disk is full.
+    pub fn wants_space(&self) -> bool {
+        self.journal.as_ref().is_some_and(Journal::wants_space)
     }
 
     async fn perform(&self, queue: Option<&Arc<Queue>>, whats: Vec<What>, passes: bool) -> Answers {

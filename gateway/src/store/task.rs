@@ -11,14 +11,16 @@ use thiserror::Error;
 use tokio::io::{AsyncReadExt, AsyncWriteExt};
 use tokio::sync::{mpsc, oneshot};
 
+use super::admission::Admission;
 use super::replay::{replay, ReplayError};
 use super::{Answer, Answers, HeldJobs, Job, Store, What};
 use crate::clock::{Clock, Moment};
 use crate::cq::{Cq, CqError};
 use crate::errors::SqsError;
 use crate::journal::{Batch, Journal, JournalError, Need, Record};
+use crate::limits::Bounds;
 use crate::lines::{self, BadOutput, Fields, Output, Reply};
-use crate::queues::ask::{Ask, Change, Outcome};
+use crate::queues::ask::{Ask, Change, Outcome, StoreName};
 use crate::queues::{Queue, Queues};
 
 /// Why the store doesn't go on.
@@ -75,6 +77,8 @@ struct Asked {
     number: u64,
     /// Bytes that were set aside for its record.
     room: u64,
+    /// Bytes of memory that it was counted with.
+    weight: u64,
     ends: u32,
 }
 
@@ -99,6 +103,7 @@ struct Task {
     queues: Arc<Queues>,
     clock: Arc<Clock>,
     journal: Option<Journal>,
+    admission: Arc<Admission>,
     pending: VecDeque<Pending>,
     held: HeldJobs,
     open: VecDeque<Open>,
@@ -121,12 +126,18 @@ pub struct Start {
     pub queues: Arc<Queues>,
     pub clock: Arc<Clock>,
     pub journal: Option<Journal>,
+    pub bounds: Bounds,
 }
 
 /// Starts the task. What the second value gives is why it ended.
 pub fn start(start: Start) -> (Store, oneshot::Receiver<Ended>) {
     let (jobs, waiting) = mpsc::unbounded_channel();
-    let store = Store { jobs, queues: start.queues.clone(), clock: start.clock.clone() };
+    let admission = Arc::new(Admission::new(start.queues.clone(), start.bounds.memory));
+    if let Some(journal) = &start.journal {
+        journal.set_bound(start.bounds.journal);
+    }
+    let store =
+        Store { jobs, queues: start.queues.clone(), clock: start.clock.clone(), journal: start.journal.clone() };
     // Numbers in use begin above all that any earlier run can have used.
     let last_number = start.clock.now() << 20;
     let mut task = Task {
@@ -135,6 +146,7 @@ pub fn start(start: Start) -> (Store, oneshot::Receiver<Ended>) {
         queues: start.queues,
         clock: start.clock,
         journal: start.journal,
+        admission,
         pending: VecDeque::new(),
         held: HeldJobs::new(),
         open: VecDeque::new(),
@@ -290,6 +302,28 @@ impl Task {
         if let Some(answer) = answer_about_earlier(&ask, base) {
             return ready(answer);
         }
+        let weight = match self.admission.admit(&ask, self.clock.now()) {
+            Ok(weight) => weight,
+            Err(error) => return ready(Err(error)),
+        };
+        match self.ask_admitted(queue, ask, weight, store, base)? {
+            Asking::Begun(entry @ Entry::Asked(_)) => Ok(Asking::Begun(entry)),
+            other => {
+                self.admission.answered(weight);
+                Ok(other)
+            }
+        }
+    }
+
+    fn ask_admitted(
+        &mut self,
+        queue: Arc<Queue>,
+        ask: Ask,
+        weight: u64,
+        store: StoreName,
+        base: u64,
+    ) -> Result<Asking, Ended> {
+        let ready = |answer| Ok(Asking::Begun(Entry::Ready(Some(answer))));
         let raw = serde_json::value::to_raw_value(&Fields::of(store, base, &ask))?;
         let room = match &self.journal {
             None => 0,
@@ -304,7 +338,7 @@ impl Task {
         };
         self.last_number += 1;
         let moment = self.clock.now();
-        let asked = Asked { queue, ask, raw, moment, client, number: self.last_number, room, ends: 0 };
+        let asked = Asked { queue, ask, raw, moment, client, number: self.last_number, room, weight, ends: 0 };
         self.write(&asked)?;
         Ok(Asking::Begun(Entry::Asked(Box::new(asked))))
     }
@@ -397,8 +431,8 @@ impl Task {
     }
 
     fn settle(&mut self, asked: &Asked, reply: Reply, text: &str) -> Result<Answer, Ended> {
-        self.give_room_back(asked);
         let settled = self.queues.settle(&asked.queue, &asked.ask, reply, asked.moment);
+        self.give_room_back(asked);
         Ok(match settled {
             Ok((outcome, changed)) => {
                 if changed {
@@ -421,6 +455,7 @@ impl Task {
     }
 
     fn give_room_back(&self, asked: &Asked) {
+        self.admission.answered(asked.weight);
         if let Some(journal) = &self.journal {
             journal.give_back(asked.room);
         }
@@ -551,6 +586,8 @@ fn answer_about_earlier(ask: &Ask, base: u64) -> Option<Answer> {
 
 fn need_of(ask: &Ask) -> Need {
     match ask {
+        // A queue goes over to another name so that records can go.
+        Ask::Create { creation, .. } if creation.before.is_some() => Need::Less,
         Ask::Create { .. } | Ask::Send { .. } => Need::More,
         Ask::Receive { .. } | Ask::Change { .. } => Need::Same,
         Ask::Delete { .. } | Ask::Remove { .. } => Need::Less,

@@ -1,0 +1,69 @@
+//! Bounds: how much of memory and of the journal's disk may be in use.
+
+use std::sync::atomic::{AtomicBool, AtomicU64, Ordering};
+
+/// A bound is full from this share of it on, in percent.
+const FULL: u64 = 95;
+
+/// One that was full is so until less than this share is in use, in percent.
+const FREE: u64 = 90;
+
+/// What the tables and the store take for a message beside its form, in bytes: the middle of what 100,000 messages of
+/// 100 bytes took in both processes, with and without an id.
+pub const MESSAGE_BYTES: u64 = 1_024;
+
+/// What a deduplication id takes that counts, in bytes, after its message was deleted: measured likewise.
+pub const ID_BYTES: u64 = 512;
+
+/// How much may be in use; none where nobody asks.
+#[derive(Clone, Copy, Debug, Default, PartialEq, Eq)]
+pub struct Bounds {
+    /// Of memory, in bytes: forms of messages, and fixed estimates for messages and for ids that count.
+    pub memory: Option<u64>,
+    /// Of the journal, in bytes that stand in its files. What is allocated ahead comes on top.
+    pub journal: Option<u64>,
+}
+
+/// A bound that begins to be full at 95 % of it, and ends to be so below 90 %.
+#[derive(Debug, Default)]
+pub struct Bound {
+    /// 0 where there is none.
+    limit: AtomicU64,
+    is_full: AtomicBool,
+}
+
+impl Bound {
+    pub fn set(&self, limit: Option<u64>) {
+        self.limit.store(limit.map_or(0, |limit| limit.max(1)), Ordering::Relaxed);
+    }
+
+    /// The bound in bytes, if there is one.
+    pub fn limit(&self) -> Option<u64> {
+        Some(self.limit.load(Ordering::Relaxed)).filter(|limit| *limit > 0)
+    }
+
+    /// Whether it is full, now that so many bytes are in use.
+    pub fn is_full(&self, used: u64) -> bool {
+        let Some(limit) = self.limit() else { return false };
+        let share = if self.is_full.load(Ordering::Relaxed) { FREE } else { FULL };
+        let is_full = u128::from(used) * 100 >= u128::from(limit) * u128::from(share);
+        self.is_full.store(is_full, Ordering::Relaxed);
+        is_full
+    }
+}
+
+#[cfg(test)]
+mod tests {
+    use super::*;
+
+    #[test]
+    fn a_bound_is_full_from_95_percent_on_until_it_is_below_90() {
+        let bound = Bound::default();
+        assert!(!bound.is_full(u64::MAX), "there is no bound");
+        bound.set(Some(1000));
+        let told = [949, 950, 949, 900, 899, 900, 949, 950, u64::MAX, 0].map(|used| bound.is_full(used));
+        assert_eq!(told, [false, true, true, true, false, false, false, true, true, false]);
+        bound.set(None);
+        assert!(!bound.is_full(u64::MAX));
+    }
+}

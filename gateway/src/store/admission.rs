@@ -1,0 +1,98 @@
+//! Whether there is memory for one more message: sends and creations are refused where its bound is full.
+
+use std::sync::atomic::{AtomicU64, Ordering};
+use std::sync::Arc;
+
+use crate::clock::Moment;
+use crate::errors::SqsError;
+use crate::limits::{Bound, ID_BYTES, MESSAGE_BYTES};
+use crate::queues::ask::Ask;
+use crate::queues::Queues;
+
+/// Where the bound is full, ages are looked at again after so many milliseconds.
+const LOOK_AGAIN: u64 = 1000;
+
+/// The bound of memory, and what is to be counted beside the tables.
+pub struct Admission {
+    queues: Arc<Queues>,
+    pub memory: Bound,
+    /// Bytes of sends that are with the program. The tables don't have them yet.
+    coming: AtomicU64,
+    /// When ages were looked at last.
+    looked: AtomicU64,
+}
+
+impl Admission {
+    pub fn new(queues: Arc<Queues>, limit: Option<u64>) -> Admission {
+        let memory = Bound::default();
+        memory.set(limit);
+        Admission { queues, memory, coming: AtomicU64::new(0), looked: AtomicU64::new(0) }
+    }
+
+    /// What is in use of memory, in bytes.
+    pub fn bytes_in_use(&self) -> u64 {
+        self.queues.bytes_in_use() + self.coming.load(Ordering::Relaxed)
+    }
+
+    /// Lets an ask pass, or refuses what adds something where the bound is full. Tells how many bytes it was counted
+    /// with; they are to be given back to `answered`.
+    pub fn admit(&self, ask: &Ask, now: Moment) -> Result<u64, SqsError> {
+        let bytes = match ask {
+            Ask::Send { form, .. } => form.bytes() + MESSAGE_BYTES + ID_BYTES,
+            Ask::Create { creation, .. } if creation.before.is_none() => 0,
+            _ => return Ok(0),
+        };
+        if self.is_full(bytes, now) {
+            return Err(SqsError::OverLimit("The memory for messages is full.".into()));
+        }
+        self.coming.fetch_add(bytes, Ordering::Relaxed);
+        Ok(bytes)
+    }
+
+    /// A send was answered: from now on the tables count it.
+    pub fn answered(&self, bytes: u64) {
+        self.coming.fetch_sub(bytes, Ordering::Relaxed);
+    }
+
+    fn is_full(&self, more: u64, now: Moment) -> bool {
+        if !self.memory.is_full(self.bytes_in_use() + more) {
+            return false;
+        }
+        self.look_at_ages(now);
+        self.memory.is_full(self.bytes_in_use() + more)
+    }
+
+    /// Takes out of the count what has become too old, at most once a second.
+    pub fn look_at_ages(&self, now: Moment) {
+        let looked = self.looked.load(Ordering::Relaxed);
+        let is_due = now >= looked.saturating_add(LOOK_AGAIN);
+        if is_due && self.looked.compare_exchange(looked, now, Ordering::Relaxed, Ordering::Relaxed).is_ok() {
+            self.queues.look_at_ages(now);
+        }
+    }
+}
+
+#[cfg(test)]
+mod tests {
+    use super::*;
+    use crate::messages::Form;
+    use crate::texts::{DedupId, GroupId};
+
+    #[test]
+    fn sends_that_are_on_their_way_count_and_those_that_were_answered_do_not() {
+        let send = Ask::Send {
+            group: GroupId::parse("g").unwrap(),
+            dedup: DedupId::parse("d").unwrap(),
+            form: Form::Whole("x".repeat(1000)),
+        };
+        let one = 1000 + MESSAGE_BYTES + ID_BYTES;
+        let admission = Admission::new(Arc::default(), Some(4 * one));
+        let admitted: Vec<_> = (0..5).map_while(|_| admission.admit(&send, 0).ok()).collect();
+        assert_eq!(admitted, [one; 3], "a fourth is above 95 %");
+        let receive = Ask::Receive { size: 1, visibility: 0, attempt: None };
+        assert_eq!(admission.admit(&receive, 0), Ok(0));
+        admission.answered(one);
+        assert_eq!(admission.bytes_in_use(), 2 * one);
+        assert!(admission.admit(&send, 0).is_ok(), "75 % are below 90 %");
+    }
+}
