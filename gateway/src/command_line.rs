@@ -9,6 +9,7 @@ use clap::{Parser, Subcommand};
 
 use crate::actions::Owner;
 use crate::inspect;
+use crate::limits::Bounds;
 use crate::serve::{serve, Settings};
 
 /// The variable that names the program cq.
@@ -52,6 +53,12 @@ struct ServeOptions {
     /// Keep all on disk, in FILE.1 and so on, and start from it
     #[arg(long, value_name = "FILE")]
     journal: Option<PathBuf>,
+    /// Take no more messages when so many bytes of memory are in use, less five percent
+    #[arg(long, value_name = "BYTES")]
+    memory: Option<u64>,
+    /// Take no more messages when the journal has so many bytes, less five percent
+    #[arg(long, value_name = "BYTES", requires = "journal")]
+    journal_size: Option<u64>,
     /// The account in URLs, 12 digits
     #[arg(long, default_value = "000000000000", value_parser = account)]
     account: String,
@@ -105,6 +112,7 @@ fn serve_by(options: ServeOptions) -> Result<()> {
         port: options.port,
         program: program(options.cq)?,
         journal: options.journal,
+        bounds: Bounds { memory: options.memory, journal: options.journal_size },
         owner: Owner { account: options.account, region: options.region },
         clock_file: options.clock_file,
     };

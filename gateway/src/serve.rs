@@ -28,6 +28,7 @@ pub struct Settings {
     /// The program `cq`.
     pub program: String,
     pub journal: Option<PathBuf>,
+    pub bounds: Bounds,
     pub owner: Owner,
     /// A file whose number is the clock, for tests.
     pub clock_file: Option<PathBuf>,
@@ -61,7 +62,7 @@ pub async fn serve(settings: Settings) -> Result<()> {
         say(&format!("replayed {} records of the journal", replayed.records));
     }
     let program = settings.program.clone();
-    let bounds = Bounds::default();
+    let bounds = settings.bounds;
     let (store, ended) = store::start(Start { program, cq, queues, clock, journal: journal.clone(), bounds });
     remove_left_over(&store, &replayed).await?;
     if journal.is_some() {

@@ -1,0 +1,201 @@
+"""Bounds of memory and of the journal: what is refused when they are full, what goes on, and the way back."""
+
+from __future__ import annotations
+
+import time
+from collections.abc import Callable
+from pathlib import Path
+
+import pytest
+
+from started import COMPILED, START, ByJson, Refused, Started
+
+pytestmark = pytest.mark.skipif(COMPILED is None, reason="HOBBYCHAIR_GATEWAY names no compiled gateway")
+
+MEBIBYTE = 1 << 20
+WINDOW = 300_000
+BODY = "x" * 50_000
+
+
+class Filled:
+    """A gateway whose queue has been sent messages until no more were taken."""
+
+    def __init__(self, room: Path, *words: str) -> None:
+        self.gateway = Started(*words, room=room)
+        self.call = ByJson(self.gateway.url)
+        self.call("CreateQueue", QueueName="q.fifo", Attributes={"FifoQueue": "true", "VisibilityTimeout": "600"})
+        self.count = 0
+        while self.sends():
+            assert self.count < 1000, "it is never full"
+
+    def send(self) -> None:
+        self.call("SendMessage", QueueUrl="q.fifo", MessageBody=BODY, MessageGroupId=f"g{self.count}",
+                  MessageDeduplicationId=str(self.count))
+        self.count += 1
+
+    def sends(self) -> bool:
+        try:
+            self.send()
+        except Refused as refusal:
+            assert (refusal.code.split("#")[-1], refusal.status) == ("OverLimit", 403)
+            return False
+        return True
+
+    def receive(self) -> list[dict]:
+        return self.call("ReceiveMessage", QueueUrl="q.fifo", MaxNumberOfMessages=10).get("Messages", [])
+
+    def delete_all(self) -> int:
+        deleted = 0
+        while messages := self.receive():
+            entries = [{"Id": str(place), "ReceiptHandle": message["ReceiptHandle"]}
+                       for place, message in enumerate(messages)]
+            answer = self.call("DeleteMessageBatch", QueueUrl="q.fifo", Entries=entries)
+            deleted += len(answer["Successful"])
+        return deleted
+
+    def sends_again(self, seconds: float = 10) -> bool:
+        end = time.monotonic() + seconds
+        while time.monotonic() < end:
+            if self.sends():
+                return True
+            time.sleep(0.05)
+        return False
+
+
+@pytest.fixture
+def filled(tmp_path) -> Callable[..., Filled]:
+    started = []
+
+    def fill(*words: str) -> Filled:
+        started.append(Filled(tmp_path, *words))
+        return started[-1]
+
+    yield fill
+    for one in started:
+        assert one.gateway.stop() == 0
+
+
+def bounds(tmp_path: Path) -> dict[str, list[str]]:
+    return {
+        "memory": ["--memory", str(2 * MEBIBYTE)],
+        "journal": ["--journal", str(tmp_path / "journal"), "--journal-size", str(2 * MEBIBYTE)],
+    }
+
+
+@pytest.fixture(params=["memory", "journal"])
+def full(request, filled, tmp_path) -> Filled:
+    return filled(*bounds(tmp_path)[request.param])
+
+
+def test_it_is_full_between_90_and_100_percent_of_the_bound(full):
+    assert 0.9 * 2 * MEBIBYTE - len(BODY) < full.count * len(BODY) < 2 * MEBIBYTE
+
+
+def test_sends_and_creations_are_refused_and_all_else_goes_on(full):
+    with pytest.raises(Refused, match="OverLimit 403"):
+        full.call("CreateQueue", QueueName="other.fifo", Attributes={"FifoQueue": "true"})
+    messages = full.receive()
+    assert len(messages) == 10
+    handles = [message["ReceiptHandle"] for message in messages]
+    full.call("ChangeMessageVisibility", QueueUrl="q.fifo", ReceiptHandle=handles[0], VisibilityTimeout=0)
+    full.call("TagQueue", QueueUrl="q.fifo", Tags={"a": "b"})
+    full.call("DeleteMessage", QueueUrl="q.fifo", ReceiptHandle=handles[1])
+    assert not full.sends(), "one message of 39 is less than a twentieth"
+    full.call("PurgeQueue", QueueUrl="q.fifo")
+    attributes = full.call("GetQueueAttributes", QueueUrl="q.fifo", AttributeNames=["All"])["Attributes"]
+    assert attributes["ApproximateNumberOfMessages"] == attributes["ApproximateNumberOfMessagesNotVisible"] == "0"
+    full.call("DeleteQueue", QueueUrl="q.fifo")
+
+
+@pytest.mark.parametrize("which", ["memory", "journal"])
+def test_each_entry_of_a_batch_is_refused_by_itself(tmp_path, which):
+    """The first entries find space, and those behind them don't."""
+    gateway = Started(*bounds(tmp_path)[which], room=tmp_path)
+    call = ByJson(gateway.url)
+    call("CreateQueue", QueueName="q.fifo", Attributes={"FifoQueue": "true"})
+    for turn in range(100):
+        entries = [{"Id": str(place), "MessageBody": "y" * 26_000, "MessageGroupId": "g",
+                    "MessageDeduplicationId": f"{turn}-{place}"} for place in range(10)]
+        answer = call("SendMessageBatch", QueueUrl="q.fifo", Entries=entries)
+        if failed := answer.get("Failed"):
+            break
+    successful = len(answer.get("Successful", []))
+    assert 7 <= turn and 0 < successful < 10
+    assert {(one["Code"], one["SenderFault"]) for one in failed} == {("OverLimit", True)}
+    assert [one["Id"] for one in failed] == [str(place) for place in range(successful, 10)]
+    assert gateway.stop() == 0
+
+
+def test_memory_is_left_by_deleting(filled, tmp_path):
+    full = filled(*bounds(tmp_path)["memory"])
+    assert full.delete_all() == full.count
+    assert full.sends()
+
+
+def test_ids_count_for_five_minutes(filled, tmp_path):
+    """Small messages that were all deleted leave their ids, until these are too old."""
+    gateway = Started("--memory", str(100_000), room=tmp_path)
+    call = ByJson(gateway.url)
+    call("CreateQueue", QueueName="q.fifo", Attributes={"FifoQueue": "true"})
+
+    def exchange(number: int) -> None:
+        call("SendMessage", QueueUrl="q.fifo", MessageBody="b", MessageGroupId="g", MessageDeduplicationId=str(number))
+        (message,) = call("ReceiveMessage", QueueUrl="q.fifo")["Messages"]
+        call("DeleteMessage", QueueUrl="q.fifo", ReceiptHandle=message["ReceiptHandle"])
+
+    number = 0
+    with pytest.raises(Refused, match="OverLimit"):
+        for number in range(1000):
+            exchange(number)
+    assert 20 < number < 500
+    gateway.set_clock(START + WINDOW - 1)
+    with pytest.raises(Refused, match="OverLimit"):
+        exchange(number)
+    gateway.set_clock(START + WINDOW + 1000)
+    for more in range(number, number + 10):
+        exchange(more)
+    assert gateway.stop() == 0
+
+
+def test_a_journal_is_left_when_all_was_deleted_and_its_ids_are_old(filled, tmp_path):
+    """The queue is sent fewer than 1,000 messages; nobody waits for the minute between two times of writing anew."""
+    full = filled(*bounds(tmp_path)["journal"])
+    assert full.delete_all() == full.count
+    assert not full.sends(), "the ids still count"
+    full.gateway.set_clock(START + WINDOW)
+    assert full.sends_again()
+    # It holds for what comes then, too.
+    for turn in range(2, 4):
+        while full.sends():
+            pass
+        full.delete_all()
+        full.gateway.set_clock(START + turn * WINDOW)
+        assert full.sends_again(), turn
+    full.gateway.kill()
+    full.gateway.start()
+    full.call = ByJson(full.gateway.url)
+    (message,) = full.call("ReceiveMessage", QueueUrl="q.fifo", AttributeNames=["All"])["Messages"]
+    assert message["Attributes"]["SequenceNumber"] == f"{full.count:020}"
+    assert sum(file.stat().st_size for file in tmp_path.glob("journal.*")) < 40 * MEBIBYTE, "with what is ahead"
+
+
+def test_a_journal_is_left_by_removing_its_queue(filled, tmp_path):
+    full = filled(*bounds(tmp_path)["journal"])
+    full.call("DeleteQueue", QueueUrl="q.fifo")
+    end = time.monotonic() + 10
+    while True:
+        try:
+            full.call("CreateQueue", QueueName="other.fifo", Attributes={"FifoQueue": "true"})
+            break
+        except Refused as refusal:
+            assert refusal.status == 403 and time.monotonic() < end
+            time.sleep(0.05)
+
+
+def test_a_journal_that_is_full_at_a_start_takes_no_more(filled, tmp_path):
+    full = filled(*bounds(tmp_path)["journal"])
+    full.gateway.kill()
+    full.gateway.start()
+    full.call = ByJson(full.gateway.url)
+    assert not full.sends()
+    assert len(full.receive()) == 10
