@@ -23,7 +23,7 @@ use tokio::sync::{oneshot, Notify};
 use crate::errors::SqsError;
 use crate::limits::Bound;
 use crate::queues::ask::StoreName;
-use crate::store::Answer;
+use crate::store::{Answer, JournalFigures};
 pub use disk::Files;
 use disk::Folder;
 use log::{Log, Sizes};
@@ -89,6 +89,8 @@ struct Shared {
     /// How many bytes the segments have, without those that are allocated ahead.
     bytes: AtomicU64,
     bound: Bound,
+    /// How many commits were written since the start.
+    commits: AtomicU64,
     /// How many records the segments have.
     count: AtomicU64,
     /// What is on disk. While it is held no segment is replaced or begun.
@@ -166,6 +168,7 @@ impl Taken {
             promised: AtomicU64::new(0),
             bytes: AtomicU64::new(bytes_of(&spans)),
             bound: Bound::default(),
+            commits: AtomicU64::new(0),
             count: AtomicU64::new(0),
             spans: Mutex::new(spans),
             removed: Mutex::new(removed),
@@ -241,6 +244,16 @@ impl Journal {
     /// How many bytes the segments have and will have by what is on its way.
     fn bytes(&self) -> u64 {
         self.0.bytes.load(Ordering::Relaxed) + self.0.promised.load(Ordering::Relaxed)
+    }
+
+    pub fn figures(&self) -> JournalFigures {
+        JournalFigures {
+            bytes: self.bytes(),
+            bound: self.0.bound.limit(),
+            commits: self.0.commits.load(Ordering::Relaxed),
+            records: self.count(),
+            is_disk_full: self.0.is_full.load(Ordering::Relaxed),
+        }
     }
 
     /// Whether the bound or the disk is full, so that records that can go should go at once.

@@ -116,6 +116,7 @@ fn commit(log: &mut Log<Files>, journal: &Journal, batch: &Batch) -> Result<(), 
     shared.room.fetch_add(promised as i64 - taken as i64, Ordering::Relaxed);
     shared.bytes.fetch_add(taken, Ordering::Relaxed);
     shared.promised.fetch_sub(promised, Ordering::Relaxed);
+    shared.commits.fetch_add(1, Ordering::Relaxed);
     shared.count.fetch_add(batch.count, Ordering::Relaxed);
     let removed = removed_by(&batch.records).unwrap_or_default();
     if !removed.is_empty() {

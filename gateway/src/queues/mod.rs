@@ -155,6 +155,11 @@ impl Queues {
         }
     }
 
+    /// How many queues there are.
+    pub fn count(&self) -> usize {
+        self.by_name.read().unwrap_or_else(PoisonError::into_inner).len()
+    }
+
     fn insert(&self, queue: &Arc<Queue>) {
         let mut queues = self.by_name.write().unwrap_or_else(PoisonError::into_inner);
         queues.insert(queue.name.clone(), queue.clone());

@@ -1,6 +1,7 @@
 //! The store: asks in, answers out. One task owns the program's pipe.
 
 mod admission;
+mod figures;
 mod replay;
 mod task;
 
@@ -14,7 +15,10 @@ use crate::handles::Mark;
 use crate::journal::Journal;
 use crate::queues::ask::{Ask, Change, Outcome};
 use crate::queues::{Queue, Queues};
+use admission::Admission;
+use figures::Counters;
 
+pub use figures::{Figures, JournalFigures};
 pub use replay::{replay, ReplayError, Replayed, Tables};
 pub use task::{start, Ended, Start};
 
@@ -48,6 +52,8 @@ pub struct Store {
     queues: Arc<Queues>,
     clock: Arc<Clock>,
     journal: Option<Journal>,
+    admission: Arc<Admission>,
+    counters: Arc<Counters>,
 }
 
 fn gone() -> SqsError {

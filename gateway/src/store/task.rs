@@ -12,6 +12,7 @@ use tokio::io::{AsyncReadExt, AsyncWriteExt};
 use tokio::sync::{mpsc, oneshot};
 
 use super::admission::Admission;
+use super::figures::Counters;
 use super::replay::{replay, ReplayError};
 use super::{Answer, Answers, HeldJobs, Job, Store, What};
 use crate::clock::{Clock, Moment};
@@ -104,6 +105,9 @@ struct Task {
     clock: Arc<Clock>,
     journal: Option<Journal>,
     admission: Arc<Admission>,
+    counters: Arc<Counters>,
+    /// How many open requests the counters know of.
+    open_told: usize,
     pending: VecDeque<Pending>,
     held: HeldJobs,
     open: VecDeque<Open>,
@@ -136,8 +140,15 @@ pub fn start(start: Start) -> (Store, oneshot::Receiver<Ended>) {
     if let Some(journal) = &start.journal {
         journal.set_bound(start.bounds.journal);
     }
-    let store =
-        Store { jobs, queues: start.queues.clone(), clock: start.clock.clone(), journal: start.journal.clone() };
+    let counters = Arc::new(Counters::default());
+    let store = Store {
+        jobs,
+        queues: start.queues.clone(),
+        clock: start.clock.clone(),
+        journal: start.journal.clone(),
+        admission: admission.clone(),
+        counters: counters.clone(),
+    };
     // Numbers in use begin above all that any earlier run can have used.
     let last_number = start.clock.now() << 20;
     let mut task = Task {
@@ -147,6 +158,8 @@ pub fn start(start: Start) -> (Store, oneshot::Receiver<Ended>) {
         clock: start.clock,
         journal: start.journal,
         admission,
+        counters,
+        open_told: 0,
         pending: VecDeque::new(),
         held: HeldJobs::new(),
         open: VecDeque::new(),
@@ -191,6 +204,7 @@ impl Task {
         self.ask_pending()?;
         self.settle_ready()?;
         self.hand_over();
+        self.tell_open();
         tokio::select! {
             biased;
             read = self.cq.output.read_buf(&mut self.incoming) => match read {
@@ -218,6 +232,12 @@ impl Task {
         }
         self.incoming.reserve(PIECE);
         Ok(())
+    }
+
+    fn tell_open(&mut self) {
+        let open = self.pending.len() + self.open.len();
+        self.counters.note_open(self.open_told, open);
+        self.open_told = open;
     }
 
     fn take(&mut self, job: Job) {
@@ -522,6 +542,7 @@ impl Task {
     async fn start_again(&mut self) -> Result<(), Ended> {
         let Some(journal) = self.journal.clone() else { return Ok(()) };
         self.ends += 1;
+        self.counters.note_restart();
         tokio::time::sleep(pause(self.ends)).await;
         self.hand_over();
         self.cq.stop().await;

@@ -1,0 +1,83 @@
+//! What operators look at.
+
+use std::sync::atomic::{AtomicU64, AtomicUsize, Ordering};
+
+use super::Store;
+
+/// Figures of a store at one moment. How many messages a queue has is told by `Store::count`.
+#[derive(Clone, Copy, Debug, PartialEq, Eq)]
+pub struct Figures {
+    /// How many queues there are.
+    pub queues: usize,
+    /// What is in use of memory, in bytes, by the count that the bound is about.
+    pub memory_bytes: u64,
+    pub memory_bound: Option<u64>,
+    /// None where there is no journal.
+    pub journal: Option<JournalFigures>,
+    /// How often a program `cq` that had ended was started again.
+    pub restarts: u64,
+    /// Requests that were asked and aren't answered by the store. Polls between two tries don't count.
+    pub open: usize,
+}
+
+/// Figures of a journal.
+#[derive(Clone, Copy, Debug, PartialEq, Eq)]
+pub struct JournalFigures {
+    /// What stands in its files, and what is on its way there, in bytes.
+    pub bytes: u64,
+    pub bound: Option<u64>,
+    /// How many commits were written since the start.
+    pub commits: u64,
+    /// How many records it has.
+    pub records: u64,
+    /// Its disk has no space left.
+    pub is_disk_full: bool,
+}
+
+/// What the tasks count.
+#[derive(Default)]
+pub(super) struct Counters {
+    restarts: AtomicU64,
+    open: AtomicUsize,
+}
+
+impl Counters {
+    pub fn note_restart(&self) {
+        self.restarts.fetch_add(1, Ordering::Relaxed);
+    }
+
+    /// The number of open requests of a task has become `now`; it was `before`.
+    pub fn note_open(&self, before: usize, now: usize) {
+        // The difference may be below zero: it wraps, and the sum wraps back.
+        self.open.fetch_add(now.wrapping_sub(before), Ordering::Relaxed);
+    }
+}
+
+impl Store {
+    /// The figures of this moment. Nothing waits for them.
+    pub fn figures(&self) -> Figures {
+        self.admission.look_at_ages(self.clock.now());
+        Figures {
+            queues: self.queues.count(),
+            memory_bytes: self.admission.bytes_in_use(),
+            memory_bound: self.admission.memory.limit(),
+            journal: self.journal.as_ref().map(|journal| journal.figures()),
+            restarts: self.counters.restarts.load(Ordering::Relaxed),
+            open: self.counters.open.load(Ordering::Relaxed),
+        }
+    }
+}
+
+#[cfg(test)]
+mod tests {
+    use super::*;
+
+    #[test]
+    fn open_requests_of_several_tasks_are_added_up() {
+        let counters = Counters::default();
+        counters.note_open(0, 7);
+        counters.note_open(0, 2);
+        counters.note_open(7, 1);
+        assert_eq!(counters.open.load(Ordering::Relaxed), 3);
+    }
+}
