@@ -10,6 +10,7 @@ use clap::{Parser, Subcommand};
 use crate::actions::Owner;
 use crate::inspect;
 use crate::limits::Bounds;
+use crate::queues::shards::Shards;
 use crate::serve::{serve, Settings};
 
 /// The variable that names the program cq.
@@ -59,6 +60,9 @@ struct ServeOptions {
     /// Take no more messages when the journal has so many bytes, less five percent
     #[arg(long, value_name = "BYTES", requires = "journal")]
     journal_size: Option<u64>,
+    /// So many programs cq share the queues, 1 to 16
+    #[arg(long, value_name = "N", default_value = "1", value_parser = shards)]
+    shards: Shards,
     /// The account in URLs, 12 digits
     #[arg(long, default_value = "000000000000", value_parser = account)]
     account: String,
@@ -67,6 +71,10 @@ struct ServeOptions {
     region: String,
     #[arg(long, hide = true)]
     clock_file: Option<PathBuf>,
+}
+
+fn shards(text: &str) -> Result<Shards, String> {
+    text.parse().ok().and_then(Shards::new).ok_or_else(|| "it is no number from 1 to 16".into())
 }
 
 fn account(text: &str) -> Result<String, String> {
@@ -113,6 +121,7 @@ fn serve_by(options: ServeOptions) -> Result<()> {
         program: program(options.cq)?,
         journal: options.journal,
         bounds: Bounds { memory: options.memory, journal: options.journal_size },
+        shards: options.shards,
         owner: Owner { account: options.account, region: options.region },
         clock_file: options.clock_file,
     };

@@ -49,6 +49,11 @@ impl Cq {
         Ok(Cq { process, input, output })
     }
 
+    /// Starts so many programs.
+    pub fn start_all(program: &str, count: u32) -> Result<Vec<Cq>, CqError> {
+        (0..count).map(|_| Cq::start(program)).collect()
+    }
+
     /// Waits for the end of a program that has closed its output, and says how it ended.
     pub async fn end(&mut self) -> CqError {
         match self.process.wait().await {

@@ -17,6 +17,7 @@ use crate::http::Listening;
 use crate::journal::{self, Taken};
 use crate::limits::Bounds;
 use crate::queues::ask::Ask;
+use crate::queues::shards::Shards;
 use crate::queues::Queues;
 use crate::store::{self, Ended, Replayed, Start, Store, Tables};
 
@@ -29,6 +30,8 @@ pub struct Settings {
     pub program: String,
     pub journal: Option<PathBuf>,
     pub bounds: Bounds,
+    /// How many programs share the queues.
+    pub shards: Shards,
     pub owner: Owner,
     /// A file whose number is the clock, for tests.
     pub clock_file: Option<PathBuf>,
@@ -47,12 +50,14 @@ pub async fn serve(settings: Settings) -> Result<()> {
     });
     let queues = Arc::new(Queues::default());
     let taken = take_journal(&settings).await?;
-    let mut cq = Cq::start(&settings.program)?;
+    let shards = settings.shards;
+    let mut cqs = Cq::start_all(&settings.program, shards.count())?;
     let (journal, replayed) = match taken {
         Some(taken) => {
-            let opened = taken.open()?;
-            let tables = Tables { queues: &queues, clock: &clock };
-            let replayed = store::replay(&mut cq, opened.records()?, Some(tables)).await?;
+            let opened = taken.open(shards)?;
+            let tables = Tables { queues: queues.clone(), clock: clock.clone() };
+            let (fed, replayed) = store::replay_all(cqs, shards, &opened, &tables).await?;
+            cqs = fed;
             let journal = opened.begin(replayed.records, end_at_once)?;
             (Some(journal), replayed)
         }
@@ -63,7 +68,7 @@ pub async fn serve(settings: Settings) -> Result<()> {
     }
     let program = settings.program.clone();
     let bounds = settings.bounds;
-    let (store, ended) = store::start(Start { program, cq, queues, clock, journal: journal.clone(), bounds });
+    let (store, ended) = store::start(Start { program, shards, cqs, queues, clock, journal: journal.clone(), bounds });
     remove_left_over(&store, &replayed).await?;
     if journal.is_some() {
         tokio::spawn(crate::rolling::keep_rolling(store.clone()));
@@ -78,7 +83,7 @@ pub async fn serve(settings: Settings) -> Result<()> {
 async fn take_journal(settings: &Settings) -> Result<Option<Taken>> {
     let Some(path) = &settings.journal else { return Ok(None) };
     let taken = Taken::new(path)?;
-    journal::convert(&settings.program, path).await?;
+    journal::convert(&settings.program, path, settings.shards).await?;
     Ok(Some(taken))
 }
 

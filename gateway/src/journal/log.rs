@@ -6,6 +6,7 @@ use std::sync::Arc;
 use super::disk::{Folder, Segment};
 use super::frame;
 use super::segments::{scan_all, Head, JournalError, Scanned, Span};
+use crate::queues::shards::Shards;
 
 /// How large files get, and how much space is kept ahead.
 #[derive(Clone, Copy, Debug)]
@@ -28,6 +29,7 @@ impl Default for Sizes {
 pub struct Log<F: Folder> {
     folder: Arc<F>,
     sizes: Sizes,
+    shards: Shards,
     file: F::File,
     active: Span,
     /// Up to here there is space.
@@ -37,17 +39,21 @@ pub struct Log<F: Folder> {
 }
 
 impl<F: Folder> Log<F> {
-    /// Opens a log, or begins one. What a commit left behind that was told to nobody is cut off. Before this returns
+    /// Opens a log, or begins one. One that another number of programs shared is refused: a program's clock must not
+    /// fall, and of records of several that one is to have it might. What a commit left behind that was told to nobody is cut off. Before this returns
     /// all that it found is on disk.
-    pub fn open(folder: Arc<F>, sizes: Sizes) -> Result<(Log<F>, Scanned), JournalError> {
+    pub fn open(folder: Arc<F>, sizes: Sizes, shards: Shards) -> Result<(Log<F>, Scanned), JournalError> {
         let mut scanned = scan_all(folder.as_ref())?;
+        if let Some(other) = scanned.spans.iter().find(|span| span.head.shards != shards.count()) {
+            return Err(JournalError::OtherShards { found: other.head.shards, given: shards.count() });
+        }
         // The segment that stands for others may have its name in the cache alone.
         folder.sync()?;
         for number in std::mem::take(&mut scanned.replaced) {
             folder.remove(number)?;
         }
         let Some(active) = scanned.spans.last().cloned() else {
-            return Log::begin(folder, sizes, scanned);
+            return Log::begin(folder, sizes, shards, scanned);
         };
         let bytes = folder.read(active.segment)?;
         let file = folder.open(active.segment)?;
@@ -64,7 +70,7 @@ impl<F: Folder> Log<F> {
         // A copy may have holes where there was space.
         let length = bytes.len() as u64;
         let allocated = if file.allocate(length).is_ok() { length } else { active.end };
-        let mut log = Log { folder, sizes, allocated, number: active.last + 1, file, active };
+        let mut log = Log { folder, sizes, shards, allocated, number: active.last + 1, file, active };
         // No number is used again: the one that is passed over may have been that of a commit that failed.
         if log.is_short() {
             log.grow();
@@ -77,12 +83,17 @@ impl<F: Folder> Log<F> {
         Ok((log, scanned))
     }
 
-    fn begin(folder: Arc<F>, sizes: Sizes, mut scanned: Scanned) -> Result<(Log<F>, Scanned), JournalError> {
-        let (file, active) = prepare(folder.as_ref(), 1, 0, sizes)?;
+    fn begin(
+        folder: Arc<F>,
+        sizes: Sizes,
+        shards: Shards,
+        mut scanned: Scanned,
+    ) -> Result<(Log<F>, Scanned), JournalError> {
+        let (file, active) = prepare(folder.as_ref(), Head::new(shards, 1, 1, 0), sizes)?;
         publish(folder.as_ref(), 1)?;
         let allocated = active.end + sizes.piece;
         scanned.spans.push(active.clone());
-        Ok((Log { folder, sizes, file, active, allocated, number: 0 }, scanned))
+        Ok((Log { folder, sizes, shards, file, active, allocated, number: 0 }, scanned))
     }
 
     /// The segment that is written to.
@@ -137,7 +148,8 @@ impl<F: Folder> Log<F> {
     /// Begins another segment, as `go_on` does, however long this one is.
     pub fn close(&mut self) -> Result<Option<Span>, JournalError> {
         let segment = self.active.segment + 1;
-        let Ok((file, active)) = prepare(self.folder.as_ref(), segment, self.active.last, self.sizes) else {
+        let head = Head::new(self.shards, segment, segment, self.active.last);
+        let Ok((file, active)) = prepare(self.folder.as_ref(), head, self.sizes) else {
             return Ok(None);
         };
         self.begin_segment(file, active).map(Some)
@@ -165,8 +177,8 @@ fn cut_off<S: Segment>(file: &S, bytes: &[u8], end: u64) -> io::Result<()> {
 }
 
 /// A segment that is whole on the disk, and has no name yet.
-fn prepare<F: Folder>(folder: &F, segment: u64, previous: u64, sizes: Sizes) -> Result<(F::File, Span), JournalError> {
-    let head = Head::new(segment, segment, previous);
+fn prepare<F: Folder>(folder: &F, head: Head, sizes: Sizes) -> Result<(F::File, Span), JournalError> {
+    let (segment, previous) = (head.segment, head.previous);
     let bytes = head.encode()?;
     let file = folder.create(segment)?;
     let end = bytes.len() as u64;

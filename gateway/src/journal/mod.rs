@@ -14,15 +14,16 @@ use std::collections::HashSet;
 use std::fs::File;
 use std::path::{Path, PathBuf};
 use std::sync::atomic::{AtomicBool, AtomicI64, AtomicU64, Ordering};
-use std::sync::{Arc, Condvar, Mutex, MutexGuard, PoisonError};
+use std::sync::{Arc, Condvar, Mutex, MutexGuard, PoisonError, RwLock};
 use std::time::Instant;
 
 use rustix::fs::{flock, fstatfs, FlockOperation};
-use tokio::sync::{oneshot, Notify};
+use tokio::sync::{oneshot, watch, Notify};
 
 use crate::errors::SqsError;
 use crate::limits::Bound;
 use crate::queues::ask::StoreName;
+use crate::queues::shards::Shards;
 use crate::store::{Answer, JournalFigures};
 pub use disk::Files;
 use disk::Folder;
@@ -82,8 +83,8 @@ struct Shared {
     room: AtomicI64,
     /// The disk had no more space when it was last asked.
     is_full: AtomicBool,
-    /// Told when the disk was asked for space.
-    grown: Notify,
+    /// Changes when the disk was asked for space.
+    grown: watch::Sender<()>,
     /// What was promised to records that aren't written yet.
     promised: AtomicU64,
     /// How many bytes the segments have, without those that are allocated ahead.
@@ -93,8 +94,10 @@ struct Shared {
     commits: AtomicU64,
     /// How many records the segments have.
     count: AtomicU64,
-    /// What is on disk. While it is held no segment is replaced or begun.
+    /// What is on disk.
     spans: Mutex<Vec<Span>>,
+    /// Whoever reads segments keeps them from being replaced. New ones may be begun meanwhile.
+    replacing: RwLock<()>,
     /// Names of the store whose records can go.
     removed: Mutex<HashSet<StoreName>>,
     rewriting: Mutex<Rewriting>,
@@ -152,10 +155,10 @@ impl Taken {
         Ok(Taken { files, path: path.into(), lock })
     }
 
-    /// Opens the journal, or begins one. One of version 1 must have been converted before.
-    pub fn open(self) -> Result<Opened, JournalError> {
+    /// Opens the journal, or begins one, for so many programs. One of version 1 must have been converted before.
+    pub fn open(self, shards: Shards) -> Result<Opened, JournalError> {
         version1::take_over(&self.files, &self.path)?;
-        let (log, scanned) = Log::open(Arc::new(self.files.clone()), Sizes::default())?;
+        let (log, scanned) = Log::open(Arc::new(self.files.clone()), Sizes::default(), shards)?;
         let Scanned { spans, removed, .. } = scanned;
         let shared = Shared {
             files: self.files,
@@ -164,13 +167,14 @@ impl Taken {
             ended: Notify::new(),
             room: AtomicI64::new(log.room() as i64),
             is_full: AtomicBool::new(false),
-            grown: Notify::new(),
+            grown: watch::channel(()).0,
             promised: AtomicU64::new(0),
             bytes: AtomicU64::new(bytes_of(&spans)),
             bound: Bound::default(),
             commits: AtomicU64::new(0),
             count: AtomicU64::new(0),
             spans: Mutex::new(spans),
+            replacing: RwLock::default(),
             removed: Mutex::new(removed),
             rewriting: Mutex::default(),
             _lock: self.lock,
@@ -290,9 +294,9 @@ impl Journal {
         }
     }
 
-    /// Waits until the disk was asked for space.
-    pub async fn grown(&self) {
-        self.0.grown.notified().await;
+    /// Changes each time when the disk was asked for space.
+    pub fn grown(&self) -> watch::Receiver<()> {
+        self.0.grown.subscribe()
     }
 
     pub fn give_back(&self, bytes: u64) {
@@ -370,28 +374,28 @@ impl Records {
 
     /// Hands on the lines of each commit, until `take` says that it is enough. Tells how many lines there were.
     pub fn read(self, mut take: impl FnMut(Vec<u8>) -> bool) -> Result<u64, JournalError> {
-        let held;
-        let (files, spans): (&Files, &[Span]) = match &self.source {
+        let _kept;
+        let (files, spans, written) = match &self.source {
             Source::Journal(journal) => {
-                held = locked(&journal.0.spans);
-                (&journal.0.files, &held)
+                _kept = journal.0.replacing.read().unwrap_or_else(PoisonError::into_inner);
+                // Others go on writing behind what is there by now.
+                let spans = locked(&journal.0.spans);
+                (&journal.0.files, spans.clone(), Some(journal.count()).filter(|_| self.is_counted))
             }
-            Source::Files(files, spans) => (files, spans),
+            Source::Files(files, spans) => (files, spans.clone(), None),
         };
         let mut count = 0;
         for span in spans {
             let bytes = files.read(span.segment)?;
-            for frame in frames(span, &bytes) {
+            for frame in frames(&span, &bytes) {
                 count += lines_in(frame.payload);
                 if !frame.payload.is_empty() && !take(frame.payload.to_vec()) {
                     return Ok(count);
                 }
             }
         }
-        match &self.source {
-            Source::Journal(journal) if self.is_counted && journal.count() != count => {
-                Err(JournalError::OtherCount { found: count, written: journal.count() })
-            }
+        match written {
+            Some(written) if written != count => Err(JournalError::OtherCount { found: count, written }),
             _ => Ok(count),
         }
     }

@@ -10,6 +10,7 @@ use super::disk::{Folder, Segment};
 use super::frame::{self, Frame};
 use super::record::Record;
 use crate::queues::ask::StoreName;
+use crate::queues::shards::{Shards, HASH};
 
 /// Why a journal can't be used.
 #[derive(Clone, Debug, PartialEq, Eq, Error)]
@@ -30,6 +31,11 @@ pub enum JournalError {
     OtherNumber { segment: u64, found: u64 },
     #[error("segment {segment} of the journal was written for {found}, and this gateway has {needed}")]
     OtherRules { segment: u64, found: String, needed: String },
+    #[error(
+        "the journal is shared by {found} programs, and --shards says {given}: start with --shards {found}, or with \
+         another journal"
+    )]
+    OtherShards { found: u32, given: u32 },
     #[error("the journal has {found} records, and {written} were written")]
     OtherCount { found: u64, written: u64 },
     #[error("{0}: a journal must be on a disk of this machine")]
@@ -44,6 +50,9 @@ impl From<io::Error> for JournalError {
 
 /// A segment begins with these bytes.
 pub const MAGIC: &[u8] = b"hobbychair journal 2\n";
+
+/// The rules by which the store answers, as this gateway knows them.
+const RULES: u32 = 1;
 
 /// What the first frame of a segment says.
 #[derive(Clone, Debug, PartialEq, Eq, Serialize, Deserialize)]
@@ -61,16 +70,16 @@ pub struct Head {
 }
 
 impl Head {
-    pub fn new(segment: u64, from: u64, previous: u64) -> Head {
-        Head { rules: 1, shards: 1, hash: "crc32".into(), segment, from, previous }
+    pub fn new(shards: Shards, segment: u64, from: u64, previous: u64) -> Head {
+        Head { rules: RULES, shards: shards.count(), hash: HASH.into(), segment, from, previous }
     }
 
     fn is_readable(&self) -> bool {
-        (self.rules, self.shards) == (1, 1)
+        self.rules == RULES && self.hash == HASH && Shards::new(self.shards).is_some()
     }
 
     fn said(&self) -> String {
-        format!("rules {} and {} shards", self.rules, self.shards)
+        format!("rules {} and {} shards by {}", self.rules, self.shards, self.hash)
     }
 
     /// The first bytes of a segment.
@@ -108,7 +117,7 @@ pub fn scan(segment: u64, bytes: &[u8]) -> Result<Span, JournalError> {
     let first = frame::read(bytes, place).ok_or(damaged.clone())?;
     let head: Head = serde_json::from_slice(first.payload).map_err(|_| damaged)?;
     if !head.is_readable() {
-        let needed = Head::new(0, 0, 0).said();
+        let needed = format!("rules {RULES} and shards by {HASH}");
         return Err(JournalError::OtherRules { segment, found: head.said(), needed });
     }
     if head.segment != segment {
@@ -254,7 +263,7 @@ pub fn rewrite<F: Folder>(
         }
     }
     let last = &spans[consumed - 1];
-    let mut bytes = Head::new(last.segment, first.head.from, first.head.previous).encode()?;
+    let mut bytes = Head { segment: last.segment, ..first.head.clone() }.encode()?;
     for (number, payload) in kept {
         let again = frame::encode(number, bytes.len() as u64, &payload);
         bytes.extend(again.map_err(|error| JournalError::Io(error.to_string()))?);

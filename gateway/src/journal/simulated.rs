@@ -14,6 +14,7 @@ use super::log::{Log, Sizes};
 use super::record::Record;
 use super::segments::{frames, rewrite, Scanned};
 use crate::queues::ask::{Change, StoreName};
+use crate::queues::shards::Shards;
 
 /// Small sectors, so that small records stand on several.
 const SECTOR: usize = 64;
@@ -374,7 +375,7 @@ impl Run {
                 state.left = (!is_last && self.random.gen_bool(0.3)).then(|| self.random.gen_range(0..8));
                 state.is_full = false;
             }
-            let opened = Log::open(Arc::new(self.disk.clone()), SIZES);
+            let opened = Log::open(Arc::new(self.disk.clone()), SIZES, Shards::ONE);
             let mut state = self.disk.state();
             (state.failing, state.left) = (0.0, None);
             drop(state);
@@ -525,7 +526,7 @@ fn what_was_acknowledged_outlives_what_a_disk_does() {
 #[test]
 fn no_flipped_bit_is_a_silent_loss() {
     let disk = Disk::new(1);
-    let (mut log, _) = Log::open(Arc::new(disk.clone()), SIZES).unwrap();
+    let (mut log, _) = Log::open(Arc::new(disk.clone()), SIZES, Shards::ONE).unwrap();
     for text in 0..3 {
         log.commit(&Act::Send(1, text).line()).unwrap();
     }
@@ -538,7 +539,7 @@ fn no_flipped_bit_is_a_silent_loss() {
         state.files[0].cache = good.clone();
         state.files[0].cache[bit / 8] ^= 1 << (bit % 8);
         drop(state);
-        let refused = Log::open(Arc::new(disk.clone()), SIZES);
+        let refused = Log::open(Arc::new(disk.clone()), SIZES, Shards::ONE);
         assert!(refused.is_err(), "bit {bit} of byte {} went unseen", bit / 8);
     }
 }

@@ -24,6 +24,7 @@ use crate::cq::{Cq, CqError};
 use crate::lines::{self, read_receipt, Fields, Kind, Output, Reply};
 use crate::messages::{read_form, AttributeValue, Form, Kept, MessageAttributes};
 use crate::queues::ask::{Ask, Change, Creation, StoreName};
+use crate::queues::shards::Shards;
 use crate::store::ReplayError;
 use crate::texts::{hex, AttemptId, Body, DedupId, GroupId, QueueName};
 
@@ -154,16 +155,17 @@ pub fn count(path: &Path) -> Result<usize, JournalError> {
     Ok(texts(&std::fs::read(path)?)?.len())
 }
 
-/// Writes a journal of version 1 anew, where there is one that wasn't yet. The old file stays as it is.
-pub async fn convert(program: &str, path: &Path) -> Result<(), ReplayError> {
+/// Writes a journal of version 1 anew, where there is one that wasn't yet. The old file stays as it is. One
+/// program wrote it, so any number of them can share it from then on.
+pub async fn convert(program: &str, path: &Path, shards: Shards) -> Result<(), ReplayError> {
     let files = Files::new(path);
     if !is_there(path) || !files.list().map_err(JournalError::from)?.is_empty() {
         return Ok(());
     }
     let bytes = std::fs::read(path).map_err(JournalError::from)?;
     let mut cq = Cq::start(program)?;
-    let mut conversion =
-        Conversion { segment: Head::new(1, 1, 0).encode().map_err(JournalError::from)?, ..Conversion::default() };
+    let segment = Head::new(shards, 1, 1, 0).encode().map_err(JournalError::from)?;
+    let mut conversion = Conversion { segment, ..Conversion::default() };
     for text in texts(&bytes)? {
         conversion.records += 1;
         conversion.take(text).ok_or(ReplayError::BadRecord(conversion.records))?;

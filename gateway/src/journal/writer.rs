@@ -117,12 +117,12 @@ fn commit(log: &mut Log<Files>, journal: &Journal, batch: &Batch) -> Result<(), 
     shared.bytes.fetch_add(taken, Ordering::Relaxed);
     shared.promised.fetch_sub(promised, Ordering::Relaxed);
     shared.commits.fetch_add(1, Ordering::Relaxed);
-    shared.count.fetch_add(batch.count, Ordering::Relaxed);
     let removed = removed_by(&batch.records).unwrap_or_default();
     if !removed.is_empty() {
         locked(&shared.removed).extend(removed);
     }
     let mut spans = locked(&shared.spans);
+    shared.count.fetch_add(batch.count, Ordering::Relaxed);
     if let Some(last) = spans.last_mut() {
         *last = log.active().clone();
     }
@@ -166,7 +166,7 @@ fn grow(log: &mut Log<Files>, journal: &Journal) {
     let is_grown = log.grow();
     shared.room.fetch_add(log.room() as i64 - before as i64, Ordering::Relaxed);
     shared.is_full.store(!is_grown, Ordering::Relaxed);
-    shared.grown.notify_one();
+    shared.grown.send_replace(());
 }
 
 /// Has the closed segments written anew by a thread of its own, where names were removed since the last time: now and
@@ -243,6 +243,7 @@ fn rewrite_closed(journal: &Journal) -> Result<bool, JournalError> {
             }
         };
         let (dropped, consumed) = (rewritten.dropped, rewritten.consumed);
+        let _nobody_reads = shared.replacing.write().unwrap_or_else(PoisonError::into_inner);
         let mut spans = locked(&shared.spans);
         let span = rewritten.publish(&shared.files)?;
         spans.splice(done..done + consumed, [span]);

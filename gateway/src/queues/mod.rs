@@ -1,6 +1,7 @@
 //! The tables: what the gateway keeps of each queue that lives. They follow the answers of the store.
 
 pub mod ask;
+pub mod shards;
 mod state;
 
 use std::collections::{BTreeMap, HashMap};

@@ -1,4 +1,4 @@
-//! The store: asks in, answers out. One task owns the program's pipe.
+//! The store: asks in, answers out. One task owns each program's pipe.
 
 mod admission;
 mod figures;
@@ -14,12 +14,14 @@ use crate::errors::SqsError;
 use crate::handles::Mark;
 use crate::journal::Journal;
 use crate::queues::ask::{Ask, Change, Outcome};
+use crate::queues::shards::Shards;
 use crate::queues::{Queue, Queues};
+use crate::texts::QueueName;
 use admission::Admission;
 use figures::Counters;
 
 pub use figures::{Figures, JournalFigures};
-pub use replay::{replay, ReplayError, Replayed, Tables};
+pub use replay::{replay_all, ReplayError, Replayed, Tables};
 pub use task::{start, Ended, Start};
 
 /// What is asked for, and where the answers go.
@@ -45,10 +47,12 @@ enum What {
 pub type Answer = Result<Outcome, SqsError>;
 type Answers = Vec<Answer>;
 
-/// Hands asks to the task that owns the program. Copies go to the same task.
+/// Hands asks to the tasks that own the programs: each queue's to the one that has it. Copies go to the same tasks.
 #[derive(Clone)]
 pub struct Store {
-    jobs: mpsc::UnboundedSender<Job>,
+    /// One for each shard.
+    jobs: Arc<[mpsc::UnboundedSender<Job>]>,
+    shards: Shards,
     queues: Arc<Queues>,
     clock: Arc<Clock>,
     journal: Option<Journal>,
@@ -74,12 +78,15 @@ impl Store {
         self.journal.as_ref().is_some_and(Journal::wants_space)
     }
 
-    async fn perform(&self, queue: Option<&Arc<Queue>>, whats: Vec<What>, passes: bool) -> Answers {
+    fn jobs_of(&self, name: &QueueName) -> &mpsc::UnboundedSender<Job> {
+        &self.jobs[self.shards.place_of(name)]
+    }
+
+    async fn perform(&self, queue: &Arc<Queue>, whats: Vec<What>, passes: bool) -> Answers {
         let count = whats.len();
         let (done, answers) = oneshot::channel();
-        let job = Job { queue: queue.cloned(), whats, passes, done };
-        let sent = self.jobs.send(job);
-        let answered = match sent {
+        let job = Job { queue: Some(queue.clone()), whats, passes, done };
+        let answered = match self.jobs_of(&queue.name).send(job) {
             Ok(()) => answers.await.ok(),
             Err(_) => None,
         };
@@ -87,7 +94,7 @@ impl Store {
     }
 
     async fn perform_one(&self, queue: &Arc<Queue>, what: What) -> Answer {
-        self.perform(Some(queue), vec![what], false).await.pop().unwrap_or_else(|| Err(gone()))
+        self.perform(queue, vec![what], false).await.pop().unwrap_or_else(|| Err(gone()))
     }
 
     /// The answer to one ask, when all that it rests on is on disk.
@@ -97,7 +104,7 @@ impl Store {
 
     /// The answers to asks that are written one after the other, in their order.
     pub async fn ask_all(&self, queue: &Arc<Queue>, asks: Vec<Ask>) -> Vec<Answer> {
-        self.perform(Some(queue), asks.into_iter().map(What::Ask).collect(), false).await
+        self.perform(queue, asks.into_iter().map(What::Ask).collect(), false).await
     }
 
     /// How many messages of the queue are visible and how many in flight, at this moment.
@@ -110,17 +117,31 @@ impl Store {
         self.perform_one(queue, What::Note(change)).await
     }
 
-    /// Waits for a first answer of the program. False if there is none.
+    /// Waits for a first answer of each program. False if there is none.
     pub async fn is_answering(&self) -> bool {
-        let answers = self.perform(None, vec![What::Moment], true).await;
-        answers.iter().all(Result::is_ok)
+        for jobs in self.jobs.iter() {
+            match perform_beside(jobs, vec![What::Moment]).await {
+                Ok(answers) if answers.iter().all(Result::is_ok) => {}
+                _ => return false,
+            }
+        }
+        true
     }
 
     /// Waits until all that the tables show is on disk. False if it never will be.
     pub async fn settled(&self) -> bool {
-        let (done, answers) = oneshot::channel();
-        let job = Job { queue: None, whats: Vec::new(), passes: true, done };
-        self.jobs.send(job).is_ok() && answers.await.is_ok()
+        let begun: Vec<_> = self.jobs.iter().map(|jobs| perform_beside(jobs, Vec::new())).collect();
+        for answer in begun {
+            if answer.await.is_err() {
+                return false;
+            }
+        }
+        true
+    }
+
+    /// Waits until all that the tables show of the queues of this name is on disk. False if it never will be.
+    pub async fn settled_of(&self, name: &QueueName) -> bool {
+        perform_beside(self.jobs_of(name), Vec::new()).await.is_ok()
     }
 
     /// Keeps all others from the queue until what this gives is dropped. Whoever begins this brings it to its end, or
@@ -131,6 +152,14 @@ impl Store {
     }
 }
 
+/// Asks for something that is of no queue.
+fn perform_beside(jobs: &mpsc::UnboundedSender<Job>, whats: Vec<What>) -> oneshot::Receiver<Answers> {
+    let (done, answers) = oneshot::channel();
+    // Where the task is gone, no answer comes.
+    let _ = jobs.send(Job { queue: None, whats, passes: true, done });
+    answers
+}
+
 /// A queue that one task has to itself.
 pub struct Held {
     store: Store,
@@ -139,7 +168,7 @@ pub struct Held {
 
 impl Held {
     pub async fn ask_all(&self, asks: Vec<Ask>) -> Vec<Answer> {
-        self.store.perform(Some(&self.queue), asks.into_iter().map(What::Ask).collect(), true).await
+        self.store.perform(&self.queue, asks.into_iter().map(What::Ask).collect(), true).await
     }
 
     pub async fn ask(&self, ask: Ask) -> Answer {
@@ -147,7 +176,7 @@ impl Held {
     }
 
     pub async fn note(&self, change: Change) -> Answer {
-        let answers = self.store.perform(Some(&self.queue), vec![What::Note(change)], true);
+        let answers = self.store.perform(&self.queue, vec![What::Note(change)], true);
         answers.await.pop().unwrap_or_else(|| Err(gone()))
     }
 }
@@ -157,7 +186,8 @@ impl Drop for Held {
         let (done, _) = oneshot::channel();
         let queue = Some(self.queue.clone());
         // Where the task is gone, nothing waits any more.
-        let _ = self.store.jobs.send(Job { queue, whats: vec![What::LetGo], passes: true, done });
+        let jobs = self.store.jobs_of(&self.queue.name);
+        let _ = jobs.send(Job { queue, whats: vec![What::LetGo], passes: true, done });
     }
 }
 

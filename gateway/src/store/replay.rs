@@ -1,4 +1,10 @@
 //! Brings a fresh program to where a journal is, and compares each reply with the one that was given.
+//!
+//! Several programs share one journal, each its own queues. The records of one stand there in the order in which it
+//! answered, with clocks that never fall; between records of two nothing is kept, since their answers come as they
+//! come. That is enough: the clocks of a program are its own, what it answers of a queue doesn't hang on other queues,
+//! and the tables of a queue follow the records of that queue alone. So each program is fed its own records in their
+//! order, by a replay of its own that passes the others over.
 
 use std::collections::{BTreeSet, HashMap, HashSet, VecDeque};
 use std::sync::Arc;
@@ -10,9 +16,10 @@ use tokio::sync::mpsc;
 
 use crate::clock::{Clock, Moment};
 use crate::cq::{Cq, CqError};
-use crate::journal::{digest_of_reply, JournalError, Record, Records};
+use crate::journal::{digest_of_reply, JournalError, Opened, Record, Records};
 use crate::lines::{self, BadOutput, Fields, Kind, Output};
 use crate::queues::ask::{Ask, Change, StoreName};
+use crate::queues::shards::{Shard, Shards};
 use crate::queues::{Queue, Queues};
 
 /// Why a journal couldn't be replayed.
@@ -40,10 +47,10 @@ pub struct Replayed {
 }
 
 /// What the records are taken into, beside the store.
-#[derive(Clone, Copy)]
-pub struct Tables<'a> {
-    pub queues: &'a Queues,
-    pub clock: &'a Clock,
+#[derive(Clone)]
+pub struct Tables {
+    pub queues: Arc<Queues>,
+    pub clock: Arc<Clock>,
 }
 
 /// An ask that is with the program, or a note that waits for the asks before it.
@@ -63,9 +70,12 @@ enum Waiting {
     Last,
 }
 
-struct Replay<'a> {
-    tables: Option<Tables<'a>>,
+struct Replay {
+    shard: Shard,
+    tables: Option<Tables>,
     skipped: HashSet<StoreName>,
+    /// Whether the shard has the queue of a name of the store.
+    own: HashMap<StoreName, bool>,
     queues: HashMap<StoreName, Arc<Queue>>,
     bases: HashMap<StoreName, u64>,
     waiting: VecDeque<Waiting>,
@@ -82,11 +92,44 @@ struct Replay<'a> {
 const CLIENTS: u64 = 256;
 const PIECE: usize = 256 * 1024;
 
-/// Feeds the records to the program, and to the tables where there are any.
-pub async fn replay(cq: &mut Cq, records: Records, tables: Option<Tables<'_>>) -> Result<Replayed, ReplayError> {
+/// Feeds a journal to fresh programs that share it, one for each shard, side by side, and to the tables.
+pub async fn replay_all(
+    cqs: Vec<Cq>,
+    shards: Shards,
+    opened: &Opened,
+    tables: &Tables,
+) -> Result<(Vec<Cq>, Replayed), ReplayError> {
+    let mut begun = Vec::new();
+    for (mut cq, shard) in cqs.into_iter().zip(shards.all()) {
+        let (records, tables) = (opened.records()?, tables.clone());
+        begun.push(tokio::spawn(async move {
+            let replayed = replay(&mut cq, records, shard, Some(tables)).await?;
+            Ok::<_, ReplayError>((cq, replayed))
+        }));
+    }
+    let (mut ready, mut all) = (Vec::new(), Replayed::default());
+    for replay in begun {
+        let (cq, replayed) = replay.await.map_err(|error| JournalError::Io(error.to_string()))??;
+        ready.push(cq);
+        // Each of them has seen all records.
+        all.records = replayed.records;
+        all.left_over.extend(replayed.left_over);
+    }
+    Ok((ready, all))
+}
+
+/// Feeds the records of a shard to its program, and to the tables where there are any.
+pub async fn replay(
+    cq: &mut Cq,
+    records: Records,
+    shard: Shard,
+    tables: Option<Tables>,
+) -> Result<Replayed, ReplayError> {
     let mut replay = Replay {
+        shard,
         tables,
         skipped: records.removed().clone(),
+        own: HashMap::new(),
         queues: HashMap::new(),
         bases: HashMap::new(),
         waiting: VecDeque::new(),
@@ -126,7 +169,7 @@ pub async fn replay(cq: &mut Cq, records: Records, tables: Option<Tables<'_>>) -
     Ok(Replayed { records: replay.records, left_over: replay.left_over() })
 }
 
-impl Replay<'_> {
+impl Replay {
     /// Asks for one more answer, which doesn't come if the program is gone.
     fn end(&mut self) -> Result<(), ReplayError> {
         self.is_read = true;
@@ -148,29 +191,30 @@ impl Replay<'_> {
 
     fn take_record(&mut self, line: &[u8]) -> Option<()> {
         let record = Record::read(line)?;
-        let fields = record.fields();
-        let store = match (&fields, &record.queue) {
-            (Some(fields), _) => StoreName::parse(&fields.queue)?,
-            (None, Some(queue)) => StoreName::parse(queue)?,
-            (None, None) => return None,
-        };
-        self.last_clock = record.clock;
-        if let Some(tables) = self.tables {
+        let store = record.store_name()?;
+        if let Some(tables) = &self.tables {
             tables.clock.go_on_from(record.clock);
             tables.queues.saw_store_name(store);
         }
         if self.skipped.contains(&store) {
-            if let (Some(tables), Some(name)) = (self.tables, &record.removed) {
-                tables.queues.note_removal(name, record.clock);
+            if let (Some(tables), Some(name)) = (&self.tables, &record.removed) {
+                if self.shard.has(name) {
+                    tables.queues.note_removal(name, record.clock);
+                }
             }
+            return Some(());
+        }
+        if !self.is_own(&record, store)? {
             return Some(());
         }
         match (record.ask, &record.note) {
             (Some(raw), None) => {
                 let settle = match self.tables {
-                    Some(_) => Some(self.ask_of(&record, fields?, store)?),
+                    Some(_) => Some(self.ask_of(&record, record.fields()?, store)?),
                     None => None,
                 };
+                // Only asks move the program's clock. An ask that is still open may be earlier than a note.
+                self.last_clock = self.last_clock.max(record.clock);
                 self.asked += 1;
                 let number = self.asked;
                 let digest = record.digest.as_deref()?.to_string();
@@ -190,6 +234,19 @@ impl Replay<'_> {
             _ => return None,
         }
         Some(())
+    }
+
+    /// Whether the record is of a queue of this shard. None if nobody can know, which is damage.
+    fn is_own(&mut self, record: &Record<'_>, store: StoreName) -> Option<bool> {
+        if let Some(creation) = &record.creation {
+            self.own.insert(store, self.shard.has(&creation.name));
+        }
+        match (self.own.get(&store), &self.tables) {
+            (Some(is_own), _) => Some(*is_own),
+            // Others go on meanwhile: a queue of theirs was removed, and its first records have gone.
+            (None, None) => Some(false),
+            (None, Some(_)) => None,
+        }
     }
 
     fn ask_of(&mut self, record: &Record<'_>, fields: Fields<'_>, store: StoreName) -> Option<(Arc<Queue>, Ask)> {
@@ -230,7 +287,7 @@ impl Replay<'_> {
             if answered != number || digest_of_reply(text) != digest {
                 return Err(ReplayError::OtherReply(number));
             }
-            if let (Some((queue, ask)), Some(tables)) = (settle, self.tables) {
+            if let (Some((queue, ask)), Some(tables)) = (settle, &self.tables) {
                 let settled = tables.queues.settle(&queue, &ask, reply, clock);
                 settled.map_err(|_| ReplayError::OtherReply(number))?;
             }

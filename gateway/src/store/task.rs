@@ -9,7 +9,7 @@ use bytes::{Buf, BytesMut};
 use serde_json::value::RawValue;
 use thiserror::Error;
 use tokio::io::{AsyncReadExt, AsyncWriteExt};
-use tokio::sync::{mpsc, oneshot};
+use tokio::sync::{mpsc, oneshot, watch};
 
 use super::admission::Admission;
 use super::figures::Counters;
@@ -22,6 +22,7 @@ use crate::journal::{Batch, Journal, JournalError, Need, Record};
 use crate::limits::Bounds;
 use crate::lines::{self, BadOutput, Fields, Output, Reply};
 use crate::queues::ask::{Ask, Change, Outcome, StoreName};
+use crate::queues::shards::{Shard, Shards};
 use crate::queues::{Queue, Queues};
 
 /// Why the store doesn't go on.
@@ -99,6 +100,7 @@ struct Pending {
 }
 
 struct Task {
+    shard: Shard,
     program: String,
     cq: Cq,
     queues: Arc<Queues>,
@@ -120,62 +122,78 @@ struct Task {
     batch: Batch,
     /// What waits is not asked before the journal has found space.
     lacks_room: bool,
+    grown: Option<watch::Receiver<()>>,
     ends: u32,
 }
 
 /// What a store is started with.
 pub struct Start {
     pub program: String,
-    pub cq: Cq,
+    pub shards: Shards,
+    /// One for each shard.
+    pub cqs: Vec<Cq>,
     pub queues: Arc<Queues>,
     pub clock: Arc<Clock>,
     pub journal: Option<Journal>,
     pub bounds: Bounds,
 }
 
-/// Starts the task. What the second value gives is why it ended.
+/// Starts the tasks, one for each shard. What the second value gives is why the first of them ended.
 pub fn start(start: Start) -> (Store, oneshot::Receiver<Ended>) {
-    let (jobs, waiting) = mpsc::unbounded_channel();
     let admission = Arc::new(Admission::new(start.queues.clone(), start.bounds.memory));
     if let Some(journal) = &start.journal {
         journal.set_bound(start.bounds.journal);
     }
     let counters = Arc::new(Counters::default());
+    let (ended, mut reasons) = mpsc::unbounded_channel();
+    let mut jobs = Vec::new();
+    for (cq, shard) in start.cqs.into_iter().zip(start.shards.all()) {
+        let (queue, waiting) = mpsc::unbounded_channel();
+        jobs.push(queue);
+        let mut task = Task {
+            shard,
+            program: start.program.clone(),
+            cq,
+            queues: start.queues.clone(),
+            clock: start.clock.clone(),
+            journal: start.journal.clone(),
+            admission: admission.clone(),
+            counters: counters.clone(),
+            open_told: 0,
+            pending: VecDeque::new(),
+            held: HeldJobs::new(),
+            open: VecDeque::new(),
+            free: (1..=CLIENTS).rev().collect(),
+            // Numbers in use begin above all that any earlier run can have used.
+            last_number: start.clock.now() << 20,
+            out: BytesMut::new(),
+            incoming: BytesMut::new(),
+            answers: Vec::new(),
+            batch: Batch::default(),
+            lacks_room: false,
+            grown: start.journal.as_ref().map(Journal::grown),
+            ends: 0,
+        };
+        let ended = ended.clone();
+        tokio::spawn(async move {
+            // Where nobody waits for it any more, another task has ended before.
+            let _ = ended.send(task.run(waiting).await);
+        });
+    }
     let store = Store {
-        jobs,
-        queues: start.queues.clone(),
-        clock: start.clock.clone(),
-        journal: start.journal.clone(),
-        admission: admission.clone(),
-        counters: counters.clone(),
-    };
-    // Numbers in use begin above all that any earlier run can have used.
-    let last_number = start.clock.now() << 20;
-    let mut task = Task {
-        program: start.program,
-        cq: start.cq,
+        jobs: jobs.into(),
+        shards: start.shards,
         queues: start.queues,
         clock: start.clock,
         journal: start.journal,
         admission,
         counters,
-        open_told: 0,
-        pending: VecDeque::new(),
-        held: HeldJobs::new(),
-        open: VecDeque::new(),
-        free: (1..=CLIENTS).rev().collect(),
-        last_number,
-        out: BytesMut::new(),
-        incoming: BytesMut::new(),
-        answers: Vec::new(),
-        batch: Batch::default(),
-        lacks_room: false,
-        ends: 0,
     };
-    let (ended, why) = oneshot::channel();
+    let (first, why) = oneshot::channel();
     tokio::spawn(async move {
-        let reason = task.run(waiting).await;
-        let _ = ended.send(reason);
+        if let Some(reason) = reasons.recv().await {
+            let _ = first.send(reason);
+        }
     });
     (store, why)
 }
@@ -217,7 +235,7 @@ impl Task {
                 // The end of its output tells how it ended.
                 Err(_) => self.out.clear(),
             },
-            () = grown(self.journal.as_ref()), if self.lacks_room => self.lacks_room = false,
+            () = grown(self.grown.as_mut()), if self.lacks_room => self.lacks_room = false,
             job = jobs.recv(), if self.pending.len() < 4 * CLIENTS as usize => {
                 let Some(job) = job else {
                     return Err(CqError::Gone("nobody asks any more".into()).into());
@@ -548,7 +566,7 @@ impl Task {
         self.cq.stop().await;
         journal.settled().await;
         self.cq = Cq::start(&self.program)?;
-        replay(&mut self.cq, journal.records()?, None).await?;
+        replay(&mut self.cq, journal.records()?, self.shard, None).await?;
         self.incoming.clear();
         self.out.clear();
         self.free = (1..=CLIENTS).rev().collect();
@@ -585,9 +603,10 @@ impl Task {
     }
 }
 
-async fn grown(journal: Option<&Journal>) {
-    if let Some(journal) = journal {
-        journal.grown().await;
+async fn grown(grown: Option<&mut watch::Receiver<()>>) {
+    if let Some(grown) = grown {
+        // The journal doesn't end before the task.
+        let _ = grown.changed().await;
     }
 }
 

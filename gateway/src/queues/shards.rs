@@ -1,0 +1,77 @@
+//! Which of several programs has a queue.
+
+use crate::texts::QueueName;
+
+/// How the journal names the hash by which queues are shared out: the CRC-32 of zlib, of the name's bytes.
+pub const HASH: &str = "crc32";
+
+/// The most programs that can share the queues.
+const MOST: u32 = 16;
+
+/// How many programs share the queues. A queue belongs to the one whose place, from 0, is the hash of its name modulo
+/// this number.
+#[derive(Clone, Copy, Debug, PartialEq, Eq)]
+pub struct Shards(u32);
+
+impl Shards {
+    /// One program has all queues.
+    pub const ONE: Shards = Shards(1);
+
+    /// 1 to 16 programs; none for another number.
+    pub fn new(count: u32) -> Option<Shards> {
+        (1..=MOST).contains(&count).then_some(Shards(count))
+    }
+
+    pub fn count(self) -> u32 {
+        self.0
+    }
+
+    /// The shards by their places.
+    pub fn all(self) -> impl Iterator<Item = Shard> {
+        (0..self.0).map(move |place| Shard { shards: self, place })
+    }
+
+    /// The place of the program that has the queue of this name.
+    pub fn place_of(self, name: &QueueName) -> usize {
+        (crc32fast::hash(name.as_str().as_bytes()) % self.0) as usize
+    }
+}
+
+/// One of the programs that share the queues.
+#[derive(Clone, Copy, Debug, PartialEq, Eq)]
+pub struct Shard {
+    shards: Shards,
+    place: u32,
+}
+
+impl Shard {
+    /// The one that has all queues.
+    pub const WHOLE: Shard = Shard { shards: Shards::ONE, place: 0 };
+
+    pub fn has(self, name: &QueueName) -> bool {
+        self.shards.place_of(name) == self.place as usize
+    }
+}
+
+#[cfg(test)]
+mod tests {
+    use super::*;
+
+    #[test]
+    fn a_queue_has_one_place_which_is_its_names_crc32() {
+        // By Python's zlib.crc32, which the journals of other versions must agree with.
+        for (name, sum) in [("orders.fifo", ORDERS), ("a.fifo", A), ("zebra-9_X.fifo", ZEBRA)] {
+            let name = QueueName::parse(name).unwrap();
+            for count in 1..=16 {
+                let shards = Shards::new(count).unwrap();
+                assert_eq!(shards.place_of(&name), (sum % count) as usize);
+                assert_eq!(shards.all().filter(|shard| shard.has(&name)).count(), 1);
+            }
+        }
+        assert_eq!((Shards::new(0), Shards::new(17)), (None, None));
+    }
+
+    const ORDERS: u32 = 0xfcc2_3f50;
+    const A: u32 = 0xbb7a_04a1;
+    const ZEBRA: u32 = 0xb351_4824;
+}

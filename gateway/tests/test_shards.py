@@ -1,0 +1,165 @@
+"""Several programs cq that share the queues and one journal."""
+
+from __future__ import annotations
+
+import json
+import os
+import signal
+import subprocess
+import threading
+import time
+import zlib
+from pathlib import Path
+
+import pytest
+
+from started import COMPILED, ByJson, Started, command, environment, program
+
+pytestmark = pytest.mark.skipif(COMPILED is None, reason="HOBBYCHAIR_GATEWAY names no compiled gateway")
+
+COUNT = 3
+NAMES = [f"queue{number}.fifo" for number in range(12)]
+
+
+def shard_of(name: str) -> int:
+    return zlib.crc32(name.encode()) % COUNT
+
+
+def started(path: Path, room: Path | None = None) -> Started:
+    return Started("--shards", str(COUNT), "--journal", str(path), room=room)
+
+
+def send(call, name: str, text: str) -> None:
+    call("SendMessage", QueueUrl=name, MessageBody=text, MessageGroupId="g", MessageDeduplicationId=text)
+
+
+def bodies(call, name: str) -> list[str]:
+    messages = call("ReceiveMessage", QueueUrl=name, MaxNumberOfMessages=10).get("Messages", [])
+    return [message["Body"] for message in messages]
+
+
+def programs(gateway: Started) -> list[int]:
+    """The processes of cq, in the order of their starts, which is that of their shards."""
+    parents = f"/proc/{gateway.process.pid}/task/*/children"
+    found = subprocess.run(f"cat {parents}", shell=True, capture_output=True, text=True, check=True).stdout
+    return sorted(map(int, found.split()))
+
+
+def fill(call) -> None:
+    for name in NAMES:
+        call("CreateQueue", QueueName=name, Attributes={"FifoQueue": "true", "VisibilityTimeout": "0"})
+    for turn in range(3):
+        for name in NAMES:
+            send(call, name, f"{name}-{turn}")
+
+
+def expected(name: str) -> list[str]:
+    return [f"{name}-{turn}" for turn in range(3)]
+
+
+def test_the_names_are_of_all_shards():
+    assert {shard_of(name) for name in NAMES} == set(range(COUNT))
+
+
+def test_all_is_there_after_a_kill(tmp_path):
+    gateway = started(tmp_path / "journal", tmp_path)
+    assert len(programs(gateway)) == COUNT
+    fill(ByJson(gateway.url))
+    gateway.kill()
+    gateway.start()
+    call = ByJson(gateway.url)
+    urls = call("ListQueues")["QueueUrls"]
+    assert [url.rsplit("/", 1)[1] for url in urls] == sorted(NAMES)
+    for name in NAMES:
+        assert bodies(call, name) == expected(name)
+    assert gateway.stop() == 0
+
+
+def test_another_number_is_refused_and_says_what_to_do(tmp_path):
+    journal = tmp_path / "journal"
+    gateway = started(journal)
+    fill(ByJson(gateway.url))
+    assert gateway.stop() == 0
+    before = {file.name: file.read_bytes() for file in tmp_path.glob("journal.[0-9]*")}
+    for number in (1, COUNT + 1):
+        refused = subprocess.run(command("--port", "0", "--journal", str(journal), "--shards", str(number)),
+                                 env=environment(), timeout=60, capture_output=True, text=True)
+        assert refused.returncode == 1
+        assert f"--shards says {number}: start with --shards {COUNT}" in refused.stderr
+    assert before == {file.name: file.read_bytes() for file in tmp_path.glob("journal.[0-9]*")}
+    for wrong in ("0", "17", "two"):
+        refused = subprocess.run(command("--port", "0", "--shards", wrong), env=environment(), timeout=60,
+                                 capture_output=True, text=True)
+        assert refused.returncode == 2
+
+
+def test_the_others_go_on_while_a_program_is_started_again(tmp_path):
+    """One program stands still; its queue waits, and the other shards' queues are served. Then it is killed."""
+    gateway = started(tmp_path / "journal")
+    call = ByJson(gateway.url)
+    fill(call)
+    stopped = programs(gateway)[0]
+    os.kill(stopped, signal.SIGSTOP)
+    waiting = next(name for name in NAMES if shard_of(name) == 0)
+    sender = threading.Thread(target=send, args=(call, waiting, f"{waiting}-3"))
+    sender.start()
+    since = time.monotonic()
+    for name in NAMES:
+        if shard_of(name) != 0:
+            send(call, name, f"{name}-3")
+            assert bodies(call, name) == [*expected(name), f"{name}-3"]
+            # Answers of what is read from the tables wait for their own shard alone.
+            assert call("GetQueueUrl", QueueName=name)["QueueUrl"].endswith(name)
+    assert time.monotonic() - since < 20
+    assert sender.is_alive()
+    os.kill(stopped, signal.SIGKILL)
+    sender.join(30)
+    assert not sender.is_alive()
+    assert stopped not in programs(gateway) and len(programs(gateway)) == COUNT
+    for name in NAMES:
+        if shard_of(name) != 0 or name == waiting:
+            assert bodies(call, name) == [*expected(name), f"{name}-3"]
+        else:
+            assert bodies(call, name) == expected(name)
+    assert gateway.stop() == 0
+
+
+def test_programs_that_are_killed_under_load_lose_nothing(tmp_path):
+    gateway = started(tmp_path / "journal")
+    call = ByJson(gateway.url)
+    fill(call)
+    sent = {name: expected(name) for name in NAMES}
+
+    def keep_sending(name: str) -> None:
+        for turn in range(3, 10):
+            send(call, name, f"{name}-{turn}")
+            sent[name].append(f"{name}-{turn}")
+
+    senders = [threading.Thread(target=keep_sending, args=(name,)) for name in NAMES]
+    for sender in senders:
+        sender.start()
+    for place in range(COUNT):
+        os.kill(programs(gateway)[place], signal.SIGKILL)
+        time.sleep(0.2)
+    for sender in senders:
+        sender.join(60)
+    for name in NAMES:
+        assert len(sent[name]) == 10 and bodies(call, name) == sent[name]
+    gateway.kill()
+    gateway.start()
+    call = ByJson(gateway.url)
+    for name in NAMES:
+        assert bodies(call, name) == sent[name]
+    assert gateway.stop() == 0
+
+
+def test_a_dump_is_one_script_that_one_store_takes(tmp_path):
+    journal = tmp_path / "journal"
+    gateway = started(journal, tmp_path)
+    fill(ByJson(gateway.url))
+    assert gateway.stop() == 0
+    script = subprocess.run(command("dump", str(journal)), env=environment(), timeout=60, capture_output=True).stdout
+    answers = subprocess.run([program(), "session"], input=script, timeout=60, capture_output=True).stdout
+    replies = [json.loads(line)["reply"] for line in answers.splitlines()]
+    assert [reply["kind"] for reply in replies] == ["created"] * len(NAMES) + ["sent"] * 3 * len(NAMES)
+    assert [reply["sequence"] for reply in replies[len(NAMES):]] == [1] * 12 + [2] * 12 + [3] * 12
