@@ -91,12 +91,21 @@ impl Actions {
 
     /// Does what a request asks for, when all that it rests on is on disk.
     pub async fn perform(&self, request: Request, caller: &Caller) -> Result<Performed, SqsError> {
+        let name = queue_of(&request).cloned();
         let performed = self.perform_unsettled(request, caller).await;
         let is_settled = performed.as_ref().is_ok_and(|performed| performed.is_settled);
-        if !is_settled && !self.store.settled().await {
+        if !is_settled && !self.settled(name).await {
             return Err(SqsError::ServiceUnavailable("The store is gone.".into()));
         }
         performed
+    }
+
+    /// Waits until what the tables show is on disk: of one name, or of all.
+    async fn settled(&self, name: Option<QueueName>) -> bool {
+        match name {
+            Some(name) => self.store.settled_of(&name).await,
+            None => self.store.settled().await,
+        }
     }
 
     async fn perform_unsettled(&self, request: Request, caller: &Caller) -> Result<Performed, SqsError> {
@@ -119,5 +128,28 @@ impl Actions {
             Request::ListQueueTags { queue } => self.list_tags(&queue),
             Request::PurgeQueue { queue } => self.purge(&queue).await,
         }
+    }
+}
+
+/// The name of the one queue that a request is about, if there is one.
+fn queue_of(request: &Request) -> Option<&QueueName> {
+    match request {
+        Request::ListQueues { .. } => None,
+        Request::GetQueueUrl { queue } => queue.as_ref(),
+        Request::SendMessage { queue, .. }
+        | Request::SendMessageBatch { queue, .. }
+        | Request::ReceiveMessage { queue, .. }
+        | Request::DeleteMessage { queue, .. }
+        | Request::DeleteMessageBatch { queue, .. }
+        | Request::ChangeMessageVisibility { queue, .. }
+        | Request::ChangeMessageVisibilityBatch { queue, .. }
+        | Request::CreateQueue { queue, .. }
+        | Request::DeleteQueue { queue }
+        | Request::GetQueueAttributes { queue, .. }
+        | Request::SetQueueAttributes { queue, .. }
+        | Request::TagQueue { queue, .. }
+        | Request::UntagQueue { queue, .. }
+        | Request::ListQueueTags { queue }
+        | Request::PurgeQueue { queue } => Some(queue),
     }
 }
