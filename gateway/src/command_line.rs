@@ -7,11 +7,9 @@ use std::path::{Path, PathBuf};
 use anyhow::{anyhow, Result};
 use clap::{Parser, Subcommand};
 
-use crate::actions::Owner;
+use crate::config::{Log, LogForm, LogLevel, Misuse, Options};
 use crate::inspect;
-use crate::limits::Bounds;
-use crate::queues::shards::Shards;
-use crate::serve::{serve, Settings};
+use crate::serve::serve;
 
 /// The variable that names the program cq.
 const PROGRAM: &str = "HOBBYCHAIR_CQ";
@@ -27,7 +25,7 @@ struct CommandLine {
 #[derive(Subcommand)]
 enum Command {
     /// Serve clients of SQS
-    Serve(ServeOptions),
+    Serve(Box<Options>),
     /// Write a journal as a script for cq session
     Dump {
         /// The journal, as serve is given it
@@ -40,50 +38,8 @@ enum Command {
     },
 }
 
-#[derive(clap::Args)]
-struct ServeOptions {
-    /// The address to listen on
-    #[arg(long, default_value = "127.0.0.1")]
-    host: String,
-    /// The port; 0 is any free one
-    #[arg(long, default_value_t = 9324)]
-    port: u16,
-    /// The program cq; the variable HOBBYCHAIR_CQ or cq of the path if it is missing
-    #[arg(long, value_name = "PROGRAM")]
-    cq: Option<String>,
-    /// Keep all on disk, in FILE.1 and so on, and start from it
-    #[arg(long, value_name = "FILE")]
-    journal: Option<PathBuf>,
-    /// Take no more messages when so many bytes of memory are in use, less five percent
-    #[arg(long, value_name = "BYTES")]
-    memory: Option<u64>,
-    /// Take no more messages when the journal has so many bytes, less five percent
-    #[arg(long, value_name = "BYTES", requires = "journal")]
-    journal_size: Option<u64>,
-    /// So many programs cq share the queues, 1 to 16
-    #[arg(long, value_name = "N", default_value = "1", value_parser = shards)]
-    shards: Shards,
-    /// The account in URLs, 12 digits
-    #[arg(long, default_value = "000000000000", value_parser = account)]
-    account: String,
-    /// The region in ARNs
-    #[arg(long, default_value = "us-east-1")]
-    region: String,
-    #[arg(long, hide = true)]
-    clock_file: Option<PathBuf>,
-}
-
-fn shards(text: &str) -> Result<Shards, String> {
-    text.parse().ok().and_then(Shards::new).ok_or_else(|| "it is no number from 1 to 16".into())
-}
-
-fn account(text: &str) -> Result<String, String> {
-    let is_account = text.len() == 12 && text.bytes().all(|byte| byte.is_ascii_digit());
-    is_account.then(|| text.to_string()).ok_or_else(|| "it is no account of 12 digits".into())
-}
-
-/// Does what the command line says, and tells the exit status: 0, or 1 if it couldn't begin or go on. A wrong command
-/// line ends the process with 2.
+/// Does what the command line says, and tells the exit status: 0, 1 if it couldn't begin or go on, or 2 if what it was
+/// told is at fault.
 pub fn main() -> i32 {
     let command_line = CommandLine::parse();
     match run(command_line.command) {
@@ -93,7 +49,11 @@ pub fn main() -> i32 {
             if is_broken_pipe != Some(io::ErrorKind::BrokenPipe) {
                 eprintln!("hobbychair: {error:#}");
             }
-            1
+            if error.is::<Misuse>() {
+                2
+            } else {
+                1
+            }
         }
     }
 }
@@ -101,30 +61,17 @@ pub fn main() -> i32 {
 fn run(command: Command) -> Result<()> {
     let mut out = io::BufWriter::new(io::stdout());
     match command {
-        Command::Serve(options) => serve_by(options)?,
+        Command::Serve(options) => serve_by(*options)?,
         Command::Dump { file } => inspect::dump(&file, &mut out)?,
         Command::Verify { file } => inspect::verify(&file, &mut out)?,
     }
     Ok(out.flush()?)
 }
 
-fn serve_by(options: ServeOptions) -> Result<()> {
-    tracing_subscriber::fmt()
-        .with_writer(io::stderr)
-        .with_ansi(false)
-        .with_target(false)
-        .with_max_level(tracing::Level::WARN)
-        .init();
-    let settings = Settings {
-        host: options.host,
-        port: options.port,
-        program: program(options.cq)?,
-        journal: options.journal,
-        bounds: Bounds { memory: options.memory, journal: options.journal_size },
-        shards: options.shards,
-        owner: Owner { account: options.account, region: options.region },
-        clock_file: options.clock_file,
-    };
+fn serve_by(options: Options) -> Result<()> {
+    let options = options.with_file()?;
+    begin_log(options.log());
+    let settings = options.settings(program)?;
     let runtime = tokio::runtime::Builder::new_multi_thread().enable_all().build()?;
     let served = runtime.block_on(serve(settings));
     // What still waits for a client or a disk is of no use any more.
@@ -132,8 +79,23 @@ fn serve_by(options: ServeOptions) -> Result<()> {
     served
 }
 
+/// The log goes to standard error.
+fn begin_log(log: Log) {
+    let level = match log.level {
+        LogLevel::Error => tracing::Level::ERROR,
+        LogLevel::Warn => tracing::Level::WARN,
+        LogLevel::Info => tracing::Level::INFO,
+        LogLevel::Debug => tracing::Level::DEBUG,
+    };
+    let lines = tracing_subscriber::fmt().with_writer(io::stderr).with_ansi(false).with_max_level(level);
+    match log.form {
+        LogForm::Text => lines.with_target(false).init(),
+        LogForm::Json => lines.json().flatten_event(true).with_target(false).init(),
+    }
+}
+
 fn program(given: Option<String>) -> Result<String> {
-    let named = given.or_else(|| std::env::var(PROGRAM).ok().filter(|named| !named.is_empty()));
+    let named = given.filter(|named| !named.is_empty());
     let path = std::env::var_os("PATH").unwrap_or_default();
     let on_path =
         |name: &str| std::env::split_paths(&path).map(|folder| folder.join(name)).find(|file| is_program(file));

@@ -45,6 +45,10 @@ pub enum SqsError {
     UnsupportedOperation(String),
     #[error("The action {0} is not valid for this endpoint.")]
     UnknownOperation(String),
+    #[error("A request has at most {limit} bytes.")]
+    RequestTooLong { limit: usize },
+    #[error("The request wasn't whole in time.")]
+    RequestTimeout,
     #[error("{0}")]
     OverLimit(String),
     #[error("{0}")]
@@ -140,6 +144,10 @@ impl SqsError {
             SqsError::UnknownOperation(_) => {
                 ("com.amazon.coral.service#UnknownOperationException", "InvalidAction", 400)
             }
+            SqsError::RequestTooLong { .. } => {
+                ("com.amazon.coral.service#RequestEntityTooLargeException", "RequestEntityTooLarge", 413)
+            }
+            SqsError::RequestTimeout => ("com.amazon.coral.service#RequestTimeoutException", "RequestTimeout", 408),
             SqsError::OverLimit(_) => ("com.amazonaws.sqs#OverLimit", "OverLimit", 403),
             SqsError::InternalFailure(_) => ("com.amazonaws.sqs#InternalFailure", "InternalFailure", 500),
             SqsError::ServiceUnavailable(_) => ("com.amazonaws.sqs#ServiceUnavailable", "ServiceUnavailable", 503),

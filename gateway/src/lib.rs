@@ -6,11 +6,14 @@
 
 pub mod access;
 pub mod actions;
+pub mod admin;
 pub mod attributes;
 pub mod clock;
 pub mod command_line;
+pub mod config;
 pub mod cq;
 pub mod digests;
+pub mod ending;
 pub mod errors;
 pub mod handles;
 pub mod http;
@@ -19,11 +22,14 @@ pub mod journal;
 pub mod limits;
 pub mod lines;
 pub mod messages;
+pub mod metrics;
 pub mod polling;
 pub mod presence;
 pub mod queues;
 pub mod repeats;
 pub mod rolling;
+#[cfg(test)]
+mod seeded;
 pub mod serve;
 pub mod store;
 pub mod texts;

@@ -164,6 +164,9 @@ pub struct Kept {
     pub sent: u64,
     /// The deduplication id that clients see.
     pub dedup: DedupId,
+    /// Who sent it, by the access key, where signatures were looked at.
+    #[serde(default, skip_serializing_if = "Option::is_none")]
+    pub sender: Option<String>,
     #[serde(default, skip_serializing_if = "BTreeMap::is_empty")]
     pub attributes: MessageAttributes,
     /// The trace header, where there is one.
@@ -243,6 +246,7 @@ mod tests {
             id: Uuid::from_u128(7),
             sent: 1_700_000_000_000,
             dedup: DedupId::parse("d").unwrap(),
+            sender: None,
             attributes: MessageAttributes::new(),
             trace: None,
         }

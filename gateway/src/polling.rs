@@ -7,6 +7,7 @@ use std::time::Duration;
 use tokio::sync::oneshot;
 use tokio::time::Instant;
 
+use crate::ending::Ending;
 use crate::errors::SqsError;
 use crate::presence::Presence;
 use crate::queues::ask::{Ask, Handed, Outcome};
@@ -33,14 +34,22 @@ impl Poll {
 
 /// Those who wait at one queue.
 #[derive(Default)]
-pub struct Polls(Mutex<Waiting>);
+pub struct Polls(Mutex<Line>);
 
 #[derive(Default)]
-struct Waiting {
+struct Line {
     polls: VecDeque<Poll>,
     last_number: u64,
     /// A task serves them.
     is_served: bool,
+}
+
+/// How long somebody waits, and who it is.
+pub struct Waiting {
+    pub presence: Presence,
+    pub time: Duration,
+    /// The end of the gateway is the end of the wait.
+    pub ending: Ending,
 }
 
 /// The most receives that are tried at once.
@@ -53,7 +62,7 @@ const LOOK_AGAIN: Duration = Duration::from_millis(20);
 const LONGEST_WATCH: Duration = Duration::from_secs(20);
 
 impl Polls {
-    fn waiting(&self) -> MutexGuard<'_, Waiting> {
+    fn waiting(&self) -> MutexGuard<'_, Line> {
         self.0.lock().unwrap_or_else(PoisonError::into_inner)
     }
 
@@ -85,11 +94,12 @@ impl Polls {
     }
 }
 
-/// Waits at a queue for messages, and tells those that came, or none when `time` is up.
+/// Waits at a queue for messages, and tells those that came, or none when their time is up.
 ///
 /// `seen` is how many openings the receive had seen that came back empty. A queue that is removed meanwhile is
 /// `QueueDoesNotExist`.
-pub async fn wait(store: &Store, queue: &Arc<Queue>, ask: Ask, presence: Presence, time: Duration, seen: u64) -> Found {
+pub async fn wait(store: &Store, queue: &Arc<Queue>, ask: Ask, waiting: Waiting, seen: u64) -> Found {
+    let Waiting { presence, time, mut ending } = waiting;
     let (done, mut found) = oneshot::channel();
     let deadline = Instant::now() + time;
     let number = {
@@ -108,13 +118,19 @@ pub async fn wait(store: &Store, queue: &Arc<Queue>, ask: Ask, presence: Presenc
     }
     let mut until = deadline;
     loop {
-        match tokio::time::timeout_at(until, &mut found).await {
-            Ok(Ok(found)) => return found,
-            Ok(Err(_)) => return Err(SqsError::ServiceUnavailable("The store is gone.".into())),
-            Err(_) if queue.polls.withdraw(number) => return Ok(Vec::new()),
-            // It is being tried: what it is handed must not be lost. Perhaps it goes back among those that wait.
-            Err(_) => until = Instant::now() + LOOK_AGAIN,
+        tokio::select! {
+            biased;
+            found = &mut found => {
+                return found.unwrap_or_else(|_| Err(SqsError::ServiceUnavailable("The store is gone.".into())));
+            }
+            () = tokio::time::sleep_until(until) => {}
+            () = ending.comes(), if until == deadline => {}
         }
+        if queue.polls.withdraw(number) {
+            return Ok(Vec::new());
+        }
+        // It is being tried: what it is handed must not be lost. Perhaps it goes back among those that wait.
+        until = Instant::now() + LOOK_AGAIN;
     }
 }
 

@@ -1,25 +1,32 @@
-//! The gateway as a whole: `cq`, the store in front of it, the journal, and the HTTP server.
+//! The gateway as a whole: `cq`, the store in front of it, the journal, the HTTP server, and what operators are told.
 
 use std::io::Write;
-use std::net::{SocketAddr, ToSocketAddrs};
 use std::path::PathBuf;
-use std::sync::Arc;
+use std::sync::{Arc, OnceLock};
 use std::time::Duration;
 
-use anyhow::{bail, Context, Result};
-use tokio::signal::unix::{signal, SignalKind};
-use tokio::sync::{oneshot, Notify};
+use anyhow::{anyhow, bail, Context, Result};
+use rustix::process::{getrlimit, setrlimit, Resource, Rlimit};
+use tokio::net::TcpListener;
+use tokio::signal::unix::{signal, Signal, SignalKind};
+use tokio::sync::oneshot;
 
+use crate::access::Keys;
 use crate::actions::{Actions, Owner};
+use crate::admin::{Admin, Health};
 use crate::clock::Clock;
+use crate::config::{Address, DeclaredQueue, Misuse};
 use crate::cq::{test_built, test_version, Cq};
-use crate::http::Listening;
-use crate::journal::{self, Taken};
+use crate::ending::End;
+use crate::http::{is_of_this_machine, listen, Addresses, Door, Service};
+use crate::journal::{self, Journal, Taken};
 use crate::limits::Bounds;
+use crate::metrics::Metrics;
 use crate::queues::ask::Ask;
 use crate::queues::shards::Shards;
 use crate::queues::Queues;
 use crate::store::{self, Ended, Replayed, Start, Store, Tables};
+use crate::tls::Certificate;
 
 /// What a gateway is told at its start.
 #[derive(Clone, Debug)]
@@ -28,34 +35,143 @@ pub struct Settings {
     pub port: u16,
     /// The program `cq`.
     pub program: String,
+    /// How many of it share the queues.
+    pub shards: Shards,
     pub journal: Option<PathBuf>,
     pub bounds: Bounds,
-    /// How many programs share the queues.
-    pub shards: Shards,
+    /// The file of keys; none where everybody is served.
+    pub credentials: Option<PathBuf>,
+    /// Everybody is served also from other machines.
+    pub open: bool,
+    /// A chain of certificates and its key.
+    pub certificate: Option<(PathBuf, PathBuf)>,
+    /// The URL under which clients know the gateway.
+    pub url: Option<String>,
     pub owner: Owner,
+    pub connections: u32,
+    pub polls: u32,
+    pub admin: Option<Address>,
+    pub queues: Vec<DeclaredQueue>,
     /// A file whose number is the clock, for tests.
     pub clock_file: Option<PathBuf>,
 }
 
-/// So long a signal waits for open requests.
-const LAST_ANSWERS: Duration = Duration::from_secs(1);
+/// So long a signal waits for open requests and for the journal.
+const LAST_ANSWERS: Duration = Duration::from_secs(8);
 
 /// Serves until a signal comes. An error says why it couldn't begin or go on.
 pub async fn serve(settings: Settings) -> Result<()> {
+    let entrance = Entrance::of(&settings)?;
+    raise_open_files(settings.connections);
     test_built(&settings.program).await?;
     test_version(&settings.program).await?;
+    let admin = Arc::new(Admin {
+        health: Arc::new(Health::default()),
+        metrics: Arc::new(Metrics::new()?),
+        store: OnceLock::new(),
+    });
+    if let Some(address) = &settings.admin {
+        let listener = listen_for_operators(address)?;
+        tokio::spawn(admin.clone().serve(listener));
+    }
+    let begun = begin(&settings, &admin.health).await?;
+    // Only one store is ever set.
+    let _ = admin.store.set(begun.store.clone());
+    if begun.journal.is_some() {
+        tokio::spawn(crate::rolling::keep_rolling(begun.store.clone()));
+    }
+    let served = answer(&settings, entrance, begun.store, begun.ended, &admin).await;
+    if let Some(journal) = begun.journal {
+        journal.close().await;
+    }
+    served
+}
+
+/// Who may come in, and by what.
+struct Entrance {
+    listener: TcpListener,
+    keys: Option<Arc<Keys>>,
+    certificate: Option<Arc<Certificate>>,
+}
+
+impl Entrance {
+    /// Reads keys and certificates, and takes the address. Where there are no keys, that is one of this machine, unless
+    /// it was said that everybody is served.
+    fn of(settings: &Settings) -> Result<Entrance> {
+        let keys = settings.credentials.as_deref().map(Keys::read).transpose()?.map(Arc::new);
+        let certificate = match &settings.certificate {
+            Some((certificate, key)) => Some(Arc::new(Certificate::read(certificate, key)?)),
+            None => None,
+        };
+        let (host, port) = (&settings.host, settings.port);
+        let listener = listen(host, port).with_context(|| format!("can't listen on {host}:{port}"))?;
+        if keys.is_none() && !settings.open && !is_of_this_machine(listener.local_addr()?.ip()) {
+            let why = "without --credentials only this machine is served, by an address of 127.0.0.0/8 or by ::1. \
+                       To serve everybody who can reach the gateway, say --open";
+            return Err(Misuse(format!("{host}: {why}")).into());
+        }
+        Ok(Entrance { listener, keys, certificate })
+    }
+
+    /// Reads the files again. What can't be read stays as it was.
+    fn read_again(keys: Option<&Keys>, certificate: Option<&Certificate>) {
+        tell_read_again("keys", keys.map(Keys::read_again));
+        tell_read_again("certificate", certificate.map(Certificate::read_again));
+    }
+}
+
+fn tell_read_again(what: &str, read: Option<Result<()>>) {
+    match read {
+        None => {}
+        Some(Ok(())) => tracing::info!("the {what} were read again"),
+        Some(Err(error)) => tracing::error!("the {what} stay as they were: {error:#}"),
+    }
+}
+
+/// Each connection is an open file, and some more are needed. Where the system allows fewer, connections above that wait.
+fn raise_open_files(connections: u32) {
+    let wanted = u64::from(connections) + 1024;
+    let now = getrlimit(Resource::Nofile);
+    let raised = now.maximum.map_or(wanted, |most| wanted.min(most));
+    if now.current.map_or(true, |current| current >= raised) {
+        return;
+    }
+    match setrlimit(Resource::Nofile, Rlimit { current: Some(raised), maximum: now.maximum }) {
+        Ok(()) if raised < wanted => tracing::warn!("the system allows {raised} open files, and {wanted} are wanted"),
+        Ok(()) => {}
+        Err(error) => tracing::warn!("the limit of open files stays as it is: {error}"),
+    }
+}
+
+fn listen_for_operators(address: &Address) -> Result<TcpListener> {
+    let Address { host, port } = address;
+    let listener = listen(host, *port).with_context(|| format!("can't listen on {host}:{port} for operators"))?;
+    say(&format!("health and metrics on http://{}", listener.local_addr()?));
+    Ok(listener)
+}
+
+/// What goes on from the start to the end.
+struct Begun {
+    store: Store,
+    ended: oneshot::Receiver<Ended>,
+    journal: Option<Journal>,
+}
+
+/// Starts the program, and brings it to where the journal is.
+async fn begin(settings: &Settings, health: &Health) -> Result<Begun> {
     let clock = Arc::new(match &settings.clock_file {
         Some(path) => Clock::of_file(path),
         None => Clock::new(),
     });
     let queues = Arc::new(Queues::default());
-    let taken = take_journal(&settings).await?;
+    let taken = take_journal(settings).await?;
     let shards = settings.shards;
     let mut cqs = Cq::start_all(&settings.program, shards.count())?;
     let (journal, replayed) = match taken {
         Some(taken) => {
             let opened = taken.open(shards)?;
-            let tables = Tables { queues: queues.clone(), clock: clock.clone() };
+            let (queues, clock, progress) = (queues.clone(), clock.clone(), health.replayed.clone());
+            let tables = Tables { queues, clock, progress };
             let (fed, replayed) = store::replay_all(cqs, shards, &opened, &tables).await?;
             cqs = fed;
             let journal = opened.begin(replayed.records, end_at_once)?;
@@ -66,18 +182,10 @@ pub async fn serve(settings: Settings) -> Result<()> {
     if replayed.records > 0 {
         say(&format!("replayed {} records of the journal", replayed.records));
     }
-    let program = settings.program.clone();
-    let bounds = settings.bounds;
+    let (program, bounds) = (settings.program.clone(), settings.bounds);
     let (store, ended) = store::start(Start { program, shards, cqs, queues, clock, journal: journal.clone(), bounds });
     remove_left_over(&store, &replayed).await?;
-    if journal.is_some() {
-        tokio::spawn(crate::rolling::keep_rolling(store.clone()));
-    }
-    let served = answer(&settings, store, ended).await;
-    if let Some(journal) = journal {
-        journal.close().await;
-    }
-    served
+    Ok(Begun { store, ended, journal })
 }
 
 async fn take_journal(settings: &Settings) -> Result<Option<Taken>> {
@@ -95,49 +203,84 @@ async fn remove_left_over(store: &Store, replayed: &Replayed) -> Result<()> {
     Ok(())
 }
 
-async fn answer(settings: &Settings, store: Store, ended: oneshot::Receiver<Ended>) -> Result<()> {
-    let listening = listen(&settings.host, settings.port)?;
+async fn answer(
+    settings: &Settings,
+    entrance: Entrance,
+    store: Store,
+    ended: oneshot::Receiver<Ended>,
+    admin: &Admin,
+) -> Result<()> {
+    let Entrance { listener, keys, certificate } = entrance;
     // The program has to answer before anybody is told that there is something to ask.
     if !store.is_answering().await {
         bail!(why(ended).await);
     }
+    let (end, ending) = End::new();
+    let actions = Actions::new(store, settings.owner.clone(), settings.polls, admin.metrics.clone(), ending.clone());
+    actions.declare(&settings.queues).await;
     // Until here a signal ends the process at once, also where the program hangs.
-    let mut interrupt = signal(SignalKind::interrupt())?;
-    let mut terminate = signal(SignalKind::terminate())?;
-    say(&format!("listening on http://{}", listening.address()));
-    let stop = Arc::new(Notify::new());
-    let stopped = stop.clone();
-    let actions = Actions::new(store, settings.owner.clone());
-    let mut server = tokio::spawn(listening.serve(actions, async move { stopped.notified().await }));
+    let mut signals = Signals::new()?;
+    let local = listener.local_addr()?;
+    let addresses = Addresses { url: settings.url.clone(), local, has_tls: certificate.is_some() };
+    say(&format!("listening on {}://{local}", addresses.scheme()));
+    let service = Arc::new(Service::new(actions, keys.clone(), addresses, admin.metrics.clone()));
+    let door = Door { service, certificate: certificate.clone(), most: settings.connections };
+    let mut served = tokio::spawn(door.serve(listener, ending));
+    admin.health.serves();
+    notify_supervisor(sd_notify::NotifyState::Ready);
     tokio::select! {
-        _ = interrupt.recv() => {}
-        _ = terminate.recv() => {}
-        served = &mut server => return Ok(served??),
+        () = signals.wait_for_end(|| Entrance::read_again(keys.as_deref(), certificate.as_deref())) => {}
+        ended = &mut served => return Err(anyhow!("the server ended: {ended:?}")),
         reason = ended => bail!(reason.map_or_else(|_| "The store is gone.".to_string(), |ended| ended.to_string())),
     }
-    stop.notify_one();
-    // Polls that wait longer are cut off: their clients ask again.
-    let _ = tokio::time::timeout(LAST_ANSWERS, server).await;
+    admin.health.ends();
+    notify_supervisor(sd_notify::NotifyState::Stopping);
+    tracing::info!("ending");
+    end.tell();
+    if tokio::time::timeout(LAST_ANSWERS, served).await.is_err() {
+        tracing::warn!("some requests were cut off");
+    }
     Ok(())
+}
+
+/// Tells systemd, where it started this.
+fn notify_supervisor(state: sd_notify::NotifyState<'_>) {
+    if let Err(error) = sd_notify::notify(false, &[state]) {
+        tracing::warn!("the supervisor can't be told: {error}");
+    }
+}
+
+/// The signals that are listened to.
+struct Signals {
+    interrupt: Signal,
+    terminate: Signal,
+    hangup: Signal,
+}
+
+impl Signals {
+    fn new() -> Result<Signals> {
+        let of = |kind| signal(kind).context("signals can't be listened to");
+        Ok(Signals {
+            interrupt: of(SignalKind::interrupt())?,
+            terminate: of(SignalKind::terminate())?,
+            hangup: of(SignalKind::hangup())?,
+        })
+    }
+
+    /// Waits for a signal that ends the gateway; at each SIGHUP files are read again.
+    async fn wait_for_end(&mut self, read_again: impl Fn()) {
+        loop {
+            tokio::select! {
+                _ = self.interrupt.recv() => return,
+                _ = self.terminate.recv() => return,
+                _ = self.hangup.recv() => read_again(),
+            }
+        }
+    }
 }
 
 async fn why(ended: oneshot::Receiver<Ended>) -> String {
     ended.await.map_or_else(|_| "The store is gone.".to_string(), |ended| ended.to_string())
-}
-
-fn listen(host: &str, port: u16) -> Result<Listening> {
-    let mut last = None;
-    let addresses = (host, port).to_socket_addrs().with_context(|| format!("{host} is no address"))?;
-    for address in addresses.collect::<Vec<SocketAddr>>() {
-        match Listening::on(address) {
-            Ok(listening) => return Ok(listening),
-            Err(error) => last = Some(error),
-        }
-    }
-    match last {
-        Some(error) => bail!("can't listen on {host}:{port}: {error}"),
-        None => bail!("{host} is no address"),
-    }
 }
 
 /// Writes a line on standard output. Where nobody reads it, it is lost.

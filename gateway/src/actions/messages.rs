@@ -2,9 +2,9 @@
 
 use std::sync::Arc;
 
-use uuid::Uuid;
+use uuid::Builder;
 
-use super::{Actions, Performed};
+use super::{Actions, Caller, Performed};
 use crate::attributes::LONGEST_MESSAGE;
 use crate::digests::{md5_of_attributes, md5_of_text};
 use crate::errors::SqsError;
@@ -18,25 +18,35 @@ use crate::wire::responses::{Done, Failed, Sent};
 use crate::wire::Response;
 
 impl Actions {
-    pub(super) async fn send(&self, name: &QueueName, message: Message) -> Result<Performed, SqsError> {
+    pub(super) async fn send(
+        &self,
+        name: &QueueName,
+        message: Message,
+        caller: &Caller,
+    ) -> Result<Performed, SqsError> {
         let queue = self.queue(name)?;
-        let ask = self.send_ask(&queue, &message)?;
+        let ask = self.send_ask(&queue, &message, caller)?;
         let outcome = self.store.ask(&queue, ask).await?;
         Ok(Response::Sent(sent(&message, &outcome)?).into())
     }
 
-    pub(super) async fn send_batch(&self, name: &QueueName, batch: Batch<Message>) -> Result<Performed, SqsError> {
+    pub(super) async fn send_batch(
+        &self,
+        name: &QueueName,
+        batch: Batch<Message>,
+        caller: &Caller,
+    ) -> Result<Performed, SqsError> {
         let queue = self.queue(name)?;
         // An entry that isn't good counts nothing, and is told of its own.
         let size: usize = batch.iter().filter_map(|(_, entry)| Some(entry.as_ref().ok()?.size())).sum();
         if size > LONGEST_MESSAGE {
             return Err(SqsError::BatchRequestTooLong { limit: LONGEST_MESSAGE, sent: size });
         }
-        let ask_of = |message: &Message| self.send_ask(&queue, message);
+        let ask_of = |message: &Message| self.send_ask(&queue, message, caller);
         self.answer_each(&queue, batch, ask_of, |message, outcome| sent(message, outcome).map(Some)).await
     }
 
-    fn send_ask(&self, queue: &Queue, message: &Message) -> Result<Ask, SqsError> {
+    fn send_ask(&self, queue: &Queue, message: &Message, caller: &Caller) -> Result<Ask, SqsError> {
         let (limit, by_content, by_group) = {
             let state = queue.state();
             let attributes = &state.attributes;
@@ -54,9 +64,10 @@ impl Actions {
         };
         let for_store = if by_group { dedup.within(&message.group) } else { dedup.clone() };
         let kept = Kept {
-            id: Uuid::new_v4(),
+            id: Builder::from_random_bytes(rand::random()).into_uuid(),
             sent: self.store.clock().now(),
             dedup,
+            sender: caller.identity.as_ref().map(|identity| identity.name().to_string()),
             attributes: message.attributes.clone(),
             trace: message.trace.clone(),
         };

@@ -1,5 +1,6 @@
 //! The actions of SQS: each becomes asks of the store, and their answers become a result.
 
+mod declared;
 mod messages;
 mod queues;
 mod receiving;
@@ -7,21 +8,29 @@ mod receiving;
 use std::hash::{Hash, Hasher};
 use std::sync::Arc;
 
-use tokio::sync::Mutex;
+use tokio::sync::{Mutex, Semaphore};
 
+use crate::access::Identity;
+use crate::ending::Ending;
 use crate::errors::SqsError;
 use crate::handles::Receipt;
+use crate::metrics::Metrics;
 use crate::presence::Presence;
 use crate::queues::Queue;
 use crate::store::Store;
 use crate::texts::QueueName;
+use crate::wire::requests::Action;
 use crate::wire::{Request, Response};
 
-/// Who asks: the URL under which the gateway was reached, and whether anybody still waits for the answer.
-#[derive(Clone, Debug)]
+/// Who asks.
+#[derive(Clone)]
 pub struct Caller {
+    /// The URL under which the gateway was reached.
     pub base_url: String,
+    /// Whether anybody still waits for the answer.
     pub presence: Presence,
+    /// Whose signature it was; none where nobody looks at signatures.
+    pub identity: Option<Arc<Identity>>,
 }
 
 /// What an action came to.
@@ -64,15 +73,28 @@ pub struct Actions {
     owner: Owner,
     /// Creations and removals of one name come one after the other. No other action takes a turn.
     turns: Vec<Mutex<()>>,
+    /// A permit for each receive that may wait.
+    polls: Semaphore,
+    metrics: Arc<Metrics>,
+    ending: Ending,
 }
 
 impl Actions {
-    pub fn new(store: Store, owner: Owner) -> Actions {
-        Actions { store, owner, turns: (0..TURNS).map(|_| Mutex::new(())).collect() }
+    /// `polls` receives may wait at once, and no longer than until the end comes.
+    pub fn new(store: Store, owner: Owner, polls: u32, metrics: Arc<Metrics>, ending: Ending) -> Actions {
+        let turns = (0..TURNS).map(|_| Mutex::new(())).collect();
+        Actions { store, owner, turns, polls: Semaphore::new(polls as usize), metrics, ending }
     }
 
     pub fn store(&self) -> &Store {
         &self.store
+    }
+
+    /// The refusal of an action that a key doesn't allow.
+    pub fn denied(&self, identity: &Identity, action: Action, queue: Option<&QueueName>) -> SqsError {
+        let Owner { account, region } = &self.owner;
+        let queue = queue.map_or("*", QueueName::as_str);
+        identity.refusal(action, &format!("arn:aws:sqs:{region}:{account}:{queue}"))
     }
 
     fn turn_of(&self, name: &QueueName) -> &Mutex<()> {
@@ -110,8 +132,8 @@ impl Actions {
 
     async fn perform_unsettled(&self, request: Request, caller: &Caller) -> Result<Performed, SqsError> {
         match request {
-            Request::SendMessage { queue, message } => self.send(&queue, message).await,
-            Request::SendMessageBatch { queue, batch } => self.send_batch(&queue, batch).await,
+            Request::SendMessage { queue, message } => self.send(&queue, message, caller).await,
+            Request::SendMessageBatch { queue, batch } => self.send_batch(&queue, batch, caller).await,
             Request::ReceiveMessage { queue, receive } => self.receive(&queue, receive, caller).await,
             Request::DeleteMessage { queue, handle } => self.delete(&queue, &handle).await,
             Request::DeleteMessageBatch { queue, batch } => self.delete_batch(&queue, batch).await,

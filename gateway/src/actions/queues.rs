@@ -62,7 +62,8 @@ impl Actions {
 
     pub(super) fn list(&self, prefix: &str, most: Option<u32>, after: &str, caller: &Caller) -> Performed {
         let count = most.unwrap_or(LONGEST_PAGE) as usize;
-        let (names, has_more) = self.store.queues().page(prefix, after, count);
+        let sees = |name: &QueueName| caller.identity.as_ref().map_or(true, |identity| identity.sees(name));
+        let (names, has_more) = self.store.queues().page(prefix, after, count, sees);
         let last = names.last().map(QueueName::to_string);
         let urls = names.iter().map(|name| self.url(name, caller)).collect();
         let next = last.filter(|_| has_more && most.is_some());

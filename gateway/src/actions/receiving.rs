@@ -9,7 +9,7 @@ use crate::digests::{md5_of_attributes, md5_of_text};
 use crate::errors::SqsError;
 use crate::handles::Handle;
 use crate::messages::{read_form, Kept, MessageAttributes};
-use crate::polling;
+use crate::polling::{self, Waiting};
 use crate::queues::ask::{Ask, Handed, Outcome};
 use crate::queues::Queue;
 use crate::texts::QueueName;
@@ -17,7 +17,7 @@ use crate::wire::requests::{Receive, Shown, SystemAttribute};
 use crate::wire::responses::ReceivedMessage;
 use crate::wire::Response;
 
-/// The `SenderId` of every message: there is one account.
+/// The `SenderId` of messages whose senders signed with no key that anybody looked at.
 const SENDER: &str = "AIDAHOBBYCHAIR0000000";
 
 impl Actions {
@@ -42,8 +42,11 @@ impl Actions {
             return Err(SqsError::InternalFailure("The store handed nothing out.".into()));
         };
         if handed.is_empty() && wait > 0 {
-            let (time, presence) = (Duration::from_secs(wait), caller.presence.clone());
-            handed = polling::wait(&self.store, &queue, ask, presence, time, openings).await?;
+            let _permit = self.polls.try_acquire().map_err(|_| too_many_polls())?;
+            let _counted = self.metrics.poll();
+            let (presence, time) = (caller.presence.clone(), Duration::from_secs(wait));
+            let waiting = Waiting { presence, time, ending: self.ending.clone() };
+            handed = polling::wait(&self.store, &queue, ask, waiting, openings).await?;
         }
         received(&queue, handed, &receive.shown)
     }
@@ -61,6 +64,10 @@ impl Actions {
         let answers = self.store.ask_all(queue, found.iter().map(change).collect()).await;
         Ok(answers.iter().all(Result::is_ok).then_some(found))
     }
+}
+
+fn too_many_polls() -> SqsError {
+    SqsError::ServiceUnavailable("Too many long polls are open.".into())
 }
 
 fn received(queue: &Arc<Queue>, handed: Vec<Handed>, shown: &Shown) -> Result<Performed, SqsError> {
@@ -91,7 +98,7 @@ fn show(queue: &Queue, handed: &Handed, shown: &Shown) -> Result<ReceivedMessage
 
 fn told(attribute: SystemAttribute, handed: &Handed, kept: &Kept) -> Option<String> {
     Some(match attribute {
-        SystemAttribute::SenderId => SENDER.into(),
+        SystemAttribute::SenderId => kept.sender.as_deref().unwrap_or(SENDER).into(),
         SystemAttribute::SentTimestamp => kept.sent.to_string(),
         SystemAttribute::ApproximateReceiveCount => handed.receipt.ordinal.to_string(),
         SystemAttribute::ApproximateFirstReceiveTimestamp => handed.first.to_string(),

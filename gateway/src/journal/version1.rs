@@ -272,6 +272,7 @@ impl Conversion {
                     id: old_message_id(&queue.mark, queue.sends),
                     sent: clock,
                     dedup: message.dedup,
+                    sender: None,
                     attributes: message.attributes,
                     trace: message.trace,
                 };

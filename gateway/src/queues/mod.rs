@@ -85,10 +85,17 @@ impl Queues {
         self.by_name.read().unwrap_or_else(PoisonError::into_inner).values().cloned().collect()
     }
 
-    /// Up to `most` names behind `after` that begin with `prefix`, in order, and whether there are more.
-    pub fn page(&self, prefix: &str, after: &str, most: usize) -> (Vec<QueueName>, bool) {
+    /// Up to `most` names behind `after` that begin with `prefix` and that `sees` lets through, in order, and whether
+    /// there are more.
+    pub fn page(
+        &self,
+        prefix: &str,
+        after: &str,
+        most: usize,
+        sees: impl Fn(&QueueName) -> bool,
+    ) -> (Vec<QueueName>, bool) {
         let queues = self.by_name.read().unwrap_or_else(PoisonError::into_inner);
-        let fits = |name: &&QueueName| name.as_str().starts_with(prefix) && name.as_str() > after;
+        let fits = |name: &&QueueName| name.as_str().starts_with(prefix) && name.as_str() > after && sees(name);
         let mut names: Vec<_> = queues.keys().filter(fits).take(most + 1).cloned().collect();
         let has_more = names.len() > most;
         names.truncate(most);

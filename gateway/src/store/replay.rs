@@ -7,6 +7,7 @@
 //! order, by a replay of its own that passes the others over.
 
 use std::collections::{BTreeSet, HashMap, HashSet, VecDeque};
+use std::sync::atomic::{AtomicU64, Ordering};
 use std::sync::Arc;
 
 use bytes::{Buf, BytesMut};
@@ -51,6 +52,8 @@ pub struct Replayed {
 pub struct Tables {
     pub queues: Arc<Queues>,
     pub clock: Arc<Clock>,
+    /// How many records were read, for those who look on.
+    pub progress: Arc<AtomicU64>,
 }
 
 /// An ask that is with the program, or a note that waits for the asks before it.
@@ -184,6 +187,9 @@ impl Replay {
     fn take_records(&mut self, payload: &[u8]) -> Result<(), ReplayError> {
         for line in payload.split(|byte| *byte == b'\n').filter(|line| !line.is_empty()) {
             self.records += 1;
+            if let Some(tables) = &self.tables {
+                tables.progress.store(self.records, Ordering::Relaxed);
+            }
             self.take_record(line).ok_or(ReplayError::BadRecord(self.records))?;
         }
         Ok(())

@@ -136,6 +136,29 @@ pub enum Request {
 }
 
 impl Request {
+    /// The queue that it is about, where it names one.
+    pub fn queue(&self) -> Option<&QueueName> {
+        match self {
+            Request::GetQueueUrl { queue } => queue.as_ref(),
+            Request::ListQueues { .. } => None,
+            Request::ChangeMessageVisibility { queue, .. }
+            | Request::ChangeMessageVisibilityBatch { queue, .. }
+            | Request::CreateQueue { queue, .. }
+            | Request::DeleteMessage { queue, .. }
+            | Request::DeleteMessageBatch { queue, .. }
+            | Request::DeleteQueue { queue }
+            | Request::GetQueueAttributes { queue, .. }
+            | Request::ListQueueTags { queue }
+            | Request::PurgeQueue { queue }
+            | Request::ReceiveMessage { queue, .. }
+            | Request::SendMessage { queue, .. }
+            | Request::SendMessageBatch { queue, .. }
+            | Request::SetQueueAttributes { queue, .. }
+            | Request::TagQueue { queue, .. }
+            | Request::UntagQueue { queue, .. } => Some(queue),
+        }
+    }
+
     pub fn action(&self) -> Action {
         match self {
             Request::ChangeMessageVisibility { .. } => Action::ChangeMessageVisibility,

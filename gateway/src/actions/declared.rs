@@ -1,0 +1,31 @@
+//! Queues that the configuration declares.
+
+use super::{Actions, Caller};
+use crate::config::DeclaredQueue;
+use crate::errors::SqsError;
+use crate::presence::Presence;
+use crate::wire::{Incoming, Protocol};
+
+impl Actions {
+    /// Creates the declared queues that aren't there, as a client would by CreateQueue. What can't be created is
+    /// logged, and the others are.
+    pub async fn declare(&self, declared: &[DeclaredQueue]) {
+        for queue in declared {
+            if let Err(error) = self.declare_one(queue).await {
+                tracing::error!("the queue {} isn't created: {error}", queue.name);
+            }
+        }
+    }
+
+    async fn declare_one(&self, declared: &DeclaredQueue) -> Result<(), SqsError> {
+        let body = serde_json::json!({
+            "QueueName": declared.name, "Attributes": declared.attributes, "tags": declared.tags,
+        });
+        let body = body.to_string();
+        let target = Some("AmazonSQS.CreateQueue");
+        let incoming = Incoming { target, path_queue: None, query: "", body: body.as_bytes() };
+        let request = Protocol::Json.read(&incoming)?;
+        let caller = Caller { base_url: String::new(), presence: Presence::default(), identity: None };
+        self.perform(request, &caller).await.map(drop)
+    }
+}

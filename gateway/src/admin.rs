@@ -1,0 +1,155 @@
+//! What operators are told, on an address of their own: `/health` and `/metrics`.
+
+use std::convert::Infallible;
+use std::sync::atomic::{AtomicU64, AtomicU8, Ordering};
+use std::sync::{Arc, OnceLock};
+use std::time::Duration;
+
+use hyper::header::{HeaderValue, CONTENT_TYPE};
+use hyper::server::conn::Http;
+use hyper::service::service_fn;
+use hyper::{Body, Method, Request, Response, StatusCode};
+use tokio::net::TcpListener;
+
+use crate::http::{Progress, Watched};
+use crate::metrics::{Counts, Metrics};
+use crate::queues::ask::Outcome;
+use crate::store::Store;
+
+/// How far the gateway is.
+#[derive(Default)]
+pub struct Health {
+    phase: AtomicU8,
+    /// Records of the journal that were replayed.
+    pub replayed: Arc<AtomicU64>,
+}
+
+/// Between two looks for a connection where accepting them failed.
+const PAUSE: Duration = Duration::from_millis(50);
+
+/// So long an operator's request may take from its first byte on.
+const LONGEST_REQUEST: Duration = Duration::from_secs(10);
+
+const STARTING: u8 = 0;
+const SERVING: u8 = 1;
+const ENDING: u8 = 2;
+
+impl Health {
+    pub fn serves(&self) {
+        self.phase.store(SERVING, Ordering::Relaxed);
+    }
+
+    pub fn ends(&self) {
+        self.phase.store(ENDING, Ordering::Relaxed);
+    }
+
+    /// A word for probes, and the status: 200 while it serves, else 503.
+    fn told(&self) -> (StatusCode, String) {
+        match self.phase.load(Ordering::Relaxed) {
+            STARTING => {
+                let replayed = self.replayed.load(Ordering::Relaxed);
+                (StatusCode::SERVICE_UNAVAILABLE, format!("starting: {replayed} records replayed\n"))
+            }
+            SERVING => (StatusCode::OK, "serving\n".into()),
+            _ => (StatusCode::SERVICE_UNAVAILABLE, "ending\n".into()),
+        }
+    }
+}
+
+/// What the two paths tell of.
+pub struct Admin {
+    pub health: Arc<Health>,
+    pub metrics: Arc<Metrics>,
+    /// There once the journal is replayed.
+    pub store: OnceLock<Store>,
+}
+
+impl Admin {
+    /// Serves for as long as the process lives.
+    pub async fn serve(self: Arc<Admin>, listener: TcpListener) {
+        loop {
+            let Ok((stream, _)) = listener.accept().await else {
+                tokio::time::sleep(PAUSE).await;
+                continue;
+            };
+            let admin = self.clone();
+            let handle = service_fn(move |request| {
+                let admin = admin.clone();
+                async move { Ok::<_, Infallible>(admin.answer(&request).await) }
+            });
+            let mut http = Http::new();
+            http.http1_only(true);
+            let stream = Watched::new(stream, Progress::new(LONGEST_REQUEST));
+            let connection = http.serve_connection(stream, handle);
+            tokio::spawn(async move {
+                if let Err(error) = connection.await {
+                    tracing::debug!("an operator's connection ended: {error}");
+                }
+            });
+        }
+    }
+
+    async fn answer(&self, request: &Request<Body>) -> Response<Body> {
+        if !matches!(*request.method(), Method::GET | Method::HEAD) {
+            return text(StatusCode::METHOD_NOT_ALLOWED, "There is only GET here.\n".into());
+        }
+        match request.uri().path() {
+            "/health" => {
+                let (status, told) = self.health.told();
+                text(status, told)
+            }
+            "/metrics" => self.answer_metrics().await,
+            _ => text(StatusCode::NOT_FOUND, "There are /health and /metrics here.\n".into()),
+        }
+    }
+
+    async fn answer_metrics(&self) -> Response<Body> {
+        let told = match self.store.get() {
+            Some(store) => self.metrics.text(&counts(store).await, Some(&store.figures())),
+            None => self.metrics.text(&[], None),
+        };
+        match told {
+            Ok(told) => {
+                let mut response = Response::new(Body::from(told));
+                let content_type = HeaderValue::from_static(Metrics::content_type());
+                response.headers_mut().insert(CONTENT_TYPE, content_type);
+                response
+            }
+            Err(error) => text(StatusCode::INTERNAL_SERVER_ERROR, format!("{error}\n")),
+        }
+    }
+}
+
+/// How many messages each queue has. A queue that goes meanwhile is left out.
+async fn counts(store: &Store) -> Vec<Counts> {
+    let mut counts = Vec::new();
+    for queue in store.queues().all() {
+        if let Ok(Outcome::Counts { visible, in_flight }) = store.count(&queue).await {
+            counts.push(Counts { queue: queue.name.to_string(), visible, in_flight });
+        }
+    }
+    counts
+}
+
+fn text(status: StatusCode, told: String) -> Response<Body> {
+    let mut response = Response::new(Body::from(told));
+    *response.status_mut() = status;
+    response.headers_mut().insert(CONTENT_TYPE, HeaderValue::from_static("text/plain; charset=utf-8"));
+    response
+}
+
+#[cfg(test)]
+mod tests {
+    use super::*;
+
+    #[test]
+    fn health_is_good_while_it_serves() {
+        let health = Health::default();
+        health.replayed.store(12, Ordering::Relaxed);
+        assert_eq!(health.told(), (StatusCode::SERVICE_UNAVAILABLE, "starting: 12 records replayed\n".into()));
+        health.serves();
+        assert_eq!(health.told(), (StatusCode::OK, "serving\n".into()));
+        health.ends();
+        assert_eq!(health.told().0, StatusCode::SERVICE_UNAVAILABLE);
+    }
+}

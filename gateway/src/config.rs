@@ -1,0 +1,415 @@
+//! What `serve` is told: by options, by variables of the environment, and by a file, in this order of rank.
+
+use std::collections::BTreeMap;
+use std::path::{Path, PathBuf};
+use std::str::FromStr;
+
+use anyhow::{Context, Result};
+use clap::ValueEnum;
+use serde::Deserialize;
+use thiserror::Error;
+
+use crate::actions::Owner;
+use crate::limits::Bounds;
+use crate::queues::shards::Shards;
+use crate::serve::Settings;
+
+/// What was asked for can't be meant: the command line, a variable or the file is at fault.
+#[derive(Debug, Error)]
+#[error("{0}")]
+pub struct Misuse(pub String);
+
+/// The options of `serve`. A file has the same names, and each option has a variable: `HOBBYCHAIR_` and its name.
+#[derive(Clone, Debug, Default, clap::Args, Deserialize)]
+#[serde(default, deny_unknown_fields, rename_all = "kebab-case")]
+pub struct Options {
+    /// A file in TOML with these options by their names, and [[queue]] entries to create at the start
+    #[arg(long, value_name = "FILE", env = "HOBBYCHAIR_CONFIG")]
+    #[serde(skip)]
+    pub config: Option<PathBuf>,
+    /// The address to listen on [default: 127.0.0.1]
+    #[arg(long, env = "HOBBYCHAIR_HOST")]
+    host: Option<String>,
+    /// The port; 0 is any free one [default: 9324]
+    #[arg(long, env = "HOBBYCHAIR_PORT")]
+    port: Option<u16>,
+    /// The program cq [default: cq of the path]
+    #[arg(long, value_name = "PROGRAM", env = "HOBBYCHAIR_CQ")]
+    cq: Option<String>,
+    /// How many programs cq share the queues [default: 1]
+    #[arg(long, value_name = "N", env = "HOBBYCHAIR_SHARDS")]
+    shards: Option<u32>,
+    /// Keep all on disk, in FILE.1 and so on, and start from it
+    #[arg(long, value_name = "FILE", env = "HOBBYCHAIR_JOURNAL")]
+    journal: Option<PathBuf>,
+    /// Refuse sends when messages use so many bytes, as 512MiB
+    #[arg(long, value_name = "SIZE", env = "HOBBYCHAIR_MEMORY")]
+    memory: Option<Size>,
+    /// Refuse sends when the journal has so many bytes
+    #[arg(long, value_name = "SIZE", env = "HOBBYCHAIR_JOURNAL_SIZE")]
+    journal_size: Option<Size>,
+    /// Let those in alone who sign with a key of this file
+    #[arg(long, value_name = "FILE", env = "HOBBYCHAIR_CREDENTIALS")]
+    credentials: Option<PathBuf>,
+    /// Serve everybody, also on an address that others reach
+    #[arg(long, num_args = 0..=1, default_missing_value = "true", require_equals = true, value_name = "BOOL", env = "HOBBYCHAIR_OPEN")]
+    open: Option<bool>,
+    /// Speak TLS, with this chain of certificates in PEM
+    #[arg(long, value_name = "FILE", env = "HOBBYCHAIR_CERTIFICATE")]
+    certificate: Option<PathBuf>,
+    /// The private key of the certificate, in PEM
+    #[arg(long, value_name = "FILE", env = "HOBBYCHAIR_KEY")]
+    key: Option<PathBuf>,
+    /// Under which address clients know the gateway, for the URLs of queues
+    #[arg(long, env = "HOBBYCHAIR_URL")]
+    url: Option<BaseUrl>,
+    /// The account in URLs, 12 digits [default: 000000000000]
+    #[arg(long, env = "HOBBYCHAIR_ACCOUNT")]
+    account: Option<Account>,
+    /// The region in ARNs [default: us-east-1]
+    #[arg(long, env = "HOBBYCHAIR_REGION")]
+    region: Option<String>,
+    /// How many connections are served at once [default: 10000]
+    #[arg(long, value_name = "N", env = "HOBBYCHAIR_CONNECTIONS")]
+    connections: Option<u32>,
+    /// How many long polls wait at once [default: nine tenths of the connections]
+    #[arg(long, value_name = "N", env = "HOBBYCHAIR_POLLS")]
+    polls: Option<u32>,
+    /// Tell operators /health and /metrics here: a port of 127.0.0.1, or HOST:PORT
+    #[arg(long, value_name = "ADDRESS", env = "HOBBYCHAIR_ADMIN")]
+    admin: Option<Address>,
+    /// How lines of the log look [default: text]
+    #[arg(long, value_name = "FORM", env = "HOBBYCHAIR_LOG")]
+    log: Option<LogForm>,
+    /// What is logged; each request at debug [default: info]
+    #[arg(long, value_name = "LEVEL", env = "HOBBYCHAIR_LOG_LEVEL")]
+    log_level: Option<LogLevel>,
+    #[arg(long, hide = true)]
+    #[serde(skip)]
+    clock_file: Option<PathBuf>,
+    /// Queues that the file declares.
+    #[arg(skip)]
+    queue: Vec<DeclaredQueue>,
+}
+
+/// A queue that is created at the start, if it isn't there.
+#[derive(Clone, Debug, PartialEq, Eq, Deserialize)]
+#[serde(deny_unknown_fields)]
+pub struct DeclaredQueue {
+    pub name: String,
+    #[serde(default)]
+    pub attributes: BTreeMap<String, String>,
+    #[serde(default)]
+    pub tags: BTreeMap<String, String>,
+}
+
+#[derive(Clone, Copy, Debug, PartialEq, Eq, ValueEnum, Deserialize)]
+#[serde(rename_all = "lowercase")]
+pub enum LogForm {
+    Text,
+    Json,
+}
+
+#[derive(Clone, Copy, Debug, PartialEq, Eq, ValueEnum, Deserialize)]
+#[serde(rename_all = "lowercase")]
+pub enum LogLevel {
+    Error,
+    Warn,
+    Info,
+    Debug,
+}
+
+/// What is logged, and how.
+#[derive(Clone, Copy, Debug)]
+pub struct Log {
+    pub form: LogForm,
+    pub level: LogLevel,
+}
+
+/// A number of bytes, as `1048576`, `1024KiB` or `1MiB`.
+#[derive(Clone, Copy, Debug, PartialEq, Eq, Deserialize)]
+#[serde(try_from = "NumberOrText")]
+pub struct Size(pub u64);
+
+const UNITS: [(&str, u32); 4] = [("KiB", 10), ("MiB", 20), ("GiB", 30), ("TiB", 40)];
+
+impl FromStr for Size {
+    type Err = String;
+
+    fn from_str(text: &str) -> Result<Size, String> {
+        let unit = UNITS.iter().find(|(unit, _)| text.ends_with(unit));
+        let (digits, shift) = unit.map_or((text, 0), |(unit, shift)| (&text[..text.len() - unit.len()], *shift));
+        let number = digits.trim_end().parse::<u64>().ok();
+        let bytes = number.and_then(|number| number.checked_mul(1 << shift)).filter(|bytes| *bytes > 0);
+        bytes.map(Size).ok_or_else(|| format!("{text} is no size, as 1048576, 512MiB or 2GiB"))
+    }
+}
+
+/// A number may stand bare in a file.
+#[derive(Deserialize)]
+#[serde(untagged)]
+enum NumberOrText {
+    Number(u64),
+    Text(String),
+}
+
+impl NumberOrText {
+    fn text(self) -> String {
+        match self {
+            NumberOrText::Number(number) => number.to_string(),
+            NumberOrText::Text(text) => text,
+        }
+    }
+}
+
+impl TryFrom<NumberOrText> for Size {
+    type Error = String;
+
+    fn try_from(given: NumberOrText) -> Result<Size, String> {
+        given.text().parse()
+    }
+}
+
+/// A port of this machine alone, or a host and a port.
+#[derive(Clone, Debug, PartialEq, Eq, Deserialize)]
+#[serde(try_from = "NumberOrText")]
+pub struct Address {
+    pub host: String,
+    pub port: u16,
+}
+
+impl FromStr for Address {
+    type Err = String;
+
+    fn from_str(text: &str) -> Result<Address, String> {
+        let (host, port) = text.rsplit_once(':').unwrap_or((LOOPBACK, text));
+        let port = port.parse().map_err(|_| format!("{text} is no address, as 9325 or 127.0.0.1:9325"))?;
+        Ok(Address { host: host.into(), port })
+    }
+}
+
+impl TryFrom<NumberOrText> for Address {
+    type Error = String;
+
+    fn try_from(given: NumberOrText) -> Result<Address, String> {
+        given.text().parse()
+    }
+}
+
+/// 12 digits.
+#[derive(Clone, Debug, PartialEq, Eq, Deserialize)]
+#[serde(try_from = "String")]
+struct Account(String);
+
+impl FromStr for Account {
+    type Err = String;
+
+    fn from_str(text: &str) -> Result<Account, String> {
+        let is_account = text.len() == 12 && text.bytes().all(|byte| byte.is_ascii_digit());
+        is_account.then(|| Account(text.into())).ok_or_else(|| "it is no account of 12 digits".into())
+    }
+}
+
+impl TryFrom<String> for Account {
+    type Error = String;
+
+    fn try_from(text: String) -> Result<Account, String> {
+        text.parse()
+    }
+}
+
+/// A scheme and an authority, and perhaps a path, with no slash at the end.
+#[derive(Clone, Debug, PartialEq, Eq, Deserialize)]
+#[serde(try_from = "String")]
+struct BaseUrl(String);
+
+impl FromStr for BaseUrl {
+    type Err = String;
+
+    fn from_str(text: &str) -> Result<BaseUrl, String> {
+        let rest = text.strip_prefix("http://").or_else(|| text.strip_prefix("https://"));
+        let is_good = |rest: &str| {
+            let rest = rest.trim_end_matches('/');
+            !rest.is_empty() && rest.bytes().all(|byte| byte.is_ascii_graphic() && !b"?#\"<>".contains(&byte))
+        };
+        match rest {
+            Some(rest) if is_good(rest) => Ok(BaseUrl(text.trim_end_matches('/').into())),
+            _ => Err(format!("{text} is no URL, as https://queues.example.com")),
+        }
+    }
+}
+
+impl TryFrom<String> for BaseUrl {
+    type Error = String;
+
+    fn try_from(text: String) -> Result<BaseUrl, String> {
+        text.parse()
+    }
+}
+
+const LOOPBACK: &str = "127.0.0.1";
+const PORT: u16 = 9324;
+const ACCOUNT: &str = "000000000000";
+const REGION: &str = "us-east-1";
+const CONNECTIONS: u32 = 10_000;
+
+impl Options {
+    /// These options, and those of the file that they name, where there are none of these.
+    pub fn with_file(self) -> Result<Options> {
+        match self.config.clone() {
+            None => Ok(self),
+            Some(path) => Ok(self.or(read_file(&path)?)),
+        }
+    }
+
+    fn or(self, file: Options) -> Options {
+        Options {
+            config: self.config,
+            host: self.host.or(file.host),
+            port: self.port.or(file.port),
+            cq: self.cq.or(file.cq),
+            shards: self.shards.or(file.shards),
+            journal: self.journal.or(file.journal),
+            memory: self.memory.or(file.memory),
+            journal_size: self.journal_size.or(file.journal_size),
+            credentials: self.credentials.or(file.credentials),
+            open: self.open.or(file.open),
+            certificate: self.certificate.or(file.certificate),
+            key: self.key.or(file.key),
+            url: self.url.or(file.url),
+            account: self.account.or(file.account),
+            region: self.region.or(file.region),
+            connections: self.connections.or(file.connections),
+            polls: self.polls.or(file.polls),
+            admin: self.admin.or(file.admin),
+            log: self.log.or(file.log),
+            log_level: self.log_level.or(file.log_level),
+            clock_file: self.clock_file,
+            queue: file.queue,
+        }
+    }
+
+    pub fn log(&self) -> Log {
+        Log { form: self.log.unwrap_or(LogForm::Text), level: self.log_level.unwrap_or(LogLevel::Info) }
+    }
+
+    /// What a gateway is started with. `program` finds the program cq by what was said of it.
+    pub fn settings(self, program: impl FnOnce(Option<String>) -> Result<String>) -> Result<Settings> {
+        let certificate = match (self.certificate, self.key) {
+            (Some(certificate), Some(key)) => Some((certificate, key)),
+            (None, None) => None,
+            _ => return Err(Misuse("a certificate and its key are given together".into()).into()),
+        };
+        if self.journal_size.is_some() && self.journal.is_none() {
+            return Err(Misuse("a size of the journal is given, and no journal".into()).into());
+        }
+        let connections = at_least_one("connections", self.connections.unwrap_or(CONNECTIONS))?;
+        let polls = at_least_one("polls", self.polls.unwrap_or(connections - connections / 10))?;
+        let shards = match self.shards {
+            None => Shards::ONE,
+            Some(count) => Shards::new(count).ok_or_else(|| Misuse("shards must be 1 to 16".into()))?,
+        };
+        Ok(Settings {
+            host: self.host.unwrap_or_else(|| LOOPBACK.into()),
+            port: self.port.unwrap_or(PORT),
+            program: program(self.cq)?,
+            shards,
+            journal: self.journal,
+            bounds: Bounds { memory: self.memory.map(|size| size.0), journal: self.journal_size.map(|size| size.0) },
+            credentials: self.credentials,
+            open: self.open.unwrap_or(false),
+            certificate,
+            url: self.url.map(|url| url.0),
+            owner: Owner {
+                account: self.account.map_or_else(|| ACCOUNT.into(), |account| account.0),
+                region: self.region.unwrap_or_else(|| REGION.into()),
+            },
+            connections,
+            polls,
+            admin: self.admin,
+            queues: self.queue,
+            clock_file: self.clock_file,
+        })
+    }
+}
+
+fn at_least_one(name: &str, number: u32) -> Result<u32> {
+    if number == 0 {
+        return Err(Misuse(format!("{name} must be 1 or more")).into());
+    }
+    Ok(number)
+}
+
+fn read_file(path: &Path) -> Result<Options> {
+    let text = std::fs::read_to_string(path).with_context(|| format!("{} can't be read", path.display()))?;
+    toml::from_str(&text).map_err(|error| Misuse(format!("{}: {error}", path.display())).into())
+}
+
+#[cfg(test)]
+mod tests {
+    use super::*;
+
+    fn settings(options: Options) -> Result<Settings> {
+        options.settings(|named| Ok(named.unwrap_or_else(|| "cq".into())))
+    }
+
+    #[test]
+    fn sizes() {
+        for (text, bytes) in [("1", 1), ("1048576", 1 << 20), ("512MiB", 512 << 20), ("2 GiB", 2 << 30)] {
+            assert_eq!(text.parse(), Ok(Size(bytes)), "{text}");
+        }
+        for bad in ["", "0", "MiB", "1MB", "-1", "1.5GiB", "99999999999TiB", "0KiB"] {
+            assert!(bad.parse::<Size>().is_err(), "{bad}");
+        }
+    }
+
+    #[test]
+    fn addresses() {
+        let address = |host: &str, port| Ok(Address { host: host.into(), port });
+        assert_eq!("9325".parse(), address("127.0.0.1", 9325));
+        assert_eq!("0.0.0.0:80".parse(), address("0.0.0.0", 80));
+        assert_eq!("[::1]:0".parse(), address("[::1]", 0));
+        for bad in ["", "host", "host:", "1:70000"] {
+            assert!(bad.parse::<Address>().is_err(), "{bad}");
+        }
+    }
+
+    #[test]
+    fn urls() {
+        assert_eq!("https://q.example.com/".parse(), Ok(BaseUrl("https://q.example.com".into())));
+        for bad in ["", "q.example.com", "ftp://q", "http://", "http://a?b", "http://a b"] {
+            assert!(bad.parse::<BaseUrl>().is_err(), "{bad}");
+        }
+    }
+
+    #[test]
+    fn a_file_gives_what_the_options_leave_out() {
+        let file: Options = toml::from_str(
+            "host = \"::1\"\nport = 1\nmemory = \"1MiB\"\njournal-size = 5\njournal = \"j\"\nadmin = 9325\nopen = true\n\
+             [[queue]]\nname = \"a.fifo\"\nattributes = { FifoQueue = \"true\" }\n[[queue]]\nname = \"b.fifo\"\n",
+        )
+        .unwrap();
+        let options = Options { port: Some(2), ..Options::default() };
+        let settings = settings(options.or(file)).unwrap();
+        assert_eq!((settings.host.as_str(), settings.port, settings.open), ("::1", 2, true));
+        assert_eq!((settings.bounds.memory, settings.bounds.journal), (Some(1 << 20), Some(5)));
+        assert_eq!(settings.admin, Some("9325".parse().unwrap()));
+        assert_eq!((settings.connections, settings.polls), (10_000, 9_000));
+        let names: Vec<_> = settings.queues.iter().map(|queue| queue.name.as_str()).collect();
+        assert_eq!(names, ["a.fifo", "b.fifo"]);
+    }
+
+    #[test]
+    fn what_cannot_be_meant_is_refused() {
+        for bad in ["prot = 1", "port = 70000", "memory = \"1MB\"", "log = \"xml\"", "[[queue]]\nnames = \"a\""] {
+            assert!(toml::from_str::<Options>(bad).is_err(), "{bad}");
+        }
+        let alone = Options { key: Some("k".into()), ..Options::default() };
+        let none = Options { connections: Some(0), ..Options::default() };
+        let size = Options { journal_size: Some(Size(1)), ..Options::default() };
+        let many = Options { shards: Some(17), ..Options::default() };
+        for bad in [alone, none, size, many] {
+            assert!(settings(bad).unwrap_err().is::<Misuse>());
+        }
+    }
+}

@@ -1,0 +1,113 @@
+//! Paths, and the URLs that clients are told.
+
+use std::net::{IpAddr, SocketAddr};
+
+use hyper::header::{HeaderMap, HOST};
+
+/// A path at which there is nothing.
+#[derive(Debug)]
+pub struct NotFound;
+
+/// The queue that a path names: `/` names none, and `/{account}/{queue}` one.
+pub fn queue_of_path(path: &str) -> Result<Option<&str>, NotFound> {
+    let mut parts = path.strip_prefix('/').unwrap_or(path).split('/');
+    match (parts.next(), parts.next(), parts.next()) {
+        (Some(""), None, None) => Ok(None),
+        (Some(account), Some(queue), None) if !account.is_empty() && !queue.is_empty() => Ok(Some(queue)),
+        _ => Err(NotFound),
+    }
+}
+
+/// Where the gateway is reached.
+pub struct Addresses {
+    /// What was said at the start, if anything was.
+    pub url: Option<String>,
+    /// The socket that listens.
+    pub local: SocketAddr,
+    pub has_tls: bool,
+}
+
+impl Addresses {
+    pub fn scheme(&self) -> &'static str {
+        if self.has_tls {
+            "https"
+        } else {
+            "http"
+        }
+    }
+
+    /// The URL before `/{account}/{queue}` in what a client is told: the one that was said at the start, or else the
+    /// host that the client names. A client of this machine may be a proxy, so what it says of the scheme is believed.
+    pub fn base_url(&self, headers: &HeaderMap, peer: SocketAddr) -> String {
+        if let Some(url) = &self.url {
+            return url.clone();
+        }
+        let own = self.scheme();
+        let scheme = if is_of_this_machine(peer.ip()) { forwarded_scheme(headers).unwrap_or(own) } else { own };
+        match headers.get(HOST).and_then(|host| host.to_str().ok()).filter(|host| is_authority(host)) {
+            Some(host) => format!("{scheme}://{host}"),
+            None => format!("{scheme}://{}", self.local),
+        }
+    }
+}
+
+/// Of several proxies the first one, which the client spoke to, stands first.
+fn forwarded_scheme(headers: &HeaderMap) -> Option<&'static str> {
+    let said = headers.get("x-forwarded-proto")?.to_str().ok()?;
+    match said.split(',').next().map(str::trim) {
+        Some("https") => Some("https"),
+        Some("http") => Some("http"),
+        _ => None,
+    }
+}
+
+fn is_authority(host: &str) -> bool {
+    !host.is_empty() && host.bytes().all(|byte| byte.is_ascii_alphanumeric() || b".-_:[]%~".contains(&byte))
+}
+
+/// 127.0.0.0/8 and ::1, and the former as a socket of IPv6 sees it.
+pub fn is_of_this_machine(address: IpAddr) -> bool {
+    match address {
+        IpAddr::V4(address) => address.is_loopback(),
+        IpAddr::V6(address) => {
+            address.is_loopback() || address.to_ipv4_mapped().is_some_and(|address| address.is_loopback())
+        }
+    }
+}
+
+#[cfg(test)]
+mod tests {
+    use super::*;
+
+    #[test]
+    fn paths() {
+        assert!(matches!(queue_of_path("/"), Ok(None)));
+        assert!(matches!(queue_of_path("/1/q.fifo"), Ok(Some("q.fifo"))));
+        for bad in ["/1", "/1/", "//q", "/1/2/3", "/1/q/"] {
+            assert!(queue_of_path(bad).is_err(), "{bad}");
+        }
+    }
+
+    fn told(addresses: &Addresses, peer: &str, headers: &[(&'static str, &str)]) -> String {
+        let headers = headers.iter().map(|(name, value)| (name.parse().unwrap(), value.parse().unwrap())).collect();
+        addresses.base_url(&headers, peer.parse().unwrap())
+    }
+
+    #[test]
+    fn urls_have_the_host_that_the_client_names() {
+        let mut addresses = Addresses { url: None, local: "127.0.0.1:9324".parse().unwrap(), has_tls: false };
+        let (near, far) = ("127.0.0.1:5", "10.1.2.3:5");
+        assert_eq!(told(&addresses, near, &[]), "http://127.0.0.1:9324");
+        assert_eq!(told(&addresses, far, &[("host", "queues:80")]), "http://queues:80");
+        assert_eq!(told(&addresses, far, &[("host", "a\"b")]), "http://127.0.0.1:9324");
+        let proxied = [("host", "queues"), ("x-forwarded-proto", "https, http")];
+        assert_eq!(told(&addresses, near, &proxied), "https://queues");
+        assert_eq!(told(&addresses, "[::ffff:127.0.0.1]:5", &proxied), "https://queues");
+        assert_eq!(told(&addresses, far, &proxied), "http://queues");
+        assert_eq!(told(&addresses, near, &[("host", "queues"), ("x-forwarded-proto", "ftp")]), "http://queues");
+        addresses.has_tls = true;
+        assert_eq!(told(&addresses, far, &[("host", "[::1]:9324")]), "https://[::1]:9324");
+        addresses.url = Some("https://known".into());
+        assert_eq!(told(&addresses, near, &proxied), "https://known");
+    }
+}

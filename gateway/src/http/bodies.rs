@@ -1,0 +1,219 @@
+//! Reading the bodies of requests, within bounds of bytes and of time.
+
+use std::sync::atomic::{AtomicUsize, Ordering};
+use std::sync::Arc;
+
+use bytes::{Bytes, BytesMut};
+use hyper::body::HttpBody;
+use hyper::Body;
+use tokio::time::{timeout_at, Instant};
+
+use crate::attributes::LONGEST_MESSAGE;
+use crate::errors::SqsError;
+
+/// The longest body of a request, in bytes: JSON writes one byte of a message as six at most, and 64 KiB are for the
+/// rest.
+pub const LONGEST_BODY: usize = 6 * LONGEST_MESSAGE + (64 << 10);
+
+/// So many bytes of a body that is too long are read and thrown away, so that its client comes to read the refusal.
+const MOST_THROWN_AWAY: usize = 16 << 20;
+
+/// How many bytes of bodies are held at most by requests that are being read.
+const MOST_AT_ONCE: usize = 256 << 20;
+
+/// Counts the bytes of all bodies that are being read.
+#[derive(Clone)]
+pub struct Budget {
+    used: Arc<AtomicUsize>,
+    most: usize,
+}
+
+impl Default for Budget {
+    fn default() -> Budget {
+        Budget::of(MOST_AT_ONCE)
+    }
+}
+
+impl Budget {
+    pub fn of(most: usize) -> Budget {
+        Budget { used: Arc::default(), most }
+    }
+
+    fn share(&self) -> Share {
+        Share { budget: self.clone(), bytes: 0 }
+    }
+}
+
+/// What one request has of the budget. It goes back when this is dropped.
+struct Share {
+    budget: Budget,
+    bytes: usize,
+}
+
+impl Share {
+    /// Takes `bytes` more. False if they aren't there.
+    fn grow(&mut self, bytes: usize) -> bool {
+        let used = self.budget.used.fetch_add(bytes, Ordering::Relaxed);
+        self.bytes += bytes;
+        used.saturating_add(bytes) <= self.budget.most
+    }
+}
+
+impl Drop for Share {
+    fn drop(&mut self) {
+        self.budget.used.fetch_sub(self.bytes, Ordering::Relaxed);
+    }
+}
+
+/// A whole body, and its share of the budget.
+pub struct Whole {
+    pub bytes: Bytes,
+    _share: Share,
+}
+
+/// Reads a body to its end. It is refused where it is longer than [`LONGEST_BODY`], isn't whole at `deadline`, or finds
+/// no room. One that is too long is read on for a while, so that the refusal reaches its client.
+pub async fn read(mut body: Body, budget: &Budget, deadline: Instant) -> Result<Whole, SqsError> {
+    let read = read_whole(&mut body, budget, deadline).await;
+    if matches!(read, Err(SqsError::RequestTooLong { .. })) {
+        throw_away(body, deadline).await;
+    }
+    read
+}
+
+fn too_long() -> SqsError {
+    SqsError::RequestTooLong { limit: LONGEST_BODY }
+}
+
+async fn read_whole(body: &mut Body, budget: &Budget, deadline: Instant) -> Result<Whole, SqsError> {
+    if body.size_hint().lower() > LONGEST_BODY as u64 {
+        return Err(too_long());
+    }
+    let mut share = budget.share();
+    let mut pieces = Pieces::default();
+    while let Some(piece) = next_piece(body, deadline).await? {
+        if pieces.len() + piece.len() > LONGEST_BODY {
+            return Err(too_long());
+        }
+        if !share.grow(piece.len()) {
+            return Err(SqsError::ServiceUnavailable("Too many requests are being read.".into()));
+        }
+        pieces.add(piece);
+    }
+    Ok(Whole { bytes: pieces.into_bytes(), _share: share })
+}
+
+async fn next_piece(body: &mut Body, deadline: Instant) -> Result<Option<Bytes>, SqsError> {
+    match timeout_at(deadline, body.data()).await {
+        Ok(Some(Ok(piece))) => Ok(Some(piece)),
+        Ok(Some(Err(_))) => Err(SqsError::InvalidParameterValue("The request's body broke off.".into())),
+        Ok(None) => Ok(None),
+        Err(_) => Err(SqsError::RequestTimeout),
+    }
+}
+
+async fn throw_away(mut body: Body, deadline: Instant) {
+    let mut thrown = 0;
+    while let Ok(Some(piece)) = next_piece(&mut body, deadline).await {
+        thrown += piece.len();
+        if thrown > MOST_THROWN_AWAY {
+            return;
+        }
+    }
+}
+
+/// The pieces of a body. A body of one piece isn't copied.
+#[derive(Default)]
+struct Pieces {
+    first: Bytes,
+    whole: BytesMut,
+}
+
+impl Pieces {
+    fn len(&self) -> usize {
+        self.first.len().max(self.whole.len())
+    }
+
+    fn add(&mut self, piece: Bytes) {
+        if self.first.is_empty() {
+            self.first = piece;
+            return;
+        }
+        if self.whole.is_empty() {
+            self.whole.extend_from_slice(&self.first);
+        }
+        self.whole.extend_from_slice(&piece);
+    }
+
+    fn into_bytes(self) -> Bytes {
+        if self.whole.is_empty() {
+            self.first
+        } else {
+            self.whole.freeze()
+        }
+    }
+}
+
+#[cfg(test)]
+mod tests {
+    use super::*;
+
+    use std::time::Duration;
+
+    fn soon() -> Instant {
+        Instant::now() + Duration::from_secs(5)
+    }
+
+    fn body_of(pieces: &[&'static str]) -> Body {
+        let (mut sender, body) = Body::channel();
+        let pieces: Vec<&'static str> = pieces.to_vec();
+        tokio::spawn(async move {
+            for piece in pieces {
+                if sender.send_data(Bytes::from_static(piece.as_bytes())).await.is_err() {
+                    return;
+                }
+            }
+        });
+        body
+    }
+
+    #[tokio::test]
+    async fn pieces_are_put_together() {
+        let budget = Budget::default();
+        for (pieces, whole) in [(&[][..], ""), (&["ab"], "ab"), (&["a", "b", "cd"], "abcd")] {
+            let read = read(body_of(pieces), &budget, soon()).await.unwrap();
+            assert_eq!(read.bytes, whole);
+        }
+    }
+
+    #[tokio::test]
+    async fn a_body_that_is_too_long_is_refused_with_and_without_a_length() {
+        let budget = Budget::default();
+        let long = vec![b'x'; LONGEST_BODY + 1];
+        let sized = read(Body::from(long.clone()), &budget, soon()).await;
+        assert!(matches!(sized, Err(SqsError::RequestTooLong { .. })));
+        let (mut sender, body) = Body::channel();
+        tokio::spawn(async move { while sender.send_data(Bytes::from(vec![b'x'; 1 << 16])).await.is_ok() {} });
+        let chunked = read(body, &budget, soon()).await;
+        assert!(matches!(chunked, Err(SqsError::RequestTooLong { .. })));
+        assert!(read(Body::from(long[1..].to_vec()), &budget, soon()).await.is_ok());
+        assert_eq!(budget.used.load(Ordering::Relaxed), 0);
+    }
+
+    #[tokio::test]
+    async fn what_is_being_read_has_a_bound_that_is_given_back() {
+        let budget = Budget::of(10);
+        let first = read(Body::from("12345678"), &budget, soon()).await.unwrap();
+        let second = read(Body::from("123"), &budget, soon()).await;
+        assert!(matches!(second, Err(SqsError::ServiceUnavailable(_))));
+        drop(first);
+        assert!(read(Body::from("1234567890"), &budget, soon()).await.is_ok());
+    }
+
+    #[tokio::test]
+    async fn a_body_that_does_not_come_is_a_timeout() {
+        let (_sender, body) = Body::channel();
+        let read = read(body, &Budget::default(), Instant::now() + Duration::from_millis(20)).await;
+        assert!(matches!(read, Err(SqsError::RequestTimeout)));
+    }
+}

@@ -1,0 +1,165 @@
+//! Connections: how many are served, what they speak, and how they end.
+
+use std::convert::Infallible;
+use std::io;
+use std::net::{SocketAddr, ToSocketAddrs};
+use std::sync::Arc;
+use std::time::Duration;
+
+use hyper::server::conn::Http;
+use hyper::service::service_fn;
+use tokio::io::{AsyncRead, AsyncWrite};
+use tokio::net::{TcpListener, TcpSocket, TcpStream};
+use tokio::sync::{OwnedSemaphorePermit, Semaphore};
+use tokio::time::{timeout, Instant};
+
+use super::watched::{Progress, Watched};
+use super::{Arrival, Service, LONGEST_HEAD};
+use crate::ending::Ending;
+use crate::tls::Certificate;
+
+/// How many connections may wait to be accepted.
+const BACKLOG: u32 = 4096;
+
+/// A request is whole so long after its first byte.
+const LONGEST_REQUEST: Duration = Duration::from_secs(30);
+
+/// So long a client may take to begin TLS.
+const LONGEST_HANDSHAKE: Duration = Duration::from_secs(10);
+
+/// So many connections above the bound are told so at once. More wait until these have ended.
+const TURNED_AWAY_AT_ONCE: usize = 256;
+
+/// A client that is turned away has so long for its request.
+const LONGEST_TURNING_AWAY: Duration = Duration::from_secs(5);
+
+/// Between two looks for a connection where accepting them failed.
+const PAUSE: Duration = Duration::from_millis(50);
+
+/// A socket that listens at the first address of `host` that can be had. Brackets round an address of IPv6 are taken.
+pub fn listen(host: &str, port: u16) -> io::Result<TcpListener> {
+    let host = host.strip_prefix('[').and_then(|rest| rest.strip_suffix(']')).unwrap_or(host);
+    let mut last = io::Error::new(io::ErrorKind::InvalidInput, "it is no address");
+    for address in (host, port).to_socket_addrs()? {
+        match listen_at(address) {
+            Ok(listener) => return Ok(listener),
+            Err(error) => last = error,
+        }
+    }
+    Err(last)
+}
+
+fn listen_at(address: SocketAddr) -> io::Result<TcpListener> {
+    let socket = if address.is_ipv4() { TcpSocket::new_v4()? } else { TcpSocket::new_v6()? };
+    // So that a gateway can begin again at once. A second one still finds the address in use.
+    socket.set_reuseaddr(true)?;
+    socket.bind(address)?;
+    socket.listen(BACKLOG)
+}
+
+/// How connections are taken in.
+pub struct Door {
+    pub service: Arc<Service>,
+    pub certificate: Option<Arc<Certificate>>,
+    /// So many are served at once.
+    pub most: u32,
+}
+
+impl Door {
+    /// Serves connections until the end comes, and then until all have ended.
+    pub async fn serve(self, listener: TcpListener, mut ending: Ending) {
+        let open = Arc::new(Semaphore::new(self.most as usize));
+        let turned_away = Arc::new(Semaphore::new(TURNED_AWAY_AT_ONCE));
+        let most = self.most;
+        let door = Arc::new(self);
+        loop {
+            let accepted = tokio::select! {
+                accepted = listener.accept() => accepted,
+                () = ending.comes() => break,
+            };
+            let (stream, peer) = match accepted {
+                Ok(accepted) => accepted,
+                Err(error) => {
+                    tracing::warn!("no connection can be accepted: {error}");
+                    tokio::time::sleep(PAUSE).await;
+                    continue;
+                }
+            };
+            let Some((permit, is_served)) = enter(&open, &turned_away).await else { break };
+            let (door, ending) = (door.clone(), ending.clone());
+            tokio::spawn(async move {
+                let _permit = permit;
+                door.welcome(stream, peer, is_served, ending).await;
+            });
+        }
+        drop(listener);
+        // Whoever calls this says how long it may take.
+        let _ = open.acquire_many(most).await;
+    }
+
+    async fn welcome(&self, stream: TcpStream, peer: SocketAddr, is_served: bool, ending: Ending) {
+        let _counted = self.service.metrics.connection();
+        // Where this fails, small answers wait a little longer.
+        let _ = stream.set_nodelay(true);
+        let Some(certificate) = &self.certificate else {
+            return self.converse(stream, peer, is_served, ending).await;
+        };
+        match timeout(LONGEST_HANDSHAKE, certificate.acceptor().accept(stream)).await {
+            Ok(Ok(stream)) => self.converse(stream, peer, is_served, ending).await,
+            Ok(Err(error)) => tracing::debug!(%peer, "no TLS came about: {error}"),
+            Err(_) => tracing::debug!(%peer, "no TLS came about in time"),
+        }
+    }
+
+    async fn converse<S>(&self, stream: S, peer: SocketAddr, is_served: bool, mut ending: Ending)
+    where
+        S: AsyncRead + AsyncWrite + Unpin + Send + 'static,
+    {
+        let progress = Progress::new(if is_served { LONGEST_REQUEST } else { LONGEST_TURNING_AWAY });
+        let stream = Watched::new(stream, progress.clone());
+        let service = self.service.clone();
+        let handle = service_fn(move |request| {
+            let (service, progress) = (service.clone(), progress.clone());
+            async move {
+                let arrival = Arrival { peer, began: Instant::now(), deadline: progress.deadline() };
+                let response = if is_served {
+                    service.answer(arrival, progress, request).await
+                } else {
+                    service.turn_away(arrival, request).await
+                };
+                Ok::<_, Infallible>(response)
+            }
+        });
+        let mut http = Http::new();
+        http.http1_only(true).max_buf_size(LONGEST_HEAD);
+        let connection = http.serve_connection(stream, handle);
+        tokio::pin!(connection);
+        let ended = tokio::select! {
+            ended = connection.as_mut() => ended,
+            () = ending.comes() => {
+                connection.as_mut().graceful_shutdown();
+                connection.await
+            }
+            () = never_begun(is_served) => return,
+        };
+        if let Err(error) = ended {
+            tracing::debug!(%peer, "a connection ended: {error}");
+        }
+    }
+}
+
+/// A connection that is turned away doesn't stay to be idle.
+async fn never_begun(is_served: bool) {
+    if is_served {
+        return std::future::pending().await;
+    }
+    tokio::time::sleep(2 * LONGEST_TURNING_AWAY).await;
+}
+
+/// A permit to be served, or else one to be turned away.
+async fn enter(open: &Arc<Semaphore>, turned_away: &Arc<Semaphore>) -> Option<(OwnedSemaphorePermit, bool)> {
+    match open.clone().try_acquire_owned() {
+        Ok(permit) => Some((permit, true)),
+        Err(_) => turned_away.clone().acquire_owned().await.ok().map(|permit| (permit, false)),
+    }
+}

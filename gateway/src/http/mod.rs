@@ -1,0 +1,334 @@
+//! The HTTP server: reads a request by its protocol, has its action performed, and answers.
+
+mod address;
+mod bodies;
+mod connections;
+mod watched;
+
+use std::net::SocketAddr;
+use std::sync::Arc;
+use std::time::SystemTime;
+
+use bytes::Bytes;
+use hyper::header::{HeaderMap, HeaderValue, AUTHORIZATION, CONNECTION, CONTENT_TYPE};
+use hyper::http::request::Parts;
+use hyper::{Body, Request, Response, StatusCode};
+use sha2::{Digest, Sha256};
+use tokio::time::Instant;
+
+use crate::access::{Identity, Keys, Signable};
+use crate::actions::{Actions, Caller};
+use crate::errors::SqsError;
+use crate::metrics::Metrics;
+use crate::presence::Presence;
+use crate::repeats::{is_repeat, Begun, Found, Key, Made, Repeats};
+use crate::texts::QueueName;
+use crate::wire::requests::Action;
+use crate::wire::{self, Incoming, Protocol, Reply};
+
+pub use address::{is_of_this_machine, Addresses};
+use bodies::Budget;
+pub use connections::{listen, Door};
+pub use watched::{Progress, Watched};
+
+/// The longest head of a request, in bytes.
+const LONGEST_HEAD: usize = 32 << 10;
+
+/// What all connections share.
+pub struct Service {
+    actions: Actions,
+    repeats: Repeats,
+    budget: Budget,
+    /// The keys of those who may come in. Where there are none, everybody may.
+    keys: Option<Arc<Keys>>,
+    addresses: Addresses,
+    metrics: Arc<Metrics>,
+}
+
+/// A request as it came in: who sent it, and when it began.
+struct Arrival {
+    peer: SocketAddr,
+    began: Instant,
+    deadline: Instant,
+}
+
+/// A request that was read, and that may be performed.
+struct Call {
+    service: Arc<Service>,
+    protocol: Protocol,
+    action: Action,
+    request: wire::Request,
+    request_id: String,
+    identity: Option<Arc<Identity>>,
+    base_url: String,
+}
+
+/// What is told of a request when it has been answered.
+struct Told {
+    action: Option<Action>,
+    queue: Option<QueueName>,
+    identity: Option<Arc<Identity>>,
+}
+
+impl Service {
+    pub fn new(actions: Actions, keys: Option<Arc<Keys>>, addresses: Addresses, metrics: Arc<Metrics>) -> Service {
+        Service { actions, repeats: Repeats::default(), budget: Budget::default(), keys, addresses, metrics }
+    }
+
+    /// Answers a request. Whatever comes in, there is an answer, in the protocol that the request speaks.
+    async fn answer(
+        self: Arc<Service>,
+        arrival: Arrival,
+        progress: Progress,
+        request: Request<Body>,
+    ) -> Response<Body> {
+        let (head, body) = request.into_parts();
+        let protocol = protocol_of(&head.headers);
+        let request_id = new_request_id();
+        let mut told = Told { action: None, queue: None, identity: None };
+        let body = bodies::read(body, &self.budget, arrival.deadline).await;
+        progress.is_read();
+        let reply = match body {
+            _ if length_of_head(&head) > LONGEST_HEAD => too_long_a_head(),
+            Ok(whole) => self.clone().answer_whole(&arrival, head, whole.bytes, request_id.clone(), &mut told).await,
+            Err(error) => refused(protocol, &error, request_id.clone(), true),
+        };
+        self.tell(&arrival, &told, &request_id, reply.status());
+        reply
+    }
+
+    async fn answer_whole(
+        self: Arc<Service>,
+        arrival: &Arrival,
+        head: Parts,
+        body: Bytes,
+        request_id: String,
+        told: &mut Told,
+    ) -> Response<Body> {
+        let protocol = protocol_of(&head.headers);
+        match self.read(arrival, &head, &body, request_id.clone(), told) {
+            Ok(call) => response(call.answer(&head, &body).await),
+            Err(Unread::NotFound) => not_found(),
+            Err(Unread::Refused(error)) => refused(protocol, &error, request_id, false),
+        }
+    }
+
+    /// Finds out who asks, reads what is asked for, and whether that one may.
+    fn read(
+        self: Arc<Service>,
+        arrival: &Arrival,
+        head: &Parts,
+        body: &Bytes,
+        request_id: String,
+        told: &mut Told,
+    ) -> Result<Call, Unread> {
+        let protocol = protocol_of(&head.headers);
+        let path_queue = address::queue_of_path(head.uri.path()).map_err(|_| Unread::NotFound)?;
+        let identity = self.identify(head, body)?;
+        told.identity = identity.clone();
+        let incoming = Incoming {
+            target: text_of(&head.headers, "x-amz-target"),
+            path_queue,
+            query: head.uri.query().unwrap_or_default(),
+            body,
+        };
+        let request = protocol.read(&incoming)?;
+        let action = request.action();
+        told.action = Some(action);
+        told.queue = request.queue().cloned();
+        if let Some(identity) = identity.as_ref().filter(|identity| !identity.may(action, request.queue())) {
+            return Err(self.actions.denied(identity, action, request.queue()).into());
+        }
+        let base_url = self.addresses.base_url(&head.headers, arrival.peer);
+        Ok(Call { service: self, protocol, action, request, request_id, identity, base_url })
+    }
+
+    fn identify(&self, head: &Parts, body: &Bytes) -> Result<Option<Arc<Identity>>, SqsError> {
+        let Some(keys) = &self.keys else { return Ok(None) };
+        let signable = Signable {
+            method: head.method.as_str(),
+            path: head.uri.path(),
+            query: head.uri.query().unwrap_or_default(),
+            headers: &head.headers,
+            body,
+        };
+        keys.verify(&signable, SystemTime::now()).map(Some)
+    }
+
+    /// Refuses a request of a connection that is one too many.
+    async fn turn_away(&self, arrival: Arrival, request: Request<Body>) -> Response<Body> {
+        let (head, body) = request.into_parts();
+        // What is left unread would have the connection reset before its client has read the answer.
+        let _ = bodies::read(body, &self.budget, arrival.deadline).await;
+        let error = SqsError::ServiceUnavailable("Too many connections are open.".into());
+        self.metrics.answered("none", StatusCode::SERVICE_UNAVAILABLE.as_u16(), arrival.began.elapsed());
+        refused(protocol_of(&head.headers), &error, new_request_id(), true)
+    }
+
+    fn tell(&self, arrival: &Arrival, told: &Told, request_id: &str, status: StatusCode) {
+        let action = told.action.map_or("none", Action::name);
+        let time = arrival.began.elapsed();
+        self.metrics.answered(action, status.as_u16(), time);
+        tracing::debug!(
+            request = request_id,
+            action,
+            queue = told.queue.as_ref().map(QueueName::as_str),
+            status = status.as_u16(),
+            milliseconds = time.as_secs_f64() * 1e3,
+            key = told.identity.as_ref().map(|identity| identity.name()),
+            peer = %arrival.peer,
+            "answered"
+        );
+    }
+}
+
+/// Why a request isn't performed.
+enum Unread {
+    NotFound,
+    Refused(SqsError),
+}
+
+impl From<SqsError> for Unread {
+    fn from(error: SqsError) -> Unread {
+        Unread::Refused(error)
+    }
+}
+
+impl Call {
+    async fn answer(self, head: &Parts, body: &Bytes) -> Reply {
+        let key = if Key::is_of(self.action) { self.key(head, body) } else { None };
+        let Some(key) = key else {
+            return self.answer_once().await;
+        };
+        let again = text_of(&head.headers, "amz-sdk-request").is_some_and(is_repeat);
+        let service = self.service.clone();
+        let (protocol, request_id) = (self.protocol, self.request_id.clone());
+        let (_present, answer) = match service.repeats.enter(key, again, service.actions.store().clock()) {
+            Found::Again(present, answer) => (present, answer),
+            Found::First(presence, present, begun) => {
+                let answer = service.repeats.answer_of(&begun);
+                tokio::spawn(self.perform_kept(presence, begun));
+                (present, answer)
+            }
+        };
+        match answer.wait().await {
+            Some(made) => made.reply.clone(),
+            None => protocol.refuse(&SqsError::InternalFailure("The gateway failed.".into()), request_id),
+        }
+    }
+
+    /// What makes a repeat of this call one.
+    fn key(&self, head: &Parts, body: &[u8]) -> Option<Key> {
+        let invocation = text_of(&head.headers, "amz-sdk-invocation-id")?.to_string();
+        let access_key = match &self.identity {
+            Some(identity) => identity.name().to_string(),
+            None => claimed_key(&head.headers).to_string(),
+        };
+        let path = head.uri.to_string();
+        Some(Key { action: self.action, invocation, access_key, path, body: Sha256::digest(body).into() })
+    }
+
+    /// Performs a call of which there are no repeats.
+    async fn answer_once(self) -> Reply {
+        let presence = Presence::default();
+        let _present = presence.enter();
+        let is_short =
+            !matches!(self.action, Action::CreateQueue | Action::DeleteQueue | Action::PurgeQueue | Action::TagQueue);
+        if is_short {
+            return self.perform(presence).await.reply;
+        }
+        let (protocol, request_id) = (self.protocol, self.request_id.clone());
+        // What takes several asks is brought to its end, also if the client goes.
+        match tokio::spawn(self.perform(presence)).await {
+            Ok(made) => made.reply,
+            Err(_) => protocol.refuse(&SqsError::InternalFailure("The gateway failed.".into()), request_id),
+        }
+    }
+
+    async fn perform_kept(self, presence: Presence, begun: Begun) {
+        let service = self.service.clone();
+        let made = self.perform(presence).await;
+        service.repeats.end(begun, made);
+    }
+
+    async fn perform(self, presence: Presence) -> Made {
+        let caller = Caller { base_url: self.base_url, presence, identity: self.identity };
+        match self.service.actions.perform(self.request, &caller).await {
+            Ok(performed) => {
+                let is_worth_keeping = !performed.response.is_empty_receive();
+                let reply = self.protocol.answer(self.action, &performed.response, self.request_id);
+                Made { reply, handed: performed.handed, is_worth_keeping }
+            }
+            Err(error) => {
+                let reply = self.protocol.refuse(&error, self.request_id);
+                Made { reply, handed: None, is_worth_keeping: false }
+            }
+        }
+    }
+}
+
+/// Random, and made without a call of the system.
+fn new_request_id() -> String {
+    uuid::Builder::from_random_bytes(rand::random()).into_uuid().to_string()
+}
+
+fn protocol_of(headers: &HeaderMap) -> Protocol {
+    if headers.contains_key("x-amz-target") {
+        Protocol::Json
+    } else {
+        Protocol::Query
+    }
+}
+
+fn text_of<'h>(headers: &'h HeaderMap, name: &str) -> Option<&'h str> {
+    headers.get(name).and_then(|value| value.to_str().ok())
+}
+
+/// About as many bytes as the head had.
+fn length_of_head(head: &Parts) -> usize {
+    let of_headers: usize = head.headers.iter().map(|(name, value)| name.as_str().len() + value.len() + 4).sum();
+    head.uri.path_and_query().map_or(0, |path| path.as_str().len()) + of_headers
+}
+
+/// The access key that a request names, which nobody has looked at.
+fn claimed_key(headers: &HeaderMap) -> &str {
+    let authorization = headers.get(AUTHORIZATION).and_then(|value| value.to_str().ok()).unwrap_or_default();
+    let credential = authorization.split_once("Credential=").map_or("", |(_, rest)| rest);
+    credential.split('/').next().unwrap_or_default()
+}
+
+fn response(reply: Reply) -> Response<Body> {
+    let mut response = Response::new(Body::from(reply.body));
+    *response.status_mut() = StatusCode::from_u16(reply.status).unwrap_or(StatusCode::INTERNAL_SERVER_ERROR);
+    let headers = response.headers_mut();
+    headers.insert(CONTENT_TYPE, HeaderValue::from_static(reply.content_type));
+    if let Ok(request_id) = HeaderValue::try_from(reply.request_id) {
+        headers.insert("x-amzn-requestid", request_id);
+    }
+    if let Some(Ok(error)) = reply.query_error.map(HeaderValue::try_from) {
+        headers.insert("x-amzn-query-error", error);
+    }
+    response
+}
+
+/// A refusal. `closes`: the connection ends behind it.
+fn refused(protocol: Protocol, error: &SqsError, request_id: String, closes: bool) -> Response<Body> {
+    let mut response = response(protocol.refuse(error, request_id));
+    if closes {
+        response.headers_mut().insert(CONNECTION, HeaderValue::from_static("close"));
+    }
+    response
+}
+
+fn too_long_a_head() -> Response<Body> {
+    let mut response = Response::new(Body::from("The head of a request has at most 32 KiB.\n"));
+    *response.status_mut() = StatusCode::REQUEST_HEADER_FIELDS_TOO_LARGE;
+    response.headers_mut().insert(CONNECTION, HeaderValue::from_static("close"));
+    response
+}
+
+fn not_found() -> Response<Body> {
+    let mut response = Response::new(Body::from("There is nothing at this path.\n"));
+    *response.status_mut() = StatusCode::NOT_FOUND;
+    response
+}

@@ -1,0 +1,214 @@
+//! What operators are told in numbers, in the text form of Prometheus.
+
+use std::time::Duration;
+
+use prometheus::{
+    Encoder, HistogramOpts, HistogramVec, IntCounter, IntCounterVec, IntGauge, IntGaugeVec, Opts, Registry, TextEncoder,
+};
+
+use crate::store::Figures;
+
+/// Bounds of the histogram of latencies, in seconds. Long polls take up to 20.
+const SECONDS: [f64; 14] = [0.0005, 0.001, 0.0025, 0.005, 0.01, 0.025, 0.05, 0.1, 0.25, 0.5, 1.0, 5.0, 10.0, 20.0];
+
+/// The metrics of a gateway.
+pub struct Metrics {
+    registry: Registry,
+    requests: IntCounterVec,
+    seconds: HistogramVec,
+    connections: IntGauge,
+    polls: IntGauge,
+    messages: IntGaugeVec,
+    queues: IntGauge,
+    open: IntGauge,
+    memory: IntGauge,
+    memory_bound: IntGauge,
+    journal_bytes: IntGauge,
+    journal_bound: IntGauge,
+    records: IntGauge,
+    disk_full: IntGauge,
+    commits: IntCounter,
+    restarts: IntCounter,
+}
+
+/// How many messages a queue has.
+#[derive(Clone, Debug, PartialEq, Eq)]
+pub struct Counts {
+    pub queue: String,
+    pub visible: u64,
+    pub in_flight: u64,
+}
+
+/// Counts one more of something for as long as it is kept.
+pub struct Counted(IntGauge);
+
+impl Counted {
+    fn one_more(gauge: &IntGauge) -> Counted {
+        gauge.inc();
+        Counted(gauge.clone())
+    }
+}
+
+impl Drop for Counted {
+    fn drop(&mut self) {
+        self.0.dec();
+    }
+}
+
+impl Metrics {
+    pub fn new() -> prometheus::Result<Metrics> {
+        let registry = Registry::new();
+        let labels = |names: &'static [&'static str]| names;
+        let requests = IntCounterVec::new(
+            Opts::new("hobbychair_requests_total", "Requests answered, by action and HTTP status."),
+            labels(&["action", "status"]),
+        )?;
+        let seconds = HistogramVec::new(
+            HistogramOpts::new(
+                "hobbychair_request_duration_seconds",
+                "From a request's head to its answer, by action. Long polls count their wait.",
+            )
+            .buckets(SECONDS.to_vec()),
+            labels(&["action"]),
+        )?;
+        let messages = IntGaugeVec::new(
+            Opts::new("hobbychair_messages", "Messages of a queue that are visible, or in flight."),
+            labels(&["queue", "state"]),
+        )?;
+        registry.register(Box::new(requests.clone()))?;
+        registry.register(Box::new(seconds.clone()))?;
+        registry.register(Box::new(messages.clone()))?;
+        let gauge = |name: &str, help: &str| {
+            let gauge = IntGauge::new(name, help)?;
+            registry.register(Box::new(gauge.clone()))?;
+            Ok::<_, prometheus::Error>(gauge)
+        };
+        let counter = |name: &str, help: &str| {
+            let counter = IntCounter::new(name, help)?;
+            registry.register(Box::new(counter.clone()))?;
+            Ok::<_, prometheus::Error>(counter)
+        };
+        Ok(Metrics {
+            requests,
+            seconds,
+            connections: gauge("hobbychair_connections", "Connections that are open.")?,
+            polls: gauge("hobbychair_long_polls", "Receives that wait for a message.")?,
+            messages,
+            queues: gauge("hobbychair_queues", "Queues that are there.")?,
+            open: gauge("hobbychair_open_asks", "Asks that the store hasn't answered yet.")?,
+            memory: gauge("hobbychair_memory_used_bytes", "Bytes that messages and deduplication ids use.")?,
+            memory_bound: gauge("hobbychair_memory_bound_bytes", "The bound of that; 0 if there is none.")?,
+            journal_bytes: gauge("hobbychair_journal_bytes", "Bytes of the journal's files.")?,
+            journal_bound: gauge("hobbychair_journal_bound_bytes", "The bound of that; 0 if there is none.")?,
+            records: gauge("hobbychair_journal_records", "Records of the journal.")?,
+            disk_full: gauge("hobbychair_journal_disk_full", "1 while the journal's disk has no space left.")?,
+            commits: counter("hobbychair_journal_commits_total", "Commits to the journal.")?,
+            restarts: counter("hobbychair_cq_restarts_total", "How often the program cq was started again.")?,
+            registry,
+        })
+    }
+
+    /// Counts a request that was answered.
+    pub fn answered(&self, action: &str, status: u16, time: Duration) {
+        self.seconds.with_label_values(&[action]).observe(time.as_secs_f64());
+        // Good answers are by far the most, and need no text made.
+        match status {
+            200 => self.requests.with_label_values(&[action, "200"]).inc(),
+            _ => self.requests.with_label_values(&[action, &status.to_string()]).inc(),
+        }
+    }
+
+    pub fn connection(&self) -> Counted {
+        Counted::one_more(&self.connections)
+    }
+
+    pub fn poll(&self) -> Counted {
+        Counted::one_more(&self.polls)
+    }
+
+    /// The metrics as text, with what was just looked up: nothing while the store isn't there yet.
+    pub fn text(&self, messages: &[Counts], figures: Option<&Figures>) -> prometheus::Result<Vec<u8>> {
+        self.take_in_messages(messages);
+        if let Some(figures) = figures {
+            self.take_in_figures(figures);
+        }
+        let mut text = Vec::new();
+        TextEncoder::new().encode(&self.registry.gather(), &mut text)?;
+        Ok(text)
+    }
+
+    fn take_in_messages(&self, messages: &[Counts]) {
+        // Queues that are gone leave no row behind.
+        self.messages.reset();
+        for Counts { queue, visible, in_flight } in messages {
+            self.messages.with_label_values(&[queue, "visible"]).set(*visible as i64);
+            self.messages.with_label_values(&[queue, "in flight"]).set(*in_flight as i64);
+        }
+    }
+
+    fn take_in_figures(&self, figures: &Figures) {
+        self.queues.set(figures.queues as i64);
+        self.open.set(figures.open as i64);
+        self.memory.set(figures.memory_bytes as i64);
+        self.memory_bound.set(figures.memory_bound.unwrap_or(0) as i64);
+        raise(&self.restarts, figures.restarts);
+        if let Some(journal) = &figures.journal {
+            self.journal_bytes.set(journal.bytes as i64);
+            self.journal_bound.set(journal.bound.unwrap_or(0) as i64);
+            self.records.set(journal.records as i64);
+            self.disk_full.set(i64::from(journal.is_disk_full));
+            raise(&self.commits, journal.commits);
+        }
+    }
+
+    /// The content type of the text.
+    pub fn content_type() -> &'static str {
+        "text/plain; version=0.0.4"
+    }
+}
+
+/// Raises a counter to a number that was counted elsewhere.
+fn raise(counter: &IntCounter, to: u64) {
+    counter.inc_by(to.saturating_sub(counter.get()));
+}
+
+#[cfg(test)]
+mod tests {
+    use super::*;
+
+    use crate::store::JournalFigures;
+
+    #[test]
+    fn all_of_it_is_told() {
+        let metrics = Metrics::new().unwrap();
+        metrics.answered("SendMessage", 200, Duration::from_millis(2));
+        metrics.answered("SendMessage", 400, Duration::from_millis(2));
+        let poll = metrics.poll();
+        let messages = [Counts { queue: "a.fifo".into(), visible: 3, in_flight: 1 }];
+        let journal = JournalFigures { bytes: 5, bound: Some(6), commits: 7, records: 8, is_disk_full: true };
+        let figures =
+            Figures { queues: 1, memory_bytes: 2, memory_bound: None, journal: Some(journal), restarts: 4, open: 9 };
+        let text = String::from_utf8(metrics.text(&messages, Some(&figures)).unwrap()).unwrap();
+        for line in [
+            "hobbychair_requests_total{action=\"SendMessage\",status=\"200\"} 1",
+            "hobbychair_requests_total{action=\"SendMessage\",status=\"400\"} 1",
+            "hobbychair_request_duration_seconds_bucket{action=\"SendMessage\",le=\"0.0025\"} 2",
+            "hobbychair_request_duration_seconds_bucket{action=\"SendMessage\",le=\"0.001\"} 0",
+            "hobbychair_messages{queue=\"a.fifo\",state=\"in flight\"} 1",
+            "hobbychair_long_polls 1",
+            "hobbychair_queues 1",
+            "hobbychair_memory_used_bytes 2",
+            "hobbychair_memory_bound_bytes 0",
+            "hobbychair_journal_bound_bytes 6",
+            "hobbychair_journal_disk_full 1",
+            "hobbychair_journal_commits_total 7",
+            "hobbychair_cq_restarts_total 4",
+        ] {
+            assert!(text.lines().any(|found| found == line), "{line}");
+        }
+        drop(poll);
+        let text = String::from_utf8(metrics.text(&[], None).unwrap()).unwrap();
+        assert!(text.contains("hobbychair_long_polls 0") && !text.contains("a.fifo"));
+        assert!(text.contains("hobbychair_journal_commits_total 7"));
+    }
+}
