@@ -1,0 +1,290 @@
+"""What comes in by raw sockets: too long, too slow, broken off, too much at once."""
+
+from __future__ import annotations
+
+import json
+import random
+import re
+import resource
+import select
+import socket
+import struct
+import threading
+import time
+from urllib.parse import urlsplit
+
+import pytest
+
+from started import ByJson, Started
+
+JSON = b"X-Amz-Target: AmazonSQS.%s\r\nContent-Type: application/x-amz-json-1.0\r\n"
+LONGEST_BODY = 6 * 262_144 + 65_536
+
+
+@pytest.fixture(scope="module")
+def gateway():
+    started = Started()
+    ByJson(started.url)("CreateQueue", QueueName="q.fifo", Attributes={"FifoQueue": "true"})
+    yield started
+    assert started.stop() == 0
+
+
+def connect(gateway: Started) -> socket.socket:
+    address = urlsplit(gateway.url)
+    return socket.create_connection((address.hostname, address.port), timeout=60)
+
+
+def head(action: bytes, length: int | None, more: bytes = b"") -> bytes:
+    sized = b"Transfer-Encoding: chunked\r\n" if length is None else b"Content-Length: %d\r\n" % length
+    return b"POST / HTTP/1.1\r\nHost: here\r\n" + JSON % action + sized + more + b"\r\n"
+
+
+def read_all(connection: socket.socket) -> bytes:
+    got = b""
+    while piece := connection.recv(1 << 16):
+        got += piece
+    return got
+
+
+def read_response(connection: socket.socket) -> tuple[int, dict[str, str], bytes]:
+    file = connection.makefile("rb")
+    status = int(file.readline().split()[1])
+    headers = {}
+    while (line := file.readline().strip()):
+        name, value = line.decode().split(":", 1)
+        headers[name.lower()] = value.strip()
+    return status, headers, file.read(int(headers.get("content-length", "0")))
+
+
+def is_refused_in_json(response: tuple[int, dict[str, str], bytes], status: int, code: str) -> None:
+    got, headers, body = response
+    assert got == status
+    assert headers["content-type"] == "application/x-amz-json-1.0" and headers["x-amzn-requestid"]
+    assert headers["x-amzn-query-error"].split(";")[0] == code
+    assert json.loads(body)["message"]
+
+
+def serves(gateway: Started) -> None:
+    call = ByJson(gateway.url)
+    assert call("ListQueues")["QueueUrls"]
+
+
+def test_a_head_above_32_kb_is_refused(gateway):
+    connection = connect(gateway)
+    connection.sendall(head(b"ListQueues", 2, b"X-Long: " + b"x" * 40_000 + b"\r\n") + b"{}")
+    assert read_response(connection)[0] == 431
+    connection = connect(gateway)
+    connection.sendall(head(b"ListQueues", 2, b"X-Long: " + b"x" * 20_000 + b"\r\n") + b"{}")
+    assert read_response(connection)[0] == 200
+
+
+def test_a_body_that_is_too_long_gets_413_in_the_form_of_its_protocol(gateway):
+    connection = connect(gateway)
+    connection.sendall(head(b"SendMessage", LONGEST_BODY + 1))
+    connection.sendall(b"x" * (LONGEST_BODY + 1))
+    is_refused_in_json(read_response(connection), 413, "RequestEntityTooLarge")
+    connection = connect(gateway)
+    connection.sendall(b"POST / HTTP/1.1\r\nHost: here\r\nTransfer-Encoding: chunked\r\n\r\n")
+    for _ in range(30):
+        connection.sendall(b"10000\r\n" + b"x" * 65_536 + b"\r\n")
+    connection.sendall(b"0\r\n\r\n")
+    status, headers, body = read_response(connection)
+    assert status == 413 and headers["content-type"].startswith("text/xml")
+    assert b"<Code>RequestEntityTooLarge</Code>" in body
+
+
+def test_the_longest_message_gets_in_however_its_json_is_written(gateway):
+    body = "<" * 262_144
+    escaped = json.dumps({"QueueUrl": "q.fifo", "MessageBody": "@", "MessageGroupId": "long", "MessageDeduplicationId": "long"})
+    content = escaped.replace("@", "\\u003c" * 262_144).encode()
+    connection = connect(gateway)
+    connection.sendall(head(b"SendMessage", len(content)) + content)
+    assert read_response(connection)[0] == 200
+    (message,) = ByJson(gateway.url)("ReceiveMessage", QueueUrl="q.fifo")["Messages"]
+    assert message["Body"] == body
+    ByJson(gateway.url)("DeleteMessage", QueueUrl="q.fifo", ReceiptHandle=message["ReceiptHandle"])
+
+
+@pytest.mark.parametrize("sent", [
+    b"GET",
+    b"\x16\x03\x01\x02\x00\x01\x00\x01\xfc\x03\x03",
+    b"POST / HTTP/1.1\r\nHost: here\r\nContent-Length: 1\r\nContent-Length: 2\r\n\r\nab",
+    b"POST / HTTP/1.1\r\nHost: here\r\nContent-Length: -1\r\n\r\n",
+    b"POST / HTTP/1.1\r\nHost: here\r\nContent-Length: 99999999999999999999999\r\n\r\n",
+    b"POST / HTTP/1.1\r\nHost: here\r\nTransfer-Encoding: chunked\r\n\r\nzz\r\nab\r\n0\r\n\r\n",
+    b"POST / HTTP/1.1\r\nHost: here\r\nTransfer-Encoding: chunked\r\n\r\nffffffffffffffffff\r\n",
+    b"POST / HTTP/1.1\r\nHost: here\r\nTransfer-Encoding: chunked\r\n\r\n2\r\nabX",
+    b"POST / HTTP/9.9\r\n\r\n",
+    b"POST /\x00 HTTP/1.1\r\n\r\n",
+    b"\r\n" * 1000,
+    b"PRI * HTTP/2.0\r\n\r\nSM\r\n\r\n",
+])
+def test_what_is_no_request_ends_its_connection_alone(gateway, sent):
+    connection = connect(gateway)
+    connection.sendall(sent)
+    connection.shutdown(socket.SHUT_WR)
+    got = read_all(connection)
+    assert got == b"" or re.match(rb"HTTP/1\.[01] 4\d\d ", got)
+    serves(gateway)
+
+
+@pytest.mark.parametrize("length", [10, None])
+def test_a_body_that_breaks_off_is_no_send(gateway, length):
+    whole = b'{"QueueUrl":"q.fifo","MessageBody":"b","MessageGroupId":"broken","MessageDeduplicationId":"broken"}'
+    for cut in (0, 5, len(whole) - 1):
+        connection = connect(gateway)
+        pieces = whole[:cut] if length else b"%x\r\n%s" % (len(whole), whole[:cut])
+        connection.sendall(head(b"SendMessage", len(whole) if length else None) + pieces)
+        # a reset and not an end
+        connection.setsockopt(socket.SOL_SOCKET, socket.SO_LINGER, struct.pack("ii", 1, 0))
+        connection.close()
+    time.sleep(0.2)
+    assert ByJson(gateway.url)("ReceiveMessage", QueueUrl="q.fifo") == {}
+    serves(gateway)
+
+
+def test_a_body_that_lies_about_its_length_is_read_to_its_length(gateway):
+    connection = connect(gateway)
+    connection.sendall(head(b"ListQueues", 2) + b"{}" + b"and more")
+    assert read_response(connection)[0] == 200
+    serves(gateway)
+
+
+def test_requests_on_one_connection_are_answered_in_order(gateway):
+    connection = connect(gateway)
+    connection.sendall((head(b"ListQueues", 2) + b"{}") * 20 + head(b"Nothing", 2, b"Connection: close\r\n") + b"{}")
+    got = read_all(connection)
+    assert got.count(b"HTTP/1.1 200 OK") == 20 and got.count(b"HTTP/1.1 400 ") == 1
+    assert got.rindex(b"HTTP/1.1 200 OK") < got.index(b"HTTP/1.1 400 ")
+
+
+def test_expect_100_continue(gateway):
+    connection = connect(gateway)
+    connection.sendall(head(b"ListQueues", 2, b"Expect: 100-continue\r\n"))
+    file = connection.makefile("rb")
+    assert file.readline().startswith(b"HTTP/1.1 100")
+    connection.sendall(b"{}")
+    assert file.readline() == b"\r\n" and file.readline().startswith(b"HTTP/1.1 200")
+
+
+def test_random_bytes_end_nothing(gateway):
+    seed = 20261126
+    numbers = random.Random(seed)
+    good = head(b"ListQueues", 2) + b"{}"
+    for _ in range(300):
+        spoilt = bytearray(good)
+        for _ in range(numbers.randrange(1, 6)):
+            place = numbers.randrange(len(spoilt))
+            if numbers.random() < 0.3:
+                del spoilt[place:place + numbers.randrange(1, 9)]
+            else:
+                spoilt[place] = numbers.randrange(256)
+            if not spoilt:
+                break
+        connection = connect(gateway)
+        connection.sendall(spoilt)
+        connection.shutdown(socket.SHUT_WR)
+        got = read_all(connection)
+        assert got == b"" or got.startswith(b"HTTP/1."), (seed, bytes(spoilt))
+    serves(gateway)
+
+
+def test_connections_above_the_bound_are_told_503_and_others_go_on():
+    gateway = Started("--connections", "8", "--polls", "4")
+    try:
+        call = ByJson(gateway.url)
+        call("CreateQueue", QueueName="q.fifo", Attributes={"FifoQueue": "true"})
+        kept = [connect(gateway) for _ in range(8)]
+        for connection in kept:
+            connection.sendall(head(b"ListQueues", 2) + b"{}")
+            assert read_response(connection)[0] == 200
+        for protocol in (JSON % b"ListQueues", b""):
+            above = connect(gateway)
+            above.sendall(b"POST / HTTP/1.1\r\nHost: here\r\n" + protocol + b"Content-Length: 2\r\n\r\n{}")
+            response = read_response(above)
+            assert response[1]["connection"] == "close"
+            if protocol:
+                is_refused_in_json(response, 503, "ServiceUnavailable")
+            else:
+                assert response[0] == 503 and b"<Code>ServiceUnavailable</Code>" in response[2]
+        kept[0].sendall(head(b"ListQueues", 2) + b"{}")
+        assert read_response(kept[0])[0] == 200
+        for connection in kept:
+            connection.close()
+        time.sleep(0.2)
+        serves(gateway)
+    finally:
+        assert gateway.stop() == 0
+
+
+def test_a_send_gets_in_while_all_polls_are_taken():
+    gateway = Started("--connections", "16", "--polls", "3")
+    try:
+        call = ByJson(gateway.url)
+        call("CreateQueue", QueueName="q.fifo", Attributes={"FifoQueue": "true"})
+        content = b'{"QueueUrl":"q.fifo","WaitTimeSeconds":20}'
+        polls = [connect(gateway) for _ in range(3)]
+        for poll in polls:
+            poll.sendall(head(b"ReceiveMessage", len(content)) + content)
+        time.sleep(0.5)
+        above = connect(gateway)
+        above.sendall(head(b"ReceiveMessage", len(content)) + content)
+        is_refused_in_json(read_response(above), 503, "ServiceUnavailable")
+        assert call("ReceiveMessage", QueueUrl="q.fifo") == {}
+        call("SendMessage", QueueUrl="q.fifo", MessageBody="b", MessageGroupId="g", MessageDeduplicationId="d")
+        (woken,) = select.select(polls, [], [], 20)[0]
+        status, _, body = read_response(woken)
+        assert status == 200 and json.loads(body)["Messages"][0]["Body"] == "b"
+    finally:
+        assert gateway.stop() == 0
+
+
+def test_a_slow_request_is_cut_off_and_an_idle_connection_stays():
+    gateway = Started()
+    idle = connect(gateway)
+    idle.sendall(head(b"ListQueues", 2) + b"{}")
+    assert read_response(idle)[0] == 200
+    slow = {"head": (b"GET / HTTP/1.1\r\n", b"X-A: b\r\n"), "length": (head(b"ListQueues", 200), b"x"),
+            "chunks": (head(b"ListQueues", None), b"1\r\nx\r\n")}
+    ended: dict[str, tuple[float, bytes]] = {}
+
+    def send_slowly(name: str) -> None:
+        first, piece = slow[name]
+        connection = connect(gateway)
+        begun = time.monotonic()
+        connection.sendall(first)
+        while not select.select([connection], [], [], 1)[0] and time.monotonic() - begun < 40:
+            connection.sendall(piece)
+        connection.settimeout(5)
+        try:
+            got = read_all(connection)
+        except ConnectionResetError:
+            got = b""
+        ended[name] = (time.monotonic() - begun, got)
+
+    threads = [threading.Thread(target=send_slowly, args=[name]) for name in slow]
+    for thread in threads:
+        thread.start()
+    for thread in threads:
+        thread.join()
+    assert sorted(ended) == sorted(slow)
+    for name, (seconds, got) in ended.items():
+        assert 28 < seconds < 35, (name, seconds)
+        assert got == b"" if name == "head" else got.startswith(b"HTTP/1.1 408 "), (name, got)
+    idle.sendall(head(b"ListQueues", 2) + b"{}")
+    assert read_response(idle)[0] == 200
+    assert gateway.stop() == 0
+
+
+def test_a_thousand_connections_at_once():
+    most = resource.getrlimit(resource.RLIMIT_NOFILE)
+    if most[0] < 2048:
+        resource.setrlimit(resource.RLIMIT_NOFILE, (min(4096, most[1]), most[1]))
+    gateway = Started()
+    try:
+        connections = [connect(gateway) for _ in range(1000)]
+        for connection in connections:
+            connection.sendall(head(b"ListQueues", 2) + b"{}")
+        assert all(read_response(connection)[0] == 200 for connection in connections)
+    finally:
+        assert gateway.stop() == 0

@@ -1,0 +1,282 @@
+"""What operators do: addresses, configuration, health, metrics, logs, signals."""
+
+from __future__ import annotations
+
+import json
+import os
+import re
+import signal
+import socket
+import subprocess
+import threading
+import time
+import urllib.error
+import urllib.request
+
+import pytest
+
+from started import ByJson, ByQuery, Refused, Started, command, environment
+
+FIFO = {"FifoQueue": "true"}
+
+
+def run(*words: str, **variables: str) -> subprocess.CompletedProcess:
+    return subprocess.run(command(*words), env={**environment(), **variables}, capture_output=True, text=True, timeout=60)
+
+
+def get(url: str) -> tuple[int, str]:
+    try:
+        with urllib.request.urlopen(url, timeout=20) as response:
+            return response.status, response.read().decode()
+    except urllib.error.HTTPError as error:
+        return error.code, error.read().decode()
+
+
+def admin_url(gateway: Started) -> str:
+    return next(line.split()[-1] for line in gateway.said if line.startswith("health and metrics on "))
+
+
+def metric(text: str, row: str) -> float:
+    found = re.search(rf"^{re.escape(row)} (\S+)$", text, re.MULTILINE)
+    assert found, (row, text)
+    return float(found[1])
+
+
+@pytest.fixture(scope="module")
+def gateway():
+    started = Started("--admin", "0")
+    yield started
+    assert started.stop() == 0
+
+
+# ---- where it listens
+
+
+@pytest.mark.parametrize("host", ["127.0.0.1", "127.8.9.10", "localhost", "::1", "[::1]"])
+def test_addresses_of_this_machine_are_served(host):
+    started = Started("--host", host)
+    try:
+        assert ByJson(started.url)("ListQueues") == {}
+        url = ByJson(started.url)("CreateQueue", QueueName="q.fifo", Attributes=FIFO)["QueueUrl"]
+        assert url == f"{started.url}/000000000000/q.fifo"
+        assert ByQuery(started.url)("GetQueueAttributes", QueueUrl=url)== {}
+    finally:
+        assert started.stop() == 0
+
+
+@pytest.mark.parametrize("host", ["0.0.0.0", "::", "[::]"])
+def test_other_addresses_want_keys_or_open(host):
+    ended = run("serve", "--host", host, "--port", "0")
+    assert ended.returncode == 2 and ended.stdout == ""
+    assert "without --credentials only this machine is served" in ended.stderr and "--open" in ended.stderr
+    started = Started("--host", host, "--open")
+    try:
+        port = started.url.rsplit(":", 1)[-1]
+        assert ByJson(f"http://127.0.0.1:{port}" if "." in host else f"http://[::1]:{port}")("ListQueues") == {}
+    finally:
+        assert started.stop() == 0
+
+
+@pytest.mark.parametrize("host", ["nowhere.invalid", "[127.0.0.1", "1.2.3.4.5"])
+def test_a_host_that_is_none_is_told(host):
+    ended = run("serve", "--host", host, "--port", "0")
+    assert ended.returncode == 1 and f"can't listen on {host}:0" in ended.stderr
+
+
+def test_urls_say_where_the_gateway_is_known(gateway):
+    call = ByJson(gateway.url)
+    call("CreateQueue", QueueName="url.fifo", Attributes=FIFO)
+    body = b'{"QueueName":"url.fifo"}'
+    headers = {"X-Amz-Target": "AmazonSQS.GetQueueUrl", "Content-Type": "application/x-amz-json-1.0"}
+    for more, expected in [
+        ({"Host": "queues.example"}, "http://queues.example/000000000000/url.fifo"),
+        ({"Host": "queues.example", "X-Forwarded-Proto": "https"}, "https://queues.example/000000000000/url.fifo"),
+    ]:
+        request = urllib.request.Request(gateway.url, data=body, headers={**headers, **more})
+        assert json.load(urllib.request.urlopen(request, timeout=20))["QueueUrl"] == expected
+    started = Started("--url", "https://known.example/sqs/", "--account", "123456789012")
+    try:
+        url = ByJson(started.url)("CreateQueue", QueueName="q.fifo", Attributes=FIFO)["QueueUrl"]
+        assert url == "https://known.example/sqs/123456789012/q.fifo"
+        assert ByJson(started.url)("ListQueues") == {"QueueUrls": [url]}
+    finally:
+        assert started.stop() == 0
+
+
+# ---- what it is told
+
+
+def test_a_file_says_what_options_say_and_options_go_first(tmp_path):
+    file = tmp_path / "hobbychair.toml"
+    file.write_text(
+        'host = "127.0.0.2"\naccount = "111111111111"\nregion = "eu-west-1"\nadmin = 0\nlog = "json"\n'
+        '[[queue]]\nname = "a.fifo"\nattributes = { FifoQueue = "true", VisibilityTimeout = "7" }\ntags = { team = "x" }\n'
+        '[[queue]]\nname = "standard"\n[[queue]]\nname = "b.fifo"\nattributes = { FifoQueue = "true" }\n'
+    )
+    started = Started("--config", str(file), "--account", "222222222222")
+    try:
+        assert started.url.startswith("http://127.0.0.2:")
+        call = ByJson(started.url)
+        urls = call("ListQueues")["QueueUrls"]
+        assert [url.rsplit("/", 2)[1:] for url in urls] == [["222222222222", "a.fifo"], ["222222222222", "b.fifo"]]
+        told = call("GetQueueAttributes", QueueUrl=urls[0], AttributeNames=["All"])["Attributes"]
+        assert told["VisibilityTimeout"] == "7" and told["QueueArn"] == "arn:aws:sqs:eu-west-1:222222222222:a.fifo"
+        assert call("ListQueueTags", QueueUrl=urls[0]) == {"Tags": {"team": "x"}}
+        assert get(admin_url(started) + "/health") == (200, "serving\n")
+    finally:
+        assert started.stop() == 0
+
+
+def test_variables_say_what_options_say_and_go_before_the_file(tmp_path, monkeypatch):
+    file = tmp_path / "hobbychair.toml"
+    file.write_text('account = "111111111111"\nregion = "eu-west-1"\n')
+    monkeypatch.setenv("HOBBYCHAIR_CONFIG", str(file))
+    monkeypatch.setenv("HOBBYCHAIR_ACCOUNT", "333333333333")
+    started = Started()
+    try:
+        call = ByJson(started.url)
+        url = call("CreateQueue", QueueName="q.fifo", Attributes=FIFO)["QueueUrl"]
+        told = call("GetQueueAttributes", QueueUrl=url, AttributeNames=["QueueArn"])["Attributes"]
+        assert told == {"QueueArn": "arn:aws:sqs:eu-west-1:333333333333:q.fifo"}
+    finally:
+        assert started.stop() == 0
+
+
+@pytest.mark.parametrize("text, said", [
+    ("prot = 1", "prot"), ("port = 70000", "70000"), ('memory = "1MB"', "1MB is no size"), ("host =", "line 1"),
+    ('log = "xml"', "xml"), ('[[queue]]\nnames = "a.fifo"', "names"), ("connections = 0", "connections"),
+    ('certificate = "c.pem"', "key"), ("shards = 99", "shards"),
+])
+def test_a_file_that_is_wrong_ends_with_status_2(tmp_path, text, said):
+    file = tmp_path / "hobbychair.toml"
+    file.write_text(text)
+    ended = run("serve", "--port", "0", "--config", str(file))
+    assert ended.returncode == 2 and said in ended.stderr and ended.stdout == ""
+
+
+@pytest.mark.parametrize("words", [
+    ["--memory", "1MB"], ["--polls", "-1"], ["--log", "xml"], ["--admin", "here"], ["--url", "queues"], ["--open=maybe"],
+    ["--certificate", "c.pem"], ["--key", "k.pem"], ["--journal-size", "1GiB"], ["--connections", "0"],
+])
+def test_words_that_are_wrong_end_with_status_2(words):
+    ended = run("serve", "--port", "0", *words)
+    assert ended.returncode == 2 and ended.stdout == "" and ended.stderr
+
+
+def test_files_that_are_not_there_are_told(tmp_path):
+    for option in ("--config", "--credentials"):
+        ended = run("serve", "--port", "0", option, str(tmp_path / "none"))
+        assert ended.returncode == 1 and str(tmp_path / "none") in ended.stderr
+
+
+# ---- what it tells
+
+
+def test_health_and_metrics(gateway):
+    admin = admin_url(gateway)
+    assert get(admin + "/health") == (200, "serving\n")
+    call = ByJson(gateway.url)
+    call("CreateQueue", QueueName="metrics.fifo", Attributes=FIFO)
+    before = get(admin + "/metrics")[1]
+    for place in range(3):
+        call("SendMessage", QueueUrl="metrics.fifo", MessageBody="b", MessageGroupId=f"g{place}", MessageDeduplicationId=f"{place}")
+    call("ReceiveMessage", QueueUrl="metrics.fifo")
+    with pytest.raises(Refused):
+        call("SendMessage", QueueUrl="metrics.fifo", MessageBody="b")
+    status, text = get(admin + "/metrics")
+    assert status == 200
+    sent = 'hobbychair_requests_total{action="SendMessage",status="200"}'
+    earlier = metric(before, sent) if sent in before else 0
+    assert metric(text, sent) - earlier == 3
+    assert metric(text, 'hobbychair_messages{queue="metrics.fifo",state="visible"}') == 2
+    assert metric(text, 'hobbychair_messages{queue="metrics.fifo",state="in flight"}') == 1
+    assert metric(text, 'hobbychair_request_duration_seconds_count{action="SendMessage"}') >= 3
+    assert metric(text, "hobbychair_cq_restarts_total") == 0
+    assert metric(text, "hobbychair_connections") >= 0
+    assert get(admin + "/")[0] == 404
+    # The protocol's own address has neither.
+    assert get(gateway.url + "/health")[0] == 404
+
+
+def test_health_says_that_it_starts(tmp_path):
+    """A program that takes its time for its first answer keeps the gateway starting."""
+    slow = tmp_path / "slow"
+    slow.write_text(f'#!/bin/sh\n[ "$1" = session ] && sleep 3\nexec {os.environ["HOBBYCHAIR_CQ"]} "$@"\n')
+    slow.chmod(0o755)
+    process = subprocess.Popen(command("serve", "--port", "0", "--admin", "0", "--cq", str(slow)), env=environment(),
+                               stdout=subprocess.PIPE, text=True)
+    try:
+        admin = process.stdout.readline().split()[-1]
+        assert get(admin + "/health") == (503, "starting: 0 records replayed\n")
+        assert get(admin + "/metrics")[0] == 200
+        assert process.stdout.readline().startswith("listening on ")
+        for _ in range(100):
+            if get(admin + "/health") == (200, "serving\n"):
+                break
+            time.sleep(0.05)
+        assert get(admin + "/health")[0] == 200
+    finally:
+        process.terminate()
+        assert process.wait(20) == 0
+
+
+def logged(*words: str, level: str) -> list[str]:
+    process = subprocess.Popen(command("serve", "--port", "0", "--log-level", level, *words), env=environment(),
+                               stdout=subprocess.PIPE, stderr=subprocess.PIPE, text=True)
+    url = process.stdout.readline().split()[-1]
+    call = ByJson(url)
+    call("CreateQueue", QueueName="q.fifo", Attributes=FIFO)
+    call("SendMessage", QueueUrl="q.fifo", MessageBody="a secret body", MessageGroupId="g", MessageDeduplicationId="d")
+    with pytest.raises(Refused):
+        call("SendMessage", QueueUrl="none.fifo", MessageBody="another", MessageGroupId="g", MessageDeduplicationId="d")
+    process.terminate()
+    lines = process.communicate(timeout=20)[1].splitlines()
+    assert process.returncode == 0
+    return lines
+
+
+def test_each_request_is_a_line_at_debug_and_no_body_is_told():
+    lines = [json.loads(line) for line in logged("--log", "json", level="debug")]
+    answered = [line for line in lines if line["message"] == "answered"]
+    assert [(line["action"], line["queue"], line["status"]) for line in answered] == [
+        ("CreateQueue", "q.fifo", 200), ("SendMessage", "q.fifo", 200), ("SendMessage", "none.fifo", 400)]
+    assert all(line["request"] and line["peer"].startswith("127.0.0.1:") and line["level"] == "DEBUG" for line in answered)
+    assert "secret" not in json.dumps(lines) and "another" not in json.dumps(lines)
+    text = logged(level="debug")
+    assert sum("answered" in line and "action=\"SendMessage\"" in line for line in text) == 2
+    assert not any("answered" in line for line in logged(level="info"))
+
+
+# ---- how it ends
+
+
+@pytest.mark.parametrize("number", [signal.SIGTERM, signal.SIGINT])
+def test_a_signal_answers_open_polls_and_ends_within_10_s(number):
+    gateway = Started()
+    call = ByJson(gateway.url)
+    call("CreateQueue", QueueName="q.fifo", Attributes=FIFO)
+    answers: list[object] = []
+
+    def poll() -> None:
+        begun = time.monotonic()
+        answers.append((call("ReceiveMessage", QueueUrl="q.fifo", WaitTimeSeconds=20), time.monotonic() - begun))
+
+    threads = [threading.Thread(target=poll) for _ in range(5)]
+    for thread in threads:
+        thread.start()
+    idle = socket.create_connection(tuple(gateway.url.split("//")[1].split(":")), timeout=20)
+    time.sleep(0.5)
+    begun = time.monotonic()
+    gateway.process.send_signal(number)
+    assert gateway.process.wait(20) == 0
+    assert time.monotonic() - begun < 10
+    for thread in threads:
+        thread.join()
+    assert len(answers) == 5 and all(answer == {} and seconds < 10 for answer, seconds in answers)
+    idle.close()
+
+
+def test_two_gateways_do_not_share_a_port(gateway):
+    port = gateway.url.rsplit(":", 1)[-1]
+    ended = run("serve", "--port", port)
+    assert ended.returncode == 1 and "can't listen" in ended.stderr
