@@ -10,7 +10,7 @@ from typing import Any
 
 import pytest
 
-from started import COMPILED, START, ByBoto3, ByJson, ByQuery, Refused, Started, boto3_client, program
+from started import START, ByBoto3, ByJson, ByQuery, Refused, Started, boto3_client, gateway_program, program
 
 try:
     import moto
@@ -18,41 +18,22 @@ try:
 except ImportError:
     moto = None
 
-ONE: list[str] = []
-CHAIN = ["--servers", "3", "--lose", "0.2"]
-SETTINGS = [ONE] if COMPILED else [ONE, CHAIN]
-"""The compiled gateway has no chain."""
-
-NAMES = ["one", "chain"][: len(SETTINGS)]
 _names = itertools.count(1)
 
 
 def pytest_sessionstart() -> None:
     if shutil.which(program()) is None:
         pytest.exit(f"{program()} isn't built. To prove and build it: ./cq --build", returncode=3)
+    if shutil.which(gateway_program()) is None:
+        pytest.exit(f"{gateway_program()} isn't built. To build it: cargo build --release", returncode=3)
 
 
-def _started(words: list[str], room):
-    started = Started(*words, room=room)
+@pytest.fixture(scope="session")
+def gateway(tmp_path_factory):
+    """A gateway whose clock the tests set."""
+    started = Started(room=tmp_path_factory.mktemp("gateway"))
     yield started
     assert started.stop() == 0
-
-
-@pytest.fixture(scope="session")
-def one(tmp_path_factory):
-    """A gateway on one server, whose clock the tests set."""
-    yield from _started(ONE, tmp_path_factory.mktemp("one"))
-
-
-@pytest.fixture(scope="session")
-def chain(tmp_path_factory):
-    """The same on a chain of three that loses a server five times a second."""
-    yield from _started(CHAIN, tmp_path_factory.mktemp("chain"))
-
-
-@pytest.fixture(params=NAMES)
-def gateway(request):
-    return request.getfixturevalue(request.param)
 
 
 @pytest.fixture(params=["boto3", "json", "query"])
@@ -104,7 +85,7 @@ class Rules:
         assert re.fullmatch(rf"(AWS\.SimpleQueueService\.)?{code}", refusal.value.code)
 
 
-@pytest.fixture(params=[*NAMES, "moto"])
+@pytest.fixture(params=["gateway", "moto"])
 def rules(request, monkeypatch):
     if request.param != "moto":
         gateway = request.getfixturevalue(request.param)

@@ -7,7 +7,6 @@ import json
 import os
 import re
 import subprocess
-import sys
 import urllib.error
 import urllib.parse
 import urllib.request
@@ -27,23 +26,18 @@ def program() -> str:
     return os.environ.get("HOBBYCHAIR_CQ") or str(TOP / "crates" / "cq_main" / "out" / "cq_main")
 
 
-COMPILED = os.environ.get("HOBBYCHAIR_GATEWAY")
-"""The compiled gateway, where it is what the tests are about. Otherwise they are about the one in Python."""
-
-NAME = "hobbychair" if COMPILED else "hobbychair-sqs"
+def gateway_program() -> str:
+    return os.environ.get("HOBBYCHAIR_GATEWAY") or str(TOP / "gateway" / "target" / "release" / "hobbychair")
 
 
 def command(*words: str) -> list[str]:
-    if not COMPILED:
-        return [sys.executable, "-m", "hobbychair", *words]
     if words and words[0].startswith("--") and words[0] not in ("--help", "--version"):
         words = ("serve", *words)
-    return [COMPILED, *words]
+    return [gateway_program(), *words]
 
 
 def environment() -> dict[str, str]:
-    path = os.pathsep.join(filter(None, [str(TOP / "gateway"), os.environ.get("PYTHONPATH")]))
-    return {**os.environ, "PYTHONPATH": path, "HOBBYCHAIR_CQ": program()}
+    return {**os.environ, "HOBBYCHAIR_CQ": program()}
 
 
 class Refused(Exception):

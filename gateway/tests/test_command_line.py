@@ -11,25 +11,20 @@ import urllib.error
 
 import pytest
 
-from started import COMPILED, NAME, TOP, ByJson, Started, command, environment
+from started import TOP, ByJson, Started, command, environment
 
 
 def run(*words: str, **variables: str) -> subprocess.CompletedProcess:
     return subprocess.run(command(*words), env={**environment(), **variables}, capture_output=True, text=True, timeout=60)
 
 
-has_chain = pytest.mark.skipif(COMPILED is not None, reason="the compiled gateway has no chain")
-
-
 @pytest.mark.parametrize("words", [
-    ["live"], ["--port", "x"], ["--port", "65536"], ["--servers", "0"], ["--servers", "9"], ["--lose", "0"],
-    ["--lose", "nan"], ["--account", "1"], ["dump"], ["serve", "extra"],
+    ["live"], ["--port", "x"], ["--port", "65536"], ["--servers", "3"], ["--account", "1"], ["dump"], ["serve", "extra"],
 ])
 def test_bad_words_end_with_status_2(words):
     ended = run(*words)
     assert ended.returncode == 2 and ended.stdout == ""
-    lines = ended.stderr.splitlines()
-    assert lines[0].startswith("error: ") if COMPILED else lines[-1].startswith("hobbychair-sqs")
+    assert ended.stderr.startswith("error: ")
 
 
 def test_help_names_the_commands():
@@ -41,21 +36,15 @@ def test_help_names_the_commands():
 def test_a_missing_program_is_told():
     for words, variables in ([["--cq", "/nowhere/cq"], {}], [[], {"HOBBYCHAIR_CQ": "/nowhere/cq"}]):
         ended = run("--port", "0", *words, **variables)
-        said = f"{NAME}: /nowhere/cq is no program: ./cq --build at the top of the repository builds cq\n"
+        said = f"hobbychair: /nowhere/cq is no program: ./cq --build at the top of the repository builds cq\n"
         assert ended.returncode == 1 and ended.stderr == said
 
 
 def test_a_checkout_whose_program_is_not_built_is_told(tmp_path):
     script = shutil.copy(TOP / "cq", tmp_path)
     ended = run("--port", "0", "--cq", script)
-    said = f"{NAME}: the program isn't built. To prove and build it: {script} --build\n"
+    said = f"hobbychair: the program isn't built. To prove and build it: {script} --build\n"
     assert ended.returncode == 1 and ended.stderr == said
-
-
-@pytest.mark.skipif(COMPILED is not None, reason="the compiled gateway asks for the program's version first")
-def test_a_program_that_ends_at_once_is_told(tmp_path):
-    ended = run("--port", "0", "--journal", str(tmp_path / "journal"), "--cq", "/bin/false")
-    assert ended.returncode == 1 and ended.stderr == f"{NAME}: cq is gone: it ended with status 1\n"
 
 
 def test_a_port_that_is_taken_is_told():
@@ -91,30 +80,3 @@ def test_cq_ends_with_the_gateway():
             return
         time.sleep(0.05)
     raise AssertionError("cq still runs")
-
-
-@has_chain
-def test_a_chain_loses_servers_while_clients_work():
-    gateway = Started("--servers", "1", "--lose", "0.05")
-    call = ByJson(gateway.url)
-    call("CreateQueue", QueueName="q.fifo", Attributes={"FifoQueue": "true"})
-    for place in range(300):
-        sent = call("SendMessage", QueueUrl="q.fifo", MessageBody="b", MessageGroupId="g",
-                    MessageDeduplicationId=str(place))
-        assert sent["SequenceNumber"] == f"{place + 1:020}"
-    time.sleep(0.3)
-    assert gateway.stop() == 0
-
-
-@has_chain
-def test_counts_are_of_their_own_moment_while_servers_are_lost(tmp_path):
-    gateway = Started("--servers", "3", "--lose", "0.02", room=tmp_path)
-    call = ByJson(gateway.url)
-    call("CreateQueue", QueueName="q.fifo", Attributes={"FifoQueue": "true", "VisibilityTimeout": "10"})
-    call("SendMessage", QueueUrl="q.fifo", MessageBody="b", MessageGroupId="g", MessageDeduplicationId="d")
-    for _ in range(150):
-        assert len(call("ReceiveMessage", QueueUrl="q.fifo")["Messages"]) == 1
-        gateway.set_clock(gateway.moment + 10_000)
-        told = call("GetQueueAttributes", QueueUrl="q.fifo", AttributeNames=["All"])["Attributes"]
-        assert told["ApproximateNumberOfMessages"] == "1"
-    assert gateway.stop() == 0

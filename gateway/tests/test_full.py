@@ -8,9 +8,7 @@ from pathlib import Path
 
 import pytest
 
-from started import COMPILED, START, ByJson, Refused, Started
-
-pytestmark = pytest.mark.skipif(COMPILED is None, reason="HOBBYCHAIR_GATEWAY names no compiled gateway")
+from started import START, ByJson, Refused, Started
 
 MEBIBYTE = 1 << 20
 WINDOW = 300_000

@@ -8,12 +8,7 @@ import subprocess
 import pytest
 
 from conftest import new_name
-from started import COMPILED, NAME, ByBoto3, Started, command, environment, program
-
-HEADER = b"hobbychair journal 1\n"
-MARK = b"\xffHC\xfe"
-
-of_the_python_gateway = pytest.mark.skipif(COMPILED is not None, reason="it is about the Python gateway's file")
+from started import ByBoto3, Started, command, environment, program
 
 
 @pytest.fixture
@@ -27,13 +22,6 @@ def journal(tmp_path):
         call("SendMessage", QueueUrl="q.fifo", MessageBody=f"m{place}", MessageGroupId="g", MessageDeduplicationId=str(place))
     assert gateway.stop() == 0
     return path
-
-
-def bodies(path, tmp_path) -> list[str]:
-    gateway = Started("--journal", str(path), room=tmp_path)
-    messages = ByBoto3(gateway.client())("ReceiveMessage", QueueUrl="q.fifo", MaxNumberOfMessages=10)["Messages"]
-    assert gateway.stop() == 0
-    return [message["Body"] for message in messages]
 
 
 def start(path, *words: str) -> subprocess.CompletedProcess:
@@ -82,36 +70,6 @@ def test_all_that_is_kept_comes_again(tmp_path):
     assert gateway.stop() == 0
 
 
-@of_the_python_gateway
-@pytest.mark.parametrize("cut", [1, 5, 12, 40])
-def test_a_cut_last_record_is_cut_off(journal, tmp_path, cut):
-    journal.write_bytes(journal.read_bytes()[:-cut])
-    assert bodies(journal, tmp_path) == ["m0", "m1"]
-    assert bodies(journal, tmp_path) == ["m0", "m1"]
-
-
-@of_the_python_gateway
-def test_a_last_record_with_a_wrong_byte_is_cut_off(journal, tmp_path):
-    data = bytearray(journal.read_bytes())
-    data[-3] ^= 1
-    journal.write_bytes(data)
-    assert bodies(journal, tmp_path) == ["m0", "m1"]
-
-
-@of_the_python_gateway
-@pytest.mark.parametrize("part", ["mark", "length", "checksum", "text"])
-def test_other_damage_stops_the_start_with_its_place(journal, part):
-    data = bytearray(journal.read_bytes())
-    second = data.index(MARK, data.index(MARK) + 1)
-    data[second + {"mark": 1, "length": 5, "checksum": 9, "text": 30}[part]] ^= 1
-    journal.write_bytes(data)
-    ended = start(journal)
-    assert ended.returncode == 1 and ended.stdout == ""
-    assert ended.stderr == (
-        f"hobbychair-sqs: {journal} is damaged at byte {second}, and there are good records behind it\n")
-    assert journal.read_bytes() == data, "a damaged journal is left as it is"
-
-
 def test_a_file_that_is_no_journal_is_left_alone(tmp_path):
     path = tmp_path / "letter"
     path.write_text("Dear Sir or Madam")
@@ -120,35 +78,11 @@ def test_a_file_that_is_no_journal_is_left_alone(tmp_path):
     assert path.read_text() == "Dear Sir or Madam"
 
 
-@of_the_python_gateway
-def test_a_journal_that_was_cut_at_its_birth_begins_anew(tmp_path):
-    path = tmp_path / "journal"
-    path.write_bytes(HEADER[:5])
-    gateway = Started("--journal", str(path))
-    assert gateway.stop() == 0
-    assert path.read_bytes() == HEADER
-
-
-@of_the_python_gateway
-def test_a_reply_that_differs_stops_the_start(journal):
-    import zlib
-    data = journal.read_bytes()
-    place = data.rindex(MARK)
-    record = json.loads(data[place + len(MARK) + 8 :])
-    record["digest"] = "0" * 32
-    text = json.dumps(record).encode()
-    length = len(text).to_bytes(4, "big")
-    journal.write_bytes(data[:place] + MARK + length + zlib.crc32(length + text).to_bytes(4, "big") + text)
-    ended = start(journal)
-    assert ended.returncode == 1 and len(ended.stderr.splitlines()) == 1
-    assert "isn't the one that was given" in ended.stderr
-
-
 def test_a_second_gateway_is_kept_out(journal):
     gateway = Started("--journal", str(journal))
     ended = start(journal)
     assert ended.returncode == 1
-    assert ended.stderr == f"{NAME}: {journal} is in use by another process\n"
+    assert ended.stderr == f"hobbychair: {journal} is in use by another process\n"
     assert gateway.stop() == 0
 
 

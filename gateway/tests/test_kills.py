@@ -10,14 +10,11 @@ import threading
 import time
 from pathlib import Path
 
-import pytest
-
-from conftest import NAMES, SETTINGS
-from started import COMPILED, ByBoto3, Refused, Started, command, environment, program
+from started import ByBoto3, Refused, Started, command, environment, program
 
 KILLS = int(os.environ.get("HOBBYCHAIR_TEST_KILLS", "50"))
 CLIENTS = 6
-ROUNDS = 120 if COMPILED else 40
+ROUNDS = 120
 TIMEOUT = 30
 
 
@@ -127,11 +124,10 @@ class Load:
         self.maybe_deleted = set()
 
 
-@pytest.mark.parametrize("words", SETTINGS, ids=NAMES)
-def test_what_was_acknowledged_outlives_kills(words, tmp_path):
+def test_what_was_acknowledged_outlives_kills(tmp_path):
     journal = tmp_path / "journal"
     load = Load(7)
-    gateway = Started(*words, "--journal", str(journal), room=tmp_path)
+    gateway = Started("--journal", str(journal), room=tmp_path)
     call = ByBoto3(gateway.client())
     url = call("CreateQueue", QueueName="q.fifo", Attributes={"FifoQueue": "true"}, tags={"a": "b"})["QueueUrl"]
     name = url.rsplit("/", 1)[-1]
@@ -153,9 +149,8 @@ def test_what_was_acknowledged_outlives_kills(words, tmp_path):
     assert len(load.numbers) > 5 * KILLS
 
 
-@pytest.mark.parametrize("words", SETTINGS, ids=NAMES)
-def test_no_client_sees_that_cq_was_killed(words, tmp_path):
-    gateway = Started(*words, "--journal", str(tmp_path / "journal"))
+def test_no_client_sees_that_cq_was_killed(tmp_path):
+    gateway = Started("--journal", str(tmp_path / "journal"))
     calls = [ByBoto3(gateway.client()) for _ in range(CLIENTS)]
     calls[0]("CreateQueue", QueueName="q.fifo", Attributes={"FifoQueue": "true", "VisibilityTimeout": "600"})
     failures: list[BaseException] = []

@@ -6,9 +6,7 @@ import os
 import threading
 import time
 
-import pytest
-
-from conftest import NAMES, SETTINGS, new_queue
+from conftest import new_queue
 from started import ByBoto3, Started
 
 MESSAGES = int(os.environ.get("HOBBYCHAIR_TEST_MESSAGES", "10000"))
@@ -16,9 +14,8 @@ GROUPS = 100
 CLIENTS = 8
 
 
-@pytest.mark.parametrize("words", SETTINGS, ids=NAMES)
-def test_each_groups_messages_come_once_each_and_in_order(words):
-    gateway = Started(*words)
+def test_each_groups_messages_come_once_each_and_in_order():
+    gateway = Started()
     calls = [ByBoto3(gateway.client()) for _ in range(CLIENTS)]
     queue = new_queue(calls[0], VisibilityTimeout="600")
     received: dict[str, list[int]] = {f"g{group}": [] for group in range(GROUPS)}

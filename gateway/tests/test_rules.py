@@ -1,4 +1,4 @@
-"""The rules of FIFO queues, each on one server, on a chain that loses servers, and on moto where it is installed.
+"""The rules of FIFO queues, each on the gateway, and on moto where it is installed.
 
 Where moto's rule is another one, the test is marked `moto_differs`, and fails if moto passes it.
 """

@@ -11,11 +11,7 @@ import time
 import zlib
 from pathlib import Path
 
-import pytest
-
-from started import COMPILED, ByJson, Started, command, environment, program
-
-pytestmark = pytest.mark.skipif(COMPILED is None, reason="HOBBYCHAIR_GATEWAY names no compiled gateway")
+from started import ByJson, Started, command, environment, program
 
 COUNT = 3
 NAMES = [f"queue{number}.fifo" for number in range(12)]
@@ -138,8 +134,8 @@ def test_programs_that_are_killed_under_load_lose_nothing(tmp_path):
     senders = [threading.Thread(target=keep_sending, args=(name,)) for name in NAMES]
     for sender in senders:
         sender.start()
-    for place in range(COUNT):
-        os.kill(programs(gateway)[place], signal.SIGKILL)
+    for running in programs(gateway):
+        os.kill(running, signal.SIGKILL)
         time.sleep(0.2)
     for sender in senders:
         sender.join(60)

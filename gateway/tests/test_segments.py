@@ -1,17 +1,14 @@
-"""What the compiled gateway alone has: its journal's form, `verify`, large messages, and versions."""
+"""Segments of the journal, `verify`, large messages, repeats, and what comes of a `cq` that ends."""
 
 from __future__ import annotations
 
 import gzip
 import json
-import os
 import random
 import shutil
-import signal
 import socket
 import subprocess
 import sys
-import threading
 import time
 import zlib
 from collections.abc import Iterator
@@ -20,9 +17,7 @@ from pathlib import Path
 import pytest
 
 from conftest import new_queue
-from started import COMPILED, START, ByBoto3, ByJson, Refused, Started, command, environment, program
-
-pytestmark = pytest.mark.skipif(COMPILED is None, reason="HOBBYCHAIR_GATEWAY names no compiled gateway")
+from started import START, ByBoto3, ByJson, Refused, Started, command, environment, program
 
 MARK = b"\xffHC\xfe"
 HEAD = 28
@@ -330,20 +325,6 @@ def test_a_full_disk_refuses_sends_and_takes_deletes(tmp_path):
         assert gateway.stop() == 0
     finally:
         subprocess.run(["umount", str(room)], check=True)
-
-
-def test_a_terminated_gateway_ends_soon_with_open_polls(tmp_path):
-    gateway = Started()
-    call = ByJson(gateway.url)
-    queue = new_queue(call)
-    waiting = threading.Thread(target=lambda: pytest.raises(Exception, call, "ReceiveMessage", QueueUrl=queue,
-                                                            WaitTimeSeconds=20))
-    waiting.start()
-    time.sleep(0.3)
-    began = time.monotonic()
-    os.kill(gateway.process.pid, signal.SIGTERM)
-    assert gateway.process.wait(20) == 0 and time.monotonic() - began < 10
-    waiting.join()
 
 
 def test_the_python_gateways_journal_is_read(tmp_path):
