@@ -71,6 +71,20 @@ impl FromStr for Handle {
 mod tests {
     use super::*;
 
+    use crate::seeded::{check, edits, spoilt};
+
+    #[test]
+    fn a_handle_that_was_changed_is_none() {
+        let receipt = Receipt { sequence: 7, ordinal: 2 };
+        let text = Handle { mark: Mark(5), receipt, moment: 1_700_000_000_000 }.outward();
+        check(5000, edits(), |edits| {
+            let spoilt = spoilt(text.as_bytes(), &edits);
+            let spoilt = String::from_utf8_lossy(&spoilt);
+            assert!(spoilt == text || spoilt.parse::<Handle>().is_err(), "{spoilt}");
+            Ok(())
+        });
+    }
+
     #[test]
     fn handles_come_back_and_spoilt_ones_do_not() {
         let receipt = Receipt { sequence: 7, ordinal: 2 };

@@ -260,6 +260,10 @@ fn read_reply(text: &str) -> Option<Reply> {
 mod tests {
     use super::*;
 
+    use proptest::prelude::*;
+
+    use crate::seeded::{check, edits, spoilt};
+
     fn line_of(ask: &Ask) -> String {
         let raw = serde_json::value::to_raw_value(&Fields::of(StoreName(7), 10, ask)).unwrap();
         let mut out = Vec::new();
@@ -291,5 +295,17 @@ mod tests {
         for bad in [&b"hello"[..], b"{}", b"{\"client\":1,\"number\":1,\"reply\":{\"kind\":\"x\"}}"] {
             assert!(read_output(bad).is_err());
         }
+    }
+
+    #[test]
+    fn any_line_is_read_or_refused() {
+        let line = br#"{"client":1,"length":3,"line":6,"number":9,"reply":{"kind":"received","messages":[{"body":"a","group":"g","receipt":"1-2-1"}]}}"#;
+        check(2000, edits(), |edits| {
+            let spoilt = spoilt(line, &edits);
+            if let Ok(Output::Answer { reply: Reply::Received(given), .. }) = read_output(&spoilt) {
+                prop_assert!(given.iter().all(|given| read_receipt(&given.receipt, u64::MAX).is_none()));
+            }
+            Ok(())
+        });
     }
 }

@@ -5,6 +5,8 @@ mod members;
 mod query;
 pub mod requests;
 pub mod responses;
+#[cfg(test)]
+mod tests;
 mod value;
 
 pub use requests::{Action, Request};

@@ -8,17 +8,11 @@ use hyper::header::{HeaderMap, HeaderName, HeaderValue};
 use proptest::collection::vec;
 use proptest::prelude::*;
 use proptest::sample::{select, Index};
-use proptest::test_runner::{Config, RngAlgorithm, TestCaseResult, TestRng, TestRunner};
 
 use super::{all_signed, signed, signed_at, Request};
 use crate::access::file::parse;
 use crate::access::timestamp::Timestamp;
-
-fn check<S: Strategy>(cases: u32, strategy: S, test: impl Fn(S::Value) -> TestCaseResult) {
-    let config = Config { cases, failure_persistence: None, ..Config::default() };
-    let mut runner = TestRunner::new_with_rng(config, TestRng::deterministic_rng(RngAlgorithm::ChaCha));
-    runner.run(&strategy, test).unwrap_or_else(|error| panic!("{error}"));
-}
+use crate::seeded::check;
 
 /// A part of a request that is text. Headers count from the first on.
 #[derive(Clone, Debug)]

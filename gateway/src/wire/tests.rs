@@ -1,0 +1,153 @@
+//! Requests as two versions of botocore write them, the same spoilt at random, and answers that are read back.
+
+use proptest::prelude::*;
+use serde::Deserialize;
+
+use super::requests::{Action, Request};
+use super::responses::{ReceivedMessage, Response};
+use super::{Incoming, Protocol};
+use crate::messages::MessageAttributes;
+use crate::seeded::{check, edits, spoilt};
+use crate::texts::test_characters;
+
+/// A call as a client wrote it.
+#[derive(Debug, Deserialize)]
+struct Written {
+    call: String,
+    path: String,
+    query: String,
+    target: Option<String>,
+    body: String,
+}
+
+const BY_QUERY: &str = include_str!("../../tests/golden/serialized_by_botocore_1.29.27.jsonl");
+const BY_JSON: &str = include_str!("../../tests/golden/serialized_by_botocore_1.43.11.jsonl");
+
+fn written(lines: &str) -> Vec<Written> {
+    lines.lines().map(|line| serde_json::from_str(line).unwrap()).collect()
+}
+
+impl Written {
+    fn incoming<'a>(&'a self, body: &'a [u8]) -> Incoming<'a> {
+        Incoming { target: self.target.as_deref(), path_queue: None, query: &self.query, body }
+    }
+
+    fn read(&self) -> Request {
+        let incoming = self.incoming(self.body.as_bytes());
+        Protocol::of(&incoming).read(&incoming).unwrap_or_else(|error| panic!("{}: {error}", self.call))
+    }
+}
+
+#[test]
+fn both_protocols_say_the_same() {
+    let (by_query, by_json) = (written(BY_QUERY), written(BY_JSON));
+    assert_eq!(by_query.len(), Action::ALL.len());
+    for (old, new) in by_query.iter().zip(&by_json) {
+        assert_eq!((&old.call, old.target.is_none(), new.target.is_some()), (&new.call, true, true));
+        assert_eq!((old.path.as_str(), new.path.as_str()), ("/", "/"));
+        let (old_read, new_read) = (old.read(), new.read());
+        assert_eq!(old_read, new_read, "{}", old.call);
+        assert_eq!(old_read.action().name().to_lowercase(), old.call.replace('_', ""));
+    }
+}
+
+/// What the script that wrote them asked for.
+#[test]
+fn what_is_read_is_what_was_asked() {
+    let text = "a=1&b=2+3% <é>\r\n\t\u{1f600}";
+    for written in written(BY_QUERY).iter().chain(&written(BY_JSON)) {
+        let request = written.read();
+        if !matches!(request, Request::ListQueues { .. }) {
+            assert_eq!(request.queue().unwrap().as_str(), "orders.fifo");
+        }
+        match request {
+            Request::SendMessage { message, .. } => {
+                assert_eq!((message.body.as_str(), message.group.as_str()), (text, "g!1"));
+                assert_eq!(message.dedup.unwrap().as_str(), "d~1");
+                assert_eq!(message.attributes.keys().collect::<Vec<_>>(), ["bytes", "color", "count"]);
+                assert_eq!(message.attributes["color"].text(), Some("blue & green"));
+                assert!(message.trace.unwrap().text().unwrap().starts_with("Root=1-"));
+            }
+            Request::SendMessageBatch { batch, .. } => {
+                assert_eq!(batch.iter().map(|(id, _)| id.as_str()).collect::<Vec<_>>(), ["1", "2-_"]);
+                assert_eq!(batch[1].1.as_ref().unwrap().dedup, None);
+            }
+            Request::ReceiveMessage { receive, .. } => {
+                assert_eq!((receive.size, receive.visibility, receive.wait), (10, Some(0), Some(20)));
+                assert!(receive.shown.has("color") && receive.shown.has("b.x") && !receive.shown.has("a"));
+            }
+            Request::ChangeMessageVisibilityBatch { batch, .. } => {
+                let seconds: Vec<_> = batch.iter().map(|(_, change)| change.as_ref().unwrap().visibility).collect();
+                assert_eq!(seconds, [0, 43_200]);
+            }
+            Request::ListQueues { prefix, most, after } => {
+                assert_eq!((prefix.as_str(), most, after.as_str()), ("or", Some(7), "orders.fifo"));
+            }
+            Request::UntagQueue { keys, .. } => assert_eq!(keys, ["a", "b"]),
+            _ => {}
+        }
+    }
+}
+
+#[test]
+fn spoilt_requests_are_read_or_refused() {
+    for written in written(BY_QUERY).iter().chain(&written(BY_JSON)) {
+        check(300, edits(), |edits| {
+            let body = spoilt(written.body.as_bytes(), &edits);
+            let incoming = written.incoming(&body);
+            if let Err(error) = Protocol::of(&incoming).read(&incoming) {
+                prop_assert!((400..500).contains(&error.coded().status), "{}", error);
+            }
+            Ok(())
+        });
+    }
+}
+
+#[test]
+fn any_bytes_and_any_query_are_read_or_refused() {
+    let any_bytes = proptest::collection::vec(any::<u8>(), 0..200);
+    check(2000, (any_bytes, "\\PC{0,60}", proptest::option::of("\\PC{0,30}")), |(body, query, target)| {
+        let incoming = Incoming { target: target.as_deref(), path_queue: Some("q.fifo"), query: &query, body: &body };
+        if let Err(error) = Protocol::of(&incoming).read(&incoming) {
+            prop_assert!((400..500).contains(&error.coded().status), "{}", error);
+        }
+        Ok(())
+    });
+}
+
+fn message_of(body: String) -> Response {
+    Response::Messages(vec![ReceivedMessage {
+        message_id: "id".into(),
+        receipt_handle: "handle".into(),
+        md5_of_body: "md5".into(),
+        body,
+        attributes: Vec::new(),
+        md5_of_attributes: None,
+        message_attributes: MessageAttributes::new(),
+    }])
+}
+
+/// A body as a reader of XML that isn't this gateway's sees it: line ends as XML has them, then references.
+fn body_in_xml(answer: &str) -> String {
+    let (_, behind) = answer.split_once("<Body>").unwrap();
+    let (body, _) = behind.split_once("</Body>").unwrap();
+    let body = body.replace("\r\n", "\n").replace('\r', "\n");
+    let marks = [("&lt;", "<"), ("&gt;", ">"), ("&quot;", "\""), ("&apos;", "'"), ("&#xD;", "\r"), ("&#13;", "\r")];
+    let body = marks.iter().fold(body, |body, (mark, character)| body.replace(mark, character));
+    body.replace("&amp;", "&")
+}
+
+#[test]
+fn any_body_comes_back_in_both_protocols() {
+    let bodies = prop_oneof!["(?s).{0,40}", "[&<>\"'\\r\\n\\t ;#xamp]{0,30}"];
+    check(2000, bodies, |body| {
+        prop_assume!(test_characters(&body).is_ok());
+        let response = message_of(body.clone());
+        let json = Protocol::Json.answer(Action::ReceiveMessage, &response, "r".into());
+        let read: serde_json::Value = serde_json::from_slice(&json.body).unwrap();
+        prop_assert_eq!(&read["Messages"][0]["Body"], body.as_str());
+        let xml = Protocol::Query.answer(Action::ReceiveMessage, &response, "r".into());
+        prop_assert_eq!(body_in_xml(std::str::from_utf8(&xml.body).unwrap()), body);
+        Ok(())
+    });
+}
