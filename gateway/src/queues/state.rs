@@ -74,6 +74,8 @@ pub struct State {
     recent: VecDeque<(Moment, Uuid)>,
     /// How many of them were found to count no more. They stay for requests that are still on their way.
     old: usize,
+    /// How many of those that count are of messages that were deleted.
+    left_ids: u64,
     /// What the forms of the messages take, and those that attempts keep.
     form_bytes: u64,
     attempt_bytes: u64,
@@ -125,6 +127,7 @@ impl State {
             messages: HashMap::new(),
             recent: VecDeque::new(),
             old: 0,
+            left_ids: 0,
             form_bytes: 0,
             attempt_bytes: 0,
             attempts: HashMap::new(),
@@ -170,9 +173,9 @@ impl State {
             return Err(misfit());
         }
         let id = id_of_form(form.stored()).ok_or_else(misfit)?;
+        self.remember(moment, id);
         self.last_sequence = sequence;
         self.last_send = moment;
-        self.remember(moment, id);
         let bytes = form.bytes();
         let form = match form {
             Form::Whole(_) => None,
@@ -185,17 +188,30 @@ impl State {
     }
 
     fn remember(&mut self, moment: Moment, id: Uuid) {
-        while self.recent.front().is_some_and(|(sent, _)| sent + WINDOW <= moment) {
-            self.recent.pop_front();
-            self.old = self.old.saturating_sub(1);
-        }
+        self.count_old(moment);
+        self.recent.drain(..self.old);
+        self.old = 0;
         self.recent.push_back((moment, id));
     }
 
-    fn recent_id(&self, sequence: u64) -> Option<Uuid> {
+    /// Counts the ids that are too old at this moment. `last_sequence` is that of the last id.
+    fn count_old(&mut self, now: Moment) {
+        while self.recent.get(self.old).is_some_and(|(sent, _)| sent + WINDOW <= now) {
+            let sequence = self.last_sequence + 1 + self.old as u64 - self.recent.len() as u64;
+            if !self.messages.contains_key(&sequence) {
+                self.left_ids = self.left_ids.saturating_sub(1);
+            }
+            self.old += 1;
+        }
+    }
+
+    fn place_of(&self, sequence: u64) -> Option<usize> {
         let from_end = usize::try_from(self.last_sequence.checked_sub(sequence)?).ok()?;
-        let place = self.recent.len().checked_sub(1 + from_end)?;
-        self.recent.get(place).map(|(_, id)| *id)
+        self.recent.len().checked_sub(1 + from_end)
+    }
+
+    fn recent_id(&self, sequence: u64) -> Option<Uuid> {
+        self.recent.get(self.place_of(sequence)?).map(|(_, id)| *id)
     }
 
     fn received(
@@ -238,6 +254,9 @@ impl State {
         }
         if let Some(message) = self.messages.remove(&receipt.sequence) {
             self.form_bytes -= message.bytes;
+            if self.place_of(receipt.sequence).is_some_and(|place| place >= self.old) {
+                self.left_ids += 1;
+            }
         }
         self.open();
         Settled::done(true)
@@ -341,18 +360,17 @@ impl State {
 
     /// Finds what counts no more at this moment: ids, and what attempts were given.
     pub fn look_at_ages(&mut self, now: Moment) {
-        self.old = self.recent.partition_point(|(sent, _)| sent + WINDOW <= now);
+        self.count_old(now);
         self.forget_attempts(now);
     }
 
-    /// What the queue takes of memory, in bytes: forms, and estimates for messages and ids that count.
+    /// What the queue takes of memory, in bytes: forms, and estimates for messages and ids that outlive theirs.
     pub fn bytes_in_use(&self) -> u64 {
         if self.removed {
             return 0;
         }
         let messages = MESSAGE_BYTES * self.messages.len() as u64;
-        let ids = ID_BYTES * (self.recent.len() - self.old) as u64;
-        self.form_bytes + self.attempt_bytes + messages + ids
+        self.form_bytes + self.attempt_bytes + messages + ID_BYTES * self.left_ids
     }
 
     /// What the attempt was given, if that is still all in the hands of who asked
@@ -390,6 +408,7 @@ impl State {
         self.base = self.last_sequence;
         self.recent = VecDeque::new();
         self.old = 0;
+        self.left_ids = 0;
         self.messages = HashMap::new();
         self.form_bytes = 0;
         self.ends = BinaryHeap::new();
@@ -399,4 +418,61 @@ impl State {
 fn is_end(messages: &HashMap<u64, Message>, until: Moment, sequence: u64) -> bool {
     let last = messages.get(&sequence).and_then(|message| message.last);
     last.is_some_and(|last| last.until == until)
+}
+
+#[cfg(test)]
+mod tests {
+    use super::*;
+    use crate::attributes::Given;
+    use crate::texts::{DedupId, GroupId, QueueName};
+
+    fn state() -> State {
+        let creation = Creation {
+            name: QueueName::parse("q.fifo").unwrap(),
+            mark: 1,
+            attributes: QueueAttributes::for_creation(&Given::read(&[]).unwrap()).unwrap(),
+            tags: BTreeMap::new(),
+            before: None,
+        };
+        State::new(StoreName(1), &creation, 0)
+    }
+
+    fn send(state: &mut State, place: u64, moment: Moment) {
+        let form = Form::Whole(format!("{{\"id\":\"{}\"}}\nbody", Uuid::from_u128(7)));
+        let (group, dedup) = (GroupId::parse("g").unwrap(), DedupId::parse("d").unwrap());
+        state.settle(&Ask::Send { group, dedup, form }, Reply::Sent(place), moment).unwrap();
+    }
+
+    fn delete(state: &mut State, sequence: u64, moment: Moment) {
+        let receipt = Receipt { sequence, ordinal: 1 };
+        state.settle(&Ask::Delete { receipt }, Reply::Deleted(true), moment).unwrap();
+    }
+
+    #[test]
+    fn what_is_deleted_counts_by_its_id_until_that_is_too_old() {
+        let mut state = state();
+        send(&mut state, 1, 0);
+        let one = state.bytes_in_use();
+        assert!((MESSAGE_BYTES + 40..MESSAGE_BYTES + 100).contains(&one));
+        send(&mut state, 2, 1000);
+        send(&mut state, 3, 2000);
+        delete(&mut state, 2, 2000);
+        assert_eq!(state.bytes_in_use(), 2 * one + ID_BYTES);
+        // The first one's id grows old before it is deleted: nothing is left of it.
+        state.look_at_ages(WINDOW);
+        delete(&mut state, 1, WINDOW);
+        assert_eq!(state.bytes_in_use(), one + ID_BYTES);
+        state.look_at_ages(WINDOW + 999);
+        assert_eq!(state.bytes_in_use(), one + ID_BYTES);
+        // A send forgets what is old, also without a look.
+        send(&mut state, 4, WINDOW + 1000);
+        assert_eq!(state.bytes_in_use(), 2 * one);
+        delete(&mut state, 3, WINDOW + 1000);
+        delete(&mut state, 4, WINDOW + 1000);
+        assert_eq!(state.bytes_in_use(), 2 * ID_BYTES);
+        state.look_at_ages(3 * WINDOW);
+        assert_eq!(state.bytes_in_use(), 0);
+        state.removed = true;
+        assert_eq!(state.bytes_in_use(), 0);
+    }
 }

@@ -5,7 +5,7 @@ use std::sync::Arc;
 
 use crate::clock::Moment;
 use crate::errors::SqsError;
-use crate::limits::{Bound, ID_BYTES, MESSAGE_BYTES};
+use crate::limits::{Bound, MESSAGE_BYTES};
 use crate::queues::ask::Ask;
 use crate::queues::Queues;
 
@@ -38,7 +38,7 @@ impl Admission {
     /// with; they are to be given back to `answered`.
     pub fn admit(&self, ask: &Ask, now: Moment) -> Result<u64, SqsError> {
         let bytes = match ask {
-            Ask::Send { form, .. } => form.bytes() + MESSAGE_BYTES + ID_BYTES,
+            Ask::Send { form, .. } => form.bytes() + MESSAGE_BYTES,
             Ask::Create { creation, .. } if creation.before.is_none() => 0,
             _ => return Ok(0),
         };
@@ -85,7 +85,7 @@ mod tests {
             dedup: DedupId::parse("d").unwrap(),
             form: Form::Whole("x".repeat(1000)),
         };
-        let one = 1000 + MESSAGE_BYTES + ID_BYTES;
+        let one = 1000 + MESSAGE_BYTES;
         let admission = Admission::new(Arc::default(), Some(4 * one));
         let admitted: Vec<_> = (0..5).map_while(|_| admission.admit(&send, 0).ok()).collect();
         assert_eq!(admitted, [one; 3], "a fourth is above 95 %");
