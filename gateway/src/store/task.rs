@@ -5,7 +5,7 @@ use std::collections::VecDeque;
 use std::sync::Arc;
 use std::time::Duration;
 
-use bytes::{Buf, BytesMut};
+use bytes::BytesMut;
 use serde_json::value::RawValue;
 use thiserror::Error;
 use tokio::io::{AsyncReadExt, AsyncWriteExt};
@@ -21,7 +21,7 @@ use crate::errors::SqsError;
 use crate::journal::{Batch, Journal, JournalError, Need, Record};
 use crate::limits::Bounds;
 use crate::lines::{self, BadOutput, Fields, Output, Reply};
-use crate::queues::ask::{Ask, Change, Outcome, StoreName};
+use crate::queues::ask::{Ask, Change, Outcome};
 use crate::queues::shards::{Shard, Shards};
 use crate::queues::{Queue, Queues};
 
@@ -84,6 +84,35 @@ struct Asked {
     ends: u32,
 }
 
+/// Bytes for the program.
+#[derive(Default)]
+struct Outgoing {
+    bytes: Vec<u8>,
+    written: usize,
+}
+
+impl Outgoing {
+    fn rest(&self) -> &[u8] {
+        &self.bytes[self.written..]
+    }
+
+    fn is_empty(&self) -> bool {
+        self.bytes.is_empty()
+    }
+
+    fn advance(&mut self, count: usize) {
+        self.written += count;
+        if self.written == self.bytes.len() {
+            self.clear();
+        }
+    }
+
+    fn clear(&mut self) {
+        self.bytes.clear();
+        self.written = 0;
+    }
+}
+
 /// What came of trying to ask.
 enum Asking {
     Begun(Entry),
@@ -115,7 +144,7 @@ struct Task {
     open: VecDeque<Open>,
     free: Vec<u32>,
     last_number: u64,
-    out: BytesMut,
+    out: Outgoing,
     incoming: BytesMut,
     /// The answers of the job at the front that are there.
     answers: Answers,
@@ -166,7 +195,7 @@ pub fn start(start: Start) -> (Store, oneshot::Receiver<Ended>) {
             free: (1..=CLIENTS).rev().collect(),
             // Numbers in use begin above all that any earlier run can have used.
             last_number: start.clock.now() << 20,
-            out: BytesMut::new(),
+            out: Outgoing::default(),
             incoming: BytesMut::new(),
             answers: Vec::new(),
             batch: Batch::default(),
@@ -230,7 +259,7 @@ impl Task {
                 Ok(_) => self.read_answers()?,
                 Err(error) => return Err(CqError::Gone(error.to_string()).into()),
             },
-            written = self.cq.input.write(&self.out), if !self.out.is_empty() => match written {
+            written = self.cq.input.write(self.out.rest()), if !self.out.is_empty() => match written {
                 Ok(count) => self.out.advance(count),
                 // The end of its output tells how it ended.
                 Err(_) => self.out.clear(),
@@ -308,7 +337,7 @@ impl Task {
 
     /// Writes what waits, as long as there are free clients.
     fn ask_pending(&mut self) -> Result<(), Ended> {
-        while !self.lacks_room && !self.free.is_empty() && self.out.len() < PIECE {
+        while !self.lacks_room && !self.free.is_empty() && self.out.bytes.len() < PIECE {
             let Some(Pending { queue, what, done }) = self.pending.pop_front() else { break };
             let entry = match (queue, what) {
                 (Some(queue), Some(What::Ask(ask))) => match self.ask(queue, ask)? {
@@ -340,11 +369,13 @@ impl Task {
         if let Some(answer) = answer_about_earlier(&ask, base) {
             return ready(answer);
         }
-        let weight = match self.admission.admit(&ask, self.clock.now()) {
+        let moment = self.clock.now();
+        let weight = match self.admission.admit(&ask, moment) {
             Ok(weight) => weight,
             Err(error) => return ready(Err(error)),
         };
-        match self.ask_admitted(queue, ask, weight, store, base)? {
+        let raw = serde_json::value::to_raw_value(&Fields::of(store, base, &ask))?;
+        match self.ask_admitted(queue, ask, raw, moment, weight)? {
             Asking::Begun(entry @ Entry::Asked(_)) => Ok(Asking::Begun(entry)),
             other => {
                 self.admission.answered(weight);
@@ -357,12 +388,11 @@ impl Task {
         &mut self,
         queue: Arc<Queue>,
         ask: Ask,
+        raw: Box<RawValue>,
+        moment: Moment,
         weight: u64,
-        store: StoreName,
-        base: u64,
     ) -> Result<Asking, Ended> {
         let ready = |answer| Ok(Asking::Begun(Entry::Ready(Some(answer))));
-        let raw = serde_json::value::to_raw_value(&Fields::of(store, base, &ask))?;
         let room = match &self.journal {
             None => 0,
             Some(journal) => match journal.set_aside(need_of(&ask), bytes_of(&ask, &raw)) {
@@ -375,23 +405,18 @@ impl Task {
             return ready(Err(SqsError::InternalFailure("No client is free.".into())));
         };
         self.last_number += 1;
-        let moment = self.clock.now();
         let asked = Asked { queue, ask, raw, moment, client, number: self.last_number, room, weight, ends: 0 };
         self.write(&asked)?;
         Ok(Asking::Begun(Entry::Asked(Box::new(asked))))
     }
 
     fn write(&mut self, asked: &Asked) -> Result<(), Ended> {
-        let mut lines = Vec::with_capacity(asked.raw.get().len() + 160);
-        lines::append_request(&mut lines, asked.moment, asked.client, asked.number, &asked.raw)?;
-        self.out.extend_from_slice(&lines);
-        Ok(())
+        let Asked { moment, client, number, raw, .. } = asked;
+        Ok(lines::append_request(&mut self.out.bytes, *moment, *client, *number, raw)?)
     }
 
     fn moment(&mut self) -> Result<Entry, Ended> {
-        let mut lines = Vec::new();
-        lines::append_moment(&mut lines, self.clock.now())?;
-        self.out.extend_from_slice(&lines);
+        lines::append_moment(&mut self.out.bytes, self.clock.now())?;
         Ok(Entry::Moment)
     }
 
@@ -405,10 +430,7 @@ impl Task {
     }
 
     fn write_count(&mut self, tag: u64, queue: &Queue) -> Result<(), Ended> {
-        let mut lines = Vec::new();
-        lines::append_count(&mut lines, tag, queue.state().store)?;
-        self.out.extend_from_slice(&lines);
-        Ok(())
+        Ok(lines::append_count(&mut self.out.bytes, tag, queue.state().store)?)
     }
 
     fn read_answers(&mut self) -> Result<(), Ended> {
@@ -474,7 +496,7 @@ impl Task {
         Ok(match settled {
             Ok((outcome, changed)) => {
                 if changed {
-                    self.keep(&Record::of_ask(asked.moment, &asked.ask, &asked.raw, text))?;
+                    self.keep(|| Record::of_ask(asked.moment, &asked.ask, &asked.raw, text))?;
                 }
                 Ok(outcome)
             }
@@ -482,10 +504,10 @@ impl Task {
         })
     }
 
-    fn keep(&mut self, record: &Record<'_>) -> Result<(), Ended> {
+    fn keep<'r>(&mut self, record: impl FnOnce() -> Record<'r>) -> Result<(), Ended> {
         if let Some(journal) = &self.journal {
             let before = self.batch.records.len();
-            record.append(&mut self.batch.records)?;
+            record().append(&mut self.batch.records)?;
             self.batch.count += 1;
             journal.use_room((self.batch.records.len() - before) as u64);
         }
@@ -528,7 +550,7 @@ impl Task {
             state.apply(change, moment);
             state.store
         };
-        self.keep(&Record::of_note(moment, store, change))?;
+        self.keep(|| Record::of_note(moment, store, change))?;
         Ok(Ok(Outcome::Done))
     }
 
