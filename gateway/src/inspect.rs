@@ -67,6 +67,9 @@ pub fn verify(path: &Path, out: &mut impl Write) -> Result<()> {
     }
     writeln!(out, "{count} records: {requests} requests and {notes} notes of queues that are there, {passed} of queues that were removed")?;
     writeln!(out, "the last clock is {last_clock}")?;
+    if let Some(segment) = found.last().filter(|segment| segment.shards > 1) {
+        writeln!(out, "{} programs share the queues", segment.shards)?;
+    }
     if bad > 0 {
         bail!("{bad} records can't be read");
     }

@@ -83,6 +83,9 @@ def test_another_number_is_refused_and_says_what_to_do(tmp_path):
         assert refused.returncode == 1
         assert f"--shards says {number}: start with --shards {COUNT}" in refused.stderr
     assert before == {file.name: file.read_bytes() for file in tmp_path.glob("journal.[0-9]*")}
+    verified = subprocess.run(command("verify", str(journal)), env=environment(), timeout=60, capture_output=True,
+                              text=True)
+    assert verified.returncode == 0 and f"{COUNT} programs share the queues" in verified.stdout
     for wrong in ("0", "17", "two"):
         refused = subprocess.run(command("--port", "0", "--shards", wrong), env=environment(), timeout=60,
                                  capture_output=True, text=True)

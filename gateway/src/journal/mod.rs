@@ -407,11 +407,13 @@ pub struct Found {
     pub segment: u64,
     pub bytes: u64,
     pub last_commit: u64,
+    /// How many programs share the queues.
+    pub shards: u32,
 }
 
 impl Found {
     fn of(span: &Span) -> Found {
-        Found { segment: span.segment, bytes: span.end, last_commit: span.last }
+        Found { segment: span.segment, bytes: span.end, last_commit: span.last, shards: span.head.shards }
     }
 }
 
