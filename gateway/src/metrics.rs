@@ -3,10 +3,12 @@
 use std::time::Duration;
 
 use prometheus::{
-    Encoder, HistogramOpts, HistogramVec, IntCounter, IntCounterVec, IntGauge, IntGaugeVec, Opts, Registry, TextEncoder,
+    Encoder, Histogram, HistogramOpts, HistogramVec, IntCounter, IntCounterVec, IntGauge, IntGaugeVec, Opts, Registry,
+    TextEncoder,
 };
 
 use crate::store::Figures;
+use crate::wire::requests::Action;
 
 /// Bounds of the histogram of latencies, in seconds. Long polls take up to 20.
 const SECONDS: [f64; 14] = [0.0005, 0.001, 0.0025, 0.005, 0.01, 0.025, 0.05, 0.1, 0.25, 0.5, 1.0, 5.0, 10.0, 20.0];
@@ -15,7 +17,8 @@ const SECONDS: [f64; 14] = [0.0005, 0.001, 0.0025, 0.005, 0.01, 0.025, 0.05, 0.1
 pub struct Metrics {
     registry: Registry,
     requests: IntCounterVec,
-    seconds: HistogramVec,
+    /// By the place of an action among all, and last of requests that name none.
+    by_action: Vec<OfAction>,
     connections: IntGauge,
     polls: IntGauge,
     messages: IntGaugeVec,
@@ -29,6 +32,13 @@ pub struct Metrics {
     disk_full: IntGauge,
     commits: IntCounter,
     restarts: IntCounter,
+}
+
+/// What most requests need, so that it is looked up once.
+struct OfAction {
+    name: &'static str,
+    answered_well: IntCounter,
+    seconds: Histogram,
 }
 
 /// How many messages a queue has.
@@ -88,9 +98,15 @@ impl Metrics {
             registry.register(Box::new(counter.clone()))?;
             Ok::<_, prometheus::Error>(counter)
         };
+        let names = Action::ALL.iter().map(|action| action.name()).chain(["none"]);
+        let by_action = names.map(|name| OfAction {
+            name,
+            answered_well: requests.with_label_values(&[name, "200"]),
+            seconds: seconds.with_label_values(&[name]),
+        });
         Ok(Metrics {
+            by_action: by_action.collect(),
             requests,
-            seconds,
             connections: gauge("hobbychair_connections", "Connections that are open.")?,
             polls: gauge("hobbychair_long_polls", "Receives that wait for a message.")?,
             messages,
@@ -108,13 +124,14 @@ impl Metrics {
         })
     }
 
-    /// Counts a request that was answered.
-    pub fn answered(&self, action: &str, status: u16, time: Duration) {
-        self.seconds.with_label_values(&[action]).observe(time.as_secs_f64());
-        // Good answers are by far the most, and need no text made.
+    /// Counts a request that was answered. `action` is none where it couldn't be read.
+    pub fn answered(&self, action: Option<Action>, status: u16, time: Duration) {
+        let place = action.map_or(Action::ALL.len(), |action| action as usize);
+        let of_action = &self.by_action[place];
+        of_action.seconds.observe(time.as_secs_f64());
         match status {
-            200 => self.requests.with_label_values(&[action, "200"]).inc(),
-            _ => self.requests.with_label_values(&[action, &status.to_string()]).inc(),
+            200 => of_action.answered_well.inc(),
+            _ => self.requests.with_label_values(&[of_action.name, &status.to_string()]).inc(),
         }
     }
 
@@ -179,10 +196,18 @@ mod tests {
     use crate::store::JournalFigures;
 
     #[test]
+    fn each_action_has_its_place() {
+        for (place, action) in Action::ALL.into_iter().enumerate() {
+            assert_eq!(action as usize, place);
+        }
+    }
+
+    #[test]
     fn all_of_it_is_told() {
         let metrics = Metrics::new().unwrap();
-        metrics.answered("SendMessage", 200, Duration::from_millis(2));
-        metrics.answered("SendMessage", 400, Duration::from_millis(2));
+        metrics.answered(Some(Action::SendMessage), 200, Duration::from_millis(2));
+        metrics.answered(Some(Action::SendMessage), 400, Duration::from_millis(2));
+        metrics.answered(None, 403, Duration::from_millis(2));
         let poll = metrics.poll();
         let messages = [Counts { queue: "a.fifo".into(), visible: 3, in_flight: 1 }];
         let journal = JournalFigures { bytes: 5, bound: Some(6), commits: 7, records: 8, is_disk_full: true };
@@ -192,6 +217,8 @@ mod tests {
         for line in [
             "hobbychair_requests_total{action=\"SendMessage\",status=\"200\"} 1",
             "hobbychair_requests_total{action=\"SendMessage\",status=\"400\"} 1",
+            "hobbychair_requests_total{action=\"UntagQueue\",status=\"200\"} 0",
+            "hobbychair_requests_total{action=\"none\",status=\"403\"} 1",
             "hobbychair_request_duration_seconds_bucket{action=\"SendMessage\",le=\"0.0025\"} 2",
             "hobbychair_request_duration_seconds_bucket{action=\"SendMessage\",le=\"0.001\"} 0",
             "hobbychair_messages{queue=\"a.fifo\",state=\"in flight\"} 1",
