@@ -71,8 +71,9 @@ fn run(command: Command) -> Result<()> {
 fn serve_by(options: Options) -> Result<()> {
     let options = options.with_file()?;
     begin_log(options.log());
+    let threads = options.threads()?;
     let settings = options.settings(program)?;
-    let runtime = tokio::runtime::Builder::new_multi_thread().enable_all().build()?;
+    let runtime = tokio::runtime::Builder::new_multi_thread().worker_threads(threads).enable_all().build()?;
     let served = runtime.block_on(serve(settings));
     // What still waits for a client or a disk is of no use any more.
     runtime.shutdown_background();

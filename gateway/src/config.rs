@@ -36,6 +36,9 @@ pub struct Options {
     /// The program cq [default: cq of the path]
     #[arg(long, value_name = "PROGRAM", env = "HOBBYCHAIR_CQ")]
     cq: Option<String>,
+    /// On how many threads requests are served [default: half as many as there are processors]
+    #[arg(long, value_name = "N", env = "HOBBYCHAIR_THREADS")]
+    threads: Option<u32>,
     /// How many programs cq share the queues [default: 1]
     #[arg(long, value_name = "N", env = "HOBBYCHAIR_SHARDS")]
     shards: Option<u32>,
@@ -268,6 +271,7 @@ impl Options {
             host: self.host.or(file.host),
             port: self.port.or(file.port),
             cq: self.cq.or(file.cq),
+            threads: self.threads.or(file.threads),
             shards: self.shards.or(file.shards),
             journal: self.journal.or(file.journal),
             memory: self.memory.or(file.memory),
@@ -291,6 +295,16 @@ impl Options {
 
     pub fn log(&self) -> Log {
         Log { form: self.log.unwrap_or(LogForm::Text), level: self.log_level.unwrap_or(LogLevel::Info) }
+    }
+
+    /// The threads that serve. The other processors are left to the programs cq and to the system: more threads serve
+    /// fewer requests.
+    pub fn threads(&self) -> Result<usize> {
+        let processors = std::thread::available_parallelism().map_or(1, std::num::NonZeroUsize::get);
+        match self.threads {
+            Some(threads) => Ok(at_least_one("threads", threads)? as usize),
+            None => Ok((processors / 2).max(1)),
+        }
     }
 
     /// What a gateway is started with. `program` finds the program cq by what was said of it.
@@ -411,5 +425,8 @@ mod tests {
         for bad in [alone, none, size, many] {
             assert!(settings(bad).unwrap_err().is::<Misuse>());
         }
+        let no_threads = Options { threads: Some(0), ..Options::default() };
+        assert!(no_threads.threads().unwrap_err().is::<Misuse>());
+        assert!(Options::default().threads().unwrap() >= 1);
     }
 }
