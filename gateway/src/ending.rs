@@ -21,6 +21,10 @@ impl End {
 }
 
 impl Ending {
+    pub fn has_come(&self) -> bool {
+        *self.0.borrow()
+    }
+
     /// Waits until the end has come. It has come, too, where nobody is left who could tell of it.
     pub async fn comes(&mut self) {
         while !*self.0.borrow_and_update() {
@@ -40,8 +44,10 @@ mod tests {
         let (end, mut early) = End::new();
         let mut late = early.clone();
         let waiting = tokio::spawn(async move { early.comes().await });
+        assert!(!late.has_come());
         end.tell();
         waiting.await.unwrap();
         late.comes().await;
+        assert!(late.has_come());
     }
 }

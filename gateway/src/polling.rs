@@ -85,6 +85,14 @@ impl Polls {
         self.waiting().polls.push_front(poll);
     }
 
+    /// Answers all who wait with nothing.
+    fn let_go(&self) {
+        let polls = std::mem::take(&mut self.waiting().polls);
+        for poll in polls {
+            let _ = poll.done.send(Ok(Vec::new()));
+        }
+    }
+
     /// Whether anybody is left. If nobody is, the task that serves them ends.
     fn goes_on(&self) -> bool {
         let mut waiting = self.waiting();
@@ -99,7 +107,10 @@ impl Polls {
 /// `seen` is how many openings the receive had seen that came back empty. A queue that is removed meanwhile is
 /// `QueueDoesNotExist`.
 pub async fn wait(store: &Store, queue: &Arc<Queue>, ask: Ask, waiting: Waiting, seen: u64) -> Found {
-    let Waiting { presence, time, mut ending } = waiting;
+    let Waiting { presence, time, ending } = waiting;
+    if ending.has_come() {
+        return Ok(Vec::new());
+    }
     let (done, mut found) = oneshot::channel();
     let deadline = Instant::now() + time;
     let number = {
@@ -109,7 +120,7 @@ pub async fn wait(store: &Store, queue: &Arc<Queue>, ask: Ask, waiting: Waiting,
         waiting.polls.push_back(Poll { number, ask, presence, deadline, done });
         if !waiting.is_served {
             waiting.is_served = true;
-            tokio::spawn(serve(store.clone(), queue.clone()));
+            tokio::spawn(serve(store.clone(), queue.clone(), ending));
         }
         number
     };
@@ -118,27 +129,25 @@ pub async fn wait(store: &Store, queue: &Arc<Queue>, ask: Ask, waiting: Waiting,
     }
     let mut until = deadline;
     loop {
-        tokio::select! {
-            biased;
-            found = &mut found => {
-                return found.unwrap_or_else(|_| Err(SqsError::ServiceUnavailable("The store is gone.".into())));
-            }
-            () = tokio::time::sleep_until(until) => {}
-            () = ending.comes(), if until == deadline => {}
+        match tokio::time::timeout_at(until, &mut found).await {
+            Ok(Ok(found)) => return found,
+            Ok(Err(_)) => return Err(SqsError::ServiceUnavailable("The store is gone.".into())),
+            Err(_) if queue.polls.withdraw(number) => return Ok(Vec::new()),
+            // It is being tried: what it is handed must not be lost. Perhaps it goes back among those that wait.
+            Err(_) => until = Instant::now() + LOOK_AGAIN,
         }
-        if queue.polls.withdraw(number) {
-            return Ok(Vec::new());
-        }
-        // It is being tried: what it is handed must not be lost. Perhaps it goes back among those that wait.
-        until = Instant::now() + LOOK_AGAIN;
     }
 }
 
-/// Tries the polls of a queue whenever something has happened that can open a group.
-async fn serve(store: Store, queue: Arc<Queue>) {
+/// Tries the polls of a queue whenever something has happened that can open a group. At the end of the gateway all of
+/// them are answered.
+async fn serve(store: Store, queue: Arc<Queue>, mut ending: Ending) {
     let mut seen = queue.state().openings;
     while queue.polls.goes_on() {
-        wait_for_opening(&store, &queue).await;
+        tokio::select! {
+            () = wait_for_opening(&store, &queue) => {}
+            () = ending.comes() => queue.polls.let_go(),
+        }
         let openings = queue.state().openings;
         let news = openings.wrapping_sub(seen).clamp(1, MOST_AT_ONCE);
         seen = openings;

@@ -222,12 +222,13 @@ async fn answer(
     let mut signals = Signals::new()?;
     let local = listener.local_addr()?;
     let addresses = Addresses { url: settings.url.clone(), local, has_tls: certificate.is_some() };
-    say(&format!("listening on {}://{local}", addresses.scheme()));
+    let url = format!("{}://{local}", addresses.scheme());
     let service = Arc::new(Service::new(actions, keys.clone(), addresses, admin.metrics.clone()));
     let door = Door { service, certificate: certificate.clone(), most: settings.connections };
     let mut served = tokio::spawn(door.serve(listener, ending));
     admin.health.serves();
     notify_supervisor(sd_notify::NotifyState::Ready);
+    say(&format!("listening on {url}"));
     tokio::select! {
         () = signals.wait_for_end(|| Entrance::read_again(keys.as_deref(), certificate.as_deref())) => {}
         ended = &mut served => return Err(anyhow!("the server ended: {ended:?}")),

@@ -130,7 +130,7 @@ def test_memory_is_left_by_deleting(filled, tmp_path):
     assert full.sends()
 
 
-def test_ids_count_for_five_minutes(filled, tmp_path):
+def test_ids_count_for_five_minutes(tmp_path):
     """Small messages that were all deleted leave their ids, until these are too old."""
     gateway = Started("--memory", str(100_000), room=tmp_path)
     call = ByJson(gateway.url)

@@ -269,7 +269,7 @@ def test_a_signal_answers_open_polls_and_ends_within_10_s(number):
     begun = time.monotonic()
     gateway.process.send_signal(number)
     assert gateway.process.wait(20) == 0
-    assert time.monotonic() - begun < 10
+    assert time.monotonic() - begun < 4
     for thread in threads:
         thread.join()
     assert len(answers) == 5 and all(answer == {} and seconds < 10 for answer, seconds in answers)

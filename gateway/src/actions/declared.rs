@@ -26,6 +26,6 @@ impl Actions {
         let incoming = Incoming { target, path_queue: None, query: "", body: body.as_bytes() };
         let request = Protocol::Json.read(&incoming)?;
         let caller = Caller { base_url: String::new(), presence: Presence::default(), identity: None };
-        self.perform(request, &caller).await.map(drop)
+        self.perform(Box::new(request), &caller).await.map(drop)
     }
 }

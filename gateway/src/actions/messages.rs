@@ -2,7 +2,7 @@
 
 use std::sync::Arc;
 
-use uuid::Builder;
+use uuid::Uuid;
 
 use super::{Actions, Caller, Performed};
 use crate::attributes::LONGEST_MESSAGE;
@@ -64,7 +64,7 @@ impl Actions {
         };
         let for_store = if by_group { dedup.within(&message.group) } else { dedup.clone() };
         let kept = Kept {
-            id: Builder::from_random_bytes(rand::random()).into_uuid(),
+            id: Uuid::new_v4(),
             sent: self.store.clock().now(),
             dedup,
             sender: caller.identity.as_ref().map(|identity| identity.name().to_string()),

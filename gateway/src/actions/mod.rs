@@ -25,7 +25,7 @@ use crate::wire::{Request, Response};
 /// Who asks.
 #[derive(Clone)]
 pub struct Caller {
-    /// The URL under which the gateway was reached.
+    /// The URL under which the gateway was reached; empty where the action tells no URLs.
     pub base_url: String,
     /// Whether anybody still waits for the answer.
     pub presence: Presence,
@@ -112,7 +112,7 @@ impl Actions {
     }
 
     /// Does what a request asks for, when all that it rests on is on disk.
-    pub async fn perform(&self, request: Request, caller: &Caller) -> Result<Performed, SqsError> {
+    pub async fn perform(&self, request: Box<Request>, caller: &Caller) -> Result<Performed, SqsError> {
         let name = queue_of(&request).cloned();
         let performed = self.perform_unsettled(request, caller).await;
         let is_settled = performed.as_ref().is_ok_and(|performed| performed.is_settled);
@@ -130,8 +130,8 @@ impl Actions {
         }
     }
 
-    async fn perform_unsettled(&self, request: Request, caller: &Caller) -> Result<Performed, SqsError> {
-        match request {
+    async fn perform_unsettled(&self, request: Box<Request>, caller: &Caller) -> Result<Performed, SqsError> {
+        match *request {
             Request::SendMessage { queue, message } => self.send(&queue, message, caller).await,
             Request::SendMessageBatch { queue, batch } => self.send_batch(&queue, batch, caller).await,
             Request::ReceiveMessage { queue, receive } => self.receive(&queue, receive, caller).await,

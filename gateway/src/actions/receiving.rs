@@ -46,7 +46,8 @@ impl Actions {
             let _counted = self.metrics.poll();
             let (presence, time) = (caller.presence.clone(), Duration::from_secs(wait));
             let waiting = Waiting { presence, time, ending: self.ending.clone() };
-            handed = polling::wait(&self.store, &queue, ask, waiting, openings).await?;
+            // Receives that wait for nothing don't pay for its size.
+            handed = Box::pin(polling::wait(&self.store, &queue, ask, waiting, openings)).await?;
         }
         received(&queue, handed, &receive.shown)
     }

@@ -1,7 +1,9 @@
 //! Reading the bodies of requests, within bounds of bytes and of time.
 
+use std::pin::Pin;
 use std::sync::atomic::{AtomicUsize, Ordering};
 use std::sync::Arc;
+use std::task::Poll;
 
 use bytes::{Bytes, BytesMut};
 use hyper::body::HttpBody;
@@ -104,12 +106,25 @@ async fn read_whole(body: &mut Body, budget: &Budget, deadline: Instant) -> Resu
 }
 
 async fn next_piece(body: &mut Body, deadline: Instant) -> Result<Option<Bytes>, SqsError> {
-    match timeout_at(deadline, body.data()).await {
-        Ok(Some(Ok(piece))) => Ok(Some(piece)),
-        Ok(Some(Err(_))) => Err(SqsError::InvalidParameterValue("The request's body broke off.".into())),
-        Ok(None) => Ok(None),
-        Err(_) => Err(SqsError::RequestTimeout),
+    let found = match what_is_there(body).await {
+        Some(found) => found,
+        // Most bodies come with their heads, and need no timer.
+        None => Box::pin(timeout_at(deadline, body.data())).await.map_err(|_| SqsError::RequestTimeout)?,
+    };
+    match found {
+        Some(Ok(piece)) => Ok(Some(piece)),
+        Some(Err(_)) => Err(SqsError::InvalidParameterValue("The request's body broke off.".into())),
+        None => Ok(None),
     }
+}
+
+/// The next piece, or the end, if it is there already.
+async fn what_is_there(body: &mut Body) -> Option<Option<hyper::Result<Bytes>>> {
+    std::future::poll_fn(|context| match Pin::new(&mut *body).poll_data(context) {
+        Poll::Ready(found) => Poll::Ready(Some(found)),
+        Poll::Pending => Poll::Ready(None),
+    })
+    .await
 }
 
 async fn throw_away(mut body: Body, deadline: Instant) {

@@ -97,15 +97,20 @@ impl Door {
         let _ = open.acquire_many(most).await;
     }
 
-    async fn welcome(&self, stream: TcpStream, peer: SocketAddr, is_served: bool, ending: Ending) {
+    async fn welcome(&self, stream: TcpStream, peer: SocketAddr, is_served: bool, mut ending: Ending) {
         let _counted = self.service.metrics.connection();
         // Where this fails, small answers wait a little longer.
         let _ = stream.set_nodelay(true);
         let Some(certificate) = &self.certificate else {
             return self.converse(stream, peer, is_served, ending).await;
         };
-        match timeout(LONGEST_HANDSHAKE, certificate.acceptor().accept(stream)).await {
-            Ok(Ok(stream)) => self.converse(stream, peer, is_served, ending).await,
+        let shaken = tokio::select! {
+            shaken = timeout(LONGEST_HANDSHAKE, certificate.acceptor().accept(stream)) => shaken,
+            () = ending.comes() => return,
+        };
+        match shaken {
+            // What TLS keeps is large, and connections without it don't pay for it.
+            Ok(Ok(stream)) => Box::pin(self.converse(stream, peer, is_served, ending)).await,
             Ok(Err(error)) => tracing::debug!(%peer, "no TLS came about: {error}"),
             Err(_) => tracing::debug!(%peer, "no TLS came about in time"),
         }
@@ -117,17 +122,16 @@ impl Door {
     {
         let progress = Progress::new(if is_served { LONGEST_REQUEST } else { LONGEST_TURNING_AWAY });
         let stream = Watched::new(stream, progress.clone());
-        let service = self.service.clone();
+        let (service, begun) = (self.service.clone(), progress.clone());
         let handle = service_fn(move |request| {
             let (service, progress) = (service.clone(), progress.clone());
             async move {
                 let arrival = Arrival { peer, began: Instant::now(), deadline: progress.deadline() };
-                let response = if is_served {
-                    service.answer(arrival, progress, request).await
-                } else {
-                    service.turn_away(arrival, request).await
-                };
-                Ok::<_, Infallible>(response)
+                if !is_served {
+                    return Ok::<_, Infallible>(Box::pin(service.turn_away(arrival, request)).await);
+                }
+                let taken = service.take_in(arrival, progress, request).await;
+                Ok(taken.answer().await)
             }
         });
         let mut http = Http::new();
@@ -137,6 +141,10 @@ impl Door {
         let ended = tokio::select! {
             ended = connection.as_mut() => ended,
             () = ending.comes() => {
+                // hyper would wait for the first request of a connection that has had none.
+                if !begun.is_begun() {
+                    return;
+                }
                 connection.as_mut().graceful_shutdown();
                 connection.await
             }

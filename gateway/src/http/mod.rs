@@ -15,6 +15,7 @@ use hyper::http::request::Parts;
 use hyper::{Body, Request, Response, StatusCode};
 use sha2::{Digest, Sha256};
 use tokio::time::Instant;
+use uuid::Uuid;
 
 use crate::access::{Identity, Keys, Signable};
 use crate::actions::{Actions, Caller};
@@ -57,17 +58,39 @@ struct Call {
     service: Arc<Service>,
     protocol: Protocol,
     action: Action,
-    request: wire::Request,
-    request_id: String,
+    request: Box<wire::Request>,
+    request_id: Uuid,
     identity: Option<Arc<Identity>>,
     base_url: String,
 }
 
+/// A call of which there may be repeats, and whether it says that it is one.
+struct Tried {
+    key: Key,
+    is_again: bool,
+}
+
 /// What is told of a request when it has been answered.
 struct Told {
+    arrival: Arrival,
+    request_id: Uuid,
     action: Option<Action>,
+    /// Only where requests are logged.
     queue: Option<QueueName>,
     identity: Option<Arc<Identity>>,
+}
+
+/// A request that was taken in. A long poll keeps this and no more: what was read of its connection goes before.
+struct Taken {
+    service: Arc<Service>,
+    told: Told,
+    next: Next,
+}
+
+/// What comes of a request that was taken in.
+enum Next {
+    Perform(Box<Call>, Option<Box<Tried>>),
+    Answered(Box<Response<Body>>),
 }
 
 impl Service {
@@ -75,53 +98,32 @@ impl Service {
         Service { actions, repeats: Repeats::default(), budget: Budget::default(), keys, addresses, metrics }
     }
 
-    /// Answers a request. Whatever comes in, there is an answer, in the protocol that the request speaks.
-    async fn answer(
-        self: Arc<Service>,
-        arrival: Arrival,
-        progress: Progress,
-        request: Request<Body>,
-    ) -> Response<Body> {
+    /// Takes in a request: its body is read, and what it asks for. Whatever comes in, there is an answer, in the protocol
+    /// that the request speaks.
+    async fn take_in(self: Arc<Service>, arrival: Arrival, progress: Progress, request: Request<Body>) -> Taken {
         let (head, body) = request.into_parts();
-        let protocol = protocol_of(&head.headers);
-        let request_id = new_request_id();
-        let mut told = Told { action: None, queue: None, identity: None };
         let body = bodies::read(body, &self.budget, arrival.deadline).await;
         progress.is_read();
-        let reply = match body {
-            _ if length_of_head(&head) > LONGEST_HEAD => too_long_a_head(),
-            Ok(whole) => self.clone().answer_whole(&arrival, head, whole.bytes, request_id.clone(), &mut told).await,
-            Err(error) => refused(protocol, &error, request_id.clone(), true),
-        };
-        self.tell(&arrival, &told, &request_id, reply.status());
-        reply
-    }
-
-    async fn answer_whole(
-        self: Arc<Service>,
-        arrival: &Arrival,
-        head: Parts,
-        body: Bytes,
-        request_id: String,
-        told: &mut Told,
-    ) -> Response<Body> {
+        let mut told = Told { arrival, request_id: Uuid::new_v4(), action: None, queue: None, identity: None };
         let protocol = protocol_of(&head.headers);
-        match self.read(arrival, &head, &body, request_id.clone(), told) {
-            Ok(call) => response(call.answer(&head, &body).await),
-            Err(Unread::NotFound) => not_found(),
-            Err(Unread::Refused(error)) => refused(protocol, &error, request_id, false),
-        }
+        let read = match &body {
+            _ if length_of_head(&head) > LONGEST_HEAD => Err(Unread::LongHead),
+            Ok(whole) => self.clone().read(&head, &whole.bytes, &mut told),
+            Err(error) => Err(Unread::Refused { error: error.clone(), closes: true }),
+        };
+        let next = read.unwrap_or_else(|unread| {
+            let response = match unread {
+                Unread::LongHead => too_long_a_head(),
+                Unread::NotFound => not_found(),
+                Unread::Refused { error, closes } => refused(protocol, &error, told.request_id, closes),
+            };
+            Next::Answered(Box::new(response))
+        });
+        Taken { service: self, told, next }
     }
 
     /// Finds out who asks, reads what is asked for, and whether that one may.
-    fn read(
-        self: Arc<Service>,
-        arrival: &Arrival,
-        head: &Parts,
-        body: &Bytes,
-        request_id: String,
-        told: &mut Told,
-    ) -> Result<Call, Unread> {
+    fn read(self: Arc<Service>, head: &Parts, body: &Bytes, told: &mut Told) -> Result<Next, Unread> {
         let protocol = protocol_of(&head.headers);
         let path_queue = address::queue_of_path(head.uri.path()).map_err(|_| Unread::NotFound)?;
         let identity = self.identify(head, body)?;
@@ -135,12 +137,19 @@ impl Service {
         let request = protocol.read(&incoming)?;
         let action = request.action();
         told.action = Some(action);
-        told.queue = request.queue().cloned();
+        if tracing::enabled!(tracing::Level::DEBUG) {
+            told.queue = request.queue().cloned();
+        }
         if let Some(identity) = identity.as_ref().filter(|identity| !identity.may(action, request.queue())) {
             return Err(self.actions.denied(identity, action, request.queue()).into());
         }
-        let base_url = self.addresses.base_url(&head.headers, arrival.peer);
-        Ok(Call { service: self, protocol, action, request, request_id, identity, base_url })
+        let base_url =
+            if action.tells_urls() { self.addresses.base_url(&head.headers, told.arrival.peer) } else { String::new() };
+        let (request, request_id) = (Box::new(request), told.request_id);
+        let call = Call { service: self, protocol, action, request, request_id, identity, base_url };
+        let key = if Key::is_of(action) { call.key(head, body) } else { None };
+        let is_again = text_of(&head.headers, "amz-sdk-request").is_some_and(is_repeat);
+        Ok(Next::Perform(Box::new(call), key.map(|key| Box::new(Tried { key, is_again }))))
     }
 
     fn identify(&self, head: &Parts, body: &Bytes) -> Result<Option<Arc<Identity>>, SqsError> {
@@ -161,49 +170,63 @@ impl Service {
         // What is left unread would have the connection reset before its client has read the answer.
         let _ = bodies::read(body, &self.budget, arrival.deadline).await;
         let error = SqsError::ServiceUnavailable("Too many connections are open.".into());
-        self.metrics.answered("none", StatusCode::SERVICE_UNAVAILABLE.as_u16(), arrival.began.elapsed());
-        refused(protocol_of(&head.headers), &error, new_request_id(), true)
+        self.metrics.answered(None, StatusCode::SERVICE_UNAVAILABLE.as_u16(), arrival.began.elapsed());
+        refused(protocol_of(&head.headers), &error, Uuid::new_v4(), true)
     }
 
-    fn tell(&self, arrival: &Arrival, told: &Told, request_id: &str, status: StatusCode) {
-        let action = told.action.map_or("none", Action::name);
-        let time = arrival.began.elapsed();
-        self.metrics.answered(action, status.as_u16(), time);
+    fn tell(&self, told: &Told, status: StatusCode) {
+        let time = told.arrival.began.elapsed();
+        self.metrics.answered(told.action, status.as_u16(), time);
         tracing::debug!(
-            request = request_id,
-            action,
+            request = %told.request_id,
+            action = told.action.map_or("none", Action::name),
             queue = told.queue.as_ref().map(QueueName::as_str),
             status = status.as_u16(),
             milliseconds = time.as_secs_f64() * 1e3,
             key = told.identity.as_ref().map(|identity| identity.name()),
-            peer = %arrival.peer,
+            peer = %told.arrival.peer,
             "answered"
         );
     }
 }
 
+impl Taken {
+    async fn answer(self) -> Response<Body> {
+        let response = match self.next {
+            Next::Perform(call, tried) => response(call.answer(tried).await),
+            Next::Answered(response) => *response,
+        };
+        self.service.tell(&self.told, response.status());
+        response
+    }
+}
+
 /// Why a request isn't performed.
 enum Unread {
+    LongHead,
     NotFound,
-    Refused(SqsError),
+    /// `closes`: the connection ends behind the refusal, since not all of the request was read.
+    Refused {
+        error: SqsError,
+        closes: bool,
+    },
 }
 
 impl From<SqsError> for Unread {
     fn from(error: SqsError) -> Unread {
-        Unread::Refused(error)
+        Unread::Refused { error, closes: false }
     }
 }
 
 impl Call {
-    async fn answer(self, head: &Parts, body: &Bytes) -> Reply {
-        let key = if Key::is_of(self.action) { self.key(head, body) } else { None };
-        let Some(key) = key else {
+    async fn answer(self: Box<Call>, tried: Option<Box<Tried>>) -> Reply {
+        let Some(tried) = tried else {
             return self.answer_once().await;
         };
-        let again = text_of(&head.headers, "amz-sdk-request").is_some_and(is_repeat);
         let service = self.service.clone();
-        let (protocol, request_id) = (self.protocol, self.request_id.clone());
-        let (_present, answer) = match service.repeats.enter(key, again, service.actions.store().clock()) {
+        let (protocol, request_id) = (self.protocol, self.request_id);
+        let Tried { key, is_again } = *tried;
+        let (_present, answer) = match service.repeats.enter(key, is_again, service.actions.store().clock()) {
             Found::Again(present, answer) => (present, answer),
             Found::First(presence, present, begun) => {
                 let answer = service.repeats.answer_of(&begun);
@@ -213,7 +236,7 @@ impl Call {
         };
         match answer.wait().await {
             Some(made) => made.reply.clone(),
-            None => protocol.refuse(&SqsError::InternalFailure("The gateway failed.".into()), request_id),
+            None => protocol.refuse(&SqsError::InternalFailure("The gateway failed.".into()), request_id.to_string()),
         }
     }
 
@@ -229,7 +252,7 @@ impl Call {
     }
 
     /// Performs a call of which there are no repeats.
-    async fn answer_once(self) -> Reply {
+    async fn answer_once(self: Box<Call>) -> Reply {
         let presence = Presence::default();
         let _present = presence.enter();
         let is_short =
@@ -237,39 +260,35 @@ impl Call {
         if is_short {
             return self.perform(presence).await.reply;
         }
-        let (protocol, request_id) = (self.protocol, self.request_id.clone());
+        let (protocol, request_id) = (self.protocol, self.request_id);
         // What takes several asks is brought to its end, also if the client goes.
         match tokio::spawn(self.perform(presence)).await {
             Ok(made) => made.reply,
-            Err(_) => protocol.refuse(&SqsError::InternalFailure("The gateway failed.".into()), request_id),
+            Err(_) => protocol.refuse(&SqsError::InternalFailure("The gateway failed.".into()), request_id.to_string()),
         }
     }
 
-    async fn perform_kept(self, presence: Presence, begun: Begun) {
+    async fn perform_kept(self: Box<Call>, presence: Presence, begun: Begun) {
         let service = self.service.clone();
         let made = self.perform(presence).await;
         service.repeats.end(begun, made);
     }
 
-    async fn perform(self, presence: Presence) -> Made {
-        let caller = Caller { base_url: self.base_url, presence, identity: self.identity };
-        match self.service.actions.perform(self.request, &caller).await {
+    async fn perform(self: Box<Call>, presence: Presence) -> Made {
+        let Call { service, protocol, action, request, request_id, identity, base_url } = *self;
+        let caller = Caller { base_url, presence, identity };
+        match service.actions.perform(request, &caller).await {
             Ok(performed) => {
                 let is_worth_keeping = !performed.response.is_empty_receive();
-                let reply = self.protocol.answer(self.action, &performed.response, self.request_id);
+                let reply = protocol.answer(action, &performed.response, request_id.to_string());
                 Made { reply, handed: performed.handed, is_worth_keeping }
             }
             Err(error) => {
-                let reply = self.protocol.refuse(&error, self.request_id);
+                let reply = protocol.refuse(&error, request_id.to_string());
                 Made { reply, handed: None, is_worth_keeping: false }
             }
         }
     }
-}
-
-/// Random, and made without a call of the system.
-fn new_request_id() -> String {
-    uuid::Builder::from_random_bytes(rand::random()).into_uuid().to_string()
 }
 
 fn protocol_of(headers: &HeaderMap) -> Protocol {
@@ -312,8 +331,8 @@ fn response(reply: Reply) -> Response<Body> {
 }
 
 /// A refusal. `closes`: the connection ends behind it.
-fn refused(protocol: Protocol, error: &SqsError, request_id: String, closes: bool) -> Response<Body> {
-    let mut response = response(protocol.refuse(error, request_id));
+fn refused(protocol: Protocol, error: &SqsError, request_id: Uuid, closes: bool) -> Response<Body> {
+    let mut response = response(protocol.refuse(error, request_id.to_string()));
     if closes {
         response.headers_mut().insert(CONNECTION, HeaderValue::from_static("close"));
     }

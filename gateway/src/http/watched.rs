@@ -3,7 +3,7 @@
 use std::future::Future;
 use std::io;
 use std::pin::Pin;
-use std::sync::atomic::{AtomicU64, Ordering};
+use std::sync::atomic::{AtomicBool, AtomicU64, Ordering};
 use std::sync::Arc;
 use std::task::{Context, Poll};
 use std::time::Duration;
@@ -25,14 +25,22 @@ pub struct Progress {
     longest: Duration,
     /// Milliseconds from `opened` to the request's first byte, and one more. 0 while there is none.
     first_byte: Arc<AtomicU64>,
+    /// Something has come, at any time.
+    is_begun: Arc<AtomicBool>,
 }
 
 impl Progress {
     pub fn new(longest: Duration) -> Progress {
-        Progress { opened: Instant::now(), longest, first_byte: Arc::default() }
+        Progress { opened: Instant::now(), longest, first_byte: Arc::default(), is_begun: Arc::default() }
+    }
+
+    /// Whether the client has ever sent anything.
+    pub fn is_begun(&self) -> bool {
+        self.is_begun.load(Ordering::Relaxed)
     }
 
     fn bytes_came(&self) {
+        self.is_begun.store(true, Ordering::Relaxed);
         if self.first_byte.load(Ordering::Relaxed) == 0 {
             let passed = self.opened.elapsed().as_millis() as u64;
             self.first_byte.store(passed + 1, Ordering::Relaxed);

@@ -74,6 +74,11 @@ impl Action {
         }
     }
 
+    /// Whether its answers have URLs of queues.
+    pub fn tells_urls(self) -> bool {
+        matches!(self, Action::CreateQueue | Action::GetQueueUrl | Action::ListQueues)
+    }
+
     /// Whether a good answer has a result, which the query form shows as an element of its own.
     pub fn has_result(self) -> bool {
         !matches!(
