@@ -89,7 +89,7 @@ impl<F: Folder> Log<F> {
         shards: Shards,
         mut scanned: Scanned,
     ) -> Result<(Log<F>, Scanned), JournalError> {
-        let (file, active) = prepare(folder.as_ref(), Head::new(shards, 1, 1, 0), sizes)?;
+        let (file, active) = prepare(folder.as_ref(), Head::new(shards, 1, 1, 0), sizes.piece)?;
         publish(folder.as_ref(), 1)?;
         let allocated = active.end + sizes.piece;
         scanned.spans.push(active.clone());
@@ -136,31 +136,33 @@ impl<F: Folder> Log<F> {
         is_grown
     }
 
-    /// Begins another segment where this one is long enough, and tells the span of the one that was closed. A disk
-    /// that is full leaves things as they are; another failure ends the log.
-    pub fn go_on(&mut self) -> Result<Option<Span>, JournalError> {
-        if self.active.end < self.sizes.segment {
-            return Ok(None);
-        }
-        self.close()
+    /// Whether this segment is long enough to be followed by another one.
+    pub fn is_long(&self) -> bool {
+        self.active.end >= self.sizes.segment
     }
 
-    /// Begins another segment, as `go_on` does, however long this one is.
-    pub fn close(&mut self) -> Result<Option<Span>, JournalError> {
+    /// The space that a fresh segment has, where no more is wanted.
+    pub fn piece(&self) -> u64 {
+        self.sizes.piece
+    }
+
+    /// Begins another segment with so much space, however long this one is, and tells the span of the one that was
+    /// closed. A disk that is full leaves things as they are; another failure ends the log.
+    pub fn close(&mut self, room: u64) -> Result<Option<Span>, JournalError> {
         let segment = self.active.segment + 1;
         let head = Head::new(self.shards, segment, segment, self.active.last);
-        let Ok((file, active)) = prepare(self.folder.as_ref(), head, self.sizes) else {
+        let Ok((file, active)) = prepare(self.folder.as_ref(), head, room) else {
             return Ok(None);
         };
-        self.begin_segment(file, active).map(Some)
+        self.begin_segment(file, active, room).map(Some)
     }
 
     /// From the moment on in which the segment has its name, none but it may be written to.
-    fn begin_segment(&mut self, file: F::File, active: Span) -> Result<Span, JournalError> {
+    fn begin_segment(&mut self, file: F::File, active: Span, room: u64) -> Result<Span, JournalError> {
         publish(self.folder.as_ref(), active.segment)?;
         let closed = std::mem::replace(&mut self.active, active);
         let old = std::mem::replace(&mut self.file, file);
-        self.allocated = self.active.end + self.sizes.piece;
+        self.allocated = self.active.end + room;
         // The space behind the last commit is given back; where that fails, it is lost until the segment goes.
         let _ = old.set_length(closed.end);
         Ok(closed)
@@ -177,12 +179,12 @@ fn cut_off<S: Segment>(file: &S, bytes: &[u8], end: u64) -> io::Result<()> {
 }
 
 /// A segment that is whole on the disk, and has no name yet.
-fn prepare<F: Folder>(folder: &F, head: Head, sizes: Sizes) -> Result<(F::File, Span), JournalError> {
+fn prepare<F: Folder>(folder: &F, head: Head, room: u64) -> Result<(F::File, Span), JournalError> {
     let (segment, previous) = (head.segment, head.previous);
     let bytes = head.encode()?;
     let file = folder.create(segment)?;
     let end = bytes.len() as u64;
-    file.allocate(end + sizes.piece)?;
+    file.allocate(end + room)?;
     file.write_at(0, &bytes)?;
     file.sync()?;
     let last_place = super::segments::MAGIC.len() as u64;

@@ -463,7 +463,10 @@ impl Run {
         if log.is_short() {
             log.grow();
         }
-        match log.go_on() {
+        if !log.is_long() {
+            return;
+        }
+        match log.close(log.piece()) {
             Ok(Some(closed)) => {
                 *scanned.spans.last_mut().unwrap() = closed;
                 scanned.spans.push(log.active().clone());

@@ -6,7 +6,7 @@ use std::time::{Duration, Instant};
 
 use super::disk::Files;
 use super::log::Log;
-use super::segments::{removed_by, rewrite, JournalError, Span};
+use super::segments::{removed_by, rewrite, JournalError};
 use super::{bytes_of, locked, Batch, Journal};
 
 /// After so long without a commit an empty one is written, so that damage of the last real one is seen.
@@ -18,6 +18,9 @@ const WORTH_REWRITING: u64 = 32 << 20;
 /// They are let alone for so long, and for so many times what it took.
 const REST: Duration = Duration::from_secs(60);
 const REST_SHARE: u32 = 20;
+
+/// What waits goes into several commits where it has more bytes than this.
+const LONGEST_COMMIT: usize = 64 << 20;
 
 /// A segment that is written anew takes in others until it has so many bytes.
 const REWRITTEN: u64 = 64 << 20;
@@ -109,14 +112,22 @@ fn wait(journal: &Journal, is_quiet: bool) -> Next {
 fn commit(log: &mut Log<Files>, journal: &Journal, batch: &Batch) -> Result<(), JournalError> {
     let shared = &journal.0;
     let before = log.room();
-    log.commit(&batch.records)?;
+    let mut rest = batch.records.as_slice();
+    loop {
+        let (first, behind) = rest.split_at(length_of_first(rest, LONGEST_COMMIT));
+        log.commit(first)?;
+        shared.commits.fetch_add(1, Ordering::Relaxed);
+        rest = behind;
+        if rest.is_empty() {
+            break;
+        }
+    }
     let taken = before - log.room();
     // What was promised for the records is taken back, and what they took is counted instead.
     let promised = batch.records.len() as u64 + batch.count * super::frame::HEAD as u64;
     shared.room.fetch_add(promised as i64 - taken as i64, Ordering::Relaxed);
     shared.bytes.fetch_add(taken, Ordering::Relaxed);
     shared.promised.fetch_sub(promised, Ordering::Relaxed);
-    shared.commits.fetch_add(1, Ordering::Relaxed);
     let removed = removed_by(&batch.records).unwrap_or_default();
     if !removed.is_empty() {
         locked(&shared.removed).extend(removed);
@@ -130,25 +141,38 @@ fn commit(log: &mut Log<Files>, journal: &Journal, batch: &Batch) -> Result<(), 
     if log.is_short() {
         grow(log, journal);
     }
-    begin_segment(log, journal, Log::go_on)
+    if log.is_long() {
+        begin_segment(log, journal)?;
+    }
+    Ok(())
 }
 
-/// Has the log begin another segment, if it does.
-fn begin_segment(
-    log: &mut Log<Files>,
-    journal: &Journal,
-    begin: fn(&mut Log<Files>) -> Result<Option<Span>, JournalError>,
-) -> Result<(), JournalError> {
-    let (shared, before) = (&journal.0, log.room());
+/// How many bytes of these lines go into one commit: whole lines of `most` bytes in all, or one that is longer.
+fn length_of_first(records: &[u8], most: usize) -> usize {
+    let end = match records.get(..most) {
+        Some(front) => memchr::memrchr(b'\n', front).or_else(|| memchr::memchr(b'\n', records)),
+        None => None,
+    };
+    end.map_or(records.len(), |end| end + 1)
+}
+
+/// Has the log begin another segment, unless the disk is full.
+fn begin_segment(log: &mut Log<Files>, journal: &Journal) -> Result<(), JournalError> {
+    let (shared, before) = (&journal.0, log.room() as i64);
+    // What is promised from here on has to fit into the fresh segment, and so has what was promised before.
+    let piece = log.piece() as i64;
+    let left = shared.room.fetch_add(piece - before, Ordering::Relaxed) + piece - before;
+    let room = piece + (-left).max(0);
+    shared.room.fetch_add(room - piece, Ordering::Relaxed);
     let mut spans = locked(&shared.spans);
-    if let Some(closed) = begin(log)? {
+    if let Some(closed) = log.close(room as u64)? {
         if let Some(last) = spans.last_mut() {
             *last = closed;
         }
         spans.push(log.active().clone());
     }
     shared.bytes.store(bytes_of(&spans), Ordering::Relaxed);
-    shared.room.fetch_add(log.room() as i64 - before as i64, Ordering::Relaxed);
+    shared.room.fetch_add(log.room() as i64 - room, Ordering::Relaxed);
     Ok(())
 }
 
@@ -184,7 +208,7 @@ fn rewrite_aside(log: &mut Log<Files>, journal: &Journal, failed: fn(&str)) -> R
         return Ok(());
     }
     if is_urgent && log.active().end >= worth_closing(journal) {
-        begin_segment(log, journal, Log::close)?;
+        begin_segment(log, journal)?;
     }
     rewriting.goes_on = true;
     rewriting.removed = removed;
@@ -251,5 +275,24 @@ fn rewrite_closed(journal: &Journal) -> Result<bool, JournalError> {
         shared.count.fetch_sub(dropped, Ordering::Relaxed);
         closed.drain(..consumed);
         done += 1;
+    }
+}
+
+#[cfg(test)]
+mod tests {
+    use super::*;
+
+    #[test]
+    fn commits_have_whole_lines() {
+        for (records, most, length) in [
+            ("", 4, 0),
+            ("a\n", 4, 2),
+            ("ab\ncd\n", 4, 3),
+            ("ab\ncd\n", 6, 6),
+            ("abcdef\ng\n", 4, 7),
+            ("a\nb\nc\n", 4, 4),
+        ] {
+            assert_eq!(length_of_first(records.as_bytes(), most), length, "{records:?}");
+        }
     }
 }
