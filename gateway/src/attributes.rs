@@ -6,8 +6,8 @@ use serde::{Deserialize, Serialize};
 
 use crate::errors::SqsError;
 
-/// The largest `MaximumMessageSize`, which is its default as well, in bytes.
-pub const LONGEST_MESSAGE: usize = 262_144;
+/// The largest `MaximumMessageSize`, which is its default as well, in bytes. A batch has at most as many in all.
+pub const LONGEST_MESSAGE: usize = 1_048_576;
 
 /// The counts of messages, which are the store's.
 pub const COUNTS: [&str; 3] =
@@ -52,7 +52,7 @@ static ATTRIBUTES: [Attribute; 15] = [
     attribute("FifoThroughputLimit", Rule::OneOf(&["perQueue", "perMessageGroupId"]), Some("perQueue")),
     attribute("KmsDataKeyReusePeriodSeconds", Rule::Whole(60, 86_400), None),
     attribute("KmsMasterKeyId", Rule::AnyText, None),
-    attribute("MaximumMessageSize", Rule::Whole(1_024, LONGEST_MESSAGE as u64), Some("262144")),
+    attribute("MaximumMessageSize", Rule::Whole(1_024, LONGEST_MESSAGE as u64), Some("1048576")),
     attribute("MessageRetentionPeriod", Rule::Whole(60, 1_209_600), Some("345600")),
     attribute("Policy", Rule::AnyText, None),
     attribute("ReceiveMessageWaitTimeSeconds", Rule::Whole(0, 20), Some("0")),
@@ -257,6 +257,7 @@ mod tests {
             ("VisibilityTimeout", "+1"),
             ("VisibilityTimeout", ""),
             ("MaximumMessageSize", "1023"),
+            ("MaximumMessageSize", "1048577"),
             ("FifoQueue", "perhaps"),
             ("RedrivePolicy", "{}"),
             ("DelaySeconds", "1"),
@@ -271,7 +272,7 @@ mod tests {
     fn a_queue_has_defaults_and_what_was_given() {
         let made = given(&[("VisibilityTimeout", "007"), ("FifoQueue", "TRUE")]).unwrap();
         let attributes = QueueAttributes::for_creation(&made).unwrap();
-        assert_eq!((attributes.visibility_timeout(), attributes.maximum_message_size()), (7, 262_144));
+        assert_eq!((attributes.visibility_timeout(), attributes.maximum_message_size()), (7, 1_048_576));
         assert!(attributes.test_same(&given(&[("VisibilityTimeout", "7")]).unwrap()).is_ok());
         assert!(attributes.test_same(&given(&[("VisibilityTimeout", "8")]).unwrap()).is_err());
         assert!(attributes.test_same(&given(&[("RedrivePolicy", "")]).unwrap()).is_ok());

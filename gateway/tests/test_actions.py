@@ -110,7 +110,7 @@ def test_tags(call):
     ("q.fifo", {"FifoQueue": "true", "DelaySeconds": "1"}, "InvalidAttributeValue"),
     ("q.fifo", {"FifoQueue": "true", "RedrivePolicy": "{}"}, "InvalidAttributeValue"),
     ("q.fifo", {"FifoQueue": "true", "RedriveAllowPolicy": "{}"}, "InvalidAttributeValue"),
-    ("q.fifo", {"FifoQueue": "true", "MaximumMessageSize": "262145"}, "InvalidAttributeValue"),
+    ("q.fifo", {"FifoQueue": "true", "MaximumMessageSize": "1048577"}, "InvalidAttributeValue"),
     ("q.fifo", {"FifoQueue": "true", "MaximumMessageSize": "1023"}, "InvalidAttributeValue"),
     ("q.fifo", {"FifoQueue": "true", "ReceiveMessageWaitTimeSeconds": "21"}, "InvalidAttributeValue"),
     ("q.fifo", {"FifoQueue": "true", "MessageRetentionPeriod": "59"}, "InvalidAttributeValue"),
@@ -211,8 +211,8 @@ def test_a_message_shows_nothing_that_was_not_asked_for(call):
 def test_bodies_of_all_kinds_of_characters(call):
     queue = new_queue(call)
     kinds = "\t\n\r\r\n \x7f\x80<>&\"'é€\ud7ff\ue000\ufffd\U00010000\U0010ffff😀"
-    whole = kinds * (262_144 // len(kinds.encode()))
-    whole += "x" * (262_144 - len(whole.encode()))
+    whole = kinds * (1_048_576 // len(kinds.encode()))
+    whole += "x" * (1_048_576 - len(whole.encode()))
     sent = send(call, queue, "d", body=whole)
     assert sent["MD5OfMessageBody"] == hashlib.md5(whole.encode()).hexdigest()
     (message,) = receive(call, queue)
@@ -224,8 +224,26 @@ def test_bodies_of_all_kinds_of_characters(call):
 def test_ten_long_bodies_are_received_at_once(call):
     queue = new_queue(call)
     for place in range(10):
-        send(call, queue, str(place), body="\r" * 262_144)
-    assert [len(message["Body"]) for message in receive(call, queue)] == [262_144] * 10
+        send(call, queue, str(place), body="\r" * 1_048_576)
+    assert [len(message["Body"]) for message in receive(call, queue)] == [1_048_576] * 10
+    queue = new_queue(call)
+    entries = [entry(place, MessageBody=str(place) * (1_048_576 // 10)) for place in range(10)]
+    assert len(call("SendMessageBatch", QueueUrl=queue, Entries=entries)["Successful"]) == 10
+    assert [message["Body"] for message in receive(call, queue)] == [one["MessageBody"] for one in entries]
+
+
+def test_the_size_of_a_message_is_its_queues(call):
+    queue = new_queue(call)
+    told = call("GetQueueAttributes", QueueUrl=queue, AttributeNames=["MaximumMessageSize"])["Attributes"]
+    assert told == {"MaximumMessageSize": "1048576"}
+    call("SetQueueAttributes", QueueUrl=queue, Attributes={"MaximumMessageSize": "300000"})
+    value = {"a": {"DataType": "Binary", "BinaryValue": b"\xff" * 100_000}}
+    for size, code in ((200_000 - 7, None), (200_000 - 6, "InvalidParameterValue")):
+        whole = {"MessageBody": "x" * size, "MessageGroupId": "g", "MessageDeduplicationId": "d", "MessageAttributes": value}
+        if code is None:
+            call("SendMessage", QueueUrl=queue, **whole)
+        else:
+            assert refusal(call, "SendMessage", QueueUrl=queue, **whole) == code
 
 
 @pytest.mark.parametrize("members, code", [
@@ -333,7 +351,7 @@ def test_batches_are_answered_entry_by_entry(call):
     ([entry(1), entry(1)], "BatchEntryIdsNotDistinct"),
     ([entry(1, Id="a b")], "InvalidBatchEntryId"),
     ([entry(1, Id="x" * 81)], "InvalidBatchEntryId"),
-    ([entry(place, MessageBody="x" * 131_073) for place in range(2)], "BatchRequestTooLong"),
+    ([entry(place, MessageBody="x" * 524_289) for place in range(2)], "BatchRequestTooLong"),
 ])
 def test_bad_batches_are_refused_whole(call, entries, code):
     queue = new_queue(call)

@@ -18,7 +18,7 @@ import pytest
 from started import ByJson, Started
 
 JSON = b"X-Amz-Target: AmazonSQS.%s\r\nContent-Type: application/x-amz-json-1.0\r\n"
-LONGEST_BODY = 6 * 262_144 + 65_536
+LONGEST_BODY = 6 * 1_048_576 + 65_536
 
 
 @pytest.fixture(scope="module")
@@ -85,7 +85,7 @@ def test_a_body_that_is_too_long_gets_413_in_the_form_of_its_protocol(gateway):
     is_refused_in_json(read_response(connection), 413, "RequestEntityTooLarge")
     connection = connect(gateway)
     connection.sendall(b"POST / HTTP/1.1\r\nHost: here\r\nTransfer-Encoding: chunked\r\n\r\n")
-    for _ in range(30):
+    for _ in range(100):
         connection.sendall(b"10000\r\n" + b"x" * 65_536 + b"\r\n")
     connection.sendall(b"0\r\n\r\n")
     status, headers, body = read_response(connection)
@@ -94,9 +94,9 @@ def test_a_body_that_is_too_long_gets_413_in_the_form_of_its_protocol(gateway):
 
 
 def test_the_longest_message_gets_in_however_its_json_is_written(gateway):
-    body = "<" * 262_144
+    body = "<" * 1_048_576
     escaped = json.dumps({"QueueUrl": "q.fifo", "MessageBody": "@", "MessageGroupId": "long", "MessageDeduplicationId": "long"})
-    content = escaped.replace("@", "\\u003c" * 262_144).encode()
+    content = escaped.replace("@", "\\u003c" * 1_048_576).encode()
     connection = connect(gateway)
     connection.sendall(head(b"SendMessage", len(content)) + content)
     assert read_response(connection)[0] == 200

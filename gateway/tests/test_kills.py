@@ -8,6 +8,7 @@ import signal
 import subprocess
 import threading
 import time
+import zlib
 from pathlib import Path
 
 from started import ByBoto3, Refused, Started, command, environment, program
@@ -16,6 +17,11 @@ KILLS = int(os.environ.get("HOBBYCHAIR_TEST_KILLS", "50"))
 CLIENTS = 6
 ROUNDS = 120
 TIMEOUT = 30
+
+
+def text_of(name: str) -> str:
+    """The body of a message: its name, and behind one name in five more than the store takes."""
+    return name + "." * (300_000 if zlib.crc32(name.encode()) % 5 == 0 else 0)
 
 
 class Load:
@@ -67,7 +73,7 @@ class Load:
     def _send(self, call, queue: str, client: int, place: int) -> None:
         body = f"{self.round}-{client}-{place}"
         self.maybe_sent.add(body)
-        result = call("SendMessage", QueueUrl=queue, MessageBody=body, MessageGroupId=f"g{client}",
+        result = call("SendMessage", QueueUrl=queue, MessageBody=text_of(body), MessageGroupId=f"g{client}",
                       MessageDeduplicationId=body)
         self.numbers[body] = result["SequenceNumber"]
         self.sent.setdefault(f"g{client}", []).append(body)
@@ -76,22 +82,24 @@ class Load:
     def _receive(self, call, queue: str) -> None:
         for message in call("ReceiveMessage", QueueUrl=queue, MaxNumberOfMessages=3, VisibilityTimeout=TIMEOUT,
                             AttributeNames=["All"]).get("Messages", []):
-            self._note(message)
+            body = self._note(message)
             if self.random.random() < 0.7:
-                self.maybe_deleted.add(message["Body"])
+                self.maybe_deleted.add(body)
                 call("DeleteMessage", QueueUrl=queue, ReceiptHandle=message["ReceiptHandle"])
-                self.deleted.add(message["Body"])
+                self.deleted.add(body)
             else:
                 call("ChangeMessageVisibility", QueueUrl=queue, ReceiptHandle=message["ReceiptHandle"],
                      VisibilityTimeout=0)
 
-    def _note(self, message: dict) -> None:
-        body, count = message["Body"], int(message["Attributes"]["ApproximateReceiveCount"])
+    def _note(self, message: dict) -> str:
+        body, count = message["Body"].rstrip("."), int(message["Attributes"]["ApproximateReceiveCount"])
+        assert message["Body"] == text_of(body)
         assert body in self.maybe_sent, f"{body} was never sent"
         assert body not in self.deleted, f"{body} came again after its deletion was acknowledged"
         assert count > self.counts.get(body, 0), f"an acknowledged handing of {body} was forgotten"
         assert self.numbers.get(body) in (None, message["Attributes"]["SequenceNumber"])
         self.counts[body] = count
+        return body
 
     def repeat(self, call, queue: str) -> None:
         """A repeated send is told the number of the first."""
@@ -107,9 +115,9 @@ class Load:
         while messages := call("ReceiveMessage", QueueUrl=queue, MaxNumberOfMessages=10, VisibilityTimeout=TIMEOUT,
                                AttributeNames=["All"]).get("Messages", []):
             for message in messages:
-                self._note(message)
-                there.setdefault(message["Attributes"]["MessageGroupId"], []).append(message["Body"])
-                self.deleted.add(message["Body"])
+                body = self._note(message)
+                there.setdefault(message["Attributes"]["MessageGroupId"], []).append(body)
+                self.deleted.add(body)
             result = call("DeleteMessageBatch", QueueUrl=queue, Entries=[
                 {"Id": str(place), "ReceiptHandle": message["ReceiptHandle"]}
                 for place, message in enumerate(messages)])

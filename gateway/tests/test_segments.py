@@ -345,6 +345,7 @@ def test_the_python_gateways_journal_is_read(tmp_path):
         assert call("ListQueueTags", QueueUrl="p.fifo")["Tags"] == {"t": "1"}
         told = call("GetQueueAttributes", QueueUrl="p.fifo", AttributeNames=["All"])["Attributes"]
         assert (told["DeduplicationScope"], told["Policy"]) == ("messageGroup", "{}")
+        assert told["MaximumMessageSize"] == "262144"
         again = call("SendMessage", QueueUrl="a.fifo", MessageBody="ü", MessageGroupId="other")
         assert again["MessageId"] == "9de0a745-f188-4d0e-809c-b79a51b019ec"
         gateway.kill()

@@ -21,6 +21,7 @@ use crate::errors::SqsError;
 use crate::journal::{Batch, Journal, JournalError, Need, Record};
 use crate::limits::Bounds;
 use crate::lines::{self, BadOutput, Fields, Output, Reply};
+use crate::messages::Form;
 use crate::queues::ask::{Ask, Change, Outcome};
 use crate::queues::shards::{Shard, Shards};
 use crate::queues::{Queue, Queues};
@@ -660,9 +661,29 @@ fn need_of(ask: &Ask) -> Need {
 fn bytes_of(ask: &Ask, raw: &RawValue) -> u64 {
     let beside = match ask {
         Ask::Create { creation, .. } => serde_json::to_vec(creation.as_ref()).map_or(0, |bytes| bytes.len()),
-        // One byte of a text is written as six at most.
-        Ask::Send { form: crate::messages::Form::Split { whole, .. }, .. } => 6 * whole.len(),
+        Ask::Send { form: Form::Split { whole, .. }, .. } => length_in_json(whole),
         _ => 0,
     };
     (raw.get().len() + beside + 512) as u64
+}
+
+/// How many bytes a text has in JSON, without its quotes.
+fn length_in_json(text: &str) -> usize {
+    let length_of = |byte: u8| match byte {
+        b'"' | b'\\' | b'\n' | b'\r' | b'\t' | 8 | 12 => 2,
+        0..=0x1f => 6,
+        _ => 1,
+    };
+    text.bytes().map(length_of).sum()
+}
+
+#[cfg(test)]
+mod tests {
+    use super::*;
+
+    #[test]
+    fn a_record_has_the_room_that_was_set_aside_for_it() {
+        let text: String = (0..=0x2ff).filter_map(char::from_u32).collect();
+        assert_eq!(length_in_json(&text) + 2, serde_json::to_string(&text).unwrap().len());
+    }
 }
