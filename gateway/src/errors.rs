@@ -17,6 +17,9 @@ pub enum SqsError {
     ReceiptHandleIsInvalid,
     #[error("The message referred to isn't in flight.")]
     MessageNotInflight,
+    /// A handle that was good once, and its text.
+    #[error("Value {handle} for parameter ReceiptHandle is invalid. Reason: {reason}")]
+    StaleHandle { handle: String, reason: Stale },
     #[error("{0}")]
     InvalidParameterValue(String),
     #[error("The request must contain the parameter {0}.")]
@@ -75,6 +78,17 @@ pub enum SqsError {
     AccessDenied { user: String, action: String, resource: String },
 }
 
+/// Why a handle isn't good any more.
+#[derive(Clone, Copy, Debug, PartialEq, Eq, Error)]
+pub enum Stale {
+    /// The timeout is over, and the message wasn't handed out again (API Reference, DeleteMessage).
+    #[error("The receipt handle has expired.")]
+    Expired,
+    /// The message is deleted (API Reference, ChangeMessageVisibility).
+    #[error("Message does not exist or is not available for visibility timeout change.")]
+    NoMessage,
+}
+
 /// How both protocols name an error.
 #[derive(Clone, Copy, Debug, PartialEq, Eq)]
 pub struct Coded {
@@ -106,7 +120,7 @@ impl SqsError {
             SqsError::MessageNotInflight => {
                 ("com.amazonaws.sqs#MessageNotInflight", "AWS.SimpleQueueService.MessageNotInflight", 400)
             }
-            SqsError::InvalidParameterValue(_) => {
+            SqsError::InvalidParameterValue(_) | SqsError::StaleHandle { .. } => {
                 ("com.amazonaws.sqs#InvalidParameterValue", "InvalidParameterValue", 400)
             }
             SqsError::MissingParameter(_) => {
@@ -193,6 +207,24 @@ impl SqsError {
             "The queue should either have ContentBasedDeduplication enabled or MessageDeduplicationId provided explicitly"
                 .into(),
         )
+    }
+
+    /// A delete comes after the timeout. Its handle isn't known here.
+    pub fn of_expiry() -> SqsError {
+        SqsError::StaleHandle { handle: String::new(), reason: Stale::Expired }
+    }
+
+    /// A change is of a deleted message. Its handle isn't known here.
+    pub fn of_no_message() -> SqsError {
+        SqsError::StaleHandle { handle: String::new(), reason: Stale::NoMessage }
+    }
+
+    /// The error with the handle that it is about.
+    pub fn about_handle(self, handle: &str) -> SqsError {
+        match self {
+            SqsError::StaleHandle { reason, .. } => SqsError::StaleHandle { handle: handle.into(), reason },
+            other => other,
+        }
     }
 
     /// A signature isn't that of the request by the secret of its key.

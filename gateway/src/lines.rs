@@ -72,7 +72,7 @@ impl<'a> Fields<'a> {
                 let kind = Kind::Receive;
                 Fields { size: Some(*size), visibility: Some(*visibility), ..Fields::new(kind, queue) }
             }
-            Ask::Delete { receipt } => {
+            Ask::Delete { receipt, .. } => {
                 Fields { receipt: Some(receipt_text(*receipt, base)), ..Fields::new(Kind::Delete, queue) }
             }
             Ask::Change { receipt, visibility, .. } => Fields {

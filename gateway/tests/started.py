@@ -236,7 +236,7 @@ class ByQuery:
                     content = {part.tag: base64.b64decode(part.text) if part.tag == "BinaryValue" else part.text
                                for part in value}
                 found.setdefault(member, {})[child.findtext(key)] = content
-            elif child.tag == "Message":
+            elif child.tag == "Message" and len(child):
                 found.setdefault("Messages", []).append(self._members(child))
             elif child.tag.endswith("BatchResultEntry"):
                 found.setdefault("Successful", []).append(self._members(child))

@@ -304,6 +304,35 @@ def test_bad_handles_are_refused(call, spoil):
     assert refusal(call, "ChangeMessageVisibility", QueueUrl=queue, ReceiptHandle=handle, VisibilityTimeout=1) == expected
 
 
+def test_stale_handles_are_told_entry_by_entry(call, gateway):
+    """One message has expired, one was handed out again, one is deleted, and one is in flight."""
+    queue = new_queue(call, VisibilityTimeout="10")
+    for place in range(4):
+        send(call, queue, str(place), group=str(place))
+    messages = receive(call, queue)
+    handles = [message["ReceiptHandle"] for message in messages]
+    call("DeleteMessage", QueueUrl=queue, ReceiptHandle=handles[2])
+    call("ChangeMessageVisibility", QueueUrl=queue, ReceiptHandle=handles[3], VisibilityTimeout=100)
+    call("ChangeMessageVisibility", QueueUrl=queue, ReceiptHandle=handles[1], VisibilityTimeout=0)
+    assert len(receive(call, queue)) == 1
+    gateway.set_clock(gateway.moment + 10_000)
+    entries = [{"Id": str(place), "ReceiptHandle": handle} for place, handle in enumerate(handles)]
+    changes = [{**entry, "VisibilityTimeout": 50} for entry in entries]
+    result = call("ChangeMessageVisibilityBatch", QueueUrl=queue, Entries=changes)
+    told = {one["Id"]: (one["Code"].removeprefix("AWS.SimpleQueueService."), one["Message"]) for one in result["Failed"]}
+    assert [told[place][0] for place in "012"] == ["MessageNotInflight", "ReceiptHandleIsInvalid", "InvalidParameterValue"]
+    assert told["2"][1] == (f"Value {handles[2]} for parameter ReceiptHandle is invalid. Reason: Message does not exist or is "
+                            "not available for visibility timeout change.")
+    result = call("DeleteMessageBatch", QueueUrl=queue, Entries=entries)
+    assert [one["Id"] for one in result["Successful"]] == ["1", "2", "3"]
+    (failed,) = result["Failed"]
+    assert (failed["Id"], failed["Code"], failed["SenderFault"]) == ("0", "InvalidParameterValue", True)
+    assert failed["Message"] == (f"Value {handles[0]} for parameter ReceiptHandle is invalid. Reason: The receipt handle has "
+                                 "expired.")
+    gateway.set_clock(gateway.moment + 100_000)
+    assert [message["MessageId"] for message in receive(call, queue)] == [message["MessageId"] for message in messages[:2]]
+
+
 def test_bad_timeouts_are_refused(call):
     queue = new_queue(call)
     send(call, queue, "d")

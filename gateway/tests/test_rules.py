@@ -185,15 +185,43 @@ def test_deleting_twice_is_good(rules):
     rules.delete(queue, message)
     rules.delete(queue, message)
     rules.move(50_000)
+    rules.delete(queue, message)
     assert rules.receive(queue) == []
 
 
-def test_a_message_that_expired_is_deleted_by_its_last_receipt(rules):
+@differs
+@pytest.mark.parametrize("late", [0, 1, 100_000])
+def test_a_delete_after_the_timeout_is_refused(rules, late):
     queue = rules.queue(VisibilityTimeout="10")
     rules.send(queue, "1")
     (message,) = rules.receive(queue)
-    rules.move(10_001)
+    rules.move(10_000 + late)
+    rules.refused("InvalidParameterValue", lambda: rules.delete(queue, message))
+    (again,) = rules.receive(queue)
     rules.delete(queue, message)
+    rules.move(9_999)
+    rules.delete(queue, again)
+    rules.move(10_001)
+    assert rules.receive(queue) == []
+
+
+@differs
+def test_what_was_given_back_is_not_deleted(rules):
+    queue = rules.queue()
+    rules.send(queue, "1")
+    (message,) = rules.receive(queue)
+    rules.change(queue, message, 0)
+    rules.refused("InvalidParameterValue", lambda: rules.delete(queue, message))
+    assert len(rules.receive(queue)) == 1
+
+
+def test_a_purge_deletes_what_has_expired(rules):
+    queue = rules.queue(VisibilityTimeout="10")
+    for place in range(3):
+        rules.send(queue, str(place), group=str(place))
+    assert len(rules.receive(queue, 2)) == 2
+    rules.move(10_001)
+    rules.call("PurgeQueue", QueueUrl=queue)
     assert rules.receive(queue) == []
 
 
@@ -212,7 +240,7 @@ def test_a_change_of_a_deleted_message_is_refused(rules):
     rules.send(queue, "1")
     (message,) = rules.receive(queue)
     rules.delete(queue, message)
-    rules.refused("MessageNotInflight", lambda: rules.change(queue, message, 20))
+    rules.refused("InvalidParameterValue", lambda: rules.change(queue, message, 20))
 
 
 @differs

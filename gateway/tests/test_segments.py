@@ -182,7 +182,7 @@ def test_handles_of_a_lost_future_fit_nothing(tmp_path):
         gateway.set_clock(START + (1000 if body == "first" else 2000))
         call = ByJson(gateway.url)
         call("SendMessage", QueueUrl="q.fifo", MessageBody=body, MessageGroupId="g", MessageDeduplicationId=body)
-        (message,) = call("ReceiveMessage", QueueUrl="q.fifo")["Messages"]
+        (message,) = call("ReceiveMessage", QueueUrl="q.fifo", VisibilityTimeout=60)["Messages"]
         handles.append(message["ReceiptHandle"])
         if body == "second":
             with pytest.raises(Refused, match="ReceiptHandleIsInvalid"):
@@ -228,7 +228,7 @@ def test_a_queue_at_rest_rolls_and_nobody_sees_it(tmp_path):
     again = send(0)
     assert [int(one["SequenceNumber"]) for one in again] == [int(one["SequenceNumber"]) + 1000 for one in first]
     call("DeleteMessage", QueueUrl=name, ReceiptHandle=handles[0])
-    with pytest.raises(Refused, match="MessageNotInflight"):
+    with pytest.raises(Refused, match="InvalidParameterValue"):
         call("ChangeMessageVisibility", QueueUrl=name, ReceiptHandle=handles[0], VisibilityTimeout=5)
     gateway.kill()
     gateway.start()

@@ -43,7 +43,7 @@ impl Actions {
             return Err(SqsError::BatchRequestTooLong { limit: LONGEST_MESSAGE, sent: size });
         }
         let ask_of = |message: &Message| self.send_ask(&queue, message, caller);
-        self.answer_each(&queue, batch, ask_of, |message, outcome| sent(message, outcome).map(Some)).await
+        self.answer_each(&queue, batch, ask_of, |message, answer| sent(message, &answer?).map(Some)).await
     }
 
     fn send_ask(&self, queue: &Queue, message: &Message, caller: &Caller) -> Result<Ask, SqsError> {
@@ -78,26 +78,33 @@ impl Actions {
 
     pub(super) async fn delete(&self, name: &QueueName, handle: &str) -> Result<Performed, SqsError> {
         let queue = self.queue(name)?;
-        let receipt = queue.receipt_of(handle)?;
-        self.store.ask(&queue, Ask::Delete { receipt }).await?;
+        let answer = self.store.ask(&queue, delete_ask(&queue, handle)?).await;
+        nothing_of(handle, answer)?;
         Ok(Response::Nothing.into())
     }
 
     pub(super) async fn delete_batch(&self, name: &QueueName, batch: Batch<String>) -> Result<Performed, SqsError> {
         let queue = self.queue(name)?;
-        let ask_of = |handle: &String| Ok(Ask::Delete { receipt: queue.receipt_of(handle)? });
-        self.answer_each(&queue, batch, ask_of, |_, _| Ok(None)).await
+        self.answer_each(
+            &queue,
+            batch,
+            |handle| delete_ask(&queue, handle),
+            |handle, answer| nothing_of(handle, answer),
+        )
+        .await
     }
 
     pub(super) async fn change(&self, name: &QueueName, change: &Change) -> Result<Performed, SqsError> {
         let queue = self.queue(name)?;
-        self.store.ask(&queue, change_ask(&queue, change)?).await?;
+        let answer = self.store.ask(&queue, change_ask(&queue, change)?).await;
+        nothing_of(&change.handle, answer)?;
         Ok(Response::Nothing.into())
     }
 
     pub(super) async fn change_batch(&self, name: &QueueName, batch: Batch<Change>) -> Result<Performed, SqsError> {
         let queue = self.queue(name)?;
-        self.answer_each(&queue, batch, |change| change_ask(&queue, change), |_, _| Ok(None)).await
+        let result_of = |change: &Change, answer| nothing_of(&change.handle, answer);
+        self.answer_each(&queue, batch, |change| change_ask(&queue, change), result_of).await
     }
 
     /// Asks for all good entries at once, and tells what came of each.
@@ -106,7 +113,7 @@ impl Actions {
         queue: &Arc<Queue>,
         batch: Batch<T>,
         ask_of: impl Fn(&T) -> Result<Ask, SqsError>,
-        result_of: impl Fn(&T, &Outcome) -> Result<Option<Sent>, SqsError>,
+        result_of: impl Fn(&T, Answer) -> Result<Option<Sent>, SqsError>,
     ) -> Result<Performed, SqsError> {
         let mut asks = Vec::with_capacity(batch.len());
         let mut entries = Vec::with_capacity(batch.len());
@@ -125,10 +132,8 @@ impl Actions {
         let mut answers = answers.into_iter();
         let (mut successful, mut failed) = (Vec::new(), Vec::new());
         for (id, entry) in entries {
-            let answered = entry.and_then(|entry| {
-                let answer: Answer = answers.next().unwrap_or_else(|| Err(no_answer()));
-                result_of(&entry, &answer?)
-            });
+            let answered =
+                entry.and_then(|entry| result_of(&entry, answers.next().unwrap_or_else(|| Err(no_answer()))));
             match answered {
                 Ok(sent) => successful.push(Done { id, sent }),
                 Err(error) => failed.push(Failed::new(id, &error)),
@@ -141,6 +146,15 @@ impl Actions {
 
 fn no_answer() -> SqsError {
     SqsError::InternalFailure("The store gave no answer.".into())
+}
+
+/// What a delete or a change tells: nothing, or an error that names its handle.
+fn nothing_of(handle: &str, answer: Answer) -> Result<Option<Sent>, SqsError> {
+    answer.map(|_| None).map_err(|error| error.about_handle(handle))
+}
+
+fn delete_ask(queue: &Queue, handle: &str) -> Result<Ask, SqsError> {
+    Ok(Ask::Delete { receipt: queue.receipt_of(handle)?, by_client: true })
 }
 
 fn change_ask(queue: &Queue, change: &Change) -> Result<Ask, SqsError> {

@@ -148,7 +148,7 @@ async fn delete_all(queue: &Queue, held: &Held) -> Result<(), SqsError> {
     loop {
         let receipts = queue.state().receipts_up_to(u64::MAX);
         for some in receipts.chunks(PURGED_AT_ONCE) {
-            let asks = some.iter().map(|receipt| Ask::Delete { receipt: *receipt }).collect();
+            let asks = some.iter().map(|receipt| Ask::Delete { receipt: *receipt, by_client: false }).collect();
             for answer in held.ask_all(asks).await {
                 answer?;
             }

@@ -130,7 +130,7 @@ impl<'a> Record<'a> {
             Kind::Receive => {
                 Ask::Receive { size: fields.size?, visibility: fields.visibility?, attempt: self.attempt.clone() }
             }
-            Kind::Delete => Ask::Delete { receipt: receipt()? },
+            Kind::Delete => Ask::Delete { receipt: receipt()?, by_client: false },
             Kind::Change => {
                 Ask::Change { receipt: receipt()?, visibility: fields.visibility?, by_attempt: self.by_attempt }
             }

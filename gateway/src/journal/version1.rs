@@ -285,7 +285,7 @@ impl Conversion {
             Kind::Receive => {
                 Ask::Receive { size: fields.size.unwrap_or(1), visibility: fields.visibility?, attempt: beside.attempt }
             }
-            Kind::Delete => Ask::Delete { receipt: receipt()? },
+            Kind::Delete => Ask::Delete { receipt: receipt()?, by_client: false },
             Kind::Change => {
                 Ask::Change { receipt: receipt()?, visibility: fields.visibility?, by_attempt: beside.by_attempt }
             }

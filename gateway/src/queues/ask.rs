@@ -51,8 +51,10 @@ pub enum Ask {
         visibility: u32,
         attempt: Option<AttemptId>,
     },
+    /// `by_client`: it is refused when the timeout is over. A purge deletes what is there.
     Delete {
         receipt: Receipt,
+        by_client: bool,
     },
     /// `by_attempt`: not a client asks for it, but a repeated receive.
     Change {

@@ -103,6 +103,9 @@ impl Settled {
     }
 }
 
+/// The store's refusal of a change of a message that isn't in flight, or that is deleted.
+const NOT_IN_FLIGHT: u32 = 5;
+
 /// The store answered an ask with what never answers it.
 fn misfit() -> SqsError {
     SqsError::InternalFailure("The store's answer doesn't fit the request.".into())
@@ -139,6 +142,9 @@ impl State {
     /// Takes up the store's answer to an ask of `moment`.
     pub fn settle(&mut self, ask: &Ask, reply: Reply, moment: Moment) -> Result<Settled, SqsError> {
         match (ask, reply) {
+            (Ask::Change { receipt, .. }, Reply::Refused(NOT_IN_FLIGHT)) if !self.has_message(*receipt) => {
+                Err(SqsError::of_no_message())
+            }
             (_, Reply::Refused(code)) => Err(SqsError::of_refusal(code)),
             (Ask::Create { store, .. }, Reply::Created) => {
                 if *store != self.store {
@@ -151,7 +157,7 @@ impl State {
             (Ask::Receive { visibility, attempt, .. }, Reply::Received(given)) => {
                 self.received(given, *visibility, attempt.as_ref(), moment)
             }
-            (Ask::Delete { receipt }, Reply::Deleted(removed)) => Ok(self.deleted(*receipt, removed)),
+            (Ask::Delete { receipt, .. }, Reply::Deleted(removed)) => Ok(self.deleted(*receipt, removed)),
             (Ask::Change { receipt, visibility, by_attempt }, Reply::Changed) => {
                 Ok(self.changed(*receipt, *visibility, *by_attempt, moment))
             }
@@ -325,6 +331,18 @@ impl State {
         Ok(receipt)
     }
 
+    /// Whether a message is there that this receipt was given out for.
+    fn has_message(&self, receipt: Receipt) -> bool {
+        self.messages.contains_key(&receipt.sequence)
+    }
+
+    /// Whether this is the last receipt of a message that is there and its timeout is over, exactly at its end already.
+    /// An ask that isn't answered yet may still change that.
+    pub fn has_expired(&self, receipt: Receipt, now: Moment) -> bool {
+        let last = self.messages.get(&receipt.sequence).and_then(|message| message.last);
+        last.is_some_and(|last| last.ordinal == receipt.ordinal && last.until <= now)
+    }
+
     /// Whether each of these receipts is its message's last one, and none of them has ended.
     pub fn are_in_flight(&self, receipts: &[Receipt], now: Moment) -> bool {
         receipts.iter().all(|receipt| {
@@ -445,7 +463,7 @@ mod tests {
 
     fn delete(state: &mut State, sequence: u64, moment: Moment) {
         let receipt = Receipt { sequence, ordinal: 1 };
-        state.settle(&Ask::Delete { receipt }, Reply::Deleted(true), moment).unwrap();
+        state.settle(&Ask::Delete { receipt, by_client: true }, Reply::Deleted(true), moment).unwrap();
     }
 
     #[test]

@@ -18,6 +18,7 @@ use super::{Answer, Answers, HeldJobs, Job, Store, What};
 use crate::clock::{Clock, Moment};
 use crate::cq::{Cq, CqError};
 use crate::errors::SqsError;
+use crate::handles::Receipt;
 use crate::journal::{Batch, Journal, JournalError, Need, Record};
 use crate::limits::Bounds;
 use crate::lines::{self, BadOutput, Fields, Output, Reply};
@@ -119,6 +120,8 @@ enum Asking {
     Begun(Entry),
     /// The journal has to find space first.
     LacksRoom(Arc<Queue>, Ask),
+    /// What is to be answered is decided by something that isn't answered yet.
+    WaitsForAnswer(Arc<Queue>, Ask),
 }
 
 /// What waits until there is a free client.
@@ -152,6 +155,10 @@ struct Task {
     batch: Batch,
     /// What waits is not asked before the journal has found space.
     lacks_room: bool,
+    /// What waits is not asked before something else is answered.
+    waits_for_answer: bool,
+    /// How many changes are with the program.
+    open_changes: usize,
     grown: Option<watch::Receiver<()>>,
     ends: u32,
 }
@@ -201,6 +208,8 @@ pub fn start(start: Start) -> (Store, oneshot::Receiver<Ended>) {
             answers: Vec::new(),
             batch: Batch::default(),
             lacks_room: false,
+            waits_for_answer: false,
+            open_changes: 0,
             grown: start.journal.as_ref().map(Journal::grown),
             ends: 0,
         };
@@ -338,7 +347,7 @@ impl Task {
 
     /// Writes what waits, as long as there are free clients.
     fn ask_pending(&mut self) -> Result<(), Ended> {
-        while !self.lacks_room && !self.free.is_empty() && self.out.bytes.len() < PIECE {
+        while !self.lacks_room && !self.waits_for_answer && !self.free.is_empty() && self.out.bytes.len() < PIECE {
             let Some(Pending { queue, what, done }) = self.pending.pop_front() else { break };
             let entry = match (queue, what) {
                 (Some(queue), Some(What::Ask(ask))) => match self.ask(queue, ask)? {
@@ -347,6 +356,12 @@ impl Task {
                         let what = Some(What::Ask(ask));
                         self.pending.push_front(Pending { queue: Some(queue), what, done });
                         self.lacks_room = true;
+                        break;
+                    }
+                    Asking::WaitsForAnswer(queue, ask) => {
+                        let what = Some(What::Ask(ask));
+                        self.pending.push_front(Pending { queue: Some(queue), what, done });
+                        self.waits_for_answer = true;
                         break;
                     }
                 },
@@ -371,6 +386,16 @@ impl Task {
             return ready(answer);
         }
         let moment = self.clock.now();
+        if let Ask::Delete { receipt, by_client: true } = ask {
+            let has_expired = queue.state().has_expired(receipt, moment);
+            if self.is_decided_by_others(&queue, receipt, has_expired) {
+                return Ok(Asking::WaitsForAnswer(queue, ask));
+            }
+            // A receive that is open and hands the message out again counts as later than this.
+            if has_expired {
+                return ready(Err(SqsError::of_expiry()));
+            }
+        }
         let weight = match self.admission.admit(&ask, moment) {
             Ok(weight) => weight,
             Err(error) => return ready(Err(error)),
@@ -406,6 +431,7 @@ impl Task {
             return ready(Err(SqsError::InternalFailure("No client is free.".into())));
         };
         self.last_number += 1;
+        self.open_changes += usize::from(matches!(ask, Ask::Change { .. }));
         let asked = Asked { queue, ask, raw, moment, client, number: self.last_number, room, weight, ends: 0 };
         self.write(&asked)?;
         Ok(Asking::Begun(Entry::Asked(Box::new(asked))))
@@ -452,7 +478,7 @@ impl Task {
         let Some(Open { entry: Entry::Asked(asked), done }) = self.open.pop_front() else {
             return Err(Ended::NotNext { client: 0, number: 0 });
         };
-        self.free.push(asked.client);
+        self.close(&asked);
         self.give_room_back(&asked);
         let start: String = asked.raw.get().chars().take(200).collect();
         tracing::error!("cq refused a line ({code}): {start}");
@@ -466,7 +492,7 @@ impl Task {
         };
         match entry {
             Entry::Asked(asked) if (asked.client, asked.number) == (client, number) => {
-                self.free.push(client);
+                self.close(&asked);
                 self.ends = 0;
                 let answer = self.settle(&asked, reply, text)?;
                 self.finish(answer, done);
@@ -513,6 +539,28 @@ impl Task {
             journal.use_room((self.batch.records.len() - before) as u64);
         }
         Ok(())
+    }
+
+    /// Whether a change or a delete of this message isn't answered yet. Takes time in proportion to the open requests,
+    /// where the message has expired or changes are open.
+    fn is_decided_by_others(&self, queue: &Queue, receipt: Receipt, has_expired: bool) -> bool {
+        let is_of_message = |open: &Open| match &open.entry {
+            Entry::Asked(asked) => match asked.ask {
+                Ask::Change { receipt: other, .. } | Ask::Delete { receipt: other, .. } => {
+                    asked.queue.mark == queue.mark && other.sequence == receipt.sequence
+                }
+                _ => false,
+            },
+            _ => false,
+        };
+        (has_expired || self.open_changes > 0) && self.open.iter().any(is_of_message)
+    }
+
+    /// The program has answered this one.
+    fn close(&mut self, asked: &Asked) {
+        self.free.push(asked.client);
+        self.open_changes -= usize::from(matches!(asked.ask, Ask::Change { .. }));
+        self.waits_for_answer = false;
     }
 
     fn give_room_back(&self, asked: &Asked) {
@@ -593,6 +641,7 @@ impl Task {
         self.incoming.clear();
         self.out.clear();
         self.free = (1..=CLIENTS).rev().collect();
+        self.waits_for_answer = false;
         for open in std::mem::take(&mut self.open) {
             let entry = self.ask_again(open.entry)?;
             self.open.push_back(Open { entry, done: open.done });
@@ -606,6 +655,7 @@ impl Task {
             Entry::Asked(mut asked) => {
                 asked.ends += 1;
                 if asked.ends >= MOST_ENDS {
+                    self.open_changes -= usize::from(matches!(asked.ask, Ask::Change { .. }));
                     self.give_room_back(&asked);
                     let message = "The store ended twice at this request.";
                     return Ok(Entry::Ready(Some(Err(SqsError::InternalFailure(message.into())))));
@@ -641,8 +691,8 @@ fn pause(ends: u32) -> Duration {
 /// What is answered about a message that the queue had before it went over to its name in the store. It is deleted.
 fn answer_about_earlier(ask: &Ask, base: u64) -> Option<Answer> {
     match ask {
-        Ask::Delete { receipt } if receipt.sequence <= base => Some(Ok(Outcome::Done)),
-        Ask::Change { receipt, .. } if receipt.sequence <= base => Some(Err(SqsError::MessageNotInflight)),
+        Ask::Delete { receipt, .. } if receipt.sequence <= base => Some(Ok(Outcome::Done)),
+        Ask::Change { receipt, .. } if receipt.sequence <= base => Some(Err(SqsError::of_no_message())),
         _ => None,
     }
 }
