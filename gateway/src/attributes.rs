@@ -5,6 +5,7 @@ use std::collections::{BTreeMap, BTreeSet};
 use serde::{Deserialize, Serialize};
 
 use crate::errors::SqsError;
+use crate::policy::Policy;
 
 /// The largest `MaximumMessageSize`, which is its default as well, in bytes. A batch has at most as many in all.
 pub const LONGEST_MESSAGE: usize = 1_048_576;
@@ -20,6 +21,8 @@ enum Rule {
     OneOf(&'static [&'static str]),
     Whole(u64, u64),
     AnyText,
+    /// A policy in JSON, or the empty text.
+    Policy,
     /// Nothing but the empty text, since the feature isn't there.
     Nothing,
 }
@@ -36,6 +39,10 @@ const fn attribute(name: &'static str, rule: Rule, default: Option<&'static str>
     Attribute { name, rule, default, reason: "" }
 }
 
+/// The key of KMS, and whether SQS has keys of its own: two ways to encrypt, of which a queue has one.
+const KEY: &str = "KmsMasterKeyId";
+const MANAGED_KEYS: &str = "SqsManagedSseEnabled";
+
 const NO_DEAD_LETTERS: &str = "Dead-letter queues are not supported.";
 
 /// All attributes that a client can set (API Reference, CreateQueue, `Attributes`).
@@ -51,14 +58,14 @@ static ATTRIBUTES: [Attribute; 15] = [
     attribute("FifoQueue", Rule::Flag, Some("true")),
     attribute("FifoThroughputLimit", Rule::OneOf(&["perQueue", "perMessageGroupId"]), Some("perQueue")),
     attribute("KmsDataKeyReusePeriodSeconds", Rule::Whole(60, 86_400), None),
-    attribute("KmsMasterKeyId", Rule::AnyText, None),
+    attribute(KEY, Rule::AnyText, None),
     attribute("MaximumMessageSize", Rule::Whole(1_024, LONGEST_MESSAGE as u64), Some("1048576")),
     attribute("MessageRetentionPeriod", Rule::Whole(60, 1_209_600), Some("345600")),
-    attribute("Policy", Rule::AnyText, None),
+    attribute("Policy", Rule::Policy, None),
     attribute("ReceiveMessageWaitTimeSeconds", Rule::Whole(0, 20), Some("0")),
     Attribute { name: "RedriveAllowPolicy", rule: Rule::Nothing, default: None, reason: NO_DEAD_LETTERS },
     Attribute { name: "RedrivePolicy", rule: Rule::Nothing, default: None, reason: NO_DEAD_LETTERS },
-    attribute("SqsManagedSseEnabled", Rule::Flag, Some("false")),
+    attribute(MANAGED_KEYS, Rule::Flag, Some("true")),
     attribute("VisibilityTimeout", Rule::Whole(0, 43_200), Some("30")),
 ];
 
@@ -71,10 +78,24 @@ impl Attribute {
                 whole(value).filter(|number| (least..=most).contains(number)).map(|number| number.to_string())
             }
             Rule::AnyText => Some(value.to_string()),
+            Rule::Policy => (value.is_empty() || Policy::is_one(value)).then(|| value.to_string()),
             Rule::Nothing => value.is_empty().then(String::new),
         };
         read.ok_or_else(|| SqsError::attribute_value(self.name, self.reason))
     }
+
+    /// Whether two values mean the same: JSON may be written in several ways.
+    fn is_same(&self, one: &str, other: &str) -> bool {
+        let parsed = |text: &str| serde_json::from_str::<serde_json::Value>(text).ok();
+        match self.rule {
+            Rule::Policy => one == other || parsed(one).is_some_and(|one| parsed(other) == Some(one)),
+            _ => one == other,
+        }
+    }
+}
+
+fn find(name: &str) -> Option<&'static Attribute> {
+    ATTRIBUTES.iter().find(|attribute| attribute.name == name)
 }
 
 /// A number written in digits alone.
@@ -93,11 +114,36 @@ impl Given {
     pub fn read(given: &[(String, String)]) -> Result<Given, SqsError> {
         let mut good = BTreeMap::new();
         for (name, value) in given {
-            let found = ATTRIBUTES.iter().find(|attribute| attribute.name == name);
-            let attribute = found.ok_or_else(|| SqsError::InvalidAttributeName(name.clone()))?;
+            let attribute = find(name).ok_or_else(|| SqsError::InvalidAttributeName(name.clone()))?;
             good.insert(name.clone(), attribute.read(value)?);
         }
-        Ok(Given(good))
+        let given = Given(good);
+        if given.names_key() && given.names_managed_keys() {
+            let reason =
+                "You can use one type of server-side encryption (SSE) at one time. You can either enable KMS SSE \
+                          or SQS SSE.";
+            return Err(SqsError::attribute_value(MANAGED_KEYS, reason));
+        }
+        Ok(given)
+    }
+
+    fn names_key(&self) -> bool {
+        self.0.get(KEY).is_some_and(|key| !key.is_empty())
+    }
+
+    fn names_managed_keys(&self) -> bool {
+        self.0.get(MANAGED_KEYS).is_some_and(|flag| flag == "true")
+    }
+
+    /// The same with what it ends: of the two ways to encrypt the one that is named ends the other (Developer Guide,
+    /// "Encryption at rest in Amazon SQS").
+    pub fn with_what_it_ends(mut self) -> Given {
+        if self.names_key() {
+            self.0.insert(MANAGED_KEYS.into(), "false".into());
+        } else if self.names_managed_keys() {
+            self.0.insert(KEY.into(), String::new());
+        }
+        self
     }
 
     pub fn is_empty(&self) -> bool {
@@ -120,7 +166,7 @@ impl QueueAttributes {
             }
         }
         let mut attributes = QueueAttributes(whole);
-        attributes.set(given);
+        attributes.set(&given.clone().with_what_it_ends());
         attributes.test_together()?;
         Ok(attributes)
     }
@@ -129,7 +175,7 @@ impl QueueAttributes {
     /// (API Reference, CreateQueue, `QueueNameExists`).
     pub fn test_same(&self, given: &Given) -> Result<(), SqsError> {
         for (name, value) in &given.0 {
-            if self.text(name) != value {
+            if !find(name).is_some_and(|attribute| attribute.is_same(self.text(name), value)) {
                 return Err(SqsError::QueueNameExists { attribute: name.clone() });
             }
         }
@@ -193,6 +239,11 @@ impl QueueAttributes {
         self.number("MaximumMessageSize") as usize
     }
 
+    /// The policy as it was given; empty if there is none.
+    pub fn policy(&self) -> &str {
+        self.text("Policy")
+    }
+
     pub fn dedups_by_content(&self) -> bool {
         self.text("ContentBasedDeduplication") == "true"
     }
@@ -237,7 +288,7 @@ impl Wanted {
 
 /// Whether there is an attribute of queues with this name.
 pub fn is_known(name: &str) -> bool {
-    ATTRIBUTES.iter().any(|attribute| attribute.name == name) || COUNTS.contains(&name) || TOLD.contains(&name)
+    find(name).is_some() || COUNTS.contains(&name) || TOLD.contains(&name)
 }
 
 #[cfg(test)]
@@ -261,6 +312,7 @@ mod tests {
             ("FifoQueue", "perhaps"),
             ("RedrivePolicy", "{}"),
             ("DelaySeconds", "1"),
+            ("Policy", "{}"),
         ] {
             assert!(matches!(given(&[(name, value)]), Err(SqsError::InvalidAttributeValue { .. })), "{name}");
         }
@@ -279,5 +331,32 @@ mod tests {
         assert!(attributes.test_change(&given(&[("FifoQueue", "false")]).unwrap()).is_err());
         let limit = given(&[("FifoThroughputLimit", "perMessageGroupId")]).unwrap();
         assert!(attributes.test_change(&limit).is_err());
+    }
+
+    #[test]
+    fn policies_are_compared_as_json() {
+        let made = given(&[("Policy", r#"{"Id":"a","Statement":[{}]}"#)]).unwrap();
+        let attributes = QueueAttributes::for_creation(&made).unwrap();
+        let same = given(&[("Policy", r#" {"Statement": [{}], "Id": "a"}"#)]).unwrap();
+        assert!(attributes.test_same(&same).is_ok());
+        let other = given(&[("Policy", r#"{"Statement":[{}],"Id":"b"}"#)]).unwrap();
+        assert!(attributes.test_same(&other).is_err());
+    }
+
+    #[test]
+    fn a_queue_has_one_kind_of_keys() {
+        let told = |pairs: &[(&str, &str)]| {
+            let attributes = QueueAttributes::for_creation(&given(pairs).unwrap()).unwrap();
+            (attributes.text(KEY).to_string(), attributes.text(MANAGED_KEYS).to_string())
+        };
+        assert_eq!(told(&[]), (String::new(), "true".into()));
+        assert_eq!(told(&[(KEY, "k")]), ("k".into(), "false".into()));
+        assert_eq!(told(&[(MANAGED_KEYS, "false")]), (String::new(), "false".into()));
+        assert!(given(&[(KEY, "k"), (MANAGED_KEYS, "true")]).is_err());
+        let mut attributes = QueueAttributes::for_creation(&given(&[(KEY, "k")]).unwrap()).unwrap();
+        attributes.set(&given(&[(MANAGED_KEYS, "true")]).unwrap().with_what_it_ends());
+        assert_eq!((attributes.text(KEY), attributes.text(MANAGED_KEYS)), ("", "true"));
+        attributes.set(&given(&[(KEY, "k")]).unwrap().with_what_it_ends());
+        assert_eq!((attributes.text(KEY), attributes.text(MANAGED_KEYS)), ("k", "false"));
     }
 }

@@ -44,8 +44,11 @@ pub enum SqsError {
     InvalidBatchEntryId,
     #[error("Batch requests cannot be longer than {limit} bytes. You have sent {sent} bytes.")]
     BatchRequestTooLong { limit: usize, sent: usize },
-    #[error("{0} is not supported.")]
+    #[error("{0}")]
     UnsupportedOperation(String),
+    /// A request in JSON that can't be read as what its action takes.
+    #[error("{0}")]
+    Serialization(String),
     #[error("The action {0} is not valid for this endpoint.")]
     UnknownOperation(String),
     #[error("A request has at most {limit} bytes.")]
@@ -154,6 +157,9 @@ impl SqsError {
             }
             SqsError::UnsupportedOperation(_) => {
                 ("com.amazonaws.sqs#UnsupportedOperation", "AWS.SimpleQueueService.UnsupportedOperation", 400)
+            }
+            SqsError::Serialization(_) => {
+                ("com.amazon.coral.service#SerializationException", "SerializationException", 400)
             }
             SqsError::UnknownOperation(_) => {
                 ("com.amazon.coral.service#UnknownOperationException", "InvalidAction", 400)

@@ -23,6 +23,7 @@ pub mod limits;
 pub mod lines;
 pub mod messages;
 pub mod metrics;
+pub mod policy;
 pub mod polling;
 pub mod presence;
 pub mod queues;

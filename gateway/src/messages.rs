@@ -76,8 +76,16 @@ impl AttributeValue {
         } else {
             let text = text.unwrap_or_default();
             test_characters(text)?;
-            if kind == "Number" && !text.is_empty() && !is_number(text) {
-                return wrong(format!("Can't cast the value of message attribute '{name}' to a number."));
+            if kind == "Number" && !text.is_empty() {
+                match Number::parse(text) {
+                    None => return wrong(format!("Can't cast the value of message attribute '{name}' to a number.")),
+                    Some(number) if !number.is_in_range() => {
+                        return wrong(format!(
+                            "The number in message attribute '{name}' has more than 38 digits, or is out of range."
+                        ))
+                    }
+                    Some(_) => {}
+                }
             }
             Content::Text(text.into())
         };
@@ -120,18 +128,43 @@ impl AttributeValue {
     }
 }
 
-/// A decimal number with a sign, a point and an exponent, each of which may be missing.
-fn is_number(text: &str) -> bool {
-    let digits = |text: &str| text.bytes().all(|byte| byte.is_ascii_digit());
-    let unsigned = |text: &str| text.strip_prefix(['+', '-']).unwrap_or(text).to_string();
-    let text = unsigned(text);
-    let (mantissa, exponent) = match text.split_once(['e', 'E']) {
-        Some((mantissa, exponent)) => (mantissa, Some(unsigned(exponent))),
-        None => (text.as_str(), None),
-    };
-    let (whole, part) = mantissa.split_once('.').unwrap_or((mantissa, ""));
-    let has_mantissa = digits(whole) && digits(part) && !(whole.is_empty() && part.is_empty());
-    has_mantissa && exponent.map_or(true, |exponent| !exponent.is_empty() && digits(&exponent))
+/// The most digits of a number, without zeros before and behind them, and where its first digit may stand: numbers are
+/// from 10^-128 to below 10^127 (Developer Guide, "Amazon SQS message attributes").
+const MOST_DIGITS: usize = 38;
+const PLACES: std::ops::RangeInclusive<i64> = -128..=126;
+
+/// A decimal number.
+struct Number {
+    /// How many digits it has, without zeros before and behind them.
+    digits: usize,
+    /// The power of ten of the first of them.
+    place: i64,
+}
+
+impl Number {
+    /// Reads a number with a sign, a point and an exponent, each of which may be missing.
+    fn parse(text: &str) -> Option<Number> {
+        let is_digits = |text: &str| text.bytes().all(|byte| byte.is_ascii_digit());
+        let unsigned = text.strip_prefix(['+', '-']).unwrap_or(text);
+        let (mantissa, exponent) = unsigned.split_once(['e', 'E']).unwrap_or((unsigned, "0"));
+        let (whole, part) = mantissa.split_once('.').unwrap_or((mantissa, ""));
+        let has_mantissa = is_digits(whole) && is_digits(part) && !(whole.is_empty() && part.is_empty());
+        let power = exponent.strip_prefix(['+', '-']).unwrap_or(exponent);
+        if !has_mantissa || power.is_empty() || !is_digits(power) {
+            return None;
+        }
+        let digits = format!("{whole}{part}");
+        let zeros = digits.len() - digits.trim_start_matches('0').len();
+        // An exponent with more digits than the type has is out of range in any case.
+        let power = power.parse().unwrap_or(i64::from(u32::MAX)).min(i64::from(u32::MAX));
+        let power = if exponent.starts_with('-') { -power } else { power };
+        let place = power + whole.len() as i64 - 1 - zeros as i64;
+        Some(Number { digits: digits.trim_matches('0').len(), place })
+    }
+
+    fn is_in_range(&self) -> bool {
+        self.digits == 0 || (self.digits <= MOST_DIGITS && PLACES.contains(&self.place))
+    }
 }
 
 /// Refuses a name that no message attribute may have (Developer Guide, "Amazon SQS message attributes").
@@ -255,10 +288,37 @@ mod tests {
     #[test]
     fn numbers() {
         for good in ["0", "-1.5e3", "+.5", "5.", "1E+9", "00"] {
-            assert!(is_number(good), "{good}");
+            assert!(Number::parse(good).is_some(), "{good}");
         }
         for bad in ["", "one", "1e", ".", "+", "1.2.3", "0x1", "--1", "1e--2", " 1"] {
-            assert!(!is_number(bad), "{bad}");
+            assert!(Number::parse(bad).is_none(), "{bad}");
+        }
+    }
+
+    #[test]
+    fn numbers_have_38_digits() {
+        let nines = "9".repeat(38);
+        for good in [
+            &nines,
+            &format!("-00{nines}000"),
+            &format!("0.00{nines}"),
+            "1e126",
+            "-1e-128",
+            "0e999999999999999999999",
+            "0.1e127",
+        ] {
+            assert!(Number::parse(good).unwrap().is_in_range(), "{good}");
+        }
+        for bad in [
+            &format!("{nines}9"),
+            &format!("1.{nines}"),
+            "1e127",
+            "10e126",
+            "1e-129",
+            "0.1e-128",
+            "1e99999999999999999999",
+        ] {
+            assert!(!Number::parse(bad).unwrap().is_in_range(), "{bad}");
         }
     }
 

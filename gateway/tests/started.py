@@ -170,6 +170,7 @@ def _with_bytes(result: Any) -> Any:
 
 
 _FLAT = {"AttributeNames": "AttributeName", "MessageAttributeNames": "MessageAttributeName", "TagKeys": "TagKey",
+         "AWSAccountIds": "AWSAccountId", "Actions": "ActionName",
          "MessageSystemAttributeNames": "MessageSystemAttributeName"}
 _PAIRS = {"Attributes": ("Attribute", "Name"), "Tags": ("Tag", "Key"), "tags": ("Tag", "Key"),
           "MessageAttributes": ("MessageAttribute", "Name"), "MessageSystemAttributes": ("MessageSystemAttribute", "Name")}

@@ -13,6 +13,10 @@ from conftest import new_name, new_queue
 from started import ByBoto3, ByJson, ByQuery, Refused, boto3_client, post
 
 
+POLICY = ('{"Version":"2012-10-17","Statement":[{"Sid":"own","Effect":"Allow","Principal":"*","Action":"sqs:SendMessage",'
+          '"Resource":"*"}]}')
+
+
 def send(call, queue: str, dedup: str, group: str = "g", body: str = "b", **more):
     return call("SendMessage", QueueUrl=queue, MessageBody=body, MessageGroupId=group, MessageDeduplicationId=dedup,
                 **more)
@@ -57,11 +61,11 @@ def test_lists_come_in_pages(call):
 
 
 def test_attributes_are_told_and_set(call):
-    queue = new_queue(call, VisibilityTimeout="7", Policy="{}")
+    queue = new_queue(call, VisibilityTimeout="7", Policy=POLICY)
     whole = call("GetQueueAttributes", QueueUrl=queue, AttributeNames=["All"])["Attributes"]
     name = queue.rsplit("/", 1)[-1]
     assert whole["QueueArn"] == f"arn:aws:sqs:us-east-1:000000000000:{name}"
-    assert (whole["VisibilityTimeout"], whole["FifoQueue"], whole["Policy"]) == ("7", "true", "{}")
+    assert (whole["VisibilityTimeout"], whole["FifoQueue"], whole["Policy"]) == ("7", "true", POLICY)
     assert whole["ApproximateNumberOfMessages"] == "0"
     call("SetQueueAttributes", QueueUrl=queue, Attributes={"VisibilityTimeout": "0", "Policy": "",
                                                           "ContentBasedDeduplication": "true"})
@@ -73,6 +77,93 @@ def test_attributes_are_told_and_set(call):
     assert len(receive(call, queue)) == 1 and len(receive(call, queue)) == 1
     call("SetQueueAttributes", QueueUrl=queue, Attributes={"ContentBasedDeduplication": "false"})
     assert refusal(call, "SendMessage", QueueUrl=queue, MessageBody="x", MessageGroupId="g") == "InvalidParameterValue"
+
+
+def test_a_queue_with_the_same_policy_is_the_same(call):
+    queue = new_queue(call, Policy=POLICY)
+    name = queue.rsplit("/", 1)[-1]
+    other = json.dumps(dict(reversed(json.loads(POLICY).items())), indent=1)
+    assert other != POLICY
+    same = {"FifoQueue": "true", "Policy": other}
+    assert call("CreateQueue", QueueName=name, Attributes=same)["QueueUrl"] == queue
+    same["Policy"] = POLICY.replace("2012", "2008")
+    assert refusal(call, "CreateQueue", QueueName=name, Attributes=same) == "QueueAlreadyExists"
+
+
+def test_permissions_are_statements_of_the_policy(call):
+    """As SQS writes them, by moto."""
+    queue = new_queue(call, Policy=POLICY)
+    arn = "arn:aws:sqs:us-east-1:000000000000:" + queue.rsplit("/", 1)[-1]
+
+    def policy():
+        told = call("GetQueueAttributes", QueueUrl=queue, AttributeNames=["All"])["Attributes"]
+        return json.loads(told["Policy"]) if "Policy" in told else None
+
+    call("AddPermission", QueueUrl=queue, Label="one", AWSAccountIds=["123456789012"], Actions=["SendMessage"])
+    call("AddPermission", QueueUrl=queue, Label="two", AWSAccountIds=["123456789012", "210987654321"],
+         Actions=["SendMessage", "ReceiveMessage"])
+    whole = policy()
+    assert whole["Version"] == "2012-10-17" and whole["Statement"] == json.loads(POLICY)["Statement"] + [
+        {"Sid": "one", "Effect": "Allow", "Principal": {"AWS": "arn:aws:iam::123456789012:root"},
+         "Action": "SQS:SendMessage", "Resource": arn},
+        {"Sid": "two", "Effect": "Allow",
+         "Principal": {"AWS": ["arn:aws:iam::123456789012:root", "arn:aws:iam::210987654321:root"]},
+         "Action": ["SQS:SendMessage", "SQS:ReceiveMessage"], "Resource": arn}]
+    for members, code in [
+        ({"Label": "one"}, "InvalidParameterValue"),
+        ({"Label": "own"}, "InvalidParameterValue"),
+        ({"Label": "a b"}, "InvalidParameterValue"),
+        ({"AWSAccountIds": ["1"]}, "InvalidParameterValue"),
+        ({"Actions": ["SendMessageBatch"]}, "InvalidParameterValue"),
+    ]:
+        good = {"Label": "other", "AWSAccountIds": ["123456789012"], "Actions": ["*"]}
+        assert refusal(call, "AddPermission", QueueUrl=queue, **{**good, **members}) == code
+    with pytest.raises(Refused) as refused:
+        call("AddPermission", QueueUrl=queue, Label="x", AWSAccountIds=["123456789012"], Actions=["SendMessage"] * 8)
+    assert (refused.value.code, refused.value.status) == ("OverLimit", 403)
+    assert policy() == whole
+    assert refusal(call, "RemovePermission", QueueUrl=queue, Label="none") == "InvalidParameterValue"
+    for label in ("own", "two", "one"):
+        call("RemovePermission", QueueUrl=queue, Label=label)
+    assert policy() is None
+    for place in range(20):
+        call("AddPermission", QueueUrl=queue, Label=str(place), AWSAccountIds=["123456789012"], Actions=["*"])
+    assert policy()["Id"] == f"{arn}/SQSDefaultPolicy"
+    with pytest.raises(Refused, match="OverLimit"):
+        call("AddPermission", QueueUrl=queue, Label="x", AWSAccountIds=["123456789012"], Actions=["*"])
+
+
+def test_permissions_that_come_at_once_are_all_there(call, gateway):
+    queue = new_queue(call)
+
+    def add(place: int) -> None:
+        own = type(call)(gateway.client() if isinstance(call, ByBoto3) else gateway.url)
+        own("AddPermission", QueueUrl=queue, Label=str(place), AWSAccountIds=["123456789012"], Actions=["*"])
+
+    with ThreadPoolExecutor(8) as pool:
+        list(pool.map(add, range(16)))
+    told = call("GetQueueAttributes", QueueUrl=queue, AttributeNames=["Policy"])["Attributes"]
+    assert sorted(one["Sid"] for one in json.loads(told["Policy"])["Statement"]) == sorted(map(str, range(16)))
+
+
+def test_a_queue_has_keys_of_one_kind(call):
+    def keys(queue: str) -> tuple:
+        told = call("GetQueueAttributes", QueueUrl=queue, AttributeNames=["All"])["Attributes"]
+        return told.get("KmsMasterKeyId"), told["SqsManagedSseEnabled"]
+
+    queue = new_queue(call)
+    assert keys(queue) == (None, "true")
+    call("SetQueueAttributes", QueueUrl=queue, Attributes={"KmsMasterKeyId": "alias/aws/sqs"})
+    assert keys(queue) == ("alias/aws/sqs", "false")
+    name = queue.rsplit("/", 1)[-1]
+    same = {"FifoQueue": "true", "KmsMasterKeyId": "alias/aws/sqs"}
+    assert call("CreateQueue", QueueName=name, Attributes=same)["QueueUrl"] == queue
+    assert refusal(call, "SetQueueAttributes", QueueUrl=queue, Attributes={
+        "KmsMasterKeyId": "k", "SqsManagedSseEnabled": "true"}) == "InvalidAttributeValue"
+    call("SetQueueAttributes", QueueUrl=queue, Attributes={"SqsManagedSseEnabled": "true"})
+    assert keys(queue) == (None, "true")
+    assert keys(new_queue(call, KmsMasterKeyId="k")) == ("k", "false")
+    assert keys(new_queue(call, SqsManagedSseEnabled="false")) == (None, "false")
 
 
 def test_a_queue_that_made_ids_stops_making_them(call):
@@ -90,6 +181,13 @@ def test_tags(call):
     assert call("ListQueueTags", QueueUrl=queue)["Tags"] == {"b": "3", "c": ""}
     many = {str(place): "x" for place in range(50)}
     assert refusal(call, "TagQueue", QueueUrl=queue, Tags=many) == "InvalidParameterValue"
+    for tags in ({"aws:a": "x"}, {"AWS:a": "x"}, {"a&": "x"}, {"a": "<"}, {"a": "x\n"}, {"": "x"}, {"x" * 129: "x"},
+                 {"a": "x" * 257}):
+        assert refusal(call, "TagQueue", QueueUrl=queue, Tags=tags) == "InvalidParameterValue"
+        assert refusal(call, "CreateQueue", QueueName="tagged.fifo", Attributes={"FifoQueue": "true"},
+                       tags=tags) == "InvalidParameterValue"
+    call("TagQueue", QueueUrl=queue, Tags={"_.:/=+-@ é\u00a01Ⅷ": "aws:é日"})
+    call("UntagQueue", QueueUrl=queue, TagKeys=["_.:/=+-@ é\u00a01Ⅷ"])
     call("UntagQueue", QueueUrl=queue, TagKeys=["b", "c"])
     assert not call("ListQueueTags", QueueUrl=queue).get("Tags")
 
@@ -113,6 +211,9 @@ def test_tags(call):
     ("q.fifo", {"FifoQueue": "true", "MaximumMessageSize": "1048577"}, "InvalidAttributeValue"),
     ("q.fifo", {"FifoQueue": "true", "MaximumMessageSize": "1023"}, "InvalidAttributeValue"),
     ("q.fifo", {"FifoQueue": "true", "ReceiveMessageWaitTimeSeconds": "21"}, "InvalidAttributeValue"),
+    ("q.fifo", {"FifoQueue": "true", "Policy": "nonsense"}, "InvalidAttributeValue"),
+    ("q.fifo", {"FifoQueue": "true", "Policy": "{}"}, "InvalidAttributeValue"),
+    ("q.fifo", {"FifoQueue": "true", "KmsMasterKeyId": "k", "SqsManagedSseEnabled": "true"}, "InvalidAttributeValue"),
     ("q.fifo", {"FifoQueue": "true", "MessageRetentionPeriod": "59"}, "InvalidAttributeValue"),
     ("q.fifo", {"FifoQueue": "true", "FifoThroughputLimit": "perMessageGroupId"}, "InvalidAttributeValue"),
 ])
@@ -145,14 +246,14 @@ def test_all_actions_on_no_queue_are_refused(call, gateway):
         "TagQueue": {"Tags": {"a": "b"}},
         "UntagQueue": {"TagKeys": ["a"]},
         "ListQueueTags": {},
+        "AddPermission": {"Label": "l", "AWSAccountIds": ["123456789012"], "Actions": ["SendMessage"]},
+        "RemovePermission": {"Label": "l"},
     }.items():
         assert refusal(call, action, QueueUrl=none, **members) == "NonExistentQueue", action
 
 
 def test_what_is_not_done_is_refused(call):
     queue = new_queue(call)
-    assert refusal(call, "AddPermission", QueueUrl=queue, Label="l", AWSAccountIds=["1"],
-                   Actions=["SendMessage"]) == "UnsupportedOperation"
     assert refusal(call, "ListDeadLetterSourceQueues", QueueUrl=queue) == "UnsupportedOperation"
     assert refusal(call, "SendMessage", QueueUrl=queue, MessageBody="b", MessageGroupId="g",
                    MessageDeduplicationId="d", DelaySeconds=1) == "InvalidParameterValue"
@@ -164,6 +265,7 @@ def test_a_message_comes_with_all_that_it_was_sent_with(call, gateway):
     queue = new_queue(call)
     attributes = {"text": {"DataType": "String.label", "StringValue": "wört\r\n<&>"},
                   "number": {"DataType": "Number", "StringValue": "-1.5e3"},
+                  "long": {"DataType": "Number", "StringValue": "-000" + "9" * 38 + "000"},
                   "bytes.of": {"DataType": "Binary", "BinaryValue": bytes(range(256))}}
     trace = {"AWSTraceHeader": {"DataType": "String", "StringValue": "Root=1"}}
     sent = send(call, queue, "d", group="!~", body="hello", MessageAttributes=attributes, MessageSystemAttributes=trace)
@@ -255,7 +357,11 @@ def test_the_size_of_a_message_is_its_queues(call):
     ({"MessageAttributes": {"AWS.a": {"DataType": "String", "StringValue": "x"}}}, "InvalidParameterValue"),
     ({"MessageAttributes": {"a": {"DataType": "Text", "StringValue": "x"}}}, "InvalidParameterValue"),
     ({"MessageAttributes": {"a": {"DataType": "Number", "StringValue": "one"}}}, "InvalidParameterValue"),
+    ({"MessageAttributes": {"a": {"DataType": "Number", "StringValue": "1" * 39}}}, "InvalidParameterValue"),
+    ({"MessageAttributes": {"a": {"DataType": "Number", "StringValue": "1e127"}}}, "InvalidParameterValue"),
     ({"MessageAttributes": {"a": {"DataType": "Binary", "StringValue": "x"}}}, "InvalidParameterValue"),
+    ({"MessageAttributes": {"a": {"DataType": "String", "StringListValues": ["x"]}}}, "UnsupportedOperation"),
+    ({"MessageAttributes": {"a": {"DataType": "Binary", "BinaryListValues": [b"x"]}}}, "UnsupportedOperation"),
     ({"MessageAttributes": {str(place): {"DataType": "String", "StringValue": "x"} for place in range(11)}},
      "InvalidParameterValue"),
     ({"MessageSystemAttributes": {"Other": {"DataType": "String", "StringValue": "x"}}}, "InvalidParameterValue"),
@@ -372,6 +478,23 @@ def test_batches_are_answered_entry_by_entry(call):
     result = call("DeleteMessageBatch", QueueUrl=queue, Entries=deletions)
     assert [one["Id"] for one in result["Successful"]] == [str(place) for place in range(7)]
     assert [(one["Id"], one["Code"]) for one in result["Failed"]] == [("7", "ReceiptHandleIsInvalid")]
+
+
+def test_an_entry_without_a_timeout_means_the_queues(gateway):
+    """boto3 and the model let it be left out in a batch, and not in the single action."""
+    for way in (ByJson, ByQuery):
+        call = way(gateway.url)
+        queue = new_queue(call, VisibilityTimeout="40")
+        send(call, queue, "d")
+        (message,) = receive(call, queue, VisibilityTimeout=5)
+        entries = [{"Id": "1", "ReceiptHandle": message["ReceiptHandle"]}]
+        assert len(call("ChangeMessageVisibilityBatch", QueueUrl=queue, Entries=entries)["Successful"]) == 1
+        assert refusal(call, "ChangeMessageVisibility", QueueUrl=queue,
+                       ReceiptHandle=message["ReceiptHandle"]) == "MissingParameter"
+        gateway.set_clock(gateway.moment + 39_999)
+        assert receive(call, queue) == []
+        gateway.set_clock(gateway.moment + 1)
+        assert len(receive(call, queue)) == 1
 
 
 @pytest.mark.parametrize("entries, code", [
@@ -506,8 +629,9 @@ def test_unknown_actions_and_broken_requests_are_refused(gateway):
         assert refusal(call, "MakeCoffee") == "InvalidAction"
     headers = {"X-Amz-Target": "AmazonSQS.ListQueues"}
     for body in (b"{", b"[]", b"\xff", b"[" * 100_000):
-        status, _, answer = post(gateway.url + "/", body, headers)
-        assert status == 400 and b"InvalidParameterValue" in answer, body[:10]
+        status, got, answer = post(gateway.url + "/", body, headers)
+        assert status == 400 and got["x-amzn-query-error"] == "SerializationException;Sender", body[:10]
+        assert json.loads(answer)["__type"] == "com.amazon.coral.service#SerializationException"
     for body in (b"Action", b"Action=ListQueues&QueueNamePrefix=%ff", b"Action=X&Attribute=1&Attribute.1.Name=a"):
         status, _, answer = post(gateway.url + "/", body, {"Content-Type": "application/x-www-form-urlencoded"})
         assert status == 400 and b"<ErrorResponse" in answer, body
@@ -522,11 +646,17 @@ def test_wrong_types_are_refused(gateway):
                     {"MessageBody": "\ud800"}, {"MessageGroupId": ["g"]}):
         good = {"MessageBody": "b", "MessageGroupId": "g", "MessageDeduplicationId": "d"}
         assert refusal(call, "SendMessage", QueueUrl=queue, **{**good, **members}) in (
-            "InvalidParameterValue", "InvalidMessageContents")
-    assert refusal(call, "ReceiveMessage", QueueUrl=queue, MaxNumberOfMessages=True) == "InvalidParameterValue"
-    assert refusal(call, "SendMessageBatch", QueueUrl=queue, Entries=["x"]) == "InvalidParameterValue"
-    assert refusal(call, "TagQueue", QueueUrl=queue, Tags={"\ud800": "x"}) == "InvalidParameterValue"
-    assert refusal(call, "UntagQueue", QueueUrl=queue, TagKeys=["\ud800"]) == "InvalidParameterValue"
+            "SerializationException", "InvalidMessageContents")
+    for action, members in {
+        "ReceiveMessage": {"MaxNumberOfMessages": True},
+        "SendMessageBatch": {"Entries": ["x"]},
+        "DeleteMessageBatch": {"Entries": [{"Id": "1", "ReceiptHandle": 1}]},
+        "TagQueue": {"Tags": {"\ud800": "x"}},
+        "UntagQueue": {"TagKeys": ["\ud800"]},
+    }.items():
+        assert refusal(call, action, QueueUrl=queue, **members) == "SerializationException"
+    assert refusal(call, "ReceiveMessage", QueueUrl=queue, MaxNumberOfMessages=1.5) == "InvalidParameterValue"
+    assert receive(call, queue) == []
 
 
 def test_queues_go_by_their_names(gateway):

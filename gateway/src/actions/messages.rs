@@ -159,7 +159,8 @@ fn delete_ask(queue: &Queue, handle: &str) -> Result<Ask, SqsError> {
 
 fn change_ask(queue: &Queue, change: &Change) -> Result<Ask, SqsError> {
     let receipt = queue.receipt_of(&change.handle)?;
-    Ok(Ask::Change { receipt, visibility: change.visibility, by_attempt: false })
+    let visibility = change.visibility.unwrap_or_else(|| queue.state().attributes.visibility_timeout());
+    Ok(Ask::Change { receipt, visibility, by_attempt: false })
 }
 
 /// The MD5s are of what this send carried, also where the message is one that was sent before.

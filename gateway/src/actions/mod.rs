@@ -2,6 +2,7 @@
 
 mod declared;
 mod messages;
+mod permissions;
 mod queues;
 mod receiving;
 
@@ -111,9 +112,13 @@ impl Actions {
         format!("{}/{}/{name}", caller.base_url, self.owner.account)
     }
 
+    fn arn(&self, name: &QueueName) -> String {
+        format!("arn:aws:sqs:{}:{}:{name}", self.owner.region, self.owner.account)
+    }
+
     /// Does what a request asks for, when all that it rests on is on disk.
     pub async fn perform(&self, request: Box<Request>, caller: &Caller) -> Result<Performed, SqsError> {
-        let name = queue_of(&request).cloned();
+        let name = request.queue().cloned();
         let performed = self.perform_unsettled(request, caller).await;
         let is_settled = performed.as_ref().is_ok_and(|performed| performed.is_settled);
         if !is_settled && !self.settled(name).await {
@@ -149,29 +154,8 @@ impl Actions {
             Request::UntagQueue { queue, keys } => self.untag(&queue, keys).await,
             Request::ListQueueTags { queue } => self.list_tags(&queue),
             Request::PurgeQueue { queue } => self.purge(&queue).await,
+            Request::AddPermission { queue, permission } => self.add_permission(&queue, &permission).await,
+            Request::RemovePermission { queue, label } => self.remove_permission(&queue, &label).await,
         }
-    }
-}
-
-/// The name of the one queue that a request is about, if there is one.
-fn queue_of(request: &Request) -> Option<&QueueName> {
-    match request {
-        Request::ListQueues { .. } => None,
-        Request::GetQueueUrl { queue } => queue.as_ref(),
-        Request::SendMessage { queue, .. }
-        | Request::SendMessageBatch { queue, .. }
-        | Request::ReceiveMessage { queue, .. }
-        | Request::DeleteMessage { queue, .. }
-        | Request::DeleteMessageBatch { queue, .. }
-        | Request::ChangeMessageVisibility { queue, .. }
-        | Request::ChangeMessageVisibilityBatch { queue, .. }
-        | Request::CreateQueue { queue, .. }
-        | Request::DeleteQueue { queue }
-        | Request::GetQueueAttributes { queue, .. }
-        | Request::SetQueueAttributes { queue, .. }
-        | Request::TagQueue { queue, .. }
-        | Request::UntagQueue { queue, .. }
-        | Request::ListQueueTags { queue }
-        | Request::PurgeQueue { queue } => Some(queue),
     }
 }

@@ -88,17 +88,17 @@ impl Actions {
         let state = queue.state();
         let own = state.attributes.iter().map(|(name, value)| (name.to_string(), value.to_string()));
         let mut told: Vec<_> = own.collect();
-        let arn = format!("arn:aws:sqs:{}:{}:{}", self.owner.region, self.owner.account, queue.name);
         told.push(("CreatedTimestamp".into(), (state.created / 1000).to_string()));
         told.push(("LastModifiedTimestamp".into(), (state.modified / 1000).to_string()));
-        told.push(("QueueArn".into(), arn));
+        told.push(("QueueArn".into(), self.arn(&queue.name)));
         told
     }
 
     pub(super) async fn set_attributes(&self, name: &QueueName, given: Given) -> Result<Performed, SqsError> {
+        let _turn = self.turn_of(name).lock().await;
         let queue = self.queue(name)?;
         queue.state().attributes.test_change(&given)?;
-        self.store.note(&queue, Change::Attributes(given)).await?;
+        self.store.note(&queue, Change::Attributes(given.with_what_it_ends())).await?;
         Ok(Response::Nothing.into())
     }
 

@@ -255,9 +255,7 @@ impl Call {
     async fn answer_once(self: Box<Call>) -> Reply {
         let presence = Presence::default();
         let _present = presence.enter();
-        let is_short =
-            !matches!(self.action, Action::CreateQueue | Action::DeleteQueue | Action::PurgeQueue | Action::TagQueue);
-        if is_short {
+        if !self.action.takes_a_turn() {
             return self.perform(presence).await.reply;
         }
         let (protocol, request_id) = (self.protocol, self.request_id);

@@ -28,8 +28,8 @@ fn members(body: &[u8]) -> Result<Map<'_>, SqsError> {
     }
     match serde_json::from_slice(body) {
         Ok(Value::Map(map)) => Ok(map),
-        Ok(_) => Err(SqsError::InvalidParameterValue("The request's body is no JSON object.".into())),
-        Err(_) => Err(SqsError::InvalidParameterValue("The request's body is no JSON.".into())),
+        Ok(_) => Err(SqsError::Serialization("The request's body is no JSON object.".into())),
+        Err(_) => Err(SqsError::Serialization("The request's body is no JSON.".into())),
     }
 }
 
@@ -152,7 +152,7 @@ mod tests {
     fn broken_requests_are_refused() {
         for body in [&b"{"[..], b"[]", b"\xff", &[b'['; 100_000], br#"{"QueueUrl":"\ud800"}"#] {
             let refused = read_body("ListQueues", body);
-            assert!(matches!(refused, Err(SqsError::InvalidParameterValue(_))), "{refused:?}");
+            assert!(matches!(refused, Err(SqsError::Serialization(_))), "{refused:?}");
         }
         assert_eq!(read_body("MakeCoffee", b"{}"), Err(SqsError::UnknownOperation("MakeCoffee".into())));
         let missing = read_body("SendMessage", br#"{"QueueUrl":"q.fifo","MessageGroupId":"g"}"#);

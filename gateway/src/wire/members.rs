@@ -14,6 +14,11 @@ fn wrong(message: String) -> SqsError {
     SqsError::InvalidParameterValue(message)
 }
 
+/// A value of another kind than its member has.
+fn wrong_kind(message: String) -> SqsError {
+    SqsError::Serialization(message)
+}
+
 impl<'m, 'a> Members<'m, 'a> {
     pub fn has(&self, name: &str) -> bool {
         self.0.get(name).is_some()
@@ -23,7 +28,7 @@ impl<'m, 'a> Members<'m, 'a> {
         match self.0.get(name) {
             None => Ok(None),
             Some(Value::Text(text)) => Ok(Some(text)),
-            Some(_) => Err(wrong(format!("{name} must be a string."))),
+            Some(_) => Err(wrong_kind(format!("{name} must be a string."))),
         }
     }
 
@@ -39,20 +44,17 @@ impl<'m, 'a> Members<'m, 'a> {
             None => return Ok(None),
             Some(Value::Integer(number)) => (Some(*number), number.to_string()),
             Some(Value::Text(text)) => (digits(text), text.to_string()),
-            Some(_) => (None, "of this kind".into()),
+            Some(Value::OtherNumber) => (None, "of this kind".into()),
+            Some(_) => return Err(wrong_kind(format!("{name} must be a number."))),
         };
         let good = number.filter(|number| (least..=most).contains(number));
         let good = good.and_then(|number| u32::try_from(number).ok());
         good.map(Some).ok_or_else(|| SqsError::out_of_range(&shown, name, least, most))
     }
 
-    pub fn required_number(&self, name: &str, least: i64, most: i64) -> Result<u32, SqsError> {
-        self.number(name, least, most)?.ok_or_else(|| SqsError::MissingParameter(name.into()))
-    }
-
     /// A list of texts; none where it is missing.
     pub fn texts(&self, name: &str) -> Result<Vec<String>, SqsError> {
-        let not_texts = || wrong(format!("{name} must be a list of strings."));
+        let not_texts = || wrong_kind(format!("{name} must be a list of strings."));
         match self.0.get(name) {
             None => Ok(Vec::new()),
             Some(Value::List(list)) => list
@@ -68,7 +70,7 @@ impl<'m, 'a> Members<'m, 'a> {
 
     /// A map of texts. Clients also give whole numbers and truth values there, and mean their texts.
     pub fn texts_by_name(&self, name: &str) -> Result<Vec<(String, String)>, SqsError> {
-        let not_texts = || wrong(format!("{name} must be a map of strings."));
+        let not_texts = || wrong_kind(format!("{name} must be a map of strings."));
         let map = match self.0.get(name) {
             None => return Ok(Vec::new()),
             Some(Value::Map(map)) => map,
@@ -89,7 +91,7 @@ impl<'m, 'a> Members<'m, 'a> {
 
     /// The entries of a batch, as they came.
     pub fn entries(&self) -> Result<Vec<Members<'m, 'a>>, SqsError> {
-        let not_entries = || wrong("Entries must be a list of entries.".into());
+        let not_entries = || wrong_kind("Entries must be a list of entries.".into());
         match self.0.get("Entries") {
             None => Ok(Vec::new()),
             Some(Value::List(list)) => list
@@ -136,12 +138,20 @@ impl<'m, 'a> Members<'m, 'a> {
     }
 
     fn attribute_value(&self, name: &str) -> Result<AttributeValue, SqsError> {
+        // The second names are those of the query form.
+        if ["StringListValues", "BinaryListValues", "StringListValue", "BinaryListValue"]
+            .iter()
+            .any(|list| self.has(list))
+        {
+            let message = "Message attribute list values in SendMessage operation are not supported.";
+            return Err(SqsError::UnsupportedOperation(message.into()));
+        }
         let data_type = self.text("DataType")?.unwrap_or_default();
         AttributeValue::new(name, data_type, self.text("StringValue")?, self.text("BinaryValue")?)
     }
 
     fn structures(&self, name: &str) -> Result<Vec<(&'m str, Members<'m, 'a>)>, SqsError> {
-        let not_structures = || wrong(format!("{name} must be a map of structures."));
+        let not_structures = || wrong_kind(format!("{name} must be a map of structures."));
         match self.0.get(name) {
             None => Ok(Vec::new()),
             Some(Value::Map(map)) => map

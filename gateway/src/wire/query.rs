@@ -29,7 +29,11 @@ pub fn read(incoming: &Incoming<'_>) -> Result<Request, SqsError> {
     if let (Some(queue), None) = (incoming.path_queue, members.get("QueueUrl")) {
         members.0.push(("QueueUrl".into(), Value::Text(Cow::Owned(queue.into()))));
     }
-    requests::read(action, &members)
+    // In this form all values are texts or made of some, and the error for others is the JSON protocol's.
+    requests::read(action, &members).map_err(|error| match error {
+        SqsError::Serialization(message) => SqsError::InvalidParameterValue(message),
+        other => other,
+    })
 }
 
 fn rename(members: &mut Map<'_>, from: &str, to: &'static str) {
@@ -120,6 +124,8 @@ fn list_named(name: &str) -> Option<&'static str> {
         "MessageSystemAttributeName" => "MessageSystemAttributeNames",
         "MessageAttributeName" => "MessageAttributeNames",
         "TagKey" => "TagKeys",
+        "AWSAccountId" => "AWSAccountIds",
+        "ActionName" => "Actions",
         _ => return None,
     })
 }

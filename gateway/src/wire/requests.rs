@@ -7,11 +7,13 @@ use super::value::Map;
 use crate::attributes::{Given, Wanted};
 use crate::errors::SqsError;
 use crate::messages::{AttributeValue, MessageAttributes};
+use crate::policy::{read_label, Permission};
 use crate::texts::{AttemptId, Body, DedupId, GroupId, QueueName};
 
 /// The actions that are done (API Reference, "Actions").
 #[derive(Clone, Copy, Debug, PartialEq, Eq, Hash)]
 pub enum Action {
+    AddPermission,
     ChangeMessageVisibility,
     ChangeMessageVisibilityBatch,
     CreateQueue,
@@ -24,6 +26,7 @@ pub enum Action {
     ListQueues,
     PurgeQueue,
     ReceiveMessage,
+    RemovePermission,
     SendMessage,
     SendMessageBatch,
     SetQueueAttributes,
@@ -32,7 +35,8 @@ pub enum Action {
 }
 
 impl Action {
-    pub const ALL: [Action; 17] = [
+    pub const ALL: [Action; 19] = [
+        Action::AddPermission,
         Action::ChangeMessageVisibility,
         Action::ChangeMessageVisibilityBatch,
         Action::CreateQueue,
@@ -45,6 +49,7 @@ impl Action {
         Action::ListQueues,
         Action::PurgeQueue,
         Action::ReceiveMessage,
+        Action::RemovePermission,
         Action::SendMessage,
         Action::SendMessageBatch,
         Action::SetQueueAttributes,
@@ -54,6 +59,7 @@ impl Action {
 
     pub fn name(self) -> &'static str {
         match self {
+            Action::AddPermission => "AddPermission",
             Action::ChangeMessageVisibility => "ChangeMessageVisibility",
             Action::ChangeMessageVisibilityBatch => "ChangeMessageVisibilityBatch",
             Action::CreateQueue => "CreateQueue",
@@ -66,6 +72,7 @@ impl Action {
             Action::ListQueues => "ListQueues",
             Action::PurgeQueue => "PurgeQueue",
             Action::ReceiveMessage => "ReceiveMessage",
+            Action::RemovePermission => "RemovePermission",
             Action::SendMessage => "SendMessage",
             Action::SendMessageBatch => "SendMessageBatch",
             Action::SetQueueAttributes => "SetQueueAttributes",
@@ -83,26 +90,37 @@ impl Action {
     pub fn has_result(self) -> bool {
         !matches!(
             self,
-            Action::ChangeMessageVisibility
+            Action::AddPermission
+                | Action::ChangeMessageVisibility
                 | Action::DeleteMessage
                 | Action::DeleteQueue
                 | Action::PurgeQueue
+                | Action::RemovePermission
                 | Action::SetQueueAttributes
                 | Action::TagQueue
                 | Action::UntagQueue
         )
     }
+
+    /// Whether it reads and writes what the gateway keeps, or takes several asks, so that others of the same queue wait
+    /// for it and it is brought to its end also where its client goes.
+    pub fn takes_a_turn(self) -> bool {
+        matches!(
+            self,
+            Action::AddPermission
+                | Action::CreateQueue
+                | Action::DeleteQueue
+                | Action::PurgeQueue
+                | Action::RemovePermission
+                | Action::SetQueueAttributes
+                | Action::TagQueue
+        )
+    }
 }
 
 /// Actions that SQS has and that aren't done here.
-const UNSUPPORTED: [&str; 6] = [
-    "AddPermission",
-    "CancelMessageMoveTask",
-    "ListDeadLetterSourceQueues",
-    "ListMessageMoveTasks",
-    "RemovePermission",
-    "StartMessageMoveTask",
-];
+const UNSUPPORTED: [&str; 4] =
+    ["CancelMessageMoveTask", "ListDeadLetterSourceQueues", "ListMessageMoveTasks", "StartMessageMoveTask"];
 
 impl FromStr for Action {
     type Err = SqsError;
@@ -112,7 +130,7 @@ impl FromStr for Action {
             return Ok(action);
         }
         if UNSUPPORTED.contains(&name) {
-            return Err(SqsError::UnsupportedOperation(name.into()));
+            return Err(SqsError::UnsupportedOperation(format!("{name} is not supported.")));
         }
         Err(SqsError::UnknownOperation(name.into()))
     }
@@ -121,6 +139,7 @@ impl FromStr for Action {
 /// A request whose members are good by themselves.
 #[derive(Clone, Debug, PartialEq)]
 pub enum Request {
+    AddPermission { queue: QueueName, permission: Permission },
     ChangeMessageVisibility { queue: QueueName, change: Change },
     ChangeMessageVisibilityBatch { queue: QueueName, batch: Batch<Change> },
     CreateQueue { queue: QueueName, attributes: Given, tags: Tags },
@@ -133,6 +152,7 @@ pub enum Request {
     ListQueues { prefix: String, most: Option<u32>, after: String },
     PurgeQueue { queue: QueueName },
     ReceiveMessage { queue: QueueName, receive: Receive },
+    RemovePermission { queue: QueueName, label: String },
     SendMessage { queue: QueueName, message: Message },
     SendMessageBatch { queue: QueueName, batch: Batch<Message> },
     SetQueueAttributes { queue: QueueName, attributes: Given },
@@ -146,7 +166,8 @@ impl Request {
         match self {
             Request::GetQueueUrl { queue } => queue.as_ref(),
             Request::ListQueues { .. } => None,
-            Request::ChangeMessageVisibility { queue, .. }
+            Request::AddPermission { queue, .. }
+            | Request::ChangeMessageVisibility { queue, .. }
             | Request::ChangeMessageVisibilityBatch { queue, .. }
             | Request::CreateQueue { queue, .. }
             | Request::DeleteMessage { queue, .. }
@@ -156,6 +177,7 @@ impl Request {
             | Request::ListQueueTags { queue }
             | Request::PurgeQueue { queue }
             | Request::ReceiveMessage { queue, .. }
+            | Request::RemovePermission { queue, .. }
             | Request::SendMessage { queue, .. }
             | Request::SendMessageBatch { queue, .. }
             | Request::SetQueueAttributes { queue, .. }
@@ -166,6 +188,7 @@ impl Request {
 
     pub fn action(&self) -> Action {
         match self {
+            Request::AddPermission { .. } => Action::AddPermission,
             Request::ChangeMessageVisibility { .. } => Action::ChangeMessageVisibility,
             Request::ChangeMessageVisibilityBatch { .. } => Action::ChangeMessageVisibilityBatch,
             Request::CreateQueue { .. } => Action::CreateQueue,
@@ -178,6 +201,7 @@ impl Request {
             Request::ListQueues { .. } => Action::ListQueues,
             Request::PurgeQueue { .. } => Action::PurgeQueue,
             Request::ReceiveMessage { .. } => Action::ReceiveMessage,
+            Request::RemovePermission { .. } => Action::RemovePermission,
             Request::SendMessage { .. } => Action::SendMessage,
             Request::SendMessageBatch { .. } => Action::SendMessageBatch,
             Request::SetQueueAttributes { .. } => Action::SetQueueAttributes,
@@ -190,11 +214,12 @@ impl Request {
 /// The entries of a batch by their ids, 1 to 10 of them; one that isn't good by itself has its refusal.
 pub type Batch<T> = Vec<(String, Result<T, SqsError>)>;
 
-/// A handle and a new timeout in seconds.
+/// A handle and a new timeout in seconds. An entry of a batch may leave it out, and means the queue's (API Reference,
+/// ChangeMessageVisibilityBatchRequestEntry).
 #[derive(Clone, Debug, PartialEq, Eq)]
 pub struct Change {
     pub handle: String,
-    pub visibility: u32,
+    pub visibility: Option<u32>,
 }
 
 /// A message to send. Its size isn't tested yet, since the limit is its queue's.
@@ -327,12 +352,29 @@ pub fn test_count_of_tags(tags: &Tags) -> Result<(), SqsError> {
 fn tags(members: Members<'_, '_>, name: &str) -> Result<Tags, SqsError> {
     let tags: Tags = members.texts_by_name(name)?.into_iter().collect();
     test_count_of_tags(&tags)?;
-    let is_good = |key: &str, value: &str| (1..=128).contains(&key.chars().count()) && value.chars().count() <= 256;
-    if !tags.iter().all(|(key, value)| is_good(key, value)) {
-        let message = "The key of a tag has 1 to 128 characters, and its value at most 256.";
-        return Err(SqsError::InvalidParameterValue(message.into()));
+    for (key, value) in &tags {
+        test_tag(key, value)?;
     }
     Ok(tags)
+}
+
+/// Lengths and characters of a tag (AWS General Reference, "Tag naming limits and requirements").
+fn test_tag(key: &str, value: &str) -> Result<(), SqsError> {
+    let wrong = |message: &str| Err(SqsError::InvalidParameterValue(message.into()));
+    if !(1..=128).contains(&key.chars().count()) || value.chars().count() > 256 {
+        return wrong("The key of a tag has 1 to 128 characters, and its value at most 256.");
+    }
+    if key.get(..4).is_some_and(|prefix| prefix.eq_ignore_ascii_case("aws:")) {
+        return wrong("The key of a tag can't begin with aws:.");
+    }
+    // Of the white space in Unicode all but the control characters are separators.
+    let is_separator = |character: char| character.is_whitespace() && !character.is_control();
+    let is_good =
+        |character: char| character.is_alphanumeric() || is_separator(character) || "_.:/=+-@".contains(character);
+    if !key.chars().chain(value.chars()).all(is_good) {
+        return wrong("A tag can only have letters, numbers, spaces and _ . : / = + - @");
+    }
+    Ok(())
 }
 
 /// The longest visibility timeout, in seconds.
@@ -343,11 +385,12 @@ pub fn read(action: Action, members: &Map<'_>) -> Result<Request, SqsError> {
     let members = Members(members);
     let queue = || QueueName::of_url(members.required_text("QueueUrl")?);
     Ok(match action {
+        Action::AddPermission => Request::AddPermission { queue: queue()?, permission: permission(members)? },
         Action::ChangeMessageVisibility => {
             Request::ChangeMessageVisibility { queue: queue()?, change: change(members)? }
         }
         Action::ChangeMessageVisibilityBatch => {
-            Request::ChangeMessageVisibilityBatch { queue: queue()?, batch: batch(members, change)? }
+            Request::ChangeMessageVisibilityBatch { queue: queue()?, batch: batch(members, change_entry)? }
         }
         Action::CreateQueue => create(members)?,
         Action::DeleteMessage => Request::DeleteMessage { queue: queue()?, handle: handle(members)? },
@@ -365,6 +408,9 @@ pub fn read(action: Action, members: &Map<'_>) -> Result<Request, SqsError> {
         },
         Action::PurgeQueue => Request::PurgeQueue { queue: queue()? },
         Action::ReceiveMessage => Request::ReceiveMessage { queue: queue()?, receive: receive(members)? },
+        Action::RemovePermission => {
+            Request::RemovePermission { queue: queue()?, label: read_label(members.required_text("Label")?)? }
+        }
         Action::SendMessage => Request::SendMessage { queue: queue()?, message: message(members)? },
         Action::SendMessageBatch => Request::SendMessageBatch { queue: queue()?, batch: batch(members, message)? },
         Action::SetQueueAttributes => {
@@ -447,8 +493,21 @@ fn handle(members: Members<'_, '_>) -> Result<String, SqsError> {
 }
 
 fn change(members: Members<'_, '_>) -> Result<Change, SqsError> {
-    let visibility = members.required_number("VisibilityTimeout", 0, LONGEST_TIMEOUT)?;
+    let change = change_entry(members)?;
+    change.visibility.is_some().then_some(change).ok_or_else(|| SqsError::MissingParameter("VisibilityTimeout".into()))
+}
+
+fn change_entry(members: Members<'_, '_>) -> Result<Change, SqsError> {
+    let visibility = members.number("VisibilityTimeout", 0, LONGEST_TIMEOUT)?;
     Ok(Change { handle: handle(members)?, visibility })
+}
+
+fn permission(members: Members<'_, '_>) -> Result<Permission, SqsError> {
+    let texts = |name: &str| match members.texts(name)? {
+        texts if texts.is_empty() => Err(SqsError::MissingParameter(name.into())),
+        texts => Ok(texts),
+    };
+    Permission::new(members.required_text("Label")?, texts("AWSAccountIds")?, texts("Actions")?)
 }
 
 /// The entries, if the batch as a whole is good.
@@ -469,7 +528,10 @@ fn batch<T>(members: Members<'_, '_>, read: fn(Members<'_, '_>) -> Result<T, Sqs
         if batch.iter().any(|(other, _)| other == id) {
             return Err(SqsError::BatchEntryIdsNotDistinct(id.into()));
         }
-        batch.push((id.into(), read(entry)));
+        match read(entry) {
+            Err(error @ SqsError::Serialization(_)) => return Err(error),
+            read => batch.push((id.into(), read)),
+        }
     }
     Ok(batch)
 }

@@ -7,6 +7,7 @@ use super::requests::{Action, Request};
 use super::responses::{ReceivedMessage, Response};
 use super::{Incoming, Protocol};
 use crate::messages::MessageAttributes;
+use crate::policy::Permission;
 use crate::seeded::{check, edits, spoilt};
 use crate::texts::test_characters;
 
@@ -61,6 +62,11 @@ fn what_is_read_is_what_was_asked() {
             assert_eq!(request.queue().unwrap().as_str(), "orders.fifo");
         }
         match request {
+            Request::AddPermission { permission, .. } => {
+                let (accounts, actions) = (["123456789012", "210987654321"], ["SendMessage", "*"]);
+                let texts = |texts: [&str; 2]| texts.map(String::from).to_vec();
+                assert_eq!(Permission::new("l-1", texts(accounts), texts(actions)), Ok(permission));
+            }
             Request::SendMessage { message, .. } => {
                 assert_eq!((message.body.as_str(), message.group.as_str()), (text, "g!1"));
                 assert_eq!(message.dedup.unwrap().as_str(), "d~1");
@@ -78,7 +84,7 @@ fn what_is_read_is_what_was_asked() {
             }
             Request::ChangeMessageVisibilityBatch { batch, .. } => {
                 let seconds: Vec<_> = batch.iter().map(|(_, change)| change.as_ref().unwrap().visibility).collect();
-                assert_eq!(seconds, [0, 43_200]);
+                assert_eq!(seconds, [Some(0), Some(43_200)]);
             }
             Request::ListQueues { prefix, most, after } => {
                 assert_eq!((prefix.as_str(), most, after.as_str()), ("or", Some(7), "orders.fifo"));

@@ -26,11 +26,13 @@ TRACE = {"AWSTraceHeader": {"DataType": "String", "StringValue": "Root=1-5759e98
 MESSAGE = {"MessageBody": TEXT, "MessageGroupId": "g!1", "MessageDeduplicationId": "d~1", "MessageAttributes": ATTRIBUTES,
            "MessageSystemAttributes": TRACE}
 CALLS: list[tuple[str, dict]] = [
+    ("add_permission", {"QueueUrl": URL, "Label": "l-1", "AWSAccountIds": ["123456789012", "210987654321"],
+                        "Actions": ["SendMessage", "*"]}),
     ("change_message_visibility", {"QueueUrl": URL, "ReceiptHandle": "h+/=", "VisibilityTimeout": 12}),
     ("change_message_visibility_batch", {"QueueUrl": URL, "Entries": [
         {"Id": "a", "ReceiptHandle": "1", "VisibilityTimeout": 0}, {"Id": "b", "ReceiptHandle": "2", "VisibilityTimeout": 43200}]}),
     ("create_queue", {"QueueName": "orders.fifo", "Attributes": {"FifoQueue": "true", "VisibilityTimeout": "5"},
-                      "tags": {"team": "x & y", "empty": ""}}),
+                      "tags": {"team": "x + y", "empty": ""}}),
     ("delete_message", {"QueueUrl": URL, "ReceiptHandle": "h+/="}),
     ("delete_message_batch", {"QueueUrl": URL, "Entries": [{"Id": "a", "ReceiptHandle": "1"}, {"Id": "b", "ReceiptHandle": "2"}]}),
     ("delete_queue", {"QueueUrl": URL}),
@@ -41,6 +43,7 @@ CALLS: list[tuple[str, dict]] = [
     ("purge_queue", {"QueueUrl": URL}),
     ("receive_message", {"QueueUrl": URL, "AttributeNames": ["SenderId", "SentTimestamp"], "MessageAttributeNames": ["color", "b.*"],
                          "MaxNumberOfMessages": 10, "VisibilityTimeout": 0, "WaitTimeSeconds": 20, "ReceiveRequestAttemptId": "x!1"}),
+    ("remove_permission", {"QueueUrl": URL, "Label": "l-1"}),
     ("send_message", {"QueueUrl": URL, **MESSAGE}),
     ("send_message_batch", {"QueueUrl": URL, "Entries": [{"Id": "1", **MESSAGE}, {"Id": "2-_", "MessageBody": "b", "MessageGroupId": "g"}]}),
     ("set_queue_attributes", {"QueueUrl": URL, "Attributes": {"VisibilityTimeout": "9"}}),

@@ -1,0 +1,38 @@
+//! Permissions, which are statements in the policy of a queue.
+
+use super::{Actions, Performed};
+use crate::attributes::Given;
+use crate::errors::SqsError;
+use crate::policy::{Permission, Policy};
+use crate::queues::ask::Change;
+use crate::texts::QueueName;
+use crate::wire::Response;
+
+impl Actions {
+    pub(super) async fn add_permission(
+        &self,
+        name: &QueueName,
+        permission: &Permission,
+    ) -> Result<Performed, SqsError> {
+        let arn = self.arn(name);
+        self.change_policy(name, |policy| policy.add(permission, &arn)).await
+    }
+
+    pub(super) async fn remove_permission(&self, name: &QueueName, label: &str) -> Result<Performed, SqsError> {
+        self.change_policy(name, |policy| policy.remove(label)).await
+    }
+
+    async fn change_policy(
+        &self,
+        name: &QueueName,
+        change: impl FnOnce(&mut Policy) -> Result<(), SqsError>,
+    ) -> Result<Performed, SqsError> {
+        let _turn = self.turn_of(name).lock().await;
+        let queue = self.queue(name)?;
+        let mut policy = Policy::of_queue(queue.state().attributes.policy())?;
+        change(&mut policy)?;
+        let given = Given::read(&[("Policy".into(), policy.text())])?;
+        self.store.note(&queue, Change::Attributes(given)).await?;
+        Ok(Response::Nothing.into())
+    }
+}
