@@ -7,6 +7,9 @@ use thiserror::Error;
 pub enum SqsError {
     #[error("The specified queue does not exist.")]
     QueueDoesNotExist,
+    /// A URL that is of no queue.
+    #[error("The address {0} is not valid for this endpoint.")]
+    InvalidAddress(String),
     #[error("A queue already exists with the same name and a different value for attribute {attribute}")]
     QueueNameExists { attribute: String },
     #[error("You must wait 60 seconds after deleting a queue before you can create another with the same name.")]
@@ -110,6 +113,7 @@ impl SqsError {
             SqsError::QueueDoesNotExist => {
                 ("com.amazonaws.sqs#QueueDoesNotExist", "AWS.SimpleQueueService.NonExistentQueue", 400)
             }
+            SqsError::InvalidAddress(_) => ("com.amazonaws.sqs#InvalidAddress", "InvalidAddress", 404),
             SqsError::QueueNameExists { .. } => ("com.amazonaws.sqs#QueueNameExists", "QueueAlreadyExists", 400),
             SqsError::QueueDeletedRecently => {
                 ("com.amazonaws.sqs#QueueDeletedRecently", "AWS.SimpleQueueService.QueueDeletedRecently", 400)
@@ -269,6 +273,11 @@ mod tests {
         let coded = SqsError::QueueDoesNotExist.coded();
         assert_eq!(coded.code, "AWS.SimpleQueueService.NonExistentQueue");
         assert_eq!(coded.type_name, "com.amazonaws.sqs#QueueDoesNotExist");
+        let coded = SqsError::InvalidAddress("x".into()).coded();
+        assert_eq!(
+            (coded.type_name, coded.code, coded.status),
+            ("com.amazonaws.sqs#InvalidAddress", "InvalidAddress", 404)
+        );
         assert_eq!(SqsError::of_refusal(99).coded().status, 500);
         assert!(!SqsError::of_refusal(99).is_sender_fault());
         let error = SqsError::attribute_value("DelaySeconds", "It must be 0.");

@@ -24,10 +24,21 @@ impl QueueName {
         ((1..=75).contains(&stem.len()) && stem.bytes().all(is_good)).then(|| QueueName(text.into()))
     }
 
-    /// The name behind the last slash of a queue's URL; a bare name is taken as well.
+    /// The name at the end of a queue's URL, before a slash that may stand behind it; a bare name is taken as well. Of a
+    /// queue that isn't FIFO there is none. What names no queue at all is `InvalidAddress`.
     pub fn of_url(url: &str) -> Result<QueueName, SqsError> {
-        let name = url.rsplit('/').next().unwrap_or(url);
-        QueueName::parse(name).ok_or(SqsError::QueueDoesNotExist)
+        let path = match url.split_once("://") {
+            Some((_, rest)) => rest.split_once('/').map_or("", |(_, path)| path),
+            None => url,
+        };
+        let path = path.strip_suffix('/').unwrap_or(path);
+        let name = path.rsplit('/').next().unwrap_or(path);
+        let is_good = |byte: u8| byte.is_ascii_alphanumeric() || byte == b'-' || byte == b'_';
+        match QueueName::parse(name) {
+            Some(name) => Ok(name),
+            None if (1..=80).contains(&name.len()) && name.bytes().all(is_good) => Err(SqsError::QueueDoesNotExist),
+            None => Err(SqsError::InvalidAddress(url.into())),
+        }
     }
 
     /// What a client is told of a name that breaks the rule.
@@ -184,7 +195,14 @@ mod tests {
         for bad in ["", ".fifo", "a", "a b.fifo", "ä.fifo", &format!("{}.fifo", "x".repeat(76))] {
             assert!(QueueName::parse(bad).is_none(), "{bad}");
         }
-        assert_eq!(QueueName::of_url("http://host/1/a.fifo").unwrap().as_str(), "a.fifo");
+        for url in ["http://host/1/a.fifo", "http://host/1/a.fifo/", "https://host/x/1/a.fifo", "/1/a.fifo", "a.fifo"] {
+            assert_eq!(QueueName::of_url(url).unwrap().as_str(), "a.fifo", "{url}");
+        }
+        for bad in
+            ["http://host", "http://host/", "http://a.fifo", "http://host/1/a b.fifo", "a.fifo//", "/", "http://h/a?b"]
+        {
+            assert_eq!(QueueName::of_url(bad), Err(SqsError::InvalidAddress(bad.into())));
+        }
         assert_eq!(QueueName::of_url("http://host/1/a"), Err(SqsError::QueueDoesNotExist));
     }
 

@@ -14,9 +14,13 @@ from urllib.parse import urlsplit
 
 import boto3
 import pytest
+from botocore.auth import SigV4Auth
+from botocore.awsrequest import AWSRequest
 from botocore.config import Config
+from botocore.credentials import Credentials
+from botocore.exceptions import ClientError
 
-from started import ByBoto3, ByJson, ByQuery, Refused, Started
+from started import ByBoto3, ByJson, ByQuery, Refused, Started, post
 
 TLS = Path(__file__).parent / "tls"
 FIFO = {"FifoQueue": "true"}
@@ -69,6 +73,30 @@ def test_signed_requests_are_served(gateway):
     assert send(admin, urls[0])["MessageId"]
     (message,) = admin("ReceiveMessage", QueueUrl=urls[0], AttributeNames=["SenderId"])["Messages"]
     assert message["Body"] == "a body with + and % & é" and message["Attributes"] == {"SenderId": "ADMIN"}
+
+
+def of_sts(gateway: Started, key: str, secret: str | None = None):
+    return boto3.client("sts", endpoint_url=gateway.url, region_name="eu-north-1", aws_access_key_id=key,
+                        aws_secret_access_key=secret or SECRETS[key], config=Config(retries={"max_attempts": 0}))
+
+
+def test_each_key_may_ask_who_it_is(gateway):
+    for key in SECRETS:
+        told = of_sts(gateway, key).get_caller_identity()
+        assert (told["Account"], told["UserId"], told["Arn"]) == (
+            "000000000000", key, f"arn:aws:iam::000000000000:user/{key}")
+    with pytest.raises(ClientError) as refusal:
+        of_sts(gateway, "ADMIN", "another secret").get_caller_identity()
+    assert refusal.value.response["Error"]["Code"] == "SignatureDoesNotMatch"
+
+
+def test_a_signature_is_for_one_service(gateway):
+    for service, action in (("sts", "ListQueues"), ("sqs", "GetCallerIdentity")):
+        body = f"Action={action}"
+        request = AWSRequest("POST", gateway.url + "/", {"Content-Type": "application/x-www-form-urlencoded"}, body)
+        SigV4Auth(Credentials("ADMIN", SECRETS["ADMIN"]), service, "eu-north-1").add_auth(request)
+        status, _, answer = post(gateway.url + "/", body.encode(), dict(request.headers))
+        assert status == 403 and b"<Code>SignatureDoesNotMatch</Code>" in answer
 
 
 def test_a_session_token_is_one_more_signed_header(gateway):

@@ -33,8 +33,11 @@ impl Identity {
     }
 
     /// Whether an action is allowed, on a queue where it is about one. An action about no queue is ListQueues, which
-    /// shows only what `sees` tells.
+    /// shows only what `sees` tells, or GetCallerIdentity, which is allowed to all.
     pub fn may(&self, action: Action, queue: Option<&QueueName>) -> bool {
+        if action == Action::GetCallerIdentity {
+            return true;
+        }
         let has_action = self.actions.as_ref().map_or(true, |actions| actions.contains(&action));
         has_action && queue.map_or(true, |queue| self.sees(queue))
     }

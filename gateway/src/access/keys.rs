@@ -19,9 +19,6 @@ use super::timestamp::Timestamp;
 use super::Signable;
 use crate::errors::SqsError;
 
-/// The service that requests are signed for.
-const SERVICE: &str = "sqs";
-
 /// The keys of a file, which can be read again while requests come in.
 pub struct Keys {
     path: PathBuf,
@@ -50,15 +47,15 @@ impl Keys {
         Ok(())
     }
 
-    /// Who signed a request. `now` is the time of the wall clock. Takes time in proportion to the request.
-    pub fn verify(&self, request: &Signable<'_>, now: SystemTime) -> Result<Arc<Identity>, SqsError> {
+    /// Who signed a request for a service. `now` is the time of the wall clock. Takes time in proportion to the request.
+    pub fn verify(&self, request: &Signable<'_>, service: &str, now: SystemTime) -> Result<Arc<Identity>, SqsError> {
         let now = Timestamp::of_system_time(now)
             .ok_or_else(|| SqsError::InternalFailure("The clock is at no time that signatures have.".into()))?;
         let query = Query::parse(request.query);
         let claim = Claim::read(request, &query)?;
         let table = self.table.read().unwrap_or_else(PoisonError::into_inner).clone();
         let key = table.get(&claim.access_key).ok_or(SqsError::UnrecognizedClient)?;
-        claim.test_scope(SERVICE)?;
+        claim.test_scope(service)?;
         claim.test_moment(&now)?;
         claim.test_signed_headers(request.headers)?;
         let canonical = canonical_request(request, &query, &claim)?;

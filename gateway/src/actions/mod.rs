@@ -1,6 +1,7 @@
 //! The actions of SQS: each becomes asks of the store, and their answers become a result.
 
 mod declared;
+mod identity;
 mod messages;
 mod permissions;
 mod queues;
@@ -146,6 +147,7 @@ impl Actions {
             Request::ChangeMessageVisibilityBatch { queue, batch } => self.change_batch(&queue, batch).await,
             Request::CreateQueue { queue, attributes, tags } => self.create(queue, attributes, tags, caller).await,
             Request::DeleteQueue { queue } => self.remove(&queue).await,
+            Request::GetCallerIdentity => Ok(self.identify(caller)),
             Request::GetQueueUrl { queue } => self.get_url(queue, caller),
             Request::ListQueues { prefix, most, after } => Ok(self.list(&prefix, most, &after, caller)),
             Request::GetQueueAttributes { queue, wanted } => self.get_attributes(&queue, &wanted).await,

@@ -8,12 +8,17 @@ use hyper::header::{HeaderMap, HOST};
 #[derive(Debug)]
 pub struct NotFound;
 
-/// The queue that a path names: `/` names none, and `/{account}/{queue}` one.
+/// The queue that a path names: `/` names none, and `/{account}/{queue}` one. So do the forms that others give out:
+/// `/{region}/{account}/{queue}`, `/queue/{queue}` and `/queue/{region}/{account}/{queue}`. A slash may stand behind each.
 pub fn queue_of_path(path: &str) -> Result<Option<&str>, NotFound> {
-    let mut parts = path.strip_prefix('/').unwrap_or(path).split('/');
-    match (parts.next(), parts.next(), parts.next()) {
-        (Some(""), None, None) => Ok(None),
-        (Some(account), Some(queue), None) if !account.is_empty() && !queue.is_empty() => Ok(Some(queue)),
+    let path = path.strip_prefix('/').unwrap_or(path);
+    if path.is_empty() {
+        return Ok(None);
+    }
+    let parts: Vec<&str> = path.strip_suffix('/').unwrap_or(path).split('/').collect();
+    match parts[..] {
+        _ if parts.iter().any(|part| part.is_empty()) => Err(NotFound),
+        [_, queue] | [_, _, queue] | ["queue", _, _, queue] => Ok(Some(queue)),
         _ => Err(NotFound),
     }
 }
@@ -82,8 +87,10 @@ mod tests {
     #[test]
     fn paths() {
         assert!(matches!(queue_of_path("/"), Ok(None)));
-        assert!(matches!(queue_of_path("/1/q.fifo"), Ok(Some("q.fifo"))));
-        for bad in ["/1", "/1/", "//q", "/1/2/3", "/1/q/"] {
+        for good in ["/1/q.fifo", "/1/q.fifo/", "/r/1/q.fifo", "/r/1/q.fifo/", "/queue/q.fifo", "/queue/r/1/q.fifo"] {
+            assert!(matches!(queue_of_path(good), Ok(Some("q.fifo"))), "{good}");
+        }
+        for bad in ["/1", "/1/", "//q", "//", "/1//q", "/1/q//", "/1/2/3/4", "/queue/1/2/3/4"] {
             assert!(queue_of_path(bad).is_err(), "{bad}");
         }
     }

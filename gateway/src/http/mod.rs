@@ -126,14 +126,14 @@ impl Service {
     fn read(self: Arc<Service>, head: &Parts, body: &Bytes, told: &mut Told) -> Result<Next, Unread> {
         let protocol = protocol_of(&head.headers);
         let path_queue = address::queue_of_path(head.uri.path()).map_err(|_| Unread::NotFound)?;
-        let identity = self.identify(head, body)?;
-        told.identity = identity.clone();
         let incoming = Incoming {
             target: text_of(&head.headers, "x-amz-target"),
             path_queue,
             query: head.uri.query().unwrap_or_default(),
             body,
         };
+        let identity = self.identify(head, body, incoming.service())?;
+        told.identity = identity.clone();
         let request = protocol.read(&incoming)?;
         let action = request.action();
         told.action = Some(action);
@@ -152,7 +152,7 @@ impl Service {
         Ok(Next::Perform(Box::new(call), key.map(|key| Box::new(Tried { key, is_again }))))
     }
 
-    fn identify(&self, head: &Parts, body: &Bytes) -> Result<Option<Arc<Identity>>, SqsError> {
+    fn identify(&self, head: &Parts, body: &Bytes, service: wire::Service) -> Result<Option<Arc<Identity>>, SqsError> {
         let Some(keys) = &self.keys else { return Ok(None) };
         let signable = Signable {
             method: head.method.as_str(),
@@ -161,7 +161,7 @@ impl Service {
             headers: &head.headers,
             body,
         };
-        keys.verify(&signable, SystemTime::now()).map(Some)
+        keys.verify(&signable, service.name(), SystemTime::now()).map(Some)
     }
 
     /// Refuses a request of a connection that is one too many.

@@ -44,6 +44,14 @@ struct Url<'a> {
 
 #[derive(Serialize)]
 #[serde(rename_all = "PascalCase")]
+struct Caller<'a> {
+    account: &'a str,
+    arn: &'a str,
+    user_id: &'a str,
+}
+
+#[derive(Serialize)]
+#[serde(rename_all = "PascalCase")]
 struct Urls<'a> {
     #[serde(skip_serializing_if = "<[String]>::is_empty")]
     queue_urls: &'a [String],
@@ -97,6 +105,7 @@ pub fn answer(response: &Response, request_id: String) -> Reply {
         Response::Queues { urls, next } => to_bytes(&Urls { queue_urls: urls, next_token: next.as_deref() }),
         Response::Attributes(attributes) => to_bytes(&Attributes { attributes: slice(attributes) }),
         Response::Tags(tags) => to_bytes(&Tags { tags: slice(tags) }),
+        Response::Caller { account, arn, user } => to_bytes(&Caller { account, arn, user_id: user }),
         Response::Sent(sent) => to_bytes(sent),
         Response::Messages(messages) => to_bytes(&Messages { messages }),
         Response::Batch { successful, failed } => to_bytes(&Batch { successful, failed }),

@@ -14,8 +14,31 @@ pub use responses::Response;
 
 use crate::errors::SqsError;
 
-/// The XML namespace of the query protocol's answers.
-pub const NAMESPACE: &str = "http://queue.amazonaws.com/doc/2012-11-05/";
+/// Whose action a request asks for.
+#[derive(Clone, Copy, Debug, PartialEq, Eq)]
+pub enum Service {
+    Sqs,
+    /// The Security Token Service, of which there is one action.
+    Sts,
+}
+
+impl Service {
+    /// The name that signatures have.
+    pub fn name(self) -> &'static str {
+        match self {
+            Service::Sqs => "sqs",
+            Service::Sts => "sts",
+        }
+    }
+
+    /// The XML namespace of the query protocol's answers.
+    fn namespace(self) -> &'static str {
+        match self {
+            Service::Sqs => "http://queue.amazonaws.com/doc/2012-11-05/",
+            Service::Sts => "https://sts.amazonaws.com/doc/2011-06-15/",
+        }
+    }
+}
 
 /// Which protocol a client speaks.
 #[derive(Clone, Copy, Debug, PartialEq, Eq)]
@@ -34,6 +57,17 @@ pub struct Incoming<'a> {
     /// The query string of the URL.
     pub query: &'a str,
     pub body: &'a [u8],
+}
+
+impl Incoming<'_> {
+    /// Whose action it asks for, as far as that can be seen before it is read.
+    pub fn service(&self) -> Service {
+        if Protocol::of(self) == Protocol::Query && query::asks_who(self) {
+            Service::Sts
+        } else {
+            Service::Sqs
+        }
+    }
 }
 
 /// A response, ready to be sent.

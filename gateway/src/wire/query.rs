@@ -9,15 +9,36 @@ use quick_xml::Writer;
 use super::requests::{self, Action, Request};
 use super::responses::{Done, Failed, ReceivedMessage, Response, Sent};
 use super::value::{Map, Value};
-use super::{fault, Incoming, Reply, NAMESPACE};
+use super::{fault, Incoming, Reply, Service};
 use crate::errors::SqsError;
 use crate::messages::AttributeValue;
 
 const CONTENT_TYPE: &str = "text/xml";
 
+/// A request by which a client asks who it is has at most so many bytes.
+const LONGEST_WHO: usize = 4096;
+
+/// Whether this is GetCallerIdentity, an action of another service, which Terraform asks for (Security Token Service API
+/// Reference).
+pub fn asks_who(incoming: &Incoming<'_>) -> bool {
+    let text = text_of(incoming);
+    let is_small = incoming.path_queue.is_none() && text.len() <= LONGEST_WHO;
+    is_small && form_urlencoded::parse(text).any(|(name, value)| name == "Action" && value == "GetCallerIdentity")
+}
+
+fn text_of<'a>(incoming: &Incoming<'a>) -> &'a [u8] {
+    if incoming.body.is_empty() {
+        incoming.query.as_bytes()
+    } else {
+        incoming.body
+    }
+}
+
 pub fn read(incoming: &Incoming<'_>) -> Result<Request, SqsError> {
-    let text = if incoming.body.is_empty() { incoming.query.as_bytes() } else { incoming.body };
-    let fields = fields(text)?;
+    if asks_who(incoming) {
+        return Ok(Request::GetCallerIdentity);
+    }
+    let fields = fields(text_of(incoming))?;
     let Some(Field::Text(name)) = fields.get("Action") else {
         return Err(SqsError::MissingParameter("Action".into()));
     };
@@ -153,7 +174,7 @@ fn members(fields: &Fields) -> Result<Map<'_>, SqsError> {
     let mut members = Vec::with_capacity(fields.len());
     for (name, field) in fields {
         let (name, value) = if let Some(list) = list_named(name) {
-            let texts = counted(name, field)?.into_iter().map(value_of).collect();
+            let texts = texts_of(name, field)?.into_iter().map(value_of).collect();
             (list, Value::List(texts))
         } else if let Some((map, key)) = map_named(name) {
             (map, Value::Map(map_of(name, key, field)?))
@@ -202,9 +223,27 @@ fn counted<'f>(name: &str, field: &'f Field) -> Result<Vec<&'f Field>, SqsError>
     Ok(parts.into_iter().map(|(_, part)| part).collect())
 }
 
+/// The parts of a list, which may also be one text without a number.
+fn texts_of<'f>(name: &str, field: &'f Field) -> Result<Vec<&'f Field>, SqsError> {
+    match field {
+        Field::Text(text) if !text.is_empty() => Ok(vec![field]),
+        _ => counted(name, field),
+    }
+}
+
+/// The parts of a map, which may also be one pair without a number.
+fn pairs_of<'f>(name: &str, key: &str, field: &'f Field) -> Result<Vec<&'f Field>, SqsError> {
+    match field {
+        Field::Inner(inner) if inner.contains_key(key) && inner.keys().all(|part| part == key || part == "Value") => {
+            Ok(vec![field])
+        }
+        _ => counted(name, field),
+    }
+}
+
 fn map_of<'f>(name: &str, key: &str, field: &'f Field) -> Result<Map<'f>, SqsError> {
     let mut pairs = Vec::new();
-    for part in counted(name, field)? {
+    for part in pairs_of(name, key, field)? {
         let inner = match part {
             Field::Inner(inner) => inner,
             Field::Text(_) => return Err(SqsError::MissingParameter(format!("{name}.{key}"))),
@@ -239,9 +278,9 @@ impl Xml {
     }
 
     /// The outermost element, which names the namespace.
-    fn root(&mut self, name: &str, inner: impl FnOnce(&mut Xml)) {
+    fn root(&mut self, name: &str, service: Service, inner: impl FnOnce(&mut Xml)) {
         let mut start = BytesStart::new(name);
-        start.push_attribute(("xmlns", NAMESPACE));
+        start.push_attribute(("xmlns", service.namespace()));
         self.event(Event::Start(start));
         inner(self);
         self.event(Event::End(BytesEnd::new(name)));
@@ -276,7 +315,8 @@ impl Xml {
 
 pub fn answer(action: Action, response: &Response, request_id: String) -> Reply {
     let mut xml = Xml::new();
-    xml.root(&format!("{}Response", action.name()), |xml| {
+    let service = if action == Action::GetCallerIdentity { Service::Sts } else { Service::Sqs };
+    xml.root(&format!("{}Response", action.name()), service, |xml| {
         if action.has_result() {
             xml.element(&format!("{}Result", action.name()), |xml| result(xml, action, response));
         }
@@ -288,7 +328,7 @@ pub fn answer(action: Action, response: &Response, request_id: String) -> Reply 
 pub fn refuse(error: &SqsError, request_id: String) -> Reply {
     let coded = error.coded();
     let mut xml = Xml::new();
-    xml.root("ErrorResponse", |xml| {
+    xml.root("ErrorResponse", Service::Sqs, |xml| {
         xml.element("Error", |xml| {
             xml.leaf("Type", fault(error));
             xml.leaf("Code", coded.code);
@@ -328,6 +368,11 @@ fn result(xml: &mut Xml, action: Action, response: &Response) {
         }
         Response::Tags(pairs) => {
             pairs.iter().for_each(|(key, value)| xml.pair("Tag", "Key", key, value));
+        }
+        Response::Caller { account, arn, user } => {
+            xml.leaf("Arn", arn);
+            xml.leaf("UserId", user);
+            xml.leaf("Account", account);
         }
         Response::Sent(sent) => sent_message(xml, sent),
         Response::Messages(messages) => {
@@ -411,6 +456,22 @@ mod tests {
         let first = batch[0].1.as_ref().unwrap();
         assert_eq!((first.body.as_str(), first.attributes["n"].data()), ("hé \r", &b"5"[..]));
         assert_eq!(batch[1].1, Err(SqsError::MissingParameter("MessageBody".into())));
+    }
+
+    #[test]
+    fn numbers_may_be_left_out_where_there_is_one_part() {
+        for (old, new) in [
+            ("Action=GetQueueAttributes&AttributeName=All", "Action=GetQueueAttributes&AttributeName.1=All"),
+            (
+                "Action=SetQueueAttributes&Attribute.Name=VisibilityTimeout&Attribute.Value=5",
+                "Action=SetQueueAttributes&Attribute.1.Name=VisibilityTimeout&Attribute.1.Value=5",
+            ),
+            ("Action=TagQueue&Tag.Key=a&Tag.Value=b", "Action=TagQueue&Tag.1.Key=a&Tag.1.Value=b"),
+            ("Action=UntagQueue&TagKey=a", "Action=UntagQueue&TagKey.1=a"),
+        ] {
+            assert!(read_form(old).is_ok() && read_form(old) == read_form(new), "{old}");
+        }
+        assert!(read_form("Action=TagQueue&Tag.Key=a&Tag.Value=b&Tag.1.Key=c").is_err());
     }
 
     #[test]

@@ -20,6 +20,8 @@ pub enum Action {
     DeleteMessage,
     DeleteMessageBatch,
     DeleteQueue,
+    /// Of the Security Token Service.
+    GetCallerIdentity,
     GetQueueAttributes,
     GetQueueUrl,
     ListQueueTags,
@@ -35,6 +37,7 @@ pub enum Action {
 }
 
 impl Action {
+    /// Those of SQS.
     pub const ALL: [Action; 19] = [
         Action::AddPermission,
         Action::ChangeMessageVisibility,
@@ -66,6 +69,7 @@ impl Action {
             Action::DeleteMessage => "DeleteMessage",
             Action::DeleteMessageBatch => "DeleteMessageBatch",
             Action::DeleteQueue => "DeleteQueue",
+            Action::GetCallerIdentity => "GetCallerIdentity",
             Action::GetQueueAttributes => "GetQueueAttributes",
             Action::GetQueueUrl => "GetQueueUrl",
             Action::ListQueueTags => "ListQueueTags",
@@ -146,6 +150,7 @@ pub enum Request {
     DeleteMessage { queue: QueueName, handle: String },
     DeleteMessageBatch { queue: QueueName, batch: Batch<String> },
     DeleteQueue { queue: QueueName },
+    GetCallerIdentity,
     GetQueueAttributes { queue: QueueName, wanted: Wanted },
     GetQueueUrl { queue: Option<QueueName> },
     ListQueueTags { queue: QueueName },
@@ -165,7 +170,7 @@ impl Request {
     pub fn queue(&self) -> Option<&QueueName> {
         match self {
             Request::GetQueueUrl { queue } => queue.as_ref(),
-            Request::ListQueues { .. } => None,
+            Request::GetCallerIdentity | Request::ListQueues { .. } => None,
             Request::AddPermission { queue, .. }
             | Request::ChangeMessageVisibility { queue, .. }
             | Request::ChangeMessageVisibilityBatch { queue, .. }
@@ -195,6 +200,7 @@ impl Request {
             Request::DeleteMessage { .. } => Action::DeleteMessage,
             Request::DeleteMessageBatch { .. } => Action::DeleteMessageBatch,
             Request::DeleteQueue { .. } => Action::DeleteQueue,
+            Request::GetCallerIdentity => Action::GetCallerIdentity,
             Request::GetQueueAttributes { .. } => Action::GetQueueAttributes,
             Request::GetQueueUrl { .. } => Action::GetQueueUrl,
             Request::ListQueueTags { .. } => Action::ListQueueTags,
@@ -396,6 +402,7 @@ pub fn read(action: Action, members: &Map<'_>) -> Result<Request, SqsError> {
         Action::DeleteMessage => Request::DeleteMessage { queue: queue()?, handle: handle(members)? },
         Action::DeleteMessageBatch => Request::DeleteMessageBatch { queue: queue()?, batch: batch(members, handle)? },
         Action::DeleteQueue => Request::DeleteQueue { queue: queue()? },
+        Action::GetCallerIdentity => Request::GetCallerIdentity,
         Action::GetQueueAttributes => {
             Request::GetQueueAttributes { queue: queue()?, wanted: Wanted::read(&members.texts("AttributeNames")?)? }
         }

@@ -11,12 +11,24 @@ use crate::messages::MessageAttributes;
 pub enum Response {
     Nothing,
     QueueUrl(String),
-    Queues { urls: Vec<String>, next: Option<String> },
+    Queues {
+        urls: Vec<String>,
+        next: Option<String>,
+    },
     Attributes(Pairs),
     Tags(Pairs),
+    /// Who asks, by the number of the account, an ARN and an id.
+    Caller {
+        account: String,
+        arn: String,
+        user: String,
+    },
     Sent(Sent),
     Messages(Vec<ReceivedMessage>),
-    Batch { successful: Vec<Done>, failed: Vec<Failed> },
+    Batch {
+        successful: Vec<Done>,
+        failed: Vec<Failed>,
+    },
 }
 
 /// Names and values in order.

@@ -139,7 +139,7 @@ fn a_file_is_read_again_as_a_whole_or_not_at_all() {
     let written = Written::new("keys.toml", KEY);
     let keys = Keys::read(&written.0).unwrap();
     let request = signed("client");
-    let may_come_in = || keys.verify(&request.signable(), signed_at()).is_ok();
+    let may_come_in = || keys.verify(&request.signable(), "sqs", signed_at()).is_ok();
     assert!(may_come_in());
     fs::write(&written.0, KEY.replace("EXAMPLEKEY", "EXAMPLEKEz").replace("[[key]]", "[[key]]\nqueues = [\"*\"]"))
         .unwrap();

@@ -67,7 +67,7 @@ impl Request {
 
     fn verify_at(&self, now: SystemTime) -> Result<Arc<Identity>, SqsError> {
         static KEYS: OnceLock<Keys> = OnceLock::new();
-        KEYS.get_or_init(|| keys(KEY)).verify(&self.signable(), now)
+        KEYS.get_or_init(|| keys(KEY)).verify(&self.signable(), "sqs", now)
     }
 
     fn verify(&self) -> Result<Arc<Identity>, SqsError> {

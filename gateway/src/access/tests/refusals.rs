@@ -140,7 +140,7 @@ fn an_unknown_key() {
 fn another_secret() {
     let keys = keys(&KEY.replace("EXAMPLEKEY", "EXAMPLEKEy"));
     for name in ["client", "client with a token", "presigned GET"] {
-        let error = keys.verify(&signed(name).signable(), signed_at()).unwrap_err();
+        let error = keys.verify(&signed(name).signable(), "sqs", signed_at()).unwrap_err();
         assert_eq!(error, SqsError::wrong_signature(), "{name}");
         assert_eq!(error.coded().type_name, "com.amazon.coral.service#InvalidSignatureException");
     }
