@@ -9,7 +9,7 @@ use clap::ValueEnum;
 use serde::Deserialize;
 use thiserror::Error;
 
-use crate::actions::Owner;
+use crate::actions::{Owner, Pauses};
 use crate::limits::Bounds;
 use crate::queues::shards::Shards;
 use crate::serve::Settings;
@@ -78,6 +78,9 @@ pub struct Options {
     /// How many long polls wait at once [default: nine tenths of the connections]
     #[arg(long, value_name = "N", env = "HOBBYCHAIR_POLLS")]
     polls: Option<u32>,
+    /// Let queues be made again and purged again at once, for test suites
+    #[arg(long, num_args = 0..=1, default_missing_value = "true", require_equals = true, value_name = "BOOL", env = "HOBBYCHAIR_NO_PAUSES")]
+    no_pauses: Option<bool>,
     /// Tell operators /health and /metrics here: a port of 127.0.0.1, or HOST:PORT
     #[arg(long, value_name = "ADDRESS", env = "HOBBYCHAIR_ADMIN")]
     admin: Option<Address>,
@@ -285,6 +288,7 @@ impl Options {
             region: self.region.or(file.region),
             connections: self.connections.or(file.connections),
             polls: self.polls.or(file.polls),
+            no_pauses: self.no_pauses.or(file.no_pauses),
             admin: self.admin.or(file.admin),
             log: self.log.or(file.log),
             log_level: self.log_level.or(file.log_level),
@@ -340,6 +344,7 @@ impl Options {
             },
             connections,
             polls,
+            pauses: if self.no_pauses.unwrap_or(false) { Pauses::None } else { Pauses::AsSqs },
             admin: self.admin,
             queues: self.queue,
             clock_file: self.clock_file,

@@ -12,7 +12,7 @@ use tokio::signal::unix::{signal, Signal, SignalKind};
 use tokio::sync::oneshot;
 
 use crate::access::Keys;
-use crate::actions::{Actions, Owner};
+use crate::actions::{Actions, Owner, Pauses};
 use crate::admin::{Admin, Health};
 use crate::clock::Clock;
 use crate::config::{Address, DeclaredQueue, Misuse};
@@ -50,6 +50,7 @@ pub struct Settings {
     pub owner: Owner,
     pub connections: u32,
     pub polls: u32,
+    pub pauses: Pauses,
     pub admin: Option<Address>,
     pub queues: Vec<DeclaredQueue>,
     /// A file whose number is the clock, for tests.
@@ -216,7 +217,8 @@ async fn answer(
         bail!(why(ended).await);
     }
     let (end, ending) = End::new();
-    let actions = Actions::new(store, settings.owner.clone(), settings.polls, admin.metrics.clone(), ending.clone());
+    let (owner, metrics) = (settings.owner.clone(), admin.metrics.clone());
+    let actions = Actions::new(store, owner, settings.polls, settings.pauses, metrics, ending.clone());
     actions.declare(&settings.queues).await;
     // Until here a signal ends the process at once, also where the program hangs.
     let mut signals = Signals::new()?;

@@ -49,6 +49,44 @@ def gateway():
     assert started.stop() == 0
 
 
+# ---- for test suites
+
+
+@pytest.mark.parametrize("way", [ByJson, ByQuery])
+@pytest.mark.parametrize("journal", [False, True])
+def test_without_pauses_queues_are_made_and_purged_at_once(tmp_path, way, journal):
+    words = ["--journal", str(tmp_path / "journal")] if journal else []
+    started = Started("--no-pauses", *words, room=tmp_path)
+    call = way(started.url)
+
+    def send(body: str) -> None:
+        call("SendMessage", QueueUrl="q.fifo", MessageBody=body, MessageGroupId="g", MessageDeduplicationId=body)
+
+    def bodies() -> list[str]:
+        messages = call("ReceiveMessage", QueueUrl="q.fifo", MaxNumberOfMessages=10, VisibilityTimeout=0).get("Messages", [])
+        return [message["Body"] for message in messages]
+
+    for _ in range(3):
+        call("CreateQueue", QueueName="q.fifo", Attributes=FIFO)
+        send("a")
+        send("b")
+        for _ in range(2):
+            call("PurgeQueue", QueueUrl="q.fifo")
+        assert bodies() == []
+        send("a")
+        send("c")
+        assert bodies() == ["c"], "a purge keeps the ids"
+        call("DeleteQueue", QueueUrl="q.fifo")
+    if journal:
+        started.kill()
+        started.start()
+        call = way(started.url)
+    call("CreateQueue", QueueName="q.fifo", Attributes=FIFO)
+    send("a")
+    assert bodies() == ["a"], "a queue that is made again has no ids"
+    assert started.stop() == 0
+
+
 # ---- where it listens
 
 

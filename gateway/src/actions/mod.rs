@@ -66,6 +66,15 @@ pub struct Owner {
     pub region: String,
 }
 
+/// Whether a removed queue's name and a purge keep clients waiting.
+#[derive(Clone, Copy, Debug, PartialEq, Eq)]
+pub enum Pauses {
+    /// A minute each (API Reference, `QueueDeletedRecently` and `PurgeQueueInProgress`).
+    AsSqs,
+    /// Not at all, for test suites that make and purge the same queues many times a minute.
+    None,
+}
+
 /// So many creations and removals can go on side by side.
 const TURNS: usize = 64;
 
@@ -77,15 +86,23 @@ pub struct Actions {
     turns: Vec<Mutex<()>>,
     /// A permit for each receive that may wait.
     polls: Semaphore,
+    pauses: Pauses,
     metrics: Arc<Metrics>,
     ending: Ending,
 }
 
 impl Actions {
     /// `polls` receives may wait at once, and no longer than until the end comes.
-    pub fn new(store: Store, owner: Owner, polls: u32, metrics: Arc<Metrics>, ending: Ending) -> Actions {
+    pub fn new(
+        store: Store,
+        owner: Owner,
+        polls: u32,
+        pauses: Pauses,
+        metrics: Arc<Metrics>,
+        ending: Ending,
+    ) -> Actions {
         let turns = (0..TURNS).map(|_| Mutex::new(())).collect();
-        Actions { store, owner, turns, polls: Semaphore::new(polls as usize), metrics, ending }
+        Actions { store, owner, turns, polls: Semaphore::new(polls as usize), pauses, metrics, ending }
     }
 
     pub fn store(&self) -> &Store {

@@ -2,7 +2,7 @@
 
 use std::sync::Arc;
 
-use super::{Actions, Caller, Performed};
+use super::{Actions, Caller, Pauses, Performed};
 use crate::attributes::{Given, QueueAttributes, Wanted, COUNTS};
 use crate::errors::SqsError;
 use crate::queues::ask::{Ask, Change, Creation, Outcome};
@@ -37,7 +37,9 @@ impl Actions {
         }
         let attributes = QueueAttributes::for_creation(&given)?;
         let now = self.store.clock().now();
-        self.store.queues().test_pause(&name, now)?;
+        if self.pauses == Pauses::AsSqs {
+            self.store.queues().test_pause(&name, now)?;
+        }
         let visibility = attributes.visibility_timeout();
         let creation = Arc::new(Creation { name, mark: rand::random(), attributes, tags, before: None });
         let store = self.store.queues().next_store_name();
@@ -135,7 +137,8 @@ impl Actions {
         if removed {
             return Err(SqsError::QueueDoesNotExist);
         }
-        if purged.is_some_and(|purged| now < purged + PURGE_PAUSE) {
+        let is_early = purged.is_some_and(|purged| now < purged + PURGE_PAUSE);
+        if is_early && self.pauses == Pauses::AsSqs {
             return Err(SqsError::PurgeQueueInProgress { queue: name.to_string() });
         }
         delete_all(&queue, &held).await?;
