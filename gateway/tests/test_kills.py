@@ -20,8 +20,8 @@ TIMEOUT = 30
 
 
 def text_of(name: str) -> str:
-    """The body of a message: its name, and behind one name in five more than the store takes."""
-    return name + "." * (300_000 if zlib.crc32(name.encode()) % 5 == 0 else 0)
+    """The body of a message: its name, and behind one name in twenty more than the store takes."""
+    return name + "." * (300_000 if zlib.crc32(name.encode()) % 20 == 0 else 0)
 
 
 class Load:
