@@ -37,8 +37,7 @@ pub enum Action {
 }
 
 impl Action {
-    /// Those of SQS.
-    pub const ALL: [Action; 19] = [
+    pub const ALL: [Action; 20] = [
         Action::AddPermission,
         Action::ChangeMessageVisibility,
         Action::ChangeMessageVisibilityBatch,
@@ -46,6 +45,7 @@ impl Action {
         Action::DeleteMessage,
         Action::DeleteMessageBatch,
         Action::DeleteQueue,
+        Action::GetCallerIdentity,
         Action::GetQueueAttributes,
         Action::GetQueueUrl,
         Action::ListQueueTags,
@@ -59,6 +59,11 @@ impl Action {
         Action::TagQueue,
         Action::UntagQueue,
     ];
+
+    /// Those of SQS itself.
+    pub fn of_sqs() -> impl Iterator<Item = Action> {
+        Action::ALL.into_iter().filter(|action| *action != Action::GetCallerIdentity)
+    }
 
     pub fn name(self) -> &'static str {
         match self {
@@ -130,7 +135,7 @@ impl FromStr for Action {
     type Err = SqsError;
 
     fn from_str(name: &str) -> Result<Action, SqsError> {
-        if let Some(action) = Action::ALL.into_iter().find(|action| action.name() == name) {
+        if let Some(action) = Action::of_sqs().find(|action| action.name() == name) {
             return Ok(action);
         }
         if UNSUPPORTED.contains(&name) {

@@ -42,7 +42,7 @@ impl Written {
 #[test]
 fn both_protocols_say_the_same() {
     let (by_query, by_json) = (written(BY_QUERY), written(BY_JSON));
-    assert_eq!(by_query.len(), Action::ALL.len());
+    assert_eq!(by_query.len(), Action::of_sqs().count());
     for (old, new) in by_query.iter().zip(&by_json) {
         assert_eq!((&old.call, old.target.is_none(), new.target.is_some()), (&new.call, true, true));
         assert_eq!((old.path.as_str(), new.path.as_str()), ("/", "/"));

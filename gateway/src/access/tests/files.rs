@@ -23,7 +23,7 @@ fn queue(name: &str) -> QueueName {
 #[test]
 fn a_key_may_do_all_that_is_not_left_out() {
     let identity = identity("");
-    assert!(Action::ALL.into_iter().all(|action| identity.may(action, Some(&queue("a.fifo")))));
+    assert!(Action::of_sqs().all(|action| identity.may(action, Some(&queue("a.fifo")))));
     assert!(identity.may(Action::ListQueues, None) && identity.sees(&queue("a.fifo")));
 }
 
@@ -50,7 +50,7 @@ fn actions_allow_their_batches_but_not_the_other_way_round() {
     let allowed = |more: &str| {
         let identity = identity(more);
         let may = |action: &Action| identity.may(*action, Some(&queue("a.fifo")));
-        Action::ALL.into_iter().filter(may).map(Action::name).collect::<Vec<_>>()
+        Action::of_sqs().filter(may).map(Action::name).collect::<Vec<_>>()
     };
     assert_eq!(allowed("actions = [\"SendMessage\"]"), ["SendMessage", "SendMessageBatch"]);
     assert_eq!(allowed("actions = [\"DeleteMessage\"]"), ["DeleteMessage", "DeleteMessageBatch"]);
