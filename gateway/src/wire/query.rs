@@ -23,7 +23,8 @@ const LONGEST_WHO: usize = 4096;
 pub fn asks_who(incoming: &Incoming<'_>) -> bool {
     let text = text_of(incoming);
     let is_small = incoming.path_queue.is_none() && text.len() <= LONGEST_WHO;
-    is_small && form_urlencoded::parse(text).any(|(name, value)| name == "Action" && value == "GetCallerIdentity")
+    let mut fields = form_urlencoded::parse(text);
+    is_small && fields.find(|(name, _)| name == "Action").is_some_and(|(_, value)| value == "GetCallerIdentity")
 }
 
 fn text_of<'a>(incoming: &Incoming<'a>) -> &'a [u8] {
