@@ -3,6 +3,7 @@
 from __future__ import annotations
 
 import subprocess
+import time
 from concurrent.futures import ThreadPoolExecutor
 
 import pytest
@@ -114,3 +115,41 @@ def test_a_disk_that_large_bodies_fill_refuses_them_and_ends_no_gateway(tmp_path
         assert gateway.stop() == 0
     finally:
         subprocess.run(["umount", str(room)], check=True)
+
+
+def test_a_journal_that_large_bodies_fill_is_free_again_when_they_go(tmp_path):
+    """Their records go as those of small ones do, and a start has what is left."""
+    path = tmp_path / "journal"
+    gateway = Started("--journal", str(path), "--journal-size", "32MiB", "--no-pauses")
+    call = ByJson(gateway.url)
+
+    def send(queue: str, body: str, dedup: str) -> None:
+        call("SendMessage", QueueUrl=queue, MessageBody=body, MessageGroupId=dedup, MessageDeduplicationId=dedup)
+
+    create(call, "kept.fifo")
+    send("kept.fifo", "\\" * LONGEST, "kept")
+    for _ in range(2):
+        create(call)
+        sent = 0
+        with pytest.raises(Refused, match="OverLimit"):
+            while sent < 100:
+                send("q.fifo", "\n" * LONGEST, str(sent))
+                sent += 1
+        assert 8 < sent < 16
+        call("DeleteQueue", QueueUrl="q.fifo")
+        latest = time.monotonic() + 60
+        while True:
+            try:
+                send("kept.fifo", "x", str(time.monotonic()))
+                break
+            except Refused as refused:
+                assert refused.code == "OverLimit" and time.monotonic() < latest
+                time.sleep(0.1)
+    gateway.kill()
+    gateway.start()
+    call = ByJson(gateway.url)
+    bodies = [message["Body"] for message in receive(call, "kept.fifo")]
+    assert bodies == ["\\" * LONGEST, "x", "x"]
+    told = run("verify", str(path))
+    assert told.returncode == 0 and "undamaged" in told.stdout
+    assert gateway.stop() == 0
