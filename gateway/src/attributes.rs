@@ -234,6 +234,11 @@ impl QueueAttributes {
         self.number("ReceiveMessageWaitTimeSeconds") as u32
     }
 
+    /// So long a message is kept, in milliseconds.
+    pub fn retention(&self) -> u64 {
+        1000 * self.text("MessageRetentionPeriod").parse().unwrap_or(345_600)
+    }
+
     /// Bytes of a body with its attributes.
     pub fn maximum_message_size(&self) -> usize {
         self.number("MaximumMessageSize") as usize

@@ -43,20 +43,21 @@ pub fn verify(path: &Path, out: &mut impl Write) -> Result<()> {
     }
     let (records, found) = Records::of_files(path)?;
     let removed = records.removed().clone();
-    let (mut requests, mut notes, mut passed, mut bad) = (0u64, 0u64, 0u64, 0u64);
+    let (mut requests, mut notes, mut passed, mut starts, mut bad) = (0u64, 0u64, 0u64, 0u64, 0u64);
     let mut last_clock = 0;
     let count = records.read(|payload| {
         for line in payload.split(|byte| *byte == b'\n').filter(|line| !line.is_empty()) {
-            match Record::read(line).and_then(|record| Some((record.store_name()?, record))) {
-                Some((name, record)) => {
-                    last_clock = record.clock.max(last_clock);
-                    match (removed.contains(&name), record.ask.is_some()) {
-                        (true, _) => passed += 1,
-                        (false, true) => requests += 1,
-                        (false, false) => notes += 1,
-                    }
-                }
-                None => bad += 1,
+            let Some(record) = Record::read(line) else {
+                bad += 1;
+                continue;
+            };
+            last_clock = record.clock.max(last_clock);
+            match (record.store_name().map(|name| removed.contains(&name)), record.ask.is_some()) {
+                (Some(true), _) => passed += 1,
+                (Some(false), true) => requests += 1,
+                (Some(false), false) => notes += 1,
+                (None, _) if record.uncounted.is_some() => starts += 1,
+                (None, _) => bad += 1,
             }
         }
         true
@@ -66,6 +67,9 @@ pub fn verify(path: &Path, out: &mut impl Write) -> Result<()> {
         writeln!(out, "segment {number}: {bytes} bytes, commits up to {last}")?;
     }
     writeln!(out, "{count} records: {requests} requests and {notes} notes of queues that are there, {passed} of queues that were removed")?;
+    if starts > 0 {
+        writeln!(out, "{starts} starts found the clock more than a day ahead")?;
+    }
     writeln!(out, "the last clock is {last_clock}")?;
     if let Some(segment) = found.last().filter(|segment| segment.shards > 1) {
         writeln!(out, "{} programs share the queues", segment.shards)?;

@@ -12,6 +12,7 @@ pub mod clock;
 pub mod command_line;
 pub mod config;
 pub mod cq;
+pub mod deliveries;
 pub mod digests;
 pub mod ending;
 pub mod errors;
@@ -28,6 +29,7 @@ pub mod polling;
 pub mod presence;
 pub mod queues;
 pub mod repeats;
+pub mod retention;
 pub mod rolling;
 #[cfg(test)]
 mod seeded;

@@ -7,6 +7,7 @@ use std::time::Duration;
 use tokio::sync::oneshot;
 use tokio::time::Instant;
 
+use crate::deliveries::see_to;
 use crate::ending::Ending;
 use crate::errors::SqsError;
 use crate::presence::Presence;
@@ -170,7 +171,7 @@ async fn wait_for_opening(store: &Store, queue: &Queue) {
     }
 }
 
-/// Tries the first polls, and tells whether all of them were handed something.
+/// Tries the first polls, and tells whether all of them were handed something, be it for the gateway to see to.
 async fn try_some(store: &Store, queue: &Arc<Queue>, count: u64) -> bool {
     let polls = queue.polls.take(count);
     if polls.is_empty() {
@@ -182,17 +183,15 @@ async fn try_some(store: &Store, queue: &Arc<Queue>, count: u64) -> bool {
     // From the last to the first, so that those that go back stand in their order.
     for (poll, answer) in polls.into_iter().zip(answers).rev() {
         match answer {
-            Ok(Outcome::Received { handed, .. }) if handed.is_empty() => {
-                all_handed = false;
-                if poll.deadline > Instant::now() {
-                    queue.polls.put_back(poll);
-                } else {
-                    let _ = poll.done.send(Ok(Vec::new()));
+            Ok(Outcome::Received { handed, set_aside, .. }) => {
+                all_handed &= !handed.is_empty() || !set_aside.is_empty();
+                match see_to(store, queue, set_aside).await {
+                    Ok(()) if handed.is_empty() && poll.deadline > Instant::now() => queue.polls.put_back(poll),
+                    // A client that went while its try was on its way isn't noticed here.
+                    seen => {
+                        let _ = poll.done.send(seen.map(|()| handed));
+                    }
                 }
-            }
-            Ok(Outcome::Received { handed, .. }) => {
-                // A client that went while its try was on its way isn't noticed here.
-                let _ = poll.done.send(Ok(handed));
             }
             Ok(_) => {
                 let _ = poll.done.send(Ok(Vec::new()));

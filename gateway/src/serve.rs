@@ -19,12 +19,13 @@ use crate::config::{Address, DeclaredQueue, Misuse};
 use crate::cq::{test_built, test_version, Cq};
 use crate::ending::End;
 use crate::http::{is_of_this_machine, listen, Addresses, Door, Service};
-use crate::journal::{self, Journal, Taken};
+use crate::journal::{self, Batch, Journal, Record, Taken};
 use crate::limits::Bounds;
 use crate::metrics::Metrics;
 use crate::queues::ask::Ask;
 use crate::queues::shards::Shards;
 use crate::queues::Queues;
+use crate::retention;
 use crate::store::{self, Ended, Replayed, Start, Store, Tables};
 use crate::tls::Certificate;
 
@@ -78,6 +79,7 @@ pub async fn serve(settings: Settings) -> Result<()> {
     let begun = begin(&settings, &admin.health).await?;
     // Only one store is ever set.
     let _ = admin.store.set(begun.store.clone());
+    tokio::spawn(retention::keep_sweeping(begun.store.clone()));
     if begun.journal.is_some() {
         tokio::spawn(crate::rolling::keep_rolling(begun.store.clone()));
     }
@@ -176,6 +178,9 @@ async fn begin(settings: &Settings, health: &Health) -> Result<Begun> {
             let (fed, replayed) = store::replay_all(cqs, shards, &opened, &tables).await?;
             cqs = fed;
             let journal = opened.begin(replayed.records, end_at_once)?;
+            if let Some(uncounted) = retention::uncounted(replayed.latest, tables.clock.now()) {
+                note_jump(&journal, &tables, uncounted).await?;
+            }
             (Some(journal), replayed)
         }
         None => (None, Replayed::default()),
@@ -187,6 +192,19 @@ async fn begin(settings: &Settings, health: &Health) -> Result<Begun> {
     let (store, ended) = store::start(Start { program, shards, cqs, queues, clock, journal: journal.clone(), bounds });
     remove_left_over(&store, &replayed).await?;
     Ok(Begun { store, ended, journal })
+}
+
+/// The clock is more than a day ahead of the journal: of that time a day counts for retention, now and at later starts.
+async fn note_jump(journal: &Journal, tables: &Tables, uncounted: u64) -> Result<()> {
+    let now = tables.clock.now();
+    tracing::warn!("the clock is far ahead of the last record: {uncounted} ms of it make no message older");
+    let mut batch = Batch { count: 1, ..Batch::default() };
+    Record::of_jump(now, uncounted).append(&mut batch.records)?;
+    journal.use_room(batch.records.len() as u64);
+    journal.hand_over(&mut batch);
+    journal.settled().await;
+    tables.queues.jumps().note(now, uncounted);
+    Ok(())
 }
 
 async fn take_journal(settings: &Settings) -> Result<Option<Taken>> {

@@ -159,7 +159,7 @@ async fn delete_all(queue: &Queue, held: &Held) -> Result<(), SqsError> {
         if !queue.state().has_messages_up_to(u64::MAX) {
             return Ok(());
         }
-        let ask = Ask::Receive { size: 10, visibility: 0, attempt: None };
+        let ask = Ask::Receive { size: 10, visibility: 0, attempt: None, own: true };
         let Outcome::Received { handed, .. } = held.ask(ask).await? else { return Ok(()) };
         if handed.is_empty() {
             return Ok(());

@@ -5,12 +5,13 @@ use std::time::Duration;
 
 use super::messages::sequence_number;
 use super::{Actions, Caller, Performed};
+use crate::deliveries::{self, Delivered};
 use crate::digests::{md5_of_attributes, md5_of_text};
 use crate::errors::SqsError;
 use crate::handles::Handle;
 use crate::messages::{read_form, Kept, MessageAttributes};
 use crate::polling::{self, Waiting};
-use crate::queues::ask::{Ask, Handed, Outcome};
+use crate::queues::ask::{Ask, Handed};
 use crate::queues::Queue;
 use crate::texts::QueueName;
 use crate::wire::requests::{Receive, Shown, SystemAttribute};
@@ -37,10 +38,8 @@ impl Actions {
         if let Some(handed) = self.receive_again(&queue, &receive, visibility).await? {
             return received(&queue, handed, &receive.shown);
         }
-        let ask = Ask::Receive { size: receive.size, visibility, attempt: receive.attempt };
-        let Outcome::Received { mut handed, openings } = self.store.ask(&queue, ask.clone()).await? else {
-            return Err(SqsError::InternalFailure("The store handed nothing out.".into()));
-        };
+        let ask = Ask::Receive { size: receive.size, visibility, attempt: receive.attempt, own: false };
+        let Delivered { mut handed, openings } = deliveries::receive(&self.store, &queue, ask.clone()).await?;
         if handed.is_empty() && wait > 0 {
             let _permit = self.polls.try_acquire().map_err(|_| too_many_polls())?;
             let _counted = self.metrics.poll();
@@ -101,7 +100,7 @@ fn told(attribute: SystemAttribute, handed: &Handed, kept: &Kept) -> Option<Stri
     Some(match attribute {
         SystemAttribute::SenderId => kept.sender.as_deref().unwrap_or(SENDER).into(),
         SystemAttribute::SentTimestamp => kept.sent.to_string(),
-        SystemAttribute::ApproximateReceiveCount => handed.receipt.ordinal.to_string(),
+        SystemAttribute::ApproximateReceiveCount => handed.count.to_string(),
         SystemAttribute::ApproximateFirstReceiveTimestamp => handed.first.to_string(),
         SystemAttribute::SequenceNumber => sequence_number(handed.receipt.sequence),
         SystemAttribute::MessageGroupId => handed.group.clone(),

@@ -35,6 +35,9 @@ pub struct Record<'a> {
     /// Of a receive.
     #[serde(default, skip_serializing_if = "Option::is_none")]
     pub attempt: Option<AttemptId>,
+    /// Of a receive for which no client asked.
+    #[serde(default, skip_serializing_if = "std::ops::Not::not")]
+    pub own: bool,
     /// Of a change for which no client asked.
     #[serde(default, skip_serializing_if = "std::ops::Not::not")]
     pub by_attempt: bool,
@@ -43,6 +46,9 @@ pub struct Record<'a> {
     pub queue: Option<Cow<'a, str>>,
     #[serde(default, skip_serializing_if = "Option::is_none")]
     pub note: Option<Change>,
+    /// Of a start: so many milliseconds before it don't count for retention. Such a record is of no queue.
+    #[serde(default, skip_serializing_if = "Option::is_none")]
+    pub uncounted: Option<u64>,
 }
 
 impl<'a> Record<'a> {
@@ -55,9 +61,11 @@ impl<'a> Record<'a> {
             removed: None,
             form: None,
             attempt: None,
+            own: false,
             by_attempt: false,
             queue: None,
             note: None,
+            uncounted: None,
         }
     }
 
@@ -70,7 +78,10 @@ impl<'a> Record<'a> {
             Ask::Create { creation, .. } => record.creation = Some(creation.clone()),
             Ask::Remove { name, .. } => record.removed = name.clone(),
             Ask::Send { form: Form::Split { whole, .. }, .. } => record.form = Some(whole.into()),
-            Ask::Receive { attempt, .. } => record.attempt = attempt.clone(),
+            Ask::Receive { attempt, own, .. } => {
+                record.attempt = attempt.clone();
+                record.own = *own;
+            }
             Ask::Change { by_attempt, .. } => record.by_attempt = *by_attempt,
             Ask::Send { .. } | Ask::Delete { .. } => {}
         }
@@ -80,6 +91,11 @@ impl<'a> Record<'a> {
     pub fn of_note(clock: Moment, queue: StoreName, change: &Change) -> Record<'a> {
         let queue = Some(queue.text().into());
         Record { queue, note: Some(change.clone()), ..Record::at(clock) }
+    }
+
+    /// The record of a start that found the clock far ahead.
+    pub fn of_jump(clock: Moment, uncounted: u64) -> Record<'static> {
+        Record { uncounted: Some(uncounted), ..Record::at(clock) }
     }
 
     /// Appends the record's line.
@@ -127,9 +143,12 @@ impl<'a> Record<'a> {
                 dedup: DedupId::parse(fields.dedup.as_deref()?).ok()?,
                 form: self.form_of(fields.body?.into_owned()),
             },
-            Kind::Receive => {
-                Ask::Receive { size: fields.size?, visibility: fields.visibility?, attempt: self.attempt.clone() }
-            }
+            Kind::Receive => Ask::Receive {
+                size: fields.size?,
+                visibility: fields.visibility?,
+                attempt: self.attempt.clone(),
+                own: self.own,
+            },
             Kind::Delete => Ask::Delete { receipt: receipt()?, by_client: false },
             Kind::Change => {
                 Ask::Change { receipt: receipt()?, visibility: fields.visibility?, by_attempt: self.by_attempt }
@@ -162,7 +181,8 @@ mod tests {
         let receipt = Receipt { sequence: 15, ordinal: 1 };
         for ask in [
             Ask::Send { group, dedup, form },
-            Ask::Receive { size: 3, visibility: 9, attempt: AttemptId::parse("x").ok() },
+            Ask::Receive { size: 3, visibility: 9, attempt: AttemptId::parse("x").ok(), own: false },
+            Ask::Receive { size: 3, visibility: 0, attempt: None, own: true },
             Ask::Change { receipt, visibility: 5, by_attempt: true },
             Ask::Remove { store: StoreName(7), name: QueueName::parse("q.fifo") },
         ] {

@@ -283,7 +283,8 @@ impl Conversion {
                 Ask::Send { group: GroupId::parse(fields.group.as_deref()?).ok()?, dedup, form }
             }
             Kind::Receive => {
-                Ask::Receive { size: fields.size.unwrap_or(1), visibility: fields.visibility?, attempt: beside.attempt }
+                let (size, visibility) = (fields.size.unwrap_or(1), fields.visibility?);
+                Ask::Receive { size, visibility, attempt: beside.attempt, own: false }
             }
             Kind::Delete => Ask::Delete { receipt: receipt()?, by_client: false },
             Kind::Change => {

@@ -50,6 +50,8 @@ pub enum Ask {
         size: u8,
         visibility: u32,
         attempt: Option<AttemptId>,
+        /// The gateway asks for itself: nobody sees that the messages were handed out.
+        own: bool,
     },
     /// `by_client`: it is refused when the timeout is over. A purge deletes what is there.
     Delete {
@@ -100,12 +102,21 @@ pub enum Change {
 #[derive(Clone, Debug)]
 pub struct Handed {
     pub receipt: Receipt,
+    /// How often it was handed out to clients, this time among them.
+    pub count: u64,
     /// When it was handed out, and when for the first time.
     pub moment: Moment,
     pub first: Moment,
     pub group: String,
     /// Its whole form.
     pub form: Arc<str>,
+}
+
+/// Why a message that the store handed out isn't for the client that asked.
+#[derive(Clone, Copy, Debug, PartialEq, Eq)]
+pub enum Fate {
+    /// It is older than its queue keeps messages, and is to be deleted.
+    Old,
 }
 
 /// What came of something asked.
@@ -121,6 +132,8 @@ pub enum Outcome {
     /// `openings` counts what happened to the queue by then that can open a group.
     Received {
         handed: Vec<Handed>,
+        /// What isn't for the client. The gateway has to see to it.
+        set_aside: Vec<(Handed, Fate)>,
         openings: u64,
     },
     Counts {

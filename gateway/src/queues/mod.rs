@@ -15,6 +15,7 @@ use crate::errors::SqsError;
 use crate::handles::{Handle, Mark, Receipt};
 use crate::lines::Reply;
 use crate::polling::Polls;
+use crate::retention::Jumps;
 use crate::texts::QueueName;
 use ask::{Ask, Creation, Outcome, StoreName};
 pub use state::{State, WINDOW};
@@ -69,6 +70,7 @@ pub struct Queues {
     last_store_name: AtomicU64,
     /// What all queues take of memory, in bytes.
     bytes_in_use: AtomicU64,
+    jumps: Jumps,
 }
 
 impl Queues {
@@ -78,6 +80,11 @@ impl Queues {
 
     pub fn get(&self, name: &QueueName) -> Result<Arc<Queue>, SqsError> {
         self.find(name).ok_or(SqsError::QueueDoesNotExist)
+    }
+
+    /// The jumps of the clock.
+    pub fn jumps(&self) -> &Jumps {
+        &self.jumps
     }
 
     /// All queues, in order of their names.
@@ -129,7 +136,7 @@ impl Queues {
         reply: Reply,
         moment: Moment,
     ) -> Result<(Outcome, bool), SqsError> {
-        let settled = self.counted(queue, |state| state.settle(ask, reply, moment))?;
+        let settled = self.counted(queue, |state| state.settle(ask, reply, moment, &self.jumps))?;
         match ask {
             Ask::Create { .. } => self.insert(queue),
             Ask::Remove { name: Some(name), .. } => self.remove(queue, name, moment),

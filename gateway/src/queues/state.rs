@@ -6,7 +6,7 @@ use std::sync::Arc;
 
 use uuid::Uuid;
 
-use super::ask::{Ask, Before, Change, Creation, Handed, Outcome, StoreName};
+use super::ask::{Ask, Before, Change, Creation, Fate, Handed, Outcome, StoreName};
 use crate::attributes::QueueAttributes;
 use crate::clock::Moment;
 use crate::errors::SqsError;
@@ -14,30 +14,58 @@ use crate::handles::{Handle, Receipt};
 use crate::limits::{ID_BYTES, MESSAGE_BYTES};
 use crate::lines::{read_receipt, Given, Reply};
 use crate::messages::{id_of_form, Form};
+use crate::retention::Jumps;
 use crate::texts::AttemptId;
 
 /// So long a deduplication id counts, in milliseconds. A repeated attempt id is given the same messages as long.
 pub const WINDOW: u64 = 300_000;
 
 /// A message that isn't deleted.
-#[derive(Debug, Default)]
+#[derive(Debug)]
 struct Message {
+    sent: Moment,
+    /// The last handing to a client.
     last: Option<Handing>,
+    /// How often the gateway has handed it to itself, and how often since the last handing to a client.
+    own: u32,
+    own_since: u32,
+    /// It is hidden until then.
+    until: Moment,
     /// Its whole form, where the store has a stub in its place.
     form: Option<Arc<str>>,
     /// What its form takes, here and in the store.
     bytes: u64,
 }
 
-/// The last handing of a message.
+impl Message {
+    /// Which of the store's handings was the last one, from 1; 0 if there was none.
+    fn last_ordinal(&self) -> u64 {
+        self.last.map_or(0, |last| last.ordinal) + u64::from(self.own_since)
+    }
+
+    /// Whether a client has it by this handing.
+    fn is_with(&self, ordinal: u64) -> bool {
+        self.own_since == 0 && self.last.is_some_and(|last| last.ordinal == ordinal)
+    }
+}
+
+/// The last handing of a message to a client. Handings to the gateway itself have ordinals, too.
 #[derive(Clone, Copy, Debug)]
 struct Handing {
     ordinal: u64,
     moment: Moment,
     first: Moment,
-    until: Moment,
     /// A client has changed the timeout since.
     touched: bool,
+}
+
+/// What all messages of a receive have in common.
+struct Receiving {
+    own: bool,
+    moment: Moment,
+    until: Moment,
+    /// What was sent by then is too old.
+    horizon: Option<Moment>,
 }
 
 /// What a receive with an attempt id was given.
@@ -82,6 +110,10 @@ pub struct State {
     attempts: HashMap<AttemptId, Attempt>,
     attempts_by_age: VecDeque<(Moment, AttemptId)>,
     ends: BinaryHeap<Reverse<(Moment, u64)>>,
+    /// No message before this one is there.
+    oldest: u64,
+    /// How many openings there were at a sweep that found nothing to delete, and when the next timeout ended.
+    vain_sweep: Option<(u64, Option<Moment>)>,
 }
 
 /// What the answer to an ask did.
@@ -136,11 +168,13 @@ impl State {
             attempts: HashMap::new(),
             attempts_by_age: VecDeque::new(),
             ends: BinaryHeap::new(),
+            oldest: 0,
+            vain_sweep: None,
         }
     }
 
     /// Takes up the store's answer to an ask of `moment`.
-    pub fn settle(&mut self, ask: &Ask, reply: Reply, moment: Moment) -> Result<Settled, SqsError> {
+    pub fn settle(&mut self, ask: &Ask, reply: Reply, moment: Moment, jumps: &Jumps) -> Result<Settled, SqsError> {
         match (ask, reply) {
             (Ask::Change { receipt, .. }, Reply::Refused(NOT_IN_FLIGHT)) if !self.has_message(*receipt) => {
                 Err(SqsError::of_no_message())
@@ -154,8 +188,10 @@ impl State {
             }
             (Ask::Remove { .. }, Reply::Removed) => Ok(Settled::done(true)),
             (Ask::Send { form, .. }, Reply::Sent(place)) => self.sent(form, place, moment),
-            (Ask::Receive { visibility, attempt, .. }, Reply::Received(given)) => {
-                self.received(given, *visibility, attempt.as_ref(), moment)
+            (Ask::Receive { visibility, attempt, own, .. }, Reply::Received(given)) => {
+                let until = moment + 1000 * u64::from(*visibility);
+                let horizon = self.horizon(jumps, moment);
+                self.received(given, attempt.as_ref(), &Receiving { own: *own, moment, until, horizon })
             }
             (Ask::Delete { receipt, .. }, Reply::Deleted(removed)) => Ok(self.deleted(*receipt, removed)),
             (Ask::Change { receipt, visibility, by_attempt }, Reply::Changed) => {
@@ -188,7 +224,8 @@ impl State {
             Form::Split { whole, .. } => Some(whole.as_str().into()),
         };
         self.form_bytes += bytes;
-        self.messages.insert(sequence, Message { last: None, form, bytes });
+        let message = Message { sent: moment, last: None, own: 0, own_since: 0, until: 0, form, bytes };
+        self.messages.insert(sequence, message);
         self.open();
         Ok(Settled { outcome: Outcome::Sent { sequence, id }, changed: true, opened: true })
     }
@@ -223,35 +260,47 @@ impl State {
     fn received(
         &mut self,
         given: Vec<Given>,
-        visibility: u32,
         attempt: Option<&AttemptId>,
-        moment: Moment,
+        receiving: &Receiving,
     ) -> Result<Settled, SqsError> {
-        let until = moment + 1000 * u64::from(visibility);
-        let mut handed = Vec::with_capacity(given.len());
+        let (moment, until) = (receiving.moment, receiving.until);
+        let (changed, opened) = (!given.is_empty(), !given.is_empty() && until <= moment);
+        let (mut handed, mut set_aside) = (Vec::with_capacity(given.len()), Vec::new());
         for one in given {
-            handed.push(self.hand(one, until, moment)?);
+            match self.hand(one, receiving)? {
+                (one, None) => handed.push(one),
+                (one, Some(fate)) => set_aside.push((one, fate)),
+            }
         }
         if let (Some(attempt), false) = (attempt, handed.is_empty()) {
             self.keep_attempt(attempt, Attempt { moment, handed: handed.clone() });
         }
-        let (changed, opened) = (!handed.is_empty(), !handed.is_empty() && until <= moment);
         if opened {
             self.open();
         }
-        let outcome = Outcome::Received { handed, openings: self.openings };
+        let outcome = Outcome::Received { handed, set_aside, openings: self.openings };
         Ok(Settled { outcome, changed, opened })
     }
 
-    fn hand(&mut self, given: Given, until: Moment, moment: Moment) -> Result<Handed, SqsError> {
+    fn hand(&mut self, given: Given, receiving: &Receiving) -> Result<(Handed, Option<Fate>), SqsError> {
+        let moment = receiving.moment;
         let receipt = read_receipt(&given.receipt, self.base).ok_or_else(misfit)?;
         let message = self.messages.get_mut(&receipt.sequence).ok_or_else(misfit)?;
         let first = message.last.map_or(moment, |last| last.first);
-        let ordinal = receipt.ordinal;
-        message.last = Some(Handing { ordinal, moment, first, until, touched: false });
+        let count = receipt.ordinal.saturating_sub(u64::from(message.own));
+        let is_old = receiving.horizon.is_some_and(|horizon| message.sent <= horizon);
+        let fate = (!receiving.own && is_old).then_some(Fate::Old);
+        message.until = receiving.until;
+        if receiving.own || fate.is_some() {
+            message.own += 1;
+            message.own_since += 1;
+        } else {
+            message.last = Some(Handing { ordinal: receipt.ordinal, moment, first, touched: false });
+            message.own_since = 0;
+        }
         let form = message.form.clone().unwrap_or_else(|| given.body.into());
-        self.note_end(until, receipt.sequence);
-        Ok(Handed { receipt, moment, first, group: given.group, form })
+        self.note_end(receiving.until, receipt.sequence);
+        Ok((Handed { receipt, count, moment, first, group: given.group, form }, fate))
     }
 
     fn deleted(&mut self, receipt: Receipt, removed: bool) -> Settled {
@@ -270,10 +319,11 @@ impl State {
 
     fn changed(&mut self, receipt: Receipt, visibility: u32, by_attempt: bool, moment: Moment) -> Settled {
         let until = moment + 1000 * u64::from(visibility);
-        let message = self.messages.get_mut(&receipt.sequence);
-        if let Some(last) = message.and_then(|message| message.last.as_mut()) {
-            last.until = until;
-            last.touched |= !by_attempt;
+        if let Some(message) = self.messages.get_mut(&receipt.sequence) {
+            message.until = until;
+            if let Some(last) = &mut message.last {
+                last.touched |= !by_attempt;
+            }
         }
         self.note_end(until, receipt.sequence);
         self.open();
@@ -315,7 +365,7 @@ impl State {
 
     /// The receipt of a handle, if the handle is of a handing that there was. The mark is tested before.
     ///
-    /// Of a message that is deleted, and of an earlier handing, the store decides: neither does anything.
+    /// Of a message that is deleted, and of an earlier handing to a client, the store decides: neither does anything.
     pub fn receipt_of(&self, handle: &Handle) -> Result<Receipt, SqsError> {
         let receipt = handle.receipt;
         if receipt.sequence > self.last_sequence {
@@ -336,19 +386,21 @@ impl State {
         self.messages.contains_key(&receipt.sequence)
     }
 
-    /// Whether this is the last receipt of a message that is there and its timeout is over, exactly at its end already.
+    /// Whether this is the last receipt of a message that is there (see [`State::last_receipt`]) and its timeout is over,
+    /// exactly at its end already.
     /// An ask that isn't answered yet may still change that.
     pub fn has_expired(&self, receipt: Receipt, now: Moment) -> bool {
-        let last = self.messages.get(&receipt.sequence).and_then(|message| message.last);
-        last.is_some_and(|last| last.ordinal == receipt.ordinal && last.until <= now)
+        let Some(message) = self.messages.get(&receipt.sequence) else { return false };
+        let is_last = message.last.is_some() && receipt.ordinal == message.last_ordinal();
+        // The gateway hands a message to itself only where no client has it any more.
+        is_last && (message.own_since > 0 || message.until <= now)
     }
 
     /// Whether each of these receipts is its message's last one, and none of them has ended.
     pub fn are_in_flight(&self, receipts: &[Receipt], now: Moment) -> bool {
         receipts.iter().all(|receipt| {
             let message = self.messages.get(&receipt.sequence);
-            let last = message.and_then(|message| message.last);
-            last.is_some_and(|last| last.ordinal == receipt.ordinal && last.until > now)
+            message.is_some_and(|message| message.is_with(receipt.ordinal) && message.until > now)
         })
     }
 
@@ -397,8 +449,8 @@ impl State {
         let found = self.attempts.get(id).filter(|found| now < found.moment + WINDOW)?;
         let is_held = |handed: &Handed| {
             let message = self.messages.get(&handed.receipt.sequence);
-            let last = message.and_then(|message| message.last);
-            last.is_some_and(|last| last.ordinal == handed.receipt.ordinal && !last.touched)
+            let is_with = message.is_some_and(|message| message.is_with(handed.receipt.ordinal));
+            is_with && message.and_then(|message| message.last).is_some_and(|last| !last.touched)
         };
         found.handed.iter().all(is_held).then(|| found.handed.clone())
     }
@@ -406,13 +458,59 @@ impl State {
     /// The last receipts of the messages up to `sequence` that were handed out and aren't deleted.
     pub fn receipts_up_to(&self, sequence: u64) -> Vec<Receipt> {
         let up_to = self.messages.iter().filter(|(own, _)| **own <= sequence);
-        let receipts = up_to
-            .filter_map(|(own, message)| message.last.map(|last| Receipt { sequence: *own, ordinal: last.ordinal }));
-        receipts.collect()
+        let receipts = up_to.map(|(own, message)| Receipt { sequence: *own, ordinal: message.last_ordinal() });
+        receipts.filter(|receipt| receipt.ordinal > 0).collect()
     }
 
     pub fn has_messages_up_to(&self, sequence: u64) -> bool {
         self.messages.keys().any(|own| *own <= sequence)
+    }
+
+    /// The receipt by which the store knows the handing that `receipt` stands for. Where only handings to the gateway
+    /// itself came after the last one to a client, that is the last of these.
+    pub fn last_receipt(&self, receipt: Receipt) -> Receipt {
+        let Some(message) = self.messages.get(&receipt.sequence) else { return receipt };
+        let (first, last) = (message.last.map_or(1, |last| last.ordinal), message.last_ordinal());
+        let is_current = (first..=last).contains(&receipt.ordinal);
+        Receipt { ordinal: if is_current { last } else { receipt.ordinal }, ..receipt }
+    }
+
+    fn horizon(&self, jumps: &Jumps, now: Moment) -> Option<Moment> {
+        jumps.horizon(now, self.attributes.retention())
+    }
+
+    /// Whether the message is there and older than the queue keeps messages.
+    pub fn is_old(&self, sequence: u64, jumps: &Jumps, now: Moment) -> bool {
+        let Some(horizon) = self.horizon(jumps, now) else { return false };
+        self.messages.get(&sequence).is_some_and(|message| message.sent <= horizon)
+    }
+
+    /// Whether any message is older than the queue keeps messages.
+    pub fn has_old(&mut self, jumps: &Jumps, now: Moment) -> bool {
+        let Some(horizon) = self.horizon(jumps, now) else { return false };
+        self.oldest = self.oldest.max(self.base);
+        while self.oldest < self.last_sequence && !self.messages.contains_key(&self.oldest) {
+            self.oldest += 1;
+        }
+        self.messages.get(&self.oldest).is_some_and(|oldest| oldest.sent <= horizon)
+    }
+
+    /// Whether a message that is too old isn't in flight, and something happened since a sweep found none.
+    pub fn is_worth_sweeping(&mut self, jumps: &Jumps, now: Moment) -> bool {
+        let openings = self.openings;
+        let is_vain = |(seen, end): (u64, Option<Moment>)| seen == openings && end.map_or(true, |end| now < end);
+        if self.removed || self.vain_sweep.is_some_and(is_vain) || !self.has_old(jumps, now) {
+            return false;
+        }
+        let horizon = self.horizon(jumps, now);
+        let from_oldest = (self.oldest..=self.last_sequence).filter_map(|sequence| self.messages.get(&sequence));
+        let mut old = from_oldest.take_while(|message| horizon.is_some_and(|horizon| message.sent <= horizon));
+        old.any(|message| message.until <= now)
+    }
+
+    /// A sweep found nothing to delete: what is too old waits behind what is in flight.
+    pub fn note_vain_sweep(&mut self, now: Moment) {
+        self.vain_sweep = Some((self.openings, self.next_end(now)));
     }
 
     /// Whether the queue is empty and remembers no deduplication id.
@@ -434,8 +532,7 @@ impl State {
 }
 
 fn is_end(messages: &HashMap<u64, Message>, until: Moment, sequence: u64) -> bool {
-    let last = messages.get(&sequence).and_then(|message| message.last);
-    last.is_some_and(|last| last.until == until)
+    messages.get(&sequence).is_some_and(|message| message.until == until)
 }
 
 #[cfg(test)]
@@ -458,12 +555,13 @@ mod tests {
     fn send(state: &mut State, place: u64, moment: Moment) {
         let form = Form::Whole(format!("{{\"id\":\"{}\"}}\nbody", Uuid::from_u128(7)));
         let (group, dedup) = (GroupId::parse("g").unwrap(), DedupId::parse("d").unwrap());
-        state.settle(&Ask::Send { group, dedup, form }, Reply::Sent(place), moment).unwrap();
+        state.settle(&Ask::Send { group, dedup, form }, Reply::Sent(place), moment, &Jumps::default()).unwrap();
     }
 
     fn delete(state: &mut State, sequence: u64, moment: Moment) {
         let receipt = Receipt { sequence, ordinal: 1 };
-        state.settle(&Ask::Delete { receipt, by_client: true }, Reply::Deleted(true), moment).unwrap();
+        let ask = Ask::Delete { receipt, by_client: true };
+        state.settle(&ask, Reply::Deleted(true), moment, &Jumps::default()).unwrap();
     }
 
     #[test]
@@ -492,5 +590,52 @@ mod tests {
         assert_eq!(state.bytes_in_use(), 0);
         state.removed = true;
         assert_eq!(state.bytes_in_use(), 0);
+    }
+
+    fn receive(state: &mut State, ordinal: u64, own: bool, moment: Moment) -> (Vec<Handed>, Vec<(Handed, Fate)>) {
+        let ask = Ask::Receive { size: 1, visibility: 5, attempt: None, own };
+        let (group, receipt) = ("g".into(), format!("1-1-{ordinal}"));
+        let given = crate::lines::Given { group, receipt, body: "b".into() };
+        let settled = state.settle(&ask, Reply::Received(vec![given]), moment, &Jumps::default()).unwrap();
+        match settled.outcome {
+            Outcome::Received { handed, set_aside, .. } => (handed, set_aside),
+            other => panic!("{other:?}"),
+        }
+    }
+
+    #[test]
+    fn own_handings_are_not_counted_and_take_nothing_from_a_client() {
+        let mut state = state();
+        send(&mut state, 1, 0);
+        receive(&mut state, 1, true, 0);
+        let handle = |ordinal, moment| {
+            let receipt = Receipt { sequence: 1, ordinal };
+            Handle { mark: crate::handles::Mark(1), receipt, moment }
+        };
+        assert!(state.receipt_of(&handle(1, 0)).is_err(), "no client had it");
+        let given = &receive(&mut state, 2, false, 10_000).0[0];
+        assert_eq!((given.count, given.first), (1, 10_000));
+        receive(&mut state, 3, true, 20_000);
+        let receipt = state.receipt_of(&handle(2, 10_000)).unwrap();
+        assert_eq!(state.last_receipt(receipt).ordinal, 3);
+        assert!(state.receipt_of(&handle(3, 20_000)).is_err());
+        assert!(!state.are_in_flight(&[receipt], 20_000));
+        let again = &receive(&mut state, 4, false, 30_000).0[0];
+        assert_eq!((again.count, again.first), (2, 10_000));
+        // The handing before is none that anything can be done with.
+        assert_eq!(state.last_receipt(receipt), receipt);
+        assert!(state.are_in_flight(&[again.receipt], 34_999));
+    }
+
+    #[test]
+    fn what_is_too_old_is_set_aside() {
+        let mut state = state();
+        send(&mut state, 1, 1000);
+        let four_days = 345_600_000;
+        assert_eq!(receive(&mut state, 1, false, 999 + four_days).1.len(), 0);
+        assert!(!state.has_old(&Jumps::default(), 999 + four_days));
+        assert!(state.has_old(&Jumps::default(), 1000 + four_days));
+        let (handed, set_aside) = receive(&mut state, 2, false, 1000 + four_days);
+        assert_eq!((handed.len(), set_aside[0].1), (0, Fate::Old));
     }
 }

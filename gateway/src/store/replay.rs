@@ -43,6 +43,8 @@ pub enum ReplayError {
 pub struct Replayed {
     /// How many records the journal has.
     pub records: u64,
+    /// The latest clock of these.
+    pub latest: Moment,
     /// Names that the store has and that no queue goes by any more, with the queues that went by them.
     pub left_over: Vec<(StoreName, Arc<Queue>)>,
 }
@@ -86,6 +88,7 @@ struct Replay {
     records: u64,
     asked: u64,
     last_clock: Moment,
+    latest: Moment,
     /// The journal has no more records.
     is_read: bool,
     /// The program has answered all.
@@ -116,6 +119,7 @@ pub async fn replay_all(
         ready.push(cq);
         // Each of them has seen all records.
         all.records = replayed.records;
+        all.latest = replayed.latest;
         all.left_over.extend(replayed.left_over);
     }
     Ok((ready, all))
@@ -140,6 +144,7 @@ pub async fn replay(
         records: 0,
         asked: 0,
         last_clock: 0,
+        latest: 0,
         is_read: false,
         is_done: false,
     };
@@ -169,7 +174,8 @@ pub async fn replay(
         incoming.reserve(PIECE);
     }
     reader.await.map_err(|error| JournalError::Io(error.to_string()))??;
-    Ok(Replayed { records: replay.records, left_over: replay.left_over() })
+    let (records, latest) = (replay.records, replay.latest);
+    Ok(Replayed { records, latest, left_over: replay.left_over() })
 }
 
 impl Replay {
@@ -197,6 +203,15 @@ impl Replay {
 
     fn take_record(&mut self, line: &[u8]) -> Option<()> {
         let record = Record::read(line)?;
+        self.latest = self.latest.max(record.clock);
+        if let Some(uncounted) = record.uncounted {
+            // It counts from its moment on, so nothing has to wait for its turn.
+            if let Some(tables) = &self.tables {
+                tables.clock.go_on_from(record.clock);
+                tables.queues.jumps().note(record.clock, uncounted);
+            }
+            return Some(());
+        }
         let store = record.store_name()?;
         if let Some(tables) = &self.tables {
             tables.clock.go_on_from(record.clock);

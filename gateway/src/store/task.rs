@@ -25,7 +25,7 @@ use crate::lines::{self, BadOutput, Fields, Output, Reply};
 use crate::messages::Form;
 use crate::queues::ask::{Ask, Change, Outcome};
 use crate::queues::shards::{Shard, Shards};
-use crate::queues::{Queue, Queues};
+use crate::queues::{Queue, Queues, State};
 
 /// Why the store doesn't go on.
 #[derive(Debug, Error)]
@@ -378,9 +378,9 @@ impl Task {
 
     fn ask(&mut self, queue: Arc<Queue>, ask: Ask) -> Result<Asking, Ended> {
         let ready = |answer| Ok(Asking::Begun(Entry::Ready(Some(answer))));
-        let (store, base) = {
+        let (store, base, ask) = {
             let state = queue.state();
-            (state.store, state.base)
+            (state.store, state.base, with_last_receipt(ask, &state))
         };
         if let Some(answer) = answer_about_earlier(&ask, base) {
             return ready(answer);
@@ -694,6 +694,17 @@ fn answer_about_earlier(ask: &Ask, base: u64) -> Option<Answer> {
         Ask::Delete { receipt, .. } if receipt.sequence <= base => Some(Ok(Outcome::Done)),
         Ask::Change { receipt, .. } if receipt.sequence <= base => Some(Err(SqsError::of_no_message())),
         _ => None,
+    }
+}
+
+/// Handings to the gateway itself take nothing from who had the message before.
+fn with_last_receipt(ask: Ask, state: &State) -> Ask {
+    match ask {
+        Ask::Delete { receipt, by_client } => Ask::Delete { receipt: state.last_receipt(receipt), by_client },
+        Ask::Change { receipt, visibility, by_attempt } => {
+            Ask::Change { receipt: state.last_receipt(receipt), visibility, by_attempt }
+        }
+        other => other,
     }
 }
 

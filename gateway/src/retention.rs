@@ -1,0 +1,156 @@
+//! How old messages get: receives delete those that are older, and a sweep those that nobody asks for.
+
+use std::sync::{Arc, PoisonError, RwLock};
+use std::time::Duration;
+
+use crate::clock::Moment;
+use crate::errors::SqsError;
+use crate::queues::ask::{Ask, Outcome};
+use crate::queues::Queue;
+use crate::store::{Held, Store};
+
+/// Of the time between the last record of a journal and the start that finds it, so much makes messages older, in
+/// milliseconds.
+const COUNTED: u64 = 24 * 3_600_000;
+
+/// So often queues are looked at.
+const PAUSE: Duration = Duration::from_secs(1);
+
+/// So many messages are looked at in one turn at a queue, and in one receive.
+const TURN: usize = 100;
+const AT_ONCE: u8 = 10;
+
+/// A start that found the clock far ahead of the last record.
+#[derive(Clone, Copy, Debug, PartialEq, Eq)]
+struct Jump {
+    /// When the start was.
+    moment: Moment,
+    /// So many milliseconds before it don't count.
+    uncounted: u64,
+}
+
+/// The jumps of all starts, in order.
+#[derive(Debug, Default)]
+pub struct Jumps(RwLock<Vec<Jump>>);
+
+impl Jumps {
+    /// Of the time before a start at `moment` so many milliseconds make no message older. A jump that is known already
+    /// is passed over.
+    pub fn note(&self, moment: Moment, uncounted: u64) {
+        let mut jumps = self.0.write().unwrap_or_else(PoisonError::into_inner);
+        if jumps.last().map_or(true, |last| last.moment < moment) {
+            jumps.push(Jump { moment, uncounted });
+        }
+    }
+
+    /// The last moment of a send whose message is too old at `now`, where messages are kept for `period` milliseconds.
+    pub fn horizon(&self, now: Moment, period: u64) -> Option<Moment> {
+        let mut horizon = now.checked_sub(period)?;
+        let jumps = self.0.read().unwrap_or_else(PoisonError::into_inner);
+        for jump in jumps.iter().rev().filter(|jump| jump.moment <= now) {
+            if horizon >= jump.moment {
+                break;
+            }
+            horizon = horizon.checked_sub(jump.uncounted)?;
+        }
+        Some(horizon)
+    }
+}
+
+/// How much of the time from the last record to a start doesn't count, in milliseconds, if any.
+pub fn uncounted(last_record: Moment, start: Moment) -> Option<u64> {
+    let passed = start.saturating_sub(last_record);
+    passed.checked_sub(COUNTED).filter(|uncounted| *uncounted > 0 && last_record > 0)
+}
+
+/// Sweeps queues for as long as the gateway serves.
+pub async fn keep_sweeping(store: Store) {
+    loop {
+        tokio::time::sleep(PAUSE).await;
+        for queue in store.queues().all() {
+            while is_due(&store, &queue) {
+                if let Err(error) = sweep(&store, &queue).await {
+                    tracing::warn!("old messages of {} stay for now: {error}", queue.name);
+                    break;
+                }
+            }
+        }
+    }
+}
+
+fn is_due(store: &Store, queue: &Queue) -> bool {
+    queue.state().is_worth_sweeping(store.queues().jumps(), store.clock().now())
+}
+
+/// Deletes some messages that are too old, while nobody else has the queue. Groups in flight are left alone.
+async fn sweep(store: &Store, queue: &Arc<Queue>) -> Result<(), SqsError> {
+    let held = store.hold(queue).await?;
+    for _ in 0..TURN / usize::from(AT_ONCE) {
+        if !is_due(store, queue) {
+            break;
+        }
+        if !sweep_some(store, queue, &held).await? {
+            queue.state().note_vain_sweep(store.clock().now());
+            break;
+        }
+    }
+    Ok(())
+}
+
+/// Hands some messages to itself, without hiding them, and deletes those that are too old. Tells whether there were any.
+async fn sweep_some(store: &Store, queue: &Arc<Queue>, held: &Held) -> Result<bool, SqsError> {
+    let ask = Ask::Receive { size: AT_ONCE, visibility: 0, attempt: None, own: true };
+    let Outcome::Received { handed, .. } = held.ask(ask).await? else { return Ok(false) };
+    let now = store.clock().now();
+    let receipts = handed.into_iter().map(|handed| handed.receipt);
+    let deletes: Vec<_> = {
+        let state = queue.state();
+        let old = receipts.filter(|receipt| state.is_old(receipt.sequence, store.queues().jumps(), now));
+        old.map(|receipt| Ask::Delete { receipt, by_client: false }).collect()
+    };
+    let has_old = !deletes.is_empty();
+    for answer in held.ask_all(deletes).await {
+        answer?;
+    }
+    Ok(has_old)
+}
+
+#[cfg(test)]
+mod tests {
+    use super::*;
+
+    #[test]
+    fn time_that_does_not_count_makes_no_message_older() {
+        let jumps = Jumps::default();
+        assert_eq!((jumps.horizon(99, 100), jumps.horizon(100, 100)), (None, Some(0)));
+        // A start at 1,000 of which 300 don't count, and one at 5,000 of which 1,000 don't.
+        jumps.note(1000, 300);
+        jumps.note(5000, 1000);
+        jumps.note(5000, 1000);
+        let age = |sent: Moment, now: Moment| {
+            let after = |moment: Moment| sent < moment && moment <= now;
+            now - sent - if after(1000) { 300 } else { 0 } - if after(5000) { 1000 } else { 0 }
+        };
+        for (period, sent, now) in
+            [(100, 599, 999), (100, 500, 1000), (100, 601, 1000), (100, 1000, 1100), (100, 1001, 1100)]
+        {
+            let is_old = jumps.horizon(now, period).is_some_and(|horizon| sent <= horizon);
+            assert_eq!(is_old, age(sent, now) >= period, "{period} {sent} {now}");
+        }
+        for (sent, now) in [(0, 5699), (0, 5700), (3999, 5000), (4000, 5399), (4000, 5400), (5000, 9399), (5000, 9400)]
+        {
+            for period in [400, 1000, 4400] {
+                let is_old = jumps.horizon(now, period).is_some_and(|horizon| sent <= horizon);
+                assert_eq!(is_old, age(sent, now) >= period, "{period} {sent} {now}");
+            }
+        }
+    }
+
+    #[test]
+    fn a_day_of_a_jump_counts() {
+        assert_eq!(uncounted(1, 1 + COUNTED), None);
+        assert_eq!(uncounted(1, 2 + COUNTED), Some(1));
+        assert_eq!(uncounted(0, 2 + COUNTED), None, "there is no record");
+        assert_eq!(uncounted(9, 5), None);
+    }
+}

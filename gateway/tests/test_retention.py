@@ -1,0 +1,149 @@
+"""How long messages are kept (API Reference, SetQueueAttributes, `MessageRetentionPeriod`)."""
+
+from __future__ import annotations
+
+import subprocess
+import time
+from collections.abc import Callable
+
+import pytest
+
+from conftest import Rules, new_name
+from started import ByBoto3, Started, command, environment
+
+MINUTE = 60_000
+DAY = 24 * 3_600_000
+
+
+@pytest.fixture
+def kept(gateway) -> Rules:
+    return Rules(ByBoto3(gateway.client()), lambda step: gateway.set_clock(gateway.moment + step))
+
+
+def counts(rules: Rules, queue: str) -> tuple[int, int]:
+    told = rules.call("GetQueueAttributes", QueueUrl=queue, AttributeNames=["All"])["Attributes"]
+    return int(told["ApproximateNumberOfMessages"]), int(told["ApproximateNumberOfMessagesNotVisible"])
+
+
+def wait_for(what: Callable[[], bool]) -> None:
+    latest = time.monotonic() + 20
+    while not what():
+        assert time.monotonic() < latest
+        time.sleep(0.05)
+
+
+def test_a_message_is_handed_out_until_it_is_too_old(kept):
+    queue = kept.queue(MessageRetentionPeriod="60", VisibilityTimeout="0")
+    kept.send(queue, "1", body="old")
+    kept.move(MINUTE - 1)
+    kept.send(queue, "2", body="young")
+    assert kept.bodies(queue, 1) == ["old"]
+    kept.move(1)
+    # Its group goes on, in the same receive.
+    (message,) = kept.receive(queue, 1, AttributeNames=["All"])
+    assert message["Body"] == "young" and message["Attributes"]["ApproximateReceiveCount"] == "1"
+    wait_for(lambda: counts(kept, queue) == (1, 0))
+
+
+def test_a_change_of_the_period_acts_on_what_is_there(kept):
+    queue = kept.queue(MessageRetentionPeriod="1209600")
+    kept.send(queue, "1", group="a")
+    kept.move(14 * DAY - 1)
+    assert counts(kept, queue) == (1, 0)
+    kept.call("SetQueueAttributes", QueueUrl=queue, Attributes={"MessageRetentionPeriod": "60"})
+    assert kept.bodies(queue) == []
+    wait_for(lambda: counts(kept, queue) == (0, 0))
+
+
+def test_messages_go_for_which_nobody_asks(kept):
+    queue = kept.queue(MessageRetentionPeriod="60")
+    for number in range(25):
+        kept.send(queue, str(number), group=f"g{number % 7}")
+    kept.move(MINUTE - 1)
+    kept.send(queue, "young")
+    kept.move(1)
+    wait_for(lambda: counts(kept, queue) == (1, 0))
+
+
+def test_what_is_in_flight_is_left_to_who_has_it(kept):
+    queue = kept.queue(MessageRetentionPeriod="60", VisibilityTimeout="120")
+    kept.send(queue, "1", group="held", body="held")
+    kept.send(queue, "2", group="held", body="behind")
+    kept.send(queue, "3", group="other", body="gone")
+    (held,) = kept.receive(queue, 1)
+    kept.move(MINUTE)
+    wait_for(lambda: counts(kept, queue) == (1, 1))
+    kept.change(queue, held, 90)
+    kept.move(90_000 - 1)
+    assert counts(kept, queue) == (1, 1)
+    kept.delete(queue, held)
+    wait_for(lambda: counts(kept, queue) == (0, 0))
+
+
+def test_a_sweep_takes_no_handing_from_anybody(tmp_path):
+    journal = tmp_path / "journal"
+    gateway = Started("--journal", str(journal), room=tmp_path)
+    rules = Rules(ByBoto3(gateway.client()), lambda step: gateway.set_clock(gateway.moment + step))
+    queue = rules.queue(MessageRetentionPeriod="60", VisibilityTimeout="600")
+    rules.send(queue, "1", group="held")
+    rules.send(queue, "2", group="held")
+    assert len(rules.receive(queue, 1)) == 1
+    rules.move(MINUTE - 1)
+    for number in "abc":
+        rules.send(queue, number, group=number, body=number)
+    first = rules.receive(queue, 2, VisibilityTimeout=0)
+    assert [message["Body"] for message in first] == ["a", "b"]
+    rules.move(1)
+    # The second message of the group is too old, and waits behind what is in flight: the sweep is handed the others.
+    wait_for(lambda: b'"own":true' in (tmp_path / "journal.1").read_bytes())
+    rules.delete(queue, first[0])
+    again = rules.receive(queue, AttributeNames=["All"])
+    assert [(message["Body"], message["Attributes"]["ApproximateReceiveCount"]) for message in again] == [
+        ("b", "2"), ("c", "1")]
+    gateway.kill()
+    gateway.start()
+    rules.call = ByBoto3(gateway.client())
+    (b, c) = again
+    rules.delete(queue, b)
+    rules.change(queue, c, 0)
+    (c,) = rules.receive(queue, AttributeNames=["All"])
+    assert (c["Body"], c["Attributes"]["ApproximateReceiveCount"]) == ("c", "2")
+    assert gateway.stop() == 0
+
+
+def test_a_long_poll_goes_on_behind_old_messages(kept):
+    queue = kept.queue(MessageRetentionPeriod="60")
+    for number in range(120):
+        kept.send(queue, str(number), group=f"g{number % 3}")
+    kept.move(MINUTE)
+    kept.send(queue, "young", group="g0", body="young")
+    began = time.monotonic()
+    assert kept.bodies(queue, 1, WaitTimeSeconds=20) == ["young"]
+    assert time.monotonic() - began < 10
+
+
+def test_a_stop_counts_with_a_day_at_most(tmp_path):
+    journal = tmp_path / "journal"
+    gateway = Started("--journal", str(journal), room=tmp_path)
+    name = new_name()
+    attributes = {"FifoQueue": "true", "MessageRetentionPeriod": str(3 * 86_400)}
+
+    def bodies(**more) -> list[str]:
+        got = ByBoto3(gateway.client())("ReceiveMessage", QueueUrl=name, VisibilityTimeout=0, **more)
+        return [message["Body"] for message in got.get("Messages", [])]
+
+    call = ByBoto3(gateway.client())
+    call("CreateQueue", QueueName=name, Attributes=attributes)
+    call("SendMessage", QueueUrl=name, MessageBody="b", MessageGroupId="g", MessageDeduplicationId="d")
+    for days in (10, 0):
+        assert gateway.stop() == 0
+        gateway.set_clock(gateway.moment + days * DAY)
+        gateway.start()
+        assert bodies() == ["b"]
+    gateway.set_clock(gateway.moment + 2 * DAY - 1)
+    assert bodies() == ["b"]
+    gateway.set_clock(gateway.moment + 1)
+    assert bodies() == []
+    assert gateway.stop() == 0
+    told = subprocess.run(command("verify", str(journal)), env=environment(), capture_output=True, check=True).stdout
+    assert b"1 starts found the clock more than a day ahead" in told
