@@ -6,6 +6,7 @@ use serde::{Deserialize, Serialize};
 
 use crate::errors::SqsError;
 use crate::policy::Policy;
+use crate::redrive::{RedriveAllowPolicy, RedrivePolicy, REDRIVE_ALLOW_POLICY, REDRIVE_POLICY};
 
 /// The largest `MaximumMessageSize`, which is its default as well, in bytes. A batch has at most as many in all.
 pub const LONGEST_MESSAGE: usize = 1_048_576;
@@ -21,10 +22,8 @@ enum Rule {
     OneOf(&'static [&'static str]),
     Whole(u64, u64),
     AnyText,
-    /// A policy in JSON, or the empty text.
-    Policy,
-    /// Nothing but the empty text, since the feature isn't there.
-    Nothing,
+    /// A policy that is read so. The empty text removes it.
+    Policy(fn(&str) -> Result<(), SqsError>),
 }
 
 struct Attribute {
@@ -43,8 +42,6 @@ const fn attribute(name: &'static str, rule: Rule, default: Option<&'static str>
 const KEY: &str = "KmsMasterKeyId";
 const MANAGED_KEYS: &str = "SqsManagedSseEnabled";
 
-const NO_DEAD_LETTERS: &str = "Dead-letter queues are not supported.";
-
 /// All attributes that a client can set (API Reference, CreateQueue, `Attributes`).
 static ATTRIBUTES: [Attribute; 15] = [
     attribute("ContentBasedDeduplication", Rule::Flag, Some("false")),
@@ -61,10 +58,10 @@ static ATTRIBUTES: [Attribute; 15] = [
     attribute(KEY, Rule::AnyText, None),
     attribute("MaximumMessageSize", Rule::Whole(1_024, LONGEST_MESSAGE as u64), Some("1048576")),
     attribute("MessageRetentionPeriod", Rule::Whole(60, 1_209_600), Some("345600")),
-    attribute("Policy", Rule::Policy, None),
+    attribute("Policy", Rule::Policy(test_policy), None),
     attribute("ReceiveMessageWaitTimeSeconds", Rule::Whole(0, 20), Some("0")),
-    Attribute { name: "RedriveAllowPolicy", rule: Rule::Nothing, default: None, reason: NO_DEAD_LETTERS },
-    Attribute { name: "RedrivePolicy", rule: Rule::Nothing, default: None, reason: NO_DEAD_LETTERS },
+    attribute(REDRIVE_ALLOW_POLICY, Rule::Policy(|text| RedriveAllowPolicy::parse(text).map(drop)), None),
+    attribute(REDRIVE_POLICY, Rule::Policy(|text| RedrivePolicy::parse(text).map(drop)), None),
     attribute(MANAGED_KEYS, Rule::Flag, Some("true")),
     attribute("VisibilityTimeout", Rule::Whole(0, 43_200), Some("30")),
 ];
@@ -78,24 +75,24 @@ impl Attribute {
                 whole(value).filter(|number| (least..=most).contains(number)).map(|number| number.to_string())
             }
             Rule::AnyText => Some(value.to_string()),
-            Rule::Policy => (value.is_empty() || Policy::is_one(value)).then(|| value.to_string()),
-            Rule::Nothing => value.is_empty().then(String::new),
+            Rule::Policy(read) => {
+                if !value.is_empty() {
+                    read(value)?;
+                }
+                Some(value.to_string())
+            }
         };
         read.ok_or_else(|| SqsError::attribute_value(self.name, self.reason))
-    }
-
-    /// Whether two values mean the same: JSON may be written in several ways.
-    fn is_same(&self, one: &str, other: &str) -> bool {
-        let parsed = |text: &str| serde_json::from_str::<serde_json::Value>(text).ok();
-        match self.rule {
-            Rule::Policy => one == other || parsed(one).is_some_and(|one| parsed(other) == Some(one)),
-            _ => one == other,
-        }
     }
 }
 
 fn find(name: &str) -> Option<&'static Attribute> {
     ATTRIBUTES.iter().find(|attribute| attribute.name == name)
+}
+
+/// A policy of who may do what: a JSON object with a statement.
+fn test_policy(text: &str) -> Result<(), SqsError> {
+    Policy::is_one(text).then_some(()).ok_or_else(|| SqsError::attribute_value("Policy", ""))
 }
 
 /// A number written in digits alone.
@@ -149,6 +146,11 @@ impl Given {
     pub fn is_empty(&self) -> bool {
         self.0.is_empty()
     }
+
+    /// The value that is given for an attribute, if any.
+    pub fn text(&self, name: &str) -> Option<&str> {
+        self.0.get(name).map(String::as_str)
+    }
 }
 
 /// All attributes that a queue has.
@@ -175,7 +177,7 @@ impl QueueAttributes {
     /// (API Reference, CreateQueue, `QueueNameExists`).
     pub fn test_same(&self, given: &Given) -> Result<(), SqsError> {
         for (name, value) in &given.0 {
-            if !find(name).is_some_and(|attribute| attribute.is_same(self.text(name), value)) {
+            if !is_same(name, self.value(name), value) {
                 return Err(SqsError::QueueNameExists { attribute: name.clone() });
             }
         }
@@ -206,7 +208,7 @@ impl QueueAttributes {
     /// The throughput can be a group's only where deduplication is
     /// (API Reference, SetQueueAttributes, `FifoThroughputLimit`).
     fn test_together(&self) -> Result<(), SqsError> {
-        let per_group = self.text("FifoThroughputLimit") == "perMessageGroupId";
+        let per_group = self.value("FifoThroughputLimit") == "perMessageGroupId";
         if per_group && !self.dedups_by_group() {
             return Err(SqsError::attribute_value(
                 "FifoThroughputLimit",
@@ -216,12 +218,17 @@ impl QueueAttributes {
         Ok(())
     }
 
-    fn text(&self, name: &str) -> &str {
-        self.0.get(name).map_or("", String::as_str)
+    /// The value of an attribute that the queue has.
+    pub fn text(&self, name: &str) -> Option<&str> {
+        self.0.get(name).map(String::as_str)
+    }
+
+    fn value(&self, name: &str) -> &str {
+        self.text(name).unwrap_or_default()
     }
 
     fn number(&self, name: &str) -> u64 {
-        self.text(name).parse().unwrap_or(0)
+        self.value(name).parse().unwrap_or(0)
     }
 
     /// Seconds, from 0 to 43,200.
@@ -236,7 +243,7 @@ impl QueueAttributes {
 
     /// So long a message is kept, in milliseconds.
     pub fn retention(&self) -> u64 {
-        1000 * self.text("MessageRetentionPeriod").parse().unwrap_or(345_600)
+        1000 * self.value("MessageRetentionPeriod").parse().unwrap_or(345_600)
     }
 
     /// Bytes of a body with its attributes.
@@ -246,20 +253,37 @@ impl QueueAttributes {
 
     /// The policy as it was given; empty if there is none.
     pub fn policy(&self) -> &str {
-        self.text("Policy")
+        self.value("Policy")
+    }
+
+    /// What is said of dead letters, if anything is.
+    pub fn redrive(&self) -> Option<RedrivePolicy> {
+        self.text(REDRIVE_POLICY).and_then(|text| RedrivePolicy::parse(text).ok())
     }
 
     pub fn dedups_by_content(&self) -> bool {
-        self.text("ContentBasedDeduplication") == "true"
+        self.value("ContentBasedDeduplication") == "true"
     }
 
     pub fn dedups_by_group(&self) -> bool {
-        self.text("DeduplicationScope") == "messageGroup"
+        self.value("DeduplicationScope") == "messageGroup"
     }
 
     pub fn iter(&self) -> impl Iterator<Item = (&str, &str)> {
         self.0.iter().map(|(name, value)| (name.as_str(), value.as_str()))
     }
+}
+
+/// Whether two values of an attribute say the same: policies are compared by what they say.
+fn is_same(name: &str, one: &str, other: &str) -> bool {
+    let parsed = |text: &str| serde_json::from_str::<serde_json::Value>(text).ok();
+    let is_json = matches!(name, "Policy" | REDRIVE_ALLOW_POLICY | REDRIVE_POLICY);
+    let is_same_policy = match name {
+        REDRIVE_POLICY => RedrivePolicy::parse(one).ok().zip(RedrivePolicy::parse(other).ok()),
+        _ => None,
+    };
+    let is_same_json = || is_json && parsed(one).is_some_and(|one| parsed(other) == Some(one));
+    one == other || is_same_policy.is_some_and(|(one, other)| one == other) || is_same_json()
 }
 
 /// Which attributes a client wants to be told.
@@ -315,7 +339,6 @@ mod tests {
             ("MaximumMessageSize", "1023"),
             ("MaximumMessageSize", "1048577"),
             ("FifoQueue", "perhaps"),
-            ("RedrivePolicy", "{}"),
             ("DelaySeconds", "1"),
             ("Policy", "{}"),
         ] {
@@ -333,6 +356,7 @@ mod tests {
         assert!(attributes.test_same(&given(&[("VisibilityTimeout", "7")]).unwrap()).is_ok());
         assert!(attributes.test_same(&given(&[("VisibilityTimeout", "8")]).unwrap()).is_err());
         assert!(attributes.test_same(&given(&[("RedrivePolicy", "")]).unwrap()).is_ok());
+        assert!(given(&[("RedrivePolicy", "{}")]).is_err());
         assert!(attributes.test_change(&given(&[("FifoQueue", "false")]).unwrap()).is_err());
         let limit = given(&[("FifoThroughputLimit", "perMessageGroupId")]).unwrap();
         assert!(attributes.test_change(&limit).is_err());
@@ -352,7 +376,7 @@ mod tests {
     fn a_queue_has_one_kind_of_keys() {
         let told = |pairs: &[(&str, &str)]| {
             let attributes = QueueAttributes::for_creation(&given(pairs).unwrap()).unwrap();
-            (attributes.text(KEY).to_string(), attributes.text(MANAGED_KEYS).to_string())
+            (attributes.value(KEY).to_string(), attributes.value(MANAGED_KEYS).to_string())
         };
         assert_eq!(told(&[]), (String::new(), "true".into()));
         assert_eq!(told(&[(KEY, "k")]), ("k".into(), "false".into()));
@@ -360,8 +384,8 @@ mod tests {
         assert!(given(&[(KEY, "k"), (MANAGED_KEYS, "true")]).is_err());
         let mut attributes = QueueAttributes::for_creation(&given(&[(KEY, "k")]).unwrap()).unwrap();
         attributes.set(&given(&[(MANAGED_KEYS, "true")]).unwrap().with_what_it_ends());
-        assert_eq!((attributes.text(KEY), attributes.text(MANAGED_KEYS)), ("", "true"));
+        assert_eq!((attributes.value(KEY), attributes.value(MANAGED_KEYS)), ("", "true"));
         attributes.set(&given(&[(KEY, "k")]).unwrap().with_what_it_ends());
-        assert_eq!((attributes.text(KEY), attributes.text(MANAGED_KEYS)), ("k", "false"));
+        assert_eq!((attributes.value(KEY), attributes.value(MANAGED_KEYS)), ("k", "false"));
     }
 }

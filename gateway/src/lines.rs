@@ -62,7 +62,7 @@ impl<'a> Fields<'a> {
                 Fields { visibility: Some(*visibility), ..Fields::new(Kind::Create, *store) }
             }
             Ask::Remove { store, .. } => Fields::new(Kind::Remove, *store),
-            Ask::Send { group, dedup, form } => Fields {
+            Ask::Send { group, dedup, form, .. } => Fields {
                 group: Some(group.as_str().into()),
                 dedup: Some(dedup.as_str().into()),
                 body: Some(form.stored().into()),

@@ -6,7 +6,7 @@ use serde::{Deserialize, Serialize};
 use uuid::Uuid;
 
 use crate::errors::SqsError;
-use crate::texts::{test_characters, Body, DedupId, STORE_LIMIT};
+use crate::texts::{test_characters, Body, DedupId, QueueName, STORE_LIMIT};
 
 /// The one message system attribute that a send may carry (API Reference, SendMessage, `MessageSystemAttributes`).
 pub const TRACE_HEADER: &str = "AWSTraceHeader";
@@ -205,6 +205,9 @@ pub struct Kept {
     /// The trace header, where there is one.
     #[serde(default, skip_serializing_if = "Option::is_none")]
     pub trace: Option<AttributeValue>,
+    /// The queue from which it was moved here, where it was.
+    #[serde(default, skip_serializing_if = "Option::is_none")]
+    pub source: Option<QueueName>,
 }
 
 /// The head of a form that says that the rest of it stands elsewhere.
@@ -282,6 +285,7 @@ mod tests {
             sender: None,
             attributes: MessageAttributes::new(),
             trace: None,
+            source: None,
         }
     }
 

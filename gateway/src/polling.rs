@@ -7,7 +7,7 @@ use std::time::Duration;
 use tokio::sync::oneshot;
 use tokio::time::Instant;
 
-use crate::deliveries::see_to;
+use crate::deliveries::{of_now, see_to, Seen};
 use crate::ending::Ending;
 use crate::errors::SqsError;
 use crate::presence::Presence;
@@ -177,21 +177,27 @@ async fn try_some(store: &Store, queue: &Arc<Queue>, count: u64) -> bool {
     if polls.is_empty() {
         return false;
     }
-    let asks = polls.iter().map(|poll| poll.ask.clone()).collect();
+    let asks = polls.iter().map(|poll| of_now(store, queue, &poll.ask)).collect();
     let answers = store.ask_all(queue, asks).await;
     let mut all_handed = true;
     // From the last to the first, so that those that go back stand in their order.
     for (poll, answer) in polls.into_iter().zip(answers).rev() {
         match answer {
             Ok(Outcome::Received { handed, set_aside, .. }) => {
-                all_handed &= !handed.is_empty() || !set_aside.is_empty();
-                match see_to(store, queue, set_aside).await {
-                    Ok(()) if handed.is_empty() && poll.deadline > Instant::now() => queue.polls.put_back(poll),
+                let found = match see_to(store, queue, handed, set_aside).await {
                     // A client that went while its try was on its way isn't noticed here.
-                    seen => {
-                        let _ = poll.done.send(seen.map(|()| handed));
+                    Ok(Seen::Handed(handed)) => Ok(handed),
+                    Ok(other) => {
+                        all_handed &= matches!(other, Seen::Gone);
+                        if poll.deadline > Instant::now() {
+                            queue.polls.put_back(poll);
+                            continue;
+                        }
+                        Ok(Vec::new())
                     }
-                }
+                    Err(error) => Err(error),
+                };
+                let _ = poll.done.send(found);
             }
             Ok(_) => {
                 let _ = poll.done.send(Ok(Vec::new()));

@@ -99,7 +99,7 @@ async fn sweep(store: &Store, queue: &Arc<Queue>) -> Result<(), SqsError> {
 
 /// Hands some messages to itself, without hiding them, and deletes those that are too old. Tells whether there were any.
 async fn sweep_some(store: &Store, queue: &Arc<Queue>, held: &Held) -> Result<bool, SqsError> {
-    let ask = Ask::Receive { size: AT_ONCE, visibility: 0, attempt: None, own: true };
+    let ask = Ask::Receive { size: AT_ONCE, visibility: 0, attempt: None, most: None, own: true };
     let Outcome::Received { handed, .. } = held.ask(ask).await? else { return Ok(false) };
     let now = store.clock().now();
     let receipts = handed.into_iter().map(|handed| handed.receipt);

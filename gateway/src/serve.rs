@@ -22,6 +22,7 @@ use crate::http::{is_of_this_machine, listen, Addresses, Door, Service};
 use crate::journal::{self, Batch, Journal, Record, Taken};
 use crate::limits::Bounds;
 use crate::metrics::Metrics;
+use crate::moves;
 use crate::queues::ask::Ask;
 use crate::queues::shards::Shards;
 use crate::queues::Queues;
@@ -191,6 +192,7 @@ async fn begin(settings: &Settings, health: &Health) -> Result<Begun> {
     let (program, bounds) = (settings.program.clone(), settings.bounds);
     let (store, ended) = store::start(Start { program, shards, cqs, queues, clock, journal: journal.clone(), bounds });
     remove_left_over(&store, &replayed).await?;
+    moves::finish(&store).await?;
     Ok(Begun { store, ended, journal })
 }
 

@@ -245,6 +245,8 @@ class ByQuery:
                 found.setdefault("Failed", []).append(self._members(child))
             elif child.tag == "QueueUrl" and element.tag == "ListQueuesResult":
                 found.setdefault("QueueUrls", []).append(child.text)
+            elif child.tag == "QueueUrl" and element.tag == "ListDeadLetterSourceQueuesResult":
+                found.setdefault("queueUrls", []).append(child.text)
             else:
                 found[child.tag] = {"true": True, "false": False}.get(child.text, child.text or "")
         return found

@@ -206,8 +206,8 @@ def test_tags(call):
     ("q.fifo", {"FifoQueue": "true", "VisibilityTimeout": "43201"}, "InvalidAttributeValue"),
     ("q.fifo", {"FifoQueue": "true", "VisibilityTimeout": "-1"}, "InvalidAttributeValue"),
     ("q.fifo", {"FifoQueue": "true", "DelaySeconds": "1"}, "InvalidAttributeValue"),
-    ("q.fifo", {"FifoQueue": "true", "RedrivePolicy": "{}"}, "InvalidAttributeValue"),
-    ("q.fifo", {"FifoQueue": "true", "RedriveAllowPolicy": "{}"}, "InvalidAttributeValue"),
+    ("q.fifo", {"FifoQueue": "true", "RedrivePolicy": "{}"}, "InvalidParameterValue"),
+    ("q.fifo", {"FifoQueue": "true", "RedriveAllowPolicy": "{}"}, "InvalidParameterValue"),
     ("q.fifo", {"FifoQueue": "true", "MaximumMessageSize": "1048577"}, "InvalidAttributeValue"),
     ("q.fifo", {"FifoQueue": "true", "MaximumMessageSize": "1023"}, "InvalidAttributeValue"),
     ("q.fifo", {"FifoQueue": "true", "ReceiveMessageWaitTimeSeconds": "21"}, "InvalidAttributeValue"),
@@ -248,13 +248,13 @@ def test_all_actions_on_no_queue_are_refused(call, gateway):
         "ListQueueTags": {},
         "AddPermission": {"Label": "l", "AWSAccountIds": ["123456789012"], "Actions": ["SendMessage"]},
         "RemovePermission": {"Label": "l"},
+        "ListDeadLetterSourceQueues": {},
     }.items():
         assert refusal(call, action, QueueUrl=none, **members) == "NonExistentQueue", action
 
 
 def test_what_is_not_done_is_refused(call):
     queue = new_queue(call)
-    assert refusal(call, "ListDeadLetterSourceQueues", QueueUrl=queue) == "UnsupportedOperation"
     assert refusal(call, "SendMessage", QueueUrl=queue, MessageBody="b", MessageGroupId="g",
                    MessageDeduplicationId="d", DelaySeconds=1) == "InvalidParameterValue"
 

@@ -70,10 +70,11 @@ impl Actions {
             sender: caller.identity.as_ref().map(|identity| identity.name().to_string()),
             attributes: message.attributes.clone(),
             trace: message.trace.clone(),
+            source: None,
         };
         let form = Form::new(&kept, &message.body)
             .map_err(|error| SqsError::InternalFailure(format!("The message can't be kept: {error}")))?;
-        Ok(Ask::Send { group: message.group.clone(), dedup: for_store, form })
+        Ok(Ask::Send { group: message.group.clone(), dedup: for_store, form, copies: None })
     }
 
     pub(super) async fn delete(&self, name: &QueueName, handle: &str) -> Result<Performed, SqsError> {

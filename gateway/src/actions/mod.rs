@@ -1,5 +1,6 @@
 //! The actions of SQS: each becomes asks of the store, and their answers become a result.
 
+mod dead_letters;
 mod declared;
 mod identity;
 mod messages;
@@ -75,6 +76,16 @@ pub enum Pauses {
     None,
 }
 
+impl Owner {
+    /// The ARN of a queue, or of all by `*`.
+    fn arn(&self, queue: &str) -> String {
+        format!("arn:aws:sqs:{}:{}:{queue}", self.region, self.account)
+    }
+}
+
+/// The longest page of a list of queues.
+const LONGEST_PAGE: u32 = 1000;
+
 /// So many creations and removals can go on side by side.
 const TURNS: usize = 64;
 
@@ -111,9 +122,7 @@ impl Actions {
 
     /// The refusal of an action that a key doesn't allow.
     pub fn denied(&self, identity: &Identity, action: Action, queue: Option<&QueueName>) -> SqsError {
-        let Owner { account, region } = &self.owner;
-        let queue = queue.map_or("*", QueueName::as_str);
-        identity.refusal(action, &format!("arn:aws:sqs:{region}:{account}:{queue}"))
+        identity.refusal(action, &self.owner.arn(queue.map_or("*", QueueName::as_str)))
     }
 
     fn turn_of(&self, name: &QueueName) -> &Mutex<()> {
@@ -168,10 +177,13 @@ impl Actions {
             Request::GetQueueUrl { queue } => self.get_url(queue, caller),
             Request::ListQueues { prefix, most, after } => Ok(self.list(&prefix, most, &after, caller)),
             Request::GetQueueAttributes { queue, wanted } => self.get_attributes(&queue, &wanted).await,
-            Request::SetQueueAttributes { queue, attributes } => self.set_attributes(&queue, attributes).await,
+            Request::SetQueueAttributes { queue, attributes } => self.set_attributes(&queue, attributes, caller).await,
             Request::TagQueue { queue, tags } => self.tag(&queue, tags).await,
             Request::UntagQueue { queue, keys } => self.untag(&queue, keys).await,
             Request::ListQueueTags { queue } => self.list_tags(&queue),
+            Request::ListDeadLetterSourceQueues { queue, most, after } => {
+                self.list_sources(&queue, most, &after, caller)
+            }
             Request::PurgeQueue { queue } => self.purge(&queue).await,
             Request::AddPermission { queue, permission } => self.add_permission(&queue, &permission).await,
             Request::RemovePermission { queue, label } => self.remove_permission(&queue, &label).await,

@@ -2,7 +2,7 @@
 
 use std::sync::Arc;
 
-use super::{Actions, Caller, Pauses, Performed};
+use super::{Actions, Caller, Pauses, Performed, LONGEST_PAGE};
 use crate::attributes::{Given, QueueAttributes, Wanted, COUNTS};
 use crate::errors::SqsError;
 use crate::queues::ask::{Ask, Change, Creation, Outcome};
@@ -17,9 +17,6 @@ const PURGE_PAUSE: u64 = 60_000;
 
 /// How many deletes of a purge are asked for at once.
 const PURGED_AT_ONCE: usize = 32;
-
-/// The longest page of ListQueues.
-const LONGEST_PAGE: u32 = 1000;
 
 impl Actions {
     pub(super) async fn create(
@@ -36,6 +33,7 @@ impl Actions {
             return Ok(Performed::of_tables(url));
         }
         let attributes = QueueAttributes::for_creation(&given)?;
+        self.test_redrive(&name, &given, caller)?;
         let now = self.store.clock().now();
         if self.pauses == Pauses::AsSqs {
             self.store.queues().test_pause(&name, now)?;
@@ -92,14 +90,20 @@ impl Actions {
         let mut told: Vec<_> = own.collect();
         told.push(("CreatedTimestamp".into(), (state.created / 1000).to_string()));
         told.push(("LastModifiedTimestamp".into(), (state.modified / 1000).to_string()));
-        told.push(("QueueArn".into(), self.arn(&queue.name)));
+        told.push(("QueueArn".into(), self.owner.arn(queue.name.as_str())));
         told
     }
 
-    pub(super) async fn set_attributes(&self, name: &QueueName, given: Given) -> Result<Performed, SqsError> {
+    pub(super) async fn set_attributes(
+        &self,
+        name: &QueueName,
+        given: Given,
+        caller: &Caller,
+    ) -> Result<Performed, SqsError> {
         let _turn = self.turn_of(name).lock().await;
         let queue = self.queue(name)?;
         queue.state().attributes.test_change(&given)?;
+        self.test_redrive(name, &given, caller)?;
         self.store.note(&queue, Change::Attributes(given.with_what_it_ends())).await?;
         Ok(Response::Nothing.into())
     }
@@ -159,7 +163,7 @@ async fn delete_all(queue: &Queue, held: &Held) -> Result<(), SqsError> {
         if !queue.state().has_messages_up_to(u64::MAX) {
             return Ok(());
         }
-        let ask = Ask::Receive { size: 10, visibility: 0, attempt: None, own: true };
+        let ask = Ask::Receive { size: 10, visibility: 0, attempt: None, most: None, own: true };
         let Outcome::Received { handed, .. } = held.ask(ask).await? else { return Ok(()) };
         if handed.is_empty() {
             return Ok(());

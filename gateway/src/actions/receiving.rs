@@ -4,7 +4,7 @@ use std::sync::Arc;
 use std::time::Duration;
 
 use super::messages::sequence_number;
-use super::{Actions, Caller, Performed};
+use super::{Actions, Caller, Owner, Performed};
 use crate::deliveries::{self, Delivered};
 use crate::digests::{md5_of_attributes, md5_of_text};
 use crate::errors::SqsError;
@@ -36,9 +36,9 @@ impl Actions {
         let visibility = receive.visibility.unwrap_or(own_visibility);
         let wait = u64::from(receive.wait.unwrap_or(own_wait));
         if let Some(handed) = self.receive_again(&queue, &receive, visibility).await? {
-            return received(&queue, handed, &receive.shown);
+            return self.received(&queue, handed, &receive.shown);
         }
-        let ask = Ask::Receive { size: receive.size, visibility, attempt: receive.attempt, own: false };
+        let ask = Ask::Receive { size: receive.size, visibility, attempt: receive.attempt, most: None, own: false };
         let Delivered { mut handed, openings } = deliveries::receive(&self.store, &queue, ask.clone()).await?;
         if handed.is_empty() && wait > 0 {
             let _permit = self.polls.try_acquire().map_err(|_| too_many_polls())?;
@@ -48,7 +48,7 @@ impl Actions {
             // Receives that wait for nothing don't pay for its size.
             handed = Box::pin(polling::wait(&self.store, &queue, ask, waiting, openings)).await?;
         }
-        received(&queue, handed, &receive.shown)
+        self.received(&queue, handed, &receive.shown)
     }
 
     /// What the attempt was given before, with the timeout begun anew, if that is still to be had.
@@ -64,44 +64,46 @@ impl Actions {
         let answers = self.store.ask_all(queue, found.iter().map(change).collect()).await;
         Ok(answers.iter().all(Result::is_ok).then_some(found))
     }
+
+    fn received(&self, queue: &Arc<Queue>, handed: Vec<Handed>, shown: &Shown) -> Result<Performed, SqsError> {
+        let messages = handed.iter().map(|one| self.show(queue, one, shown)).collect::<Result<_, _>>()?;
+        let receipts = handed.iter().map(|one| one.receipt).collect();
+        let handed = (!handed.is_empty()).then(|| (queue.clone(), receipts));
+        Ok(Performed { handed, ..Response::Messages(messages).into() })
+    }
+
+    fn show(&self, queue: &Queue, handed: &Handed, shown: &Shown) -> Result<ReceivedMessage, SqsError> {
+        let (kept, body) = read_form(&handed.form)
+            .ok_or_else(|| SqsError::InternalFailure("The store has a message in no form.".into()))?;
+        let handle = Handle { mark: queue.mark, receipt: handed.receipt, moment: handed.moment };
+        let system = shown.system().iter();
+        let told = |one: &SystemAttribute| Some((one.name(), told(*one, handed, &kept, &self.owner)?));
+        let attributes = system.filter_map(told).collect();
+        let wanted = kept.attributes.into_iter().filter(|(name, _)| shown.has(name));
+        let message_attributes: MessageAttributes = wanted.collect();
+        Ok(ReceivedMessage {
+            message_id: kept.id.to_string(),
+            receipt_handle: handle.outward(),
+            md5_of_body: md5_of_text(body),
+            body: body.into(),
+            attributes,
+            md5_of_attributes: (!message_attributes.is_empty()).then(|| md5_of_attributes(&message_attributes)),
+            message_attributes,
+        })
+    }
 }
 
 fn too_many_polls() -> SqsError {
     SqsError::ServiceUnavailable("Too many long polls are open.".into())
 }
 
-fn received(queue: &Arc<Queue>, handed: Vec<Handed>, shown: &Shown) -> Result<Performed, SqsError> {
-    let messages = handed.iter().map(|one| show(queue, one, shown)).collect::<Result<_, _>>()?;
-    let receipts = handed.iter().map(|one| one.receipt).collect();
-    let handed = (!handed.is_empty()).then(|| (queue.clone(), receipts));
-    Ok(Performed { handed, ..Response::Messages(messages).into() })
-}
-
-fn show(queue: &Queue, handed: &Handed, shown: &Shown) -> Result<ReceivedMessage, SqsError> {
-    let (kept, body) = read_form(&handed.form)
-        .ok_or_else(|| SqsError::InternalFailure("The store has a message in no form.".into()))?;
-    let handle = Handle { mark: queue.mark, receipt: handed.receipt, moment: handed.moment };
-    let system = shown.system().iter();
-    let attributes = system.filter_map(|one| Some((one.name(), told(*one, handed, &kept)?))).collect();
-    let wanted = kept.attributes.into_iter().filter(|(name, _)| shown.has(name));
-    let message_attributes: MessageAttributes = wanted.collect();
-    Ok(ReceivedMessage {
-        message_id: kept.id.to_string(),
-        receipt_handle: handle.outward(),
-        md5_of_body: md5_of_text(body),
-        body: body.into(),
-        attributes,
-        md5_of_attributes: (!message_attributes.is_empty()).then(|| md5_of_attributes(&message_attributes)),
-        message_attributes,
-    })
-}
-
-fn told(attribute: SystemAttribute, handed: &Handed, kept: &Kept) -> Option<String> {
+fn told(attribute: SystemAttribute, handed: &Handed, kept: &Kept, owner: &Owner) -> Option<String> {
     Some(match attribute {
         SystemAttribute::SenderId => kept.sender.as_deref().unwrap_or(SENDER).into(),
         SystemAttribute::SentTimestamp => kept.sent.to_string(),
         SystemAttribute::ApproximateReceiveCount => handed.count.to_string(),
         SystemAttribute::ApproximateFirstReceiveTimestamp => handed.first.to_string(),
+        SystemAttribute::DeadLetterQueueSourceArn => owner.arn(kept.source.as_ref()?.as_str()),
         SystemAttribute::SequenceNumber => sequence_number(handed.receipt.sequence),
         SystemAttribute::MessageGroupId => handed.group.clone(),
         SystemAttribute::MessageDeduplicationId => kept.dedup.as_str().into(),

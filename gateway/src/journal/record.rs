@@ -10,6 +10,7 @@ use sha2::{Digest, Sha256};
 use crate::clock::Moment;
 use crate::lines::{read_receipt, Fields, Kind};
 use crate::messages::Form;
+use crate::moves::Origin;
 use crate::queues::ask::{Ask, Change, Creation, StoreName};
 use crate::texts::{hex, AttemptId, DedupId, GroupId, QueueName};
 
@@ -32,9 +33,15 @@ pub struct Record<'a> {
     /// Of a send whose form the store can't take.
     #[serde(borrow, default, skip_serializing_if = "Option::is_none")]
     pub form: Option<Cow<'a, str>>,
+    /// Of a send that moves a message.
+    #[serde(default, skip_serializing_if = "Option::is_none")]
+    pub copies: Option<Origin>,
     /// Of a receive.
     #[serde(default, skip_serializing_if = "Option::is_none")]
     pub attempt: Option<AttemptId>,
+    /// Of a receive: what was handed out so often wasn't for the client.
+    #[serde(default, skip_serializing_if = "Option::is_none")]
+    pub most: Option<u32>,
     /// Of a receive for which no client asked.
     #[serde(default, skip_serializing_if = "std::ops::Not::not")]
     pub own: bool,
@@ -60,7 +67,9 @@ impl<'a> Record<'a> {
             creation: None,
             removed: None,
             form: None,
+            copies: None,
             attempt: None,
+            most: None,
             own: false,
             by_attempt: false,
             queue: None,
@@ -77,13 +86,19 @@ impl<'a> Record<'a> {
         match ask {
             Ask::Create { creation, .. } => record.creation = Some(creation.clone()),
             Ask::Remove { name, .. } => record.removed = name.clone(),
-            Ask::Send { form: Form::Split { whole, .. }, .. } => record.form = Some(whole.into()),
-            Ask::Receive { attempt, own, .. } => {
+            Ask::Send { form, copies, .. } => {
+                record.copies = *copies;
+                if let Form::Split { whole, .. } = form {
+                    record.form = Some(whole.into());
+                }
+            }
+            Ask::Receive { attempt, most, own, .. } => {
                 record.attempt = attempt.clone();
+                record.most = *most;
                 record.own = *own;
             }
             Ask::Change { by_attempt, .. } => record.by_attempt = *by_attempt,
-            Ask::Send { .. } | Ask::Delete { .. } => {}
+            Ask::Delete { .. } => {}
         }
         record
     }
@@ -142,11 +157,13 @@ impl<'a> Record<'a> {
                 group: GroupId::parse(fields.group.as_deref()?).ok()?,
                 dedup: DedupId::parse(fields.dedup.as_deref()?).ok()?,
                 form: self.form_of(fields.body?.into_owned()),
+                copies: self.copies,
             },
             Kind::Receive => Ask::Receive {
                 size: fields.size?,
                 visibility: fields.visibility?,
                 attempt: self.attempt.clone(),
+                most: self.most,
                 own: self.own,
             },
             Kind::Delete => Ask::Delete { receipt: receipt()?, by_client: false },
@@ -180,9 +197,9 @@ mod tests {
         let (group, dedup) = (GroupId::parse("g").unwrap(), DedupId::parse("d").unwrap());
         let receipt = Receipt { sequence: 15, ordinal: 1 };
         for ask in [
-            Ask::Send { group, dedup, form },
-            Ask::Receive { size: 3, visibility: 9, attempt: AttemptId::parse("x").ok(), own: false },
-            Ask::Receive { size: 3, visibility: 0, attempt: None, own: true },
+            Ask::Send { group, dedup, form, copies: Some(Origin { mark: 1, sequence: 2 }) },
+            Ask::Receive { size: 3, visibility: 9, attempt: AttemptId::parse("x").ok(), most: Some(2), own: false },
+            Ask::Receive { size: 3, visibility: 0, attempt: None, most: None, own: true },
             Ask::Change { receipt, visibility: 5, by_attempt: true },
             Ask::Remove { store: StoreName(7), name: QueueName::parse("q.fifo") },
         ] {

@@ -275,16 +275,17 @@ impl Conversion {
                     sender: None,
                     attributes: message.attributes,
                     trace: message.trace,
+                    source: None,
                 };
                 let form = Form::new(&kept, &Body::parse(body).ok()?).ok()?;
                 if let Form::Split { stub, whole } = &form {
                     self.split.insert(stub.clone(), whole.clone());
                 }
-                Ask::Send { group: GroupId::parse(fields.group.as_deref()?).ok()?, dedup, form }
+                Ask::Send { group: GroupId::parse(fields.group.as_deref()?).ok()?, dedup, form, copies: None }
             }
             Kind::Receive => {
                 let (size, visibility) = (fields.size.unwrap_or(1), fields.visibility?);
-                Ask::Receive { size, visibility, attempt: beside.attempt, own: false }
+                Ask::Receive { size, visibility, attempt: beside.attempt, most: None, own: false }
             }
             Kind::Delete => Ask::Delete { receipt: receipt()?, by_client: false },
             Kind::Change => {

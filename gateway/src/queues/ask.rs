@@ -10,6 +10,7 @@ use crate::attributes::{Given, QueueAttributes};
 use crate::clock::Moment;
 use crate::handles::Receipt;
 use crate::messages::Form;
+use crate::moves::Origin;
 use crate::texts::{AttemptId, DedupId, GroupId, QueueName};
 
 /// The name under which a queue stands in the store: a number, and another one each time.
@@ -45,11 +46,15 @@ pub enum Ask {
         group: GroupId,
         dedup: DedupId,
         form: Form,
+        /// Which message it moves here.
+        copies: Option<Origin>,
     },
     Receive {
         size: u8,
         visibility: u32,
         attempt: Option<AttemptId>,
+        /// What was handed out so often is for the dead-letter queue.
+        most: Option<u32>,
         /// The gateway asks for itself: nobody sees that the messages were handed out.
         own: bool,
     },
@@ -117,6 +122,8 @@ pub struct Handed {
 pub enum Fate {
     /// It is older than its queue keeps messages, and is to be deleted.
     Old,
+    /// It was handed out as often as it may be, and is to be moved to the dead-letter queue.
+    Dead,
 }
 
 /// What came of something asked.

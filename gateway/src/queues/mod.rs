@@ -14,6 +14,7 @@ use crate::clock::Moment;
 use crate::errors::SqsError;
 use crate::handles::{Handle, Mark, Receipt};
 use crate::lines::Reply;
+use crate::moves::Copies;
 use crate::polling::Polls;
 use crate::retention::Jumps;
 use crate::texts::QueueName;
@@ -71,6 +72,7 @@ pub struct Queues {
     /// What all queues take of memory, in bytes.
     bytes_in_use: AtomicU64,
     jumps: Jumps,
+    copies: Copies,
 }
 
 impl Queues {
@@ -85,6 +87,11 @@ impl Queues {
     /// The jumps of the clock.
     pub fn jumps(&self) -> &Jumps {
         &self.jumps
+    }
+
+    /// Messages that are on their way to dead-letter queues.
+    pub fn copies(&self) -> &Copies {
+        &self.copies
     }
 
     /// All queues, in order of their names.
@@ -140,6 +147,7 @@ impl Queues {
         match ask {
             Ask::Create { .. } => self.insert(queue),
             Ask::Remove { name: Some(name), .. } => self.remove(queue, name, moment),
+            Ask::Send { copies: Some(origin), .. } => self.copies.note(*origin),
             _ => {}
         }
         if settled.opened {

@@ -14,6 +14,7 @@ use crate::handles::{Handle, Receipt};
 use crate::limits::{ID_BYTES, MESSAGE_BYTES};
 use crate::lines::{read_receipt, Given, Reply};
 use crate::messages::{id_of_form, Form};
+use crate::redrive::RedrivePolicy;
 use crate::retention::Jumps;
 use crate::texts::AttemptId;
 
@@ -62,6 +63,7 @@ struct Handing {
 /// What all messages of a receive have in common.
 struct Receiving {
     own: bool,
+    most: Option<u32>,
     moment: Moment,
     until: Moment,
     /// What was sent by then is too old.
@@ -112,6 +114,8 @@ pub struct State {
     ends: BinaryHeap<Reverse<(Moment, u64)>>,
     /// No message before this one is there.
     oldest: u64,
+    /// What the attributes say of dead letters.
+    redrive: Option<RedrivePolicy>,
     /// How many openings there were at a sweep that found nothing to delete, and when the next timeout ended.
     vain_sweep: Option<(u64, Option<Moment>)>,
 }
@@ -169,6 +173,7 @@ impl State {
             attempts_by_age: VecDeque::new(),
             ends: BinaryHeap::new(),
             oldest: 0,
+            redrive: creation.attributes.redrive(),
             vain_sweep: None,
         }
     }
@@ -188,10 +193,10 @@ impl State {
             }
             (Ask::Remove { .. }, Reply::Removed) => Ok(Settled::done(true)),
             (Ask::Send { form, .. }, Reply::Sent(place)) => self.sent(form, place, moment),
-            (Ask::Receive { visibility, attempt, own, .. }, Reply::Received(given)) => {
+            (Ask::Receive { visibility, attempt, most, own, .. }, Reply::Received(given)) => {
                 let until = moment + 1000 * u64::from(*visibility);
                 let horizon = self.horizon(jumps, moment);
-                self.received(given, attempt.as_ref(), &Receiving { own: *own, moment, until, horizon })
+                self.received(given, attempt.as_ref(), &Receiving { own: *own, most: *most, moment, until, horizon })
             }
             (Ask::Delete { receipt, .. }, Reply::Deleted(removed)) => Ok(self.deleted(*receipt, removed)),
             (Ask::Change { receipt, visibility, by_attempt }, Reply::Changed) => {
@@ -289,13 +294,17 @@ impl State {
         let first = message.last.map_or(moment, |last| last.first);
         let count = receipt.ordinal.saturating_sub(u64::from(message.own));
         let is_old = receiving.horizon.is_some_and(|horizon| message.sent <= horizon);
-        let fate = (!receiving.own && is_old).then_some(Fate::Old);
+        let is_dead = receiving.most.is_some_and(|most| count > u64::from(most));
+        let fate = if is_old { Some(Fate::Old) } else { is_dead.then_some(Fate::Dead) };
+        let fate = fate.filter(|_| !receiving.own);
         message.until = receiving.until;
-        if receiving.own || fate.is_some() {
-            message.own += 1;
+        let is_own = receiving.own || fate.is_some();
+        message.own += u32::from(is_own);
+        if is_own && fate != Some(Fate::Dead) {
             message.own_since += 1;
         } else {
-            message.last = Some(Handing { ordinal: receipt.ordinal, moment, first, touched: false });
+            // What is to be moved isn't with anybody any more who had it before.
+            message.last = Some(Handing { ordinal: receipt.ordinal, moment, first, touched: is_own });
             message.own_since = 0;
         }
         let form = message.form.clone().unwrap_or_else(|| given.body.into());
@@ -335,6 +344,7 @@ impl State {
         match change {
             Change::Attributes(given) => {
                 self.attributes.set(given);
+                self.redrive = self.attributes.redrive();
                 self.modified = moment;
             }
             Change::Tag(tags) => self.tags.extend(tags.clone()),
@@ -475,6 +485,18 @@ impl State {
         Receipt { ordinal: if is_current { last } else { receipt.ordinal }, ..receipt }
     }
 
+    /// The receipt of the message's last handing, to whomever; none if there is none, or the message or the queue isn't
+    /// there any more.
+    pub fn last_receipt_of(&self, sequence: u64) -> Option<Receipt> {
+        let message = self.messages.get(&sequence).filter(|_| !self.removed)?;
+        Some(Receipt { sequence, ordinal: message.last_ordinal() }).filter(|receipt| receipt.ordinal > 0)
+    }
+
+    /// What the queue's policy says of dead letters, if it has one.
+    pub fn redrive(&self) -> Option<&RedrivePolicy> {
+        self.redrive.as_ref()
+    }
+
     fn horizon(&self, jumps: &Jumps, now: Moment) -> Option<Moment> {
         jumps.horizon(now, self.attributes.retention())
     }
@@ -555,7 +577,9 @@ mod tests {
     fn send(state: &mut State, place: u64, moment: Moment) {
         let form = Form::Whole(format!("{{\"id\":\"{}\"}}\nbody", Uuid::from_u128(7)));
         let (group, dedup) = (GroupId::parse("g").unwrap(), DedupId::parse("d").unwrap());
-        state.settle(&Ask::Send { group, dedup, form }, Reply::Sent(place), moment, &Jumps::default()).unwrap();
+        state
+            .settle(&Ask::Send { group, dedup, form, copies: None }, Reply::Sent(place), moment, &Jumps::default())
+            .unwrap();
     }
 
     fn delete(state: &mut State, sequence: u64, moment: Moment) {
@@ -593,7 +617,7 @@ mod tests {
     }
 
     fn receive(state: &mut State, ordinal: u64, own: bool, moment: Moment) -> (Vec<Handed>, Vec<(Handed, Fate)>) {
-        let ask = Ask::Receive { size: 1, visibility: 5, attempt: None, own };
+        let ask = Ask::Receive { size: 1, visibility: 5, attempt: None, most: Some(2), own };
         let (group, receipt) = ("g".into(), format!("1-1-{ordinal}"));
         let given = crate::lines::Given { group, receipt, body: "b".into() };
         let settled = state.settle(&ask, Reply::Received(vec![given]), moment, &Jumps::default()).unwrap();
@@ -625,6 +649,14 @@ mod tests {
         // The handing before is none that anything can be done with.
         assert_eq!(state.last_receipt(receipt), receipt);
         assert!(state.are_in_flight(&[again.receipt], 34_999));
+        // Two handings are as many as there may be, and this one is none.
+        for moment in [40_000, 50_000] {
+            let ordinal = moment / 10_000 + 1;
+            let (handed, set_aside) = receive(&mut state, ordinal, false, moment);
+            assert_eq!((handed.len(), set_aside[0].1, set_aside[0].0.count), (0, Fate::Dead, 3));
+        }
+        assert_eq!(state.last_receipt_of(1), Some(Receipt { sequence: 1, ordinal: 6 }));
+        assert_eq!(state.last_receipt(again.receipt), again.receipt, "who had it can do nothing any more");
     }
 
     #[test]

@@ -38,6 +38,8 @@ impl Admission {
     /// with; they are to be given back to `answered`.
     pub fn admit(&self, ask: &Ask, now: Moment) -> Result<u64, SqsError> {
         let bytes = match ask {
+            // What is moved goes from where it was.
+            Ask::Send { copies: Some(_), .. } => return Ok(0),
             Ask::Send { form, .. } => form.bytes() + MESSAGE_BYTES,
             Ask::Create { creation, .. } if creation.before.is_none() => 0,
             _ => return Ok(0),
@@ -84,12 +86,13 @@ mod tests {
             group: GroupId::parse("g").unwrap(),
             dedup: DedupId::parse("d").unwrap(),
             form: Form::Whole("x".repeat(1000)),
+            copies: None,
         };
         let one = 1000 + MESSAGE_BYTES;
         let admission = Admission::new(Arc::default(), Some(4 * one));
         let admitted: Vec<_> = (0..5).map_while(|_| admission.admit(&send, 0).ok()).collect();
         assert_eq!(admitted, [one; 3], "a fourth is above 95 %");
-        let receive = Ask::Receive { size: 1, visibility: 0, attempt: None, own: false };
+        let receive = Ask::Receive { size: 1, visibility: 0, attempt: None, most: None, own: false };
         assert_eq!(admission.admit(&receive, 0), Ok(0));
         admission.answered(one);
         assert_eq!(admission.bytes_in_use(), 2 * one);

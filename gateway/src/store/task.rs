@@ -712,8 +712,8 @@ fn need_of(ask: &Ask) -> Need {
     match ask {
         // A queue goes over to another name so that records can go.
         Ask::Create { creation, .. } if creation.before.is_some() => Need::Less,
+        Ask::Send { copies: Some(_), .. } | Ask::Receive { .. } | Ask::Change { .. } => Need::Same,
         Ask::Create { .. } | Ask::Send { .. } => Need::More,
-        Ask::Receive { .. } | Ask::Change { .. } => Need::Same,
         Ask::Delete { .. } | Ask::Remove { .. } => Need::Less,
     }
 }

@@ -59,6 +59,15 @@ struct Urls<'a> {
     next_token: Option<&'a str>,
 }
 
+/// The one member of a result that begins with a small letter. It is there also where it is empty.
+#[derive(Serialize)]
+struct SourceUrls<'a> {
+    #[serde(rename = "queueUrls")]
+    queue_urls: &'a [String],
+    #[serde(rename = "NextToken", skip_serializing_if = "Option::is_none")]
+    next_token: Option<&'a str>,
+}
+
 #[derive(Serialize)]
 #[serde(rename_all = "PascalCase")]
 struct Attributes<'a> {
@@ -103,6 +112,9 @@ pub fn answer(response: &Response, request_id: String) -> Reply {
         Response::Nothing => to_bytes(&Nothing {}),
         Response::QueueUrl(url) => to_bytes(&Url { queue_url: url }),
         Response::Queues { urls, next } => to_bytes(&Urls { queue_urls: urls, next_token: next.as_deref() }),
+        Response::SourceQueues { urls, next } => {
+            to_bytes(&SourceUrls { queue_urls: urls, next_token: next.as_deref() })
+        }
         Response::Attributes(attributes) => to_bytes(&Attributes { attributes: slice(attributes) }),
         Response::Tags(tags) => to_bytes(&Tags { tags: slice(tags) }),
         Response::Caller { account, arn, user } => to_bytes(&Caller { account, arn, user_id: user }),
@@ -199,6 +211,8 @@ mod tests {
             r#"{"Successful":[{"Id":"1","MessageId":"i","MD5OfMessageBody":"m","SequenceNumber":"1"},{"Id":"2"}],"#
         ));
         assert_eq!(answer(&Response::Messages(Vec::new()), "r".into()).body, b"{}");
+        let no_sources = Response::SourceQueues { urls: Vec::new(), next: None };
+        assert_eq!(answer(&no_sources, "r".into()).body, br#"{"queueUrls":[]}"#);
         let refused = refuse(&SqsError::QueueDoesNotExist, "r".into());
         assert_eq!(refused.query_error.unwrap(), "AWS.SimpleQueueService.NonExistentQueue;Sender");
         let expected =

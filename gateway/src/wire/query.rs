@@ -360,7 +360,7 @@ fn result(xml: &mut Xml, action: Action, response: &Response) {
     match response {
         Response::Nothing => {}
         Response::QueueUrl(url) => xml.leaf("QueueUrl", url),
-        Response::Queues { urls, next } => {
+        Response::Queues { urls, next } | Response::SourceQueues { urls, next } => {
             urls.iter().for_each(|url| xml.leaf("QueueUrl", url));
             xml.optional("NextToken", next.as_ref());
         }

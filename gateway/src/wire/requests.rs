@@ -24,6 +24,7 @@ pub enum Action {
     GetCallerIdentity,
     GetQueueAttributes,
     GetQueueUrl,
+    ListDeadLetterSourceQueues,
     ListQueueTags,
     ListQueues,
     PurgeQueue,
@@ -37,7 +38,7 @@ pub enum Action {
 }
 
 impl Action {
-    pub const ALL: [Action; 20] = [
+    pub const ALL: [Action; 21] = [
         Action::AddPermission,
         Action::ChangeMessageVisibility,
         Action::ChangeMessageVisibilityBatch,
@@ -48,6 +49,7 @@ impl Action {
         Action::GetCallerIdentity,
         Action::GetQueueAttributes,
         Action::GetQueueUrl,
+        Action::ListDeadLetterSourceQueues,
         Action::ListQueueTags,
         Action::ListQueues,
         Action::PurgeQueue,
@@ -77,6 +79,7 @@ impl Action {
             Action::GetCallerIdentity => "GetCallerIdentity",
             Action::GetQueueAttributes => "GetQueueAttributes",
             Action::GetQueueUrl => "GetQueueUrl",
+            Action::ListDeadLetterSourceQueues => "ListDeadLetterSourceQueues",
             Action::ListQueueTags => "ListQueueTags",
             Action::ListQueues => "ListQueues",
             Action::PurgeQueue => "PurgeQueue",
@@ -128,8 +131,7 @@ impl Action {
 }
 
 /// Actions that SQS has and that aren't done here.
-const UNSUPPORTED: [&str; 4] =
-    ["CancelMessageMoveTask", "ListDeadLetterSourceQueues", "ListMessageMoveTasks", "StartMessageMoveTask"];
+const UNSUPPORTED: [&str; 3] = ["CancelMessageMoveTask", "ListMessageMoveTasks", "StartMessageMoveTask"];
 
 impl FromStr for Action {
     type Err = SqsError;
@@ -158,6 +160,7 @@ pub enum Request {
     GetCallerIdentity,
     GetQueueAttributes { queue: QueueName, wanted: Wanted },
     GetQueueUrl { queue: Option<QueueName> },
+    ListDeadLetterSourceQueues { queue: QueueName, most: Option<u32>, after: String },
     ListQueueTags { queue: QueueName },
     ListQueues { prefix: String, most: Option<u32>, after: String },
     PurgeQueue { queue: QueueName },
@@ -184,6 +187,7 @@ impl Request {
             | Request::DeleteMessageBatch { queue, .. }
             | Request::DeleteQueue { queue }
             | Request::GetQueueAttributes { queue, .. }
+            | Request::ListDeadLetterSourceQueues { queue, .. }
             | Request::ListQueueTags { queue }
             | Request::PurgeQueue { queue }
             | Request::ReceiveMessage { queue, .. }
@@ -208,6 +212,7 @@ impl Request {
             Request::GetCallerIdentity => Action::GetCallerIdentity,
             Request::GetQueueAttributes { .. } => Action::GetQueueAttributes,
             Request::GetQueueUrl { .. } => Action::GetQueueUrl,
+            Request::ListDeadLetterSourceQueues { .. } => Action::ListDeadLetterSourceQueues,
             Request::ListQueueTags { .. } => Action::ListQueueTags,
             Request::ListQueues { .. } => Action::ListQueues,
             Request::PurgeQueue { .. } => Action::PurgeQueue,
@@ -267,6 +272,7 @@ pub struct Receive {
 pub enum SystemAttribute {
     ApproximateFirstReceiveTimestamp,
     ApproximateReceiveCount,
+    DeadLetterQueueSourceArn,
     TraceHeader,
     MessageDeduplicationId,
     MessageGroupId,
@@ -276,10 +282,11 @@ pub enum SystemAttribute {
 }
 
 impl SystemAttribute {
-    pub const ALL: [SystemAttribute; 8] = [
+    pub const ALL: [SystemAttribute; 9] = [
         SystemAttribute::TraceHeader,
         SystemAttribute::ApproximateFirstReceiveTimestamp,
         SystemAttribute::ApproximateReceiveCount,
+        SystemAttribute::DeadLetterQueueSourceArn,
         SystemAttribute::MessageDeduplicationId,
         SystemAttribute::MessageGroupId,
         SystemAttribute::SenderId,
@@ -291,6 +298,7 @@ impl SystemAttribute {
         match self {
             SystemAttribute::ApproximateFirstReceiveTimestamp => "ApproximateFirstReceiveTimestamp",
             SystemAttribute::ApproximateReceiveCount => "ApproximateReceiveCount",
+            SystemAttribute::DeadLetterQueueSourceArn => "DeadLetterQueueSourceArn",
             SystemAttribute::TraceHeader => crate::messages::TRACE_HEADER,
             SystemAttribute::MessageDeduplicationId => "MessageDeduplicationId",
             SystemAttribute::MessageGroupId => "MessageGroupId",
@@ -316,8 +324,7 @@ impl Shown {
         for name in &asked {
             let found = SystemAttribute::ALL.into_iter().find(|known| known.name() == name);
             // Clients of old also ask for attributes of the queue here; SQS gives none and complains of none.
-            let is_passed_over =
-                name == "All" || name == "DeadLetterQueueSourceArn" || crate::attributes::is_known(name);
+            let is_passed_over = name == "All" || crate::attributes::is_known(name);
             match found {
                 Some(known) if !system.contains(&known) => system.push(known),
                 None if !is_passed_over => return Err(SqsError::InvalidAttributeName(name.clone())),
@@ -412,6 +419,11 @@ pub fn read(action: Action, members: &Map<'_>) -> Result<Request, SqsError> {
             Request::GetQueueAttributes { queue: queue()?, wanted: Wanted::read(&members.texts("AttributeNames")?)? }
         }
         Action::GetQueueUrl => Request::GetQueueUrl { queue: QueueName::parse(members.required_text("QueueName")?) },
+        Action::ListDeadLetterSourceQueues => Request::ListDeadLetterSourceQueues {
+            queue: queue()?,
+            most: members.number("MaxResults", 1, 1000)?,
+            after: members.text("NextToken")?.unwrap_or_default().into(),
+        },
         Action::ListQueueTags => Request::ListQueueTags { queue: queue()? },
         Action::ListQueues => Request::ListQueues {
             prefix: members.text("QueueNamePrefix")?.unwrap_or_default().into(),

@@ -15,6 +15,10 @@ pub enum Response {
         urls: Vec<String>,
         next: Option<String>,
     },
+    SourceQueues {
+        urls: Vec<String>,
+        next: Option<String>,
+    },
     Attributes(Pairs),
     Tags(Pairs),
     /// Who asks, by the number of the account, an ARN and an id.

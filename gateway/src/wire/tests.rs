@@ -86,6 +86,9 @@ fn what_is_read_is_what_was_asked() {
                 let seconds: Vec<_> = batch.iter().map(|(_, change)| change.as_ref().unwrap().visibility).collect();
                 assert_eq!(seconds, [Some(0), Some(43_200)]);
             }
+            Request::ListDeadLetterSourceQueues { most, after, .. } => {
+                assert_eq!((most, after.as_str()), (Some(7), "orders.fifo"));
+            }
             Request::ListQueues { prefix, most, after } => {
                 assert_eq!((prefix.as_str(), most, after.as_str()), ("or", Some(7), "orders.fifo"));
             }

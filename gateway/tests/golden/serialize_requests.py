@@ -38,6 +38,7 @@ CALLS: list[tuple[str, dict]] = [
     ("delete_queue", {"QueueUrl": URL}),
     ("get_queue_attributes", {"QueueUrl": URL, "AttributeNames": ["QueueArn", "VisibilityTimeout"]}),
     ("get_queue_url", {"QueueName": "orders.fifo"}),
+    ("list_dead_letter_source_queues", {"QueueUrl": URL, "MaxResults": 7, "NextToken": "orders.fifo"}),
     ("list_queue_tags", {"QueueUrl": URL}),
     ("list_queues", {"QueueNamePrefix": "or", "MaxResults": 7, "NextToken": "orders.fifo"}),
     ("purge_queue", {"QueueUrl": URL}),

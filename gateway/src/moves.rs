@@ -1,0 +1,220 @@
+//! Moving messages to the dead-letter queue of theirs: each one once, whatever ends in between.
+//!
+//! The message is sent to the other queue, under a deduplication id that nobody can guess, and is then deleted. The
+//! record of the copy names what it copies, so that a start deletes each message that has one. While a message that
+//! has a copy is there, nobody copies it again.
+
+use std::collections::HashMap;
+use std::sync::{Arc, Mutex, MutexGuard, PoisonError};
+use std::time::Duration;
+
+use serde::{Deserialize, Serialize};
+
+use crate::errors::SqsError;
+use crate::handles::Receipt;
+use crate::messages::{read_form, Form};
+use crate::queues::ask::{Ask, Handed};
+use crate::queues::Queue;
+use crate::store::Store;
+use crate::texts::{hex, Body, DedupId, GroupId};
+
+/// Which message a copy is of: the mark of its queue, and its sequence number there.
+#[derive(Clone, Copy, Debug, PartialEq, Eq, Hash, Serialize, Deserialize)]
+pub struct Origin {
+    pub mark: u64,
+    pub sequence: u64,
+}
+
+#[derive(Clone, Copy, Debug, PartialEq, Eq)]
+enum Progress {
+    /// Somebody sends the copy.
+    Begun,
+    /// The copy is there, and the message may be.
+    Copied,
+}
+
+/// Messages that are being moved, and those that a journal has copies of.
+#[derive(Default)]
+pub struct Copies(Mutex<HashMap<Origin, Progress>>);
+
+impl Copies {
+    fn progress(&self) -> MutexGuard<'_, HashMap<Origin, Progress>> {
+        self.0.lock().unwrap_or_else(PoisonError::into_inner)
+    }
+
+    /// Says that the copy is to be sent now. If somebody has begun it, tells how far that is.
+    fn begin(&self, origin: Origin) -> Option<Progress> {
+        let mut progress = self.progress();
+        let found = progress.get(&origin).copied();
+        progress.entry(origin).or_insert(Progress::Begun);
+        found
+    }
+
+    /// The copy is there.
+    pub fn note(&self, origin: Origin) {
+        self.progress().insert(origin, Progress::Copied);
+    }
+
+    /// The copy couldn't be sent, or what it is of isn't there any more.
+    fn forget(&self, origin: Origin) {
+        self.progress().remove(&origin);
+    }
+
+    fn take_all(&self) -> Vec<Origin> {
+        self.progress().drain().map(|(origin, _)| origin).collect()
+    }
+}
+
+/// So long a message waits for its next deletion, where one failed after it was copied.
+const PAUSE: Duration = Duration::from_secs(1);
+
+/// What came of a move.
+#[derive(Clone, Copy, Debug, PartialEq, Eq)]
+pub enum Moved {
+    /// The messages are gone, or can be handed out again.
+    Done,
+    /// Others are about to move them.
+    ByOthers,
+}
+
+/// Moves messages that a receive set aside to the target of their queue. Where there is none any more they are given
+/// back, and so they are with an error.
+pub async fn move_to_target(store: &Store, queue: &Arc<Queue>, dead: Vec<Handed>) -> Result<Moved, SqsError> {
+    let policy = queue.state().redrive().cloned();
+    let Some(target) = policy.and_then(|policy| store.queues().find(&policy.target.name)) else {
+        give_back(store, queue, &dead).await;
+        return Ok(Moved::Done);
+    };
+    let copies = store.queues().copies();
+    let (mut to_copy, mut copied, mut is_done) = (Vec::new(), Vec::new(), false);
+    for handed in dead {
+        let origin = origin_of(queue, &handed);
+        match copies.begin(origin) {
+            // Others that were handed it as well may have moved it before this one began.
+            None if queue.state().last_receipt_of(origin.sequence).is_none() => copies.forget(origin),
+            None => to_copy.push(handed),
+            Some(Progress::Copied) => copied.push(handed.receipt.sequence),
+            Some(Progress::Begun) => continue,
+        }
+        is_done = true;
+    }
+    let sent = copy_all(store, queue, &target, to_copy, &mut copied).await;
+    for sequence in copied {
+        delete(store, queue, sequence).await;
+    }
+    sent?;
+    Ok(if is_done { Moved::Done } else { Moved::ByOthers })
+}
+
+fn origin_of(queue: &Queue, handed: &Handed) -> Origin {
+    Origin { mark: queue.mark.0, sequence: handed.receipt.sequence }
+}
+
+/// Sends the copies, one behind the other. What can't be sent is given back.
+async fn copy_all(
+    store: &Store,
+    queue: &Arc<Queue>,
+    target: &Arc<Queue>,
+    to_copy: Vec<Handed>,
+    copied: &mut Vec<u64>,
+) -> Result<(), SqsError> {
+    let (mut asks, mut asked, mut failed, mut result) = (Vec::new(), Vec::new(), Vec::new(), Ok(()));
+    for handed in to_copy {
+        match copy_of(store, queue, &handed) {
+            Ok(ask) => {
+                asks.push(ask);
+                asked.push(handed);
+            }
+            Err(error) => {
+                result = Err(error);
+                failed.push(handed);
+            }
+        }
+    }
+    let answers = if asks.is_empty() { Vec::new() } else { store.ask_all(target, asks).await };
+    for (handed, answer) in asked.into_iter().zip(answers) {
+        match answer {
+            Ok(_) => copied.push(handed.receipt.sequence),
+            Err(error) => {
+                // A target that has gone meanwhile is none, and the next receive knows it.
+                if error != SqsError::QueueDoesNotExist {
+                    result = Err(error);
+                }
+                failed.push(handed);
+            }
+        }
+    }
+    for handed in &failed {
+        store.queues().copies().forget(origin_of(queue, handed));
+    }
+    give_back(store, queue, &failed).await;
+    result
+}
+
+/// The send of a copy. Clients see the message as it was, but for the moment of its send and what it says of its
+/// queue.
+fn copy_of(store: &Store, queue: &Queue, handed: &Handed) -> Result<Ask, SqsError> {
+    let no_form = || SqsError::InternalFailure("The store has a message in no form.".into());
+    let (mut kept, body) = read_form(&handed.form).ok_or_else(no_form)?;
+    kept.sent = store.clock().now();
+    kept.source = Some(queue.name.clone());
+    let form = Form::new(&kept, &Body::parse(body)?).map_err(|_| no_form())?;
+    let group = GroupId::parse(&handed.group)?;
+    let dedup = DedupId::parse(&hex(&rand::random::<[u8; 16]>()))?;
+    Ok(Ask::Send { group, dedup, form, copies: Some(origin_of(queue, handed)) })
+}
+
+/// Lets messages be handed out again at once, as far as they are still there and in flight.
+pub async fn give_back(store: &Store, queue: &Arc<Queue>, messages: &[Handed]) {
+    let change = |handed: &Handed| Ask::Change { receipt: handed.receipt, visibility: 0, by_attempt: false };
+    if !messages.is_empty() {
+        let _ = store.ask_all(queue, messages.iter().map(change).collect()).await;
+    }
+}
+
+/// Deletes a message that was copied, now or later.
+async fn delete(store: &Store, queue: &Arc<Queue>, sequence: u64) {
+    if let Err(error) = try_to_delete(store, queue, sequence).await {
+        tracing::warn!("a message of {} that was moved isn't deleted yet: {error}", queue.name);
+        let (store, queue) = (store.clone(), queue.clone());
+        tokio::spawn(async move {
+            while try_to_delete(&store, &queue, sequence).await.is_err() {
+                tokio::time::sleep(PAUSE).await;
+            }
+        });
+    }
+}
+
+/// Deletes it by its last receipt. Another receive may be handed it meanwhile, and leaves it alone.
+async fn try_to_delete(store: &Store, queue: &Arc<Queue>, sequence: u64) -> Result<(), SqsError> {
+    loop {
+        let receipt = queue.state().last_receipt_of(sequence);
+        let Some(receipt) = receipt else {
+            store.queues().copies().forget(Origin { mark: queue.mark.0, sequence });
+            return Ok(());
+        };
+        match store.ask(queue, Ask::Delete { receipt, by_client: false }).await {
+            Ok(_) | Err(SqsError::QueueDoesNotExist) => {}
+            Err(error) => return Err(error),
+        }
+    }
+}
+
+/// Deletes all messages that have a copy, before anybody is served: their moves were cut off.
+pub async fn finish(store: &Store) -> Result<(), SqsError> {
+    let by_mark: HashMap<u64, Arc<Queue>> =
+        store.queues().all().into_iter().map(|queue| (queue.mark.0, queue)).collect();
+    let mut finished = 0;
+    for origin in store.queues().copies().take_all() {
+        let Some(queue) = by_mark.get(&origin.mark) else { continue };
+        let receipt: Option<Receipt> = queue.state().last_receipt_of(origin.sequence);
+        if receipt.is_some() {
+            try_to_delete(store, queue, origin.sequence).await?;
+            finished += 1;
+        }
+    }
+    if finished > 0 {
+        tracing::info!("{finished} messages were deleted that had been moved to dead-letter queues");
+    }
+    Ok(())
+}
