@@ -46,12 +46,7 @@ const MANAGED_KEYS: &str = "SqsManagedSseEnabled";
 static ATTRIBUTES: [Attribute; 15] = [
     attribute("ContentBasedDeduplication", Rule::Flag, Some("false")),
     attribute("DeduplicationScope", Rule::OneOf(&["queue", "messageGroup"]), Some("queue")),
-    Attribute {
-        name: "DelaySeconds",
-        rule: Rule::Whole(0, 0),
-        default: Some("0"),
-        reason: "Delays are not supported: it must be 0.",
-    },
+    attribute("DelaySeconds", Rule::Whole(0, 900), Some("0")),
     attribute("FifoQueue", Rule::Flag, Some("true")),
     attribute("FifoThroughputLimit", Rule::OneOf(&["perQueue", "perMessageGroupId"]), Some("perQueue")),
     attribute("KmsDataKeyReusePeriodSeconds", Rule::Whole(60, 86_400), None),
@@ -241,6 +236,11 @@ impl QueueAttributes {
         self.number("ReceiveMessageWaitTimeSeconds") as u32
     }
 
+    /// So long a message is delayed, in milliseconds.
+    pub fn delay(&self) -> u64 {
+        1000 * self.number("DelaySeconds")
+    }
+
     /// So long a message is kept, in milliseconds.
     pub fn retention(&self) -> u64 {
         1000 * self.value("MessageRetentionPeriod").parse().unwrap_or(345_600)
@@ -339,8 +339,8 @@ mod tests {
             ("MaximumMessageSize", "1023"),
             ("MaximumMessageSize", "1048577"),
             ("FifoQueue", "perhaps"),
-            ("DelaySeconds", "1"),
             ("Policy", "{}"),
+            ("DelaySeconds", "901"),
         ] {
             assert!(matches!(given(&[(name, value)]), Err(SqsError::InvalidAttributeValue { .. })), "{name}");
         }

@@ -7,7 +7,7 @@ use crate::errors::SqsError;
 use crate::moves::{give_back, move_to_target, Moved};
 use crate::queues::ask::{Ask, Fate, Handed, Outcome};
 use crate::queues::Queue;
-use crate::store::Store;
+use crate::store::{Answer, Store};
 
 /// The most messages to which the gateway sees itself in one request before it answers.
 const MOST_OWN: usize = 100;
@@ -34,6 +34,10 @@ pub enum Seen {
     ByOthers,
 }
 
+fn no_messages() -> SqsError {
+    SqsError::InternalFailure("The store handed nothing out.".into())
+}
+
 fn gone() -> SqsError {
     SqsError::ServiceUnavailable("The store is gone.".into())
 }
@@ -42,7 +46,7 @@ fn gone() -> SqsError {
 pub async fn receive(store: &Store, queue: &Arc<Queue>, ask: Ask) -> Result<Delivered, SqsError> {
     let may_set_aside = {
         let mut state = queue.state();
-        state.redrive().is_some() || state.has_old(store.queues().jumps(), store.clock().now())
+        state.has_delay() || state.redrive().is_some() || state.has_old(store.queues().jumps(), store.clock().now())
     };
     let receiving = receive_on(store.clone(), queue.clone(), ask);
     if !may_set_aside {
@@ -55,10 +59,8 @@ pub async fn receive(store: &Store, queue: &Arc<Queue>, ask: Ask) -> Result<Deli
 async fn receive_on(store: Store, queue: Arc<Queue>, ask: Ask) -> Result<Delivered, SqsError> {
     let mut own = 0;
     loop {
-        let outcome = store.ask(&queue, of_now(&store, &queue, &ask)).await?;
-        let Outcome::Received { handed, set_aside, openings } = outcome else {
-            return Err(SqsError::InternalFailure("The store handed nothing out.".into()));
-        };
+        let outcome = ask_all(&store, &queue, vec![ask.clone()]).await.pop().unwrap_or_else(|| Err(gone()))?;
+        let Outcome::Received { handed, set_aside, openings } = outcome else { return Err(no_messages()) };
         own += set_aside.len();
         match see_to(&store, &queue, handed, set_aside).await? {
             Seen::Handed(handed) => return Ok(Delivered { handed, openings }),
@@ -69,8 +71,70 @@ async fn receive_on(store: Store, queue: Arc<Queue>, ask: Ask) -> Result<Deliver
     }
 }
 
+/// The answers of the store to receives that are tried one after the other.
+pub async fn ask_all(store: &Store, queue: &Arc<Queue>, asks: Vec<Ask>) -> Vec<Answer> {
+    let asks: Vec<_> = asks.iter().map(|ask| of_now(store, queue, ask)).collect();
+    if !queue.state().has_delay() {
+        return store.ask_all(queue, asks).await;
+    }
+    let count = asks.len();
+    let (store, queue) = (store.clone(), queue.clone());
+    // Whoever has a queue to itself brings that to its end.
+    let asked = tokio::spawn(async move {
+        let mut answers = Vec::with_capacity(count);
+        for ask in asks {
+            answers.push(ask_for_due(&store, &queue, ask).await);
+        }
+        answers
+    });
+    asked.await.unwrap_or_else(|_| (0..count).map(|_| Err(gone())).collect())
+}
+
+/// Asks for so many messages that none of them is delayed still: as many of the next group as are due, and then of the
+/// one behind it. Nobody else has the queue meanwhile, since a send or a deletion changes which messages are next.
+async fn ask_for_due(store: &Store, queue: &Arc<Queue>, ask: Ask) -> Answer {
+    let Ask::Receive { size, visibility, attempt, most, own } = ask else { return Err(no_messages()) };
+    let wanted = usize::from(size);
+    let count_due = |already: usize| {
+        let state = queue.state();
+        if state.removed {
+            return Err(SqsError::QueueDoesNotExist);
+        }
+        Ok((state.count_due(wanted - already, store.clock().now()), state.openings))
+    };
+    let (mut all_handed, mut all_set_aside) = (Vec::new(), Vec::new());
+    let (due, mut seen) = count_due(0)?;
+    let held = if due > 0 { Some(store.hold(queue).await?) } else { None };
+    while let Some(held) = &held {
+        let already = all_handed.len() + all_set_aside.len();
+        let (due, openings) = count_due(already)?;
+        seen = openings;
+        if due == 0 {
+            break;
+        }
+        let ask = Ask::Receive { size: due as u8, visibility, attempt: attempt.clone(), most, own };
+        let (handed, set_aside) = match held.ask(ask).await {
+            Ok(Outcome::Received { handed, set_aside, openings }) => {
+                seen = openings;
+                (handed, set_aside)
+            }
+            Ok(_) => break,
+            Err(error) if already == 0 => return Err(error),
+            Err(_) => break,
+        };
+        // What isn't hidden would be handed out again, and an attempt is one receive of the store.
+        let is_last = handed.is_empty() || visibility == 0 || attempt.is_some();
+        all_handed.extend(handed);
+        all_set_aside.extend(set_aside);
+        if is_last {
+            break;
+        }
+    }
+    Ok(Outcome::Received { handed: all_handed, set_aside: all_set_aside, openings: seen })
+}
+
 /// The receive with what its queue says of dead letters at this moment. A target that isn't there is none.
-pub fn of_now(store: &Store, queue: &Queue, ask: &Ask) -> Ask {
+fn of_now(store: &Store, queue: &Queue, ask: &Ask) -> Ask {
     let mut ask = ask.clone();
     if let Ask::Receive { most, own: false, .. } = &mut ask {
         let policy = queue.state().redrive().cloned();
@@ -109,15 +173,20 @@ pub async fn see_to(
 }
 
 async fn see_to_all(store: &Store, queue: &Arc<Queue>, set_aside: Vec<(Handed, Fate)>) -> Result<Moved, SqsError> {
-    let (old, dead): (Vec<_>, Vec<_>) = set_aside.into_iter().partition(|(_, fate)| *fate == Fate::Old);
-    let dead: Vec<_> = dead.into_iter().map(|(handed, _)| handed).collect();
-    let moved = if dead.is_empty() { Moved::Done } else { move_to_target(store, queue, dead).await? };
-    if old.is_empty() {
-        return Ok(moved);
+    let (mut old, mut dead, mut early) = (Vec::new(), Vec::new(), Vec::new());
+    for (handed, fate) in set_aside {
+        match fate {
+            Fate::Old => old.push(Ask::Delete { receipt: handed.receipt, by_client: false }),
+            Fate::Dead => dead.push(handed),
+            Fate::Early => early.push(handed),
+        }
     }
-    let deletes = old.iter().map(|(handed, _)| Ask::Delete { receipt: handed.receipt, by_client: false }).collect();
-    for answer in store.ask_all(queue, deletes).await {
+    give_back(store, queue, &early).await;
+    let is_all = old.is_empty() && early.is_empty();
+    let moved = if dead.is_empty() { Moved::Done } else { move_to_target(store, queue, dead).await? };
+    let deleted = if old.is_empty() { Vec::new() } else { store.ask_all(queue, old).await };
+    for answer in deleted {
         answer?;
     }
-    Ok(Moved::Done)
+    Ok(if is_all { moved } else { Moved::Done })
 }

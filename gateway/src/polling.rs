@@ -7,7 +7,7 @@ use std::time::Duration;
 use tokio::sync::oneshot;
 use tokio::time::Instant;
 
-use crate::deliveries::{of_now, see_to, Seen};
+use crate::deliveries::{ask_all, see_to, Seen};
 use crate::ending::Ending;
 use crate::errors::SqsError;
 use crate::presence::Presence;
@@ -158,9 +158,13 @@ async fn serve(store: Store, queue: Arc<Queue>, mut ending: Ending) {
 
 async fn wait_for_opening(store: &Store, queue: &Queue) {
     let clock = store.clock();
-    let next_end = queue.state().next_end(clock.now());
+    let next = {
+        let (mut state, now) = (queue.state(), clock.now());
+        let (end, due) = (state.next_end(now), state.next_due(now));
+        end.into_iter().chain(due).min()
+    };
     let end = async {
-        match next_end {
+        match next {
             Some(end) => clock.wait_until(end).await,
             None => tokio::time::sleep(LONGEST_WATCH).await,
         }
@@ -177,8 +181,8 @@ async fn try_some(store: &Store, queue: &Arc<Queue>, count: u64) -> bool {
     if polls.is_empty() {
         return false;
     }
-    let asks = polls.iter().map(|poll| of_now(store, queue, &poll.ask)).collect();
-    let answers = store.ask_all(queue, asks).await;
+    let asks = polls.iter().map(|poll| poll.ask.clone()).collect();
+    let answers = ask_all(store, queue, asks).await;
     let mut all_handed = true;
     // From the last to the first, so that those that go back stand in their order.
     for (poll, answer) in polls.into_iter().zip(answers).rev() {

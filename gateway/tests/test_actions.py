@@ -205,7 +205,7 @@ def test_tags(call):
     ("q.fifo", {"FifoQueue": "perhaps"}, "InvalidParameterValue"),
     ("q.fifo", {"FifoQueue": "true", "VisibilityTimeout": "43201"}, "InvalidAttributeValue"),
     ("q.fifo", {"FifoQueue": "true", "VisibilityTimeout": "-1"}, "InvalidAttributeValue"),
-    ("q.fifo", {"FifoQueue": "true", "DelaySeconds": "1"}, "InvalidAttributeValue"),
+    ("q.fifo", {"FifoQueue": "true", "DelaySeconds": "901"}, "InvalidAttributeValue"),
     ("q.fifo", {"FifoQueue": "true", "RedrivePolicy": "{}"}, "InvalidParameterValue"),
     ("q.fifo", {"FifoQueue": "true", "RedriveAllowPolicy": "{}"}, "InvalidParameterValue"),
     ("q.fifo", {"FifoQueue": "true", "MaximumMessageSize": "1048577"}, "InvalidAttributeValue"),
@@ -224,7 +224,7 @@ def test_bad_queues_are_refused(call, name, attributes, code):
 def test_bad_changes_of_attributes_are_refused(call):
     queue = new_queue(call)
     for attributes, code in [({"FifoQueue": "false"}, "InvalidAttributeValue"),
-                             ({"DelaySeconds": "5"}, "InvalidAttributeValue"), ({"Colour": "red"}, "InvalidAttributeName")]:
+                             ({"DelaySeconds": "-1"}, "InvalidAttributeValue"), ({"Colour": "red"}, "InvalidAttributeName")]:
         assert refusal(call, "SetQueueAttributes", QueueUrl=queue, Attributes=attributes) == code
     assert refusal(call, "GetQueueAttributes", QueueUrl=queue, AttributeNames=["Colour"]) == "InvalidAttributeName"
 

@@ -76,7 +76,8 @@ impl Actions {
         let is_settled = counts.is_some();
         let mut told = self.told(&queue);
         if let Some(Outcome::Counts { visible, in_flight }) = counts {
-            let counts = [visible, in_flight, 0];
+            let delayed = queue.state().count_delayed(self.store.clock().now()).min(visible);
+            let counts = [visible - delayed, in_flight, delayed];
             told.extend(COUNTS.iter().zip(counts).map(|(name, count)| (name.to_string(), count.to_string())));
         }
         told.retain(|(name, _)| wanted.has(name));

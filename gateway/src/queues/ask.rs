@@ -124,6 +124,8 @@ pub enum Fate {
     Old,
     /// It was handed out as often as it may be, and is to be moved to the dead-letter queue.
     Dead,
+    /// It is delayed still, and is to be given back.
+    Early,
 }
 
 /// What came of something asked.

@@ -1,8 +1,11 @@
 //! The tables: what the gateway keeps of each queue that lives. They follow the answers of the store.
 
 pub mod ask;
+mod groups;
 pub mod shards;
 mod state;
+#[cfg(test)]
+mod tests;
 
 use std::collections::{BTreeMap, HashMap};
 use std::sync::atomic::{AtomicU64, Ordering};

@@ -7,6 +7,7 @@ use std::sync::Arc;
 use uuid::Uuid;
 
 use super::ask::{Ask, Before, Change, Creation, Fate, Handed, Outcome, StoreName};
+use super::groups::{Group, Groups, Standing};
 use crate::attributes::QueueAttributes;
 use crate::clock::Moment;
 use crate::errors::SqsError;
@@ -16,7 +17,7 @@ use crate::lines::{read_receipt, Given, Reply};
 use crate::messages::{id_of_form, Form};
 use crate::redrive::RedrivePolicy;
 use crate::retention::Jumps;
-use crate::texts::AttemptId;
+use crate::texts::{AttemptId, GroupId};
 
 /// So long a deduplication id counts, in milliseconds. A repeated attempt id is given the same messages as long.
 pub const WINDOW: u64 = 300_000;
@@ -25,6 +26,7 @@ pub const WINDOW: u64 = 300_000;
 #[derive(Debug)]
 struct Message {
     sent: Moment,
+    group: Group,
     /// The last handing to a client.
     last: Option<Handing>,
     /// How often the gateway has handed it to itself, and how often since the last handing to a client.
@@ -68,6 +70,8 @@ struct Receiving {
     until: Moment,
     /// What was sent by then is too old.
     horizon: Option<Moment>,
+    /// What was sent by then is due; none of it is where there is no such moment.
+    due: Option<Moment>,
 }
 
 /// What a receive with an attempt id was given.
@@ -116,6 +120,12 @@ pub struct State {
     oldest: u64,
     /// What the attributes say of dead letters.
     redrive: Option<RedrivePolicy>,
+    /// So long messages are delayed, in milliseconds.
+    delay: u64,
+    /// Of a queue that delays its messages.
+    groups: Option<Groups>,
+    /// All messages up to this one are due.
+    due: u64,
     /// How many openings there were at a sweep that found nothing to delete, and when the next timeout ended.
     vain_sweep: Option<(u64, Option<Moment>)>,
 }
@@ -151,6 +161,7 @@ impl State {
     pub fn new(store: StoreName, creation: &Creation, now: Moment) -> State {
         let fresh = Before { base: 0, created: now, modified: now, purged: None };
         let before = creation.before.clone().unwrap_or(fresh);
+        let delay = creation.attributes.delay();
         State {
             store,
             base: before.base,
@@ -174,6 +185,9 @@ impl State {
             ends: BinaryHeap::new(),
             oldest: 0,
             redrive: creation.attributes.redrive(),
+            delay,
+            groups: (delay > 0).then(Groups::default),
+            due: 0,
             vain_sweep: None,
         }
     }
@@ -192,11 +206,12 @@ impl State {
                 Ok(Settled::done(false))
             }
             (Ask::Remove { .. }, Reply::Removed) => Ok(Settled::done(true)),
-            (Ask::Send { form, .. }, Reply::Sent(place)) => self.sent(form, place, moment),
+            (Ask::Send { group, form, .. }, Reply::Sent(place)) => self.sent(group, form, place, moment),
             (Ask::Receive { visibility, attempt, most, own, .. }, Reply::Received(given)) => {
                 let until = moment + 1000 * u64::from(*visibility);
-                let horizon = self.horizon(jumps, moment);
-                self.received(given, attempt.as_ref(), &Receiving { own: *own, most: *most, moment, until, horizon })
+                let (horizon, due) = (self.horizon(jumps, moment), moment.checked_sub(self.delay));
+                let receiving = Receiving { own: *own, most: *most, moment, until, horizon, due };
+                self.received(given, attempt.as_ref(), &receiving)
             }
             (Ask::Delete { receipt, .. }, Reply::Deleted(removed)) => Ok(self.deleted(*receipt, removed)),
             (Ask::Change { receipt, visibility, by_attempt }, Reply::Changed) => {
@@ -210,7 +225,7 @@ impl State {
         self.openings += 1;
     }
 
-    fn sent(&mut self, form: &Form, place: u64, moment: Moment) -> Result<Settled, SqsError> {
+    fn sent(&mut self, group: &GroupId, form: &Form, place: u64, moment: Moment) -> Result<Settled, SqsError> {
         let sequence = self.base + place;
         if sequence <= self.last_sequence {
             let id = self.recent_id(sequence).ok_or_else(misfit)?;
@@ -229,7 +244,11 @@ impl State {
             Form::Split { whole, .. } => Some(whole.as_str().into()),
         };
         self.form_bytes += bytes;
-        let message = Message { sent: moment, last: None, own: 0, own_since: 0, until: 0, form, bytes };
+        let group = Group::of(group.as_str());
+        if let Some(groups) = &mut self.groups {
+            groups.add(group, sequence, 0);
+        }
+        let message = Message { sent: moment, group, last: None, own: 0, own_since: 0, until: 0, form, bytes };
         self.messages.insert(sequence, message);
         self.open();
         Ok(Settled { outcome: Outcome::Sent { sequence, id }, changed: true, opened: true })
@@ -295,9 +314,13 @@ impl State {
         let count = receipt.ordinal.saturating_sub(u64::from(message.own));
         let is_old = receiving.horizon.is_some_and(|horizon| message.sent <= horizon);
         let is_dead = receiving.most.is_some_and(|most| count > u64::from(most));
-        let fate = if is_old { Some(Fate::Old) } else { is_dead.then_some(Fate::Dead) };
-        let fate = fate.filter(|_| !receiving.own);
+        let is_due = receiving.due.is_some_and(|due| message.sent <= due);
+        let fates = [(Fate::Old, is_old), (Fate::Early, !is_due), (Fate::Dead, is_dead)];
+        let fate = fates.into_iter().find(|(_, applies)| *applies && !receiving.own).map(|(fate, _)| fate);
         message.until = receiving.until;
+        if let Some(groups) = &mut self.groups {
+            groups.hide(message.group, receiving.until);
+        }
         let is_own = receiving.own || fate.is_some();
         message.own += u32::from(is_own);
         if is_own && fate != Some(Fate::Dead) {
@@ -317,6 +340,9 @@ impl State {
             return Settled::unchanged(Outcome::Done);
         }
         if let Some(message) = self.messages.remove(&receipt.sequence) {
+            if let Some(groups) = &mut self.groups {
+                groups.remove(message.group, receipt.sequence);
+            }
             self.form_bytes -= message.bytes;
             if self.place_of(receipt.sequence).is_some_and(|place| place >= self.old) {
                 self.left_ids += 1;
@@ -330,6 +356,9 @@ impl State {
         let until = moment + 1000 * u64::from(visibility);
         if let Some(message) = self.messages.get_mut(&receipt.sequence) {
             message.until = until;
+            if let Some(groups) = &mut self.groups {
+                groups.hide(message.group, until);
+            }
             if let Some(last) = &mut message.last {
                 last.touched |= !by_attempt;
             }
@@ -345,6 +374,7 @@ impl State {
             Change::Attributes(given) => {
                 self.attributes.set(given);
                 self.redrive = self.attributes.redrive();
+                self.set_delay(self.attributes.delay());
                 self.modified = moment;
             }
             Change::Tag(tags) => self.tags.extend(tags.clone()),
@@ -497,6 +527,64 @@ impl State {
         self.redrive.as_ref()
     }
 
+    fn set_delay(&mut self, delay: u64) {
+        if delay == self.delay {
+            return;
+        }
+        self.delay = delay;
+        self.due = 0;
+        self.groups = (delay > 0).then(Groups::default);
+        if let Some(groups) = &mut self.groups {
+            let mut messages: Vec<_> = self.messages.iter().collect();
+            messages.sort_unstable_by_key(|(sequence, _)| **sequence);
+            for (sequence, message) in messages {
+                groups.add(message.group, *sequence, message.until);
+            }
+        }
+        // What was delayed may be due now.
+        self.open();
+    }
+
+    /// Whether the queue delays its messages.
+    pub fn has_delay(&self) -> bool {
+        self.delay > 0
+    }
+
+    /// How many messages, up to `most`, a receive can ask for without being handed one that isn't due.
+    pub fn count_due(&self, most: usize, now: Moment) -> usize {
+        let Some(groups) = &self.groups else { return most };
+        let Some(horizon) = now.checked_sub(self.delay) else { return 0 };
+        let standing = |sequence: u64| {
+            let message = self.messages.get(&sequence)?;
+            Some(Standing { sent: message.sent, until: message.until })
+        };
+        groups.count_next(most, horizon, now, standing)
+    }
+
+    /// The first message that isn't due. Messages are due in their order.
+    fn first_delayed(&mut self, now: Moment) -> u64 {
+        self.due = self.due.max(self.base);
+        let delay = self.delay;
+        let is_delayed = |message: &Message| message.sent + delay > now;
+        while self.due < self.last_sequence && !self.messages.get(&(self.due + 1)).is_some_and(is_delayed) {
+            self.due += 1;
+        }
+        self.due + 1
+    }
+
+    /// How many messages are neither due nor in flight. Takes time in proportion to those that aren't due.
+    pub fn count_delayed(&mut self, now: Moment) -> u64 {
+        let first = self.first_delayed(now);
+        let delayed = (first..=self.last_sequence).filter_map(|sequence| self.messages.get(&sequence));
+        delayed.filter(|message| message.until <= now).count() as u64
+    }
+
+    /// When the next message is due, if one is delayed.
+    pub fn next_due(&mut self, now: Moment) -> Option<Moment> {
+        let first = self.first_delayed(now);
+        self.messages.get(&first).map(|message| message.sent + self.delay)
+    }
+
     fn horizon(&self, jumps: &Jumps, now: Moment) -> Option<Moment> {
         jumps.horizon(now, self.attributes.retention())
     }
@@ -548,6 +636,7 @@ impl State {
         self.old = 0;
         self.left_ids = 0;
         self.messages = HashMap::new();
+        self.groups = (self.delay > 0).then(Groups::default);
         self.form_bytes = 0;
         self.ends = BinaryHeap::new();
     }
@@ -561,7 +650,7 @@ fn is_end(messages: &HashMap<u64, Message>, until: Moment, sequence: u64) -> boo
 mod tests {
     use super::*;
     use crate::attributes::Given;
-    use crate::texts::{DedupId, GroupId, QueueName};
+    use crate::texts::{DedupId, QueueName};
 
     fn state() -> State {
         let creation = Creation {

@@ -1,0 +1,218 @@
+//! The tables beside a store by its rules (`docs/QUEUES.md`), and a plain list that has delays by itself.
+
+use std::collections::BTreeMap;
+use std::collections::BTreeSet;
+
+use proptest::prelude::*;
+use proptest::sample::Index;
+use proptest::test_runner::TestCaseResult;
+use uuid::Uuid;
+
+use super::ask::{Ask, Change, Creation, Outcome, StoreName};
+use super::State;
+use crate::attributes::{Given, QueueAttributes};
+use crate::clock::Moment;
+use crate::handles::Receipt;
+use crate::lines::{self, Reply};
+use crate::messages::Form;
+use crate::retention::Jumps;
+use crate::seeded::check;
+use crate::texts::{DedupId, GroupId, QueueName};
+
+#[derive(Clone, Debug)]
+struct Message {
+    group: &'static str,
+    sent: Moment,
+    until: Moment,
+    count: u64,
+}
+
+/// The messages that aren't deleted, by their sequence numbers. Of delays the store knows nothing; the list does.
+#[derive(Default)]
+struct List {
+    messages: BTreeMap<u64, Message>,
+    sent: u64,
+    delay: u64,
+}
+
+impl List {
+    fn closed(&self, now: Moment) -> BTreeSet<&'static str> {
+        self.messages.values().filter(|message| message.until > now).map(|message| message.group).collect()
+    }
+
+    /// The messages of open groups, in the order in which the store hands them out.
+    fn in_turn(&self, now: Moment) -> Vec<u64> {
+        let closed = self.closed(now);
+        let mut groups: Vec<(&str, Vec<u64>)> = Vec::new();
+        for (sequence, message) in self.messages.iter().filter(|(_, message)| !closed.contains(message.group)) {
+            match groups.iter_mut().find(|(group, _)| *group == message.group) {
+                Some((_, sequences)) => sequences.push(*sequence),
+                None => groups.push((message.group, vec![*sequence])),
+            }
+        }
+        groups.into_iter().flat_map(|(_, sequences)| sequences).collect()
+    }
+
+    fn is_due(&self, sequence: u64, now: Moment) -> bool {
+        self.messages[&sequence].sent + self.delay <= now
+    }
+
+    fn hand(&mut self, size: usize, visibility: u32, now: Moment) -> Vec<lines::Given> {
+        let mut given = Vec::new();
+        for sequence in self.in_turn(now).into_iter().take(size) {
+            let message = self.messages.get_mut(&sequence).unwrap();
+            message.count += 1;
+            message.until = now + 1000 * u64::from(visibility);
+            let receipt = format!("1-{sequence}-{}", message.count);
+            given.push(lines::Given { body: "b".into(), group: message.group.into(), receipt });
+        }
+        given
+    }
+}
+
+#[derive(Clone, Debug)]
+enum Step {
+    Wait(u64),
+    Send(&'static str),
+    Receive { size: u8, visibility: u32 },
+    Delete(Index),
+    Change(Index, u32),
+    Delay(u32),
+}
+
+fn steps() -> impl Strategy<Value = Vec<Step>> {
+    use proptest::sample::select;
+    let step = prop_oneof![
+        3 => select(vec![1u64, 999, 1000, 5000, 20_000, 60_000, 200_000]).prop_map(Step::Wait),
+        4 => select(vec!["a", "b", "c"]).prop_map(Step::Send),
+        4 => (select(vec![1u8, 2, 10]), select(vec![0u32, 10, 30, 300]))
+            .prop_map(|(size, visibility)| Step::Receive { size, visibility }),
+        2 => any::<Index>().prop_map(Step::Delete),
+        1 => (any::<Index>(), select(vec![0u32, 30])).prop_map(|(place, visibility)| Step::Change(place, visibility)),
+        1 => select(vec![0u32, 10, 100, 900]).prop_map(Step::Delay),
+    ];
+    proptest::collection::vec(step, 1..80)
+}
+
+struct Both {
+    list: List,
+    state: State,
+    now: Moment,
+}
+
+impl Both {
+    fn new() -> Both {
+        let attributes = QueueAttributes::for_creation(&Given::read(&[]).unwrap()).unwrap();
+        let name = QueueName::parse("q.fifo").unwrap();
+        let creation = Creation { name, mark: 1, attributes, tags: BTreeMap::new(), before: None };
+        let now = 1_700_000_000_000;
+        Both { list: List::default(), state: State::new(StoreName(1), &creation, now), now }
+    }
+
+    fn settle(&mut self, ask: &Ask, reply: Reply) -> Outcome {
+        self.state.settle(ask, reply, self.now, &Jumps::default()).unwrap().outcome
+    }
+
+    fn send(&mut self, group: &'static str) {
+        self.list.sent += 1;
+        let sequence = self.list.sent;
+        self.list.messages.insert(sequence, Message { group, sent: self.now, until: 0, count: 0 });
+        let form = Form::Whole(format!("{{\"id\":\"{}\"}}\nb", Uuid::from_u128(7)));
+        let (group, dedup) = (GroupId::parse(group).unwrap(), DedupId::parse("d").unwrap());
+        self.settle(&Ask::Send { group, dedup, form, copies: None }, Reply::Sent(sequence));
+    }
+
+    /// Asks as a receive does that is to hand out only what is due.
+    fn receive(&mut self, size: u8, visibility: u32) -> TestCaseResult {
+        let (closed, in_turn) = (self.list.closed(self.now), self.list.in_turn(self.now));
+        let mut got = Vec::new();
+        loop {
+            let due = self.state.count_due(usize::from(size) - got.len(), self.now);
+            if due == 0 {
+                break;
+            }
+            let given = self.list.hand(due, visibility, self.now);
+            let asked = Ask::Receive { size: due as u8, visibility, attempt: None, most: None, own: false };
+            let Outcome::Received { handed, set_aside, .. } = self.settle(&asked, Reply::Received(given)) else {
+                panic!()
+            };
+            prop_assert!(set_aside.is_empty(), "{set_aside:?}");
+            let is_last = handed.is_empty() || visibility == 0;
+            got.extend(handed);
+            if is_last {
+                break;
+            }
+        }
+        for handed in &got {
+            let (sequence, message) = (handed.receipt.sequence, &self.list.messages[&handed.receipt.sequence]);
+            prop_assert!(self.list.is_due(sequence, self.now), "{sequence} isn't due");
+            prop_assert!(!closed.contains(message.group), "{sequence} is of a closed group");
+            prop_assert_eq!(handed.count, message.count);
+        }
+        for group in ["a", "b", "c"] {
+            let of_group = |sequence: &u64| self.list.messages[sequence].group == group;
+            let mine: Vec<_> = got.iter().map(|handed| handed.receipt.sequence).filter(of_group).collect();
+            let front: Vec<_> = in_turn.iter().copied().filter(of_group).take(mine.len()).collect();
+            prop_assert_eq!(mine, front);
+        }
+        let is_any_due = in_turn.iter().any(|sequence| self.list.is_due(*sequence, self.now));
+        prop_assert_eq!(got.is_empty(), !is_any_due);
+        Ok(())
+    }
+
+    fn some_handed(&self, place: &Index) -> Option<Receipt> {
+        let handed: Vec<_> = self.list.messages.iter().filter(|(_, message)| message.count > 0).collect();
+        let (sequence, message) = (!handed.is_empty()).then(|| handed[place.index(handed.len())])?;
+        Some(Receipt { sequence: *sequence, ordinal: message.count })
+    }
+
+    fn step(&mut self, step: &Step) -> TestCaseResult {
+        match step {
+            Step::Wait(time) => self.now += time,
+            Step::Send(group) => self.send(group),
+            Step::Receive { size, visibility } => self.receive(*size, *visibility)?,
+            Step::Delete(place) => {
+                if let Some(receipt) = self.some_handed(place) {
+                    self.list.messages.remove(&receipt.sequence);
+                    self.settle(&Ask::Delete { receipt }, Reply::Deleted(true));
+                }
+            }
+            Step::Change(place, visibility) => {
+                let found = self.some_handed(place);
+                let message = found.and_then(|receipt| self.list.messages.get_mut(&receipt.sequence));
+                if let (Some(receipt), Some(message)) = (found, message.filter(|message| message.until > self.now)) {
+                    message.until = self.now + 1000 * u64::from(*visibility);
+                    self.settle(&Ask::Change { receipt, visibility: *visibility, by_attempt: false }, Reply::Changed);
+                }
+            }
+            Step::Delay(seconds) => {
+                self.list.delay = 1000 * u64::from(*seconds);
+                let given = Given::read(&[("DelaySeconds".into(), seconds.to_string())]).unwrap();
+                self.state.apply(&Change::Attributes(given), self.now);
+            }
+        }
+        Ok(())
+    }
+
+    fn compare(&mut self) -> TestCaseResult {
+        let now = self.now;
+        let delayed: Vec<_> = self.list.messages.values().filter(|one| one.sent + self.list.delay > now).collect();
+        let first = delayed.first().map(|message| message.sent + self.list.delay);
+        prop_assert_eq!(self.state.next_due(now), first);
+        let visible = delayed.iter().filter(|message| message.until <= now).count();
+        prop_assert_eq!(self.state.count_delayed(now), visible as u64);
+        Ok(())
+    }
+}
+
+#[test]
+fn receives_are_those_of_a_list_with_delays() {
+    check(3000, steps(), |steps| {
+        let mut both = Both::new();
+        for step in &steps {
+            both.step(step)?;
+            both.compare()?;
+        }
+        Ok(())
+    });
+}
