@@ -174,7 +174,7 @@ impl Both {
             Step::Delete(place) => {
                 if let Some(receipt) = self.some_handed(place) {
                     self.list.messages.remove(&receipt.sequence);
-                    self.settle(&Ask::Delete { receipt }, Reply::Deleted(true));
+                    self.settle(&Ask::Delete { receipt, by_client: false }, Reply::Deleted(true));
                 }
             }
             Step::Change(place, visibility) => {
