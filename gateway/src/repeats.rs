@@ -33,6 +33,11 @@ pub struct Key {
 }
 
 impl Key {
+    /// About how many bytes its texts take, which are kept twice.
+    fn size(&self) -> usize {
+        2 * (self.invocation.len() + self.access_key.len() + self.path.len())
+    }
+
     /// Whether a lost answer of this action does harm, so that it is kept.
     pub fn is_of(action: Action) -> bool {
         matches!(action, Action::ReceiveMessage | Action::DeleteQueue | Action::PurgeQueue)
@@ -142,7 +147,7 @@ impl Repeats {
     /// Keeps the answer of a call, if it is worth it, and gives it to all who wait.
     pub fn end(&self, begun: Begun, made: Made) {
         let mut kept = self.kept();
-        let (now, size) = (Instant::now(), made.reply.body.len() + 512);
+        let (now, size) = (Instant::now(), made.reply.body.len() + begun.key.size() + 512);
         let own = kept.calls.get_mut(&begun.key).filter(|call| call.number == begun.number);
         if let Some(call) = own {
             if made.is_worth_keeping {
