@@ -103,7 +103,7 @@ impl Polls {
     }
 }
 
-/// Waits at a queue for messages, and tells those that came, or none when their time is up.
+/// Waits at a queue for messages, and tells those that came, or none when the time is up or nobody is there any more.
 ///
 /// `seen` is how many openings the receive had seen that came back empty. A queue that is removed meanwhile is
 /// `QueueDoesNotExist`.
@@ -113,7 +113,7 @@ pub async fn wait(store: &Store, queue: &Arc<Queue>, ask: Ask, waiting: Waiting,
         return Ok(Vec::new());
     }
     let (done, mut found) = oneshot::channel();
-    let deadline = Instant::now() + time;
+    let (deadline, caller) = (Instant::now() + time, presence.clone());
     let number = {
         let mut waiting = queue.polls.waiting();
         waiting.last_number += 1;
@@ -130,13 +130,19 @@ pub async fn wait(store: &Store, queue: &Arc<Queue>, ask: Ask, waiting: Waiting,
     }
     let mut until = deadline;
     loop {
-        match tokio::time::timeout_at(until, &mut found).await {
-            Ok(Ok(found)) => return found,
-            Ok(Err(_)) => return Err(SqsError::ServiceUnavailable("The store is gone.".into())),
-            Err(_) if queue.polls.withdraw(number) => return Ok(Vec::new()),
-            // It is being tried: what it is handed must not be lost. Perhaps it goes back among those that wait.
-            Err(_) => until = Instant::now() + LOOK_AGAIN,
+        tokio::select! {
+            biased;
+            found = &mut found => {
+                return found.unwrap_or_else(|_| Err(SqsError::ServiceUnavailable("The store is gone.".into())));
+            }
+            () = tokio::time::sleep_until(until) => {}
+            () = caller.leaves(), if until == deadline => {}
         }
+        if queue.polls.withdraw(number) {
+            return Ok(Vec::new());
+        }
+        // It is being tried: what it is handed must not be lost. Perhaps it goes back among those that wait.
+        until = Instant::now() + LOOK_AGAIN;
     }
 }
 
