@@ -288,3 +288,43 @@ def test_a_thousand_connections_at_once():
         assert all(read_response(connection)[0] == 200 for connection in connections)
     finally:
         assert gateway.stop() == 0
+
+
+def test_polls_whose_clients_have_gone_make_room_at_once():
+    gateway = Started("--polls", "3")
+    try:
+        ByJson(gateway.url)("CreateQueue", QueueName="q.fifo", Attributes={"FifoQueue": "true"})
+        content = b'{"QueueUrl":"q.fifo","WaitTimeSeconds":20}'
+        for kind in (b"", b"amz-sdk-invocation-id: %d\r\n"):
+            polls = [connect(gateway) for _ in range(3)]
+            for place, poll in enumerate(polls):
+                poll.sendall(head(b"ReceiveMessage", len(content), kind and kind % place) + content)
+            time.sleep(0.5)
+            for poll in polls:
+                poll.close()
+            time.sleep(0.5)
+            short = b'{"QueueUrl":"q.fifo","WaitTimeSeconds":1}'
+            again = connect(gateway)
+            again.sendall(head(b"ReceiveMessage", len(short)) + short)
+            assert read_response(again)[0] == 200
+    finally:
+        assert gateway.stop() == 0
+
+
+def test_large_bodies_that_never_end_keep_no_ordinary_request_out():
+    gateway = Started()
+    try:
+        call = ByJson(gateway.url)
+        call("CreateQueue", QueueName="q.fifo", Attributes={"FifoQueue": "true"})
+        unended = [connect(gateway) for _ in range(42)]
+        for connection in unended:
+            connection.sendall(head(b"SendMessage", LONGEST_BODY) + b"x" * (LONGEST_BODY - 1))
+        time.sleep(1)
+        call("SendMessage", QueueUrl="q.fifo", MessageBody="b" * 10_000, MessageGroupId="g", MessageDeduplicationId="d")
+        above = connect(gateway)
+        above.sendall(head(b"SendMessage", LONGEST_BODY) + b"x" * LONGEST_BODY)
+        is_refused_in_json(read_response(above), 503, "ServiceUnavailable")
+        for connection in unended:
+            connection.close()
+    finally:
+        assert gateway.stop() == 0

@@ -20,25 +20,30 @@ pub const LONGEST_BODY: usize = 6 * LONGEST_MESSAGE + (64 << 10);
 /// So many bytes of a body that is too long are read and thrown away, so that its client comes to read the refusal.
 const MOST_THROWN_AWAY: usize = 16 << 20;
 
-/// How many bytes of bodies are held at most by requests that are being read.
+/// How many bytes of bodies are held at most by requests that are being read, beside [`FREE`] bytes of each.
 const MOST_AT_ONCE: usize = 256 << 20;
+
+/// So many bytes of a body count nothing: whoever sends large bodies and never ends them keeps no ordinary request out.
+const FREE: usize = 16 << 10;
 
 /// Counts the bytes of all bodies that are being read.
 #[derive(Clone)]
 pub struct Budget {
     used: Arc<AtomicUsize>,
     most: usize,
+    /// So many bytes of each body count nothing.
+    free: usize,
 }
 
 impl Default for Budget {
     fn default() -> Budget {
-        Budget::of(MOST_AT_ONCE)
+        Budget::of(MOST_AT_ONCE, FREE)
     }
 }
 
 impl Budget {
-    pub fn of(most: usize) -> Budget {
-        Budget { used: Arc::default(), most }
+    pub fn of(most: usize, free: usize) -> Budget {
+        Budget { used: Arc::default(), most, free }
     }
 
     fn share(&self) -> Share {
@@ -53,11 +58,15 @@ struct Share {
 }
 
 impl Share {
-    /// Takes `bytes` more. False if they aren't there.
-    fn grow(&mut self, bytes: usize) -> bool {
-        let used = self.budget.used.fetch_add(bytes, Ordering::Relaxed);
-        self.bytes += bytes;
-        used.saturating_add(bytes) <= self.budget.most
+    /// Takes what a body of so many bytes needs. False if that isn't there.
+    fn grow_to(&mut self, length: usize) -> bool {
+        let more = length.saturating_sub(self.budget.free).saturating_sub(self.bytes);
+        if more == 0 {
+            return true;
+        }
+        let used = self.budget.used.fetch_add(more, Ordering::Relaxed);
+        self.bytes += more;
+        used.saturating_add(more) <= self.budget.most
     }
 }
 
@@ -74,10 +83,10 @@ pub struct Whole {
 }
 
 /// Reads a body to its end. It is refused where it is longer than [`LONGEST_BODY`], isn't whole at `deadline`, or finds
-/// no room. One that is too long is read on for a while, so that the refusal reaches its client.
+/// no room. What is refused for its length or for want of room is read on for a while, so that its client comes to read it.
 pub async fn read(mut body: Body, budget: &Budget, deadline: Instant) -> Result<Whole, SqsError> {
     let read = read_whole(&mut body, budget, deadline).await;
-    if matches!(read, Err(SqsError::RequestTooLong { .. })) {
+    if matches!(read, Err(SqsError::RequestTooLong { .. } | SqsError::ServiceUnavailable(_))) {
         throw_away(body, deadline).await;
     }
     read
@@ -97,7 +106,7 @@ async fn read_whole(body: &mut Body, budget: &Budget, deadline: Instant) -> Resu
         if pieces.len() + piece.len() > LONGEST_BODY {
             return Err(too_long());
         }
-        if !share.grow(piece.len()) {
+        if !share.grow_to(pieces.len() + piece.len()) {
             return Err(SqsError::ServiceUnavailable("Too many requests are being read.".into()));
         }
         pieces.add(piece);
@@ -217,12 +226,15 @@ mod tests {
 
     #[tokio::test]
     async fn what_is_being_read_has_a_bound_that_is_given_back() {
-        let budget = Budget::of(10);
-        let first = read(Body::from("12345678"), &budget, soon()).await.unwrap();
-        let second = read(Body::from("123"), &budget, soon()).await;
+        let budget = Budget::of(10, 3);
+        let first = read(Body::from("12345678901"), &budget, soon()).await.unwrap();
+        let second = read(Body::from("123456"), &budget, soon()).await;
         assert!(matches!(second, Err(SqsError::ServiceUnavailable(_))));
+        // A small one gets in all the same.
+        assert!(read(Body::from("123"), &budget, soon()).await.is_ok());
         drop(first);
-        assert!(read(Body::from("1234567890"), &budget, soon()).await.is_ok());
+        assert!(read(Body::from("1234567890123"), &budget, soon()).await.is_ok());
+        assert_eq!(budget.used.load(Ordering::Relaxed), 0);
     }
 
     #[tokio::test]
