@@ -292,7 +292,7 @@ class Load:
             if self.random.random() < 0.2:
                 self.delete(call, self.queue, message)
         if self.random.random() < 0.3:
-            for message in self.receive(call, self.dead, 3, 0):
+            for message in self.receive(call, self.dead, 3, self.random.choice([0, 1])):
                 if self.random.random() < 0.5:
                     self.delete(call, self.dead, message)
 
@@ -314,8 +314,11 @@ class Load:
 
     def delete(self, call: ByBoto3, queue: str, message: dict) -> None:
         self.maybe_deleted.add(message["Body"])
-        call("DeleteMessage", QueueUrl=queue, ReceiptHandle=message["ReceiptHandle"])
-        # An earlier handle deletes nothing where the message was handed out again, or moved, in between.
+        try:
+            call("DeleteMessage", QueueUrl=queue, ReceiptHandle=message["ReceiptHandle"])
+        except Refused as refusal:
+            # Its timeout was 0. And an earlier handle deletes nothing where the message was handed out again, or moved.
+            assert refusal.code == "InvalidParameterValue"
 
     def check(self, call: ByBoto3) -> None:
         """All that was acknowledged, and that nobody wanted to delete, is there once."""

@@ -79,6 +79,8 @@ def test_a_change_of_the_delay_acts_on_what_is_there(delays):
     delays.move(30_000)
     # Also of what was handed out before.
     assert delays.receive(queue) == [] and counts(delays, queue) == (0, 0, 2)
+    set_delay("0")
+    (one,) = delays.receive(queue, 1)
     delays.delete(queue, one)
     set_delay("31")
     delays.move(999)

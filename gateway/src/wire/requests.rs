@@ -95,7 +95,10 @@ impl Action {
 
     /// Whether its answers have URLs of queues.
     pub fn tells_urls(self) -> bool {
-        matches!(self, Action::CreateQueue | Action::GetQueueUrl | Action::ListQueues)
+        matches!(
+            self,
+            Action::CreateQueue | Action::GetQueueUrl | Action::ListDeadLetterSourceQueues | Action::ListQueues
+        )
     }
 
     /// Whether a good answer has a result, which the query form shows as an element of its own.
