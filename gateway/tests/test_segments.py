@@ -327,6 +327,37 @@ def test_a_full_disk_refuses_sends_and_takes_deletes(tmp_path):
         subprocess.run(["umount", str(room)], check=True)
 
 
+def test_tags_leave_the_last_part_of_a_full_disk_to_purges(tmp_path):
+    """The queue's tags have 36 KB, and each change of them is a record."""
+    room = tmp_path / "small"
+    room.mkdir()
+    mounted = subprocess.run(["mount", "-t", "tmpfs", "-o", "size=24m", "tmpfs", str(room)], capture_output=True)
+    if mounted.returncode != 0:
+        pytest.skip("no tmpfs can be mounted here")
+    try:
+        gateway = Started("--journal", str(room / "journal"))
+        call = ByJson(gateway.url)
+        call("CreateQueue", QueueName="q.fifo", Attributes={"FifoQueue": "true"})
+        for name in ("a", "b"):
+            call("SendMessage", QueueUrl="q.fifo", MessageBody=name, MessageGroupId=name, MessageDeduplicationId=name)
+        call("ReceiveMessage", QueueUrl="q.fifo")
+        tags = {f"{place}" + "é" * 100: "é" * 256 for place in range(50)}
+        with pytest.raises(Refused, match="ServiceUnavailable 503"):
+            for _ in range(1000):
+                call("TagQueue", QueueUrl="q.fifo", Tags=tags)
+        call("UntagQueue", QueueUrl="q.fifo", TagKeys=list(tags))
+        call("PurgeQueue", QueueUrl="q.fifo")
+        gateway.kill()
+        gateway.start()
+        call = ByJson(gateway.url)
+        assert call("ListQueueTags", QueueUrl="q.fifo") == {}
+        counts = call("GetQueueAttributes", QueueUrl="q.fifo", AttributeNames=["All"])["Attributes"]
+        assert counts["ApproximateNumberOfMessages"] == counts["ApproximateNumberOfMessagesNotVisible"] == "0"
+        assert gateway.stop() == 0
+    finally:
+        subprocess.run(["umount", str(room)], check=True)
+
+
 def test_the_python_gateways_journal_is_read(tmp_path):
     """The Python gateway wrote the file, on a chain that lost servers: bodies with ü, an emoji and U+007F, one of
     262,144 bytes, attributes, an attempt, a purge, and a queue that was removed and made again."""

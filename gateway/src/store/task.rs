@@ -68,8 +68,16 @@ enum Entry {
         tag: u64,
         queue: Arc<Queue>,
     },
-    Noted(Arc<Queue>, Change),
+    Noted(Noted),
     Ready(Option<Answer>),
+}
+
+/// A change of which the program isn't told.
+struct Noted {
+    queue: Arc<Queue>,
+    change: Change,
+    /// Bytes that were set aside for its record.
+    room: u64,
 }
 
 struct Asked {
@@ -366,7 +374,16 @@ impl Task {
                     }
                 },
                 (Some(queue), Some(What::Count)) => self.count(queue)?,
-                (Some(queue), Some(What::Note(change))) => Entry::Noted(queue, change),
+                (Some(queue), Some(What::Note(change))) => match self.room_of_note(&change) {
+                    Ok(Some(room)) => Entry::Noted(Noted { queue, change, room }),
+                    Ok(None) => {
+                        let what = Some(What::Note(change));
+                        self.pending.push_front(Pending { queue: Some(queue), what, done });
+                        self.lacks_room = true;
+                        break;
+                    }
+                    Err(error) => Entry::Ready(Some(Err(error))),
+                },
                 (Some(_), Some(What::Hold | What::LetGo)) => Entry::Ready(Some(Ok(Outcome::Done))),
                 (_, Some(What::Moment)) => self.moment()?,
                 _ => Entry::Ready(None),
@@ -574,13 +591,13 @@ impl Task {
     fn settle_ready(&mut self) -> Result<(), Ended> {
         loop {
             match self.open.front() {
-                Some(Open { entry: Entry::Noted(..) | Entry::Ready(_), .. }) => {}
+                Some(Open { entry: Entry::Noted(_) | Entry::Ready(_), .. }) => {}
                 _ => return Ok(()),
             }
             let Some(Open { entry, done }) = self.open.pop_front() else { return Ok(()) };
             match entry {
-                Entry::Noted(queue, change) => {
-                    let answer = self.note(&queue, &change)?;
+                Entry::Noted(noted) => {
+                    let answer = self.note(&noted)?;
                     self.finish(answer, done);
                 }
                 Entry::Ready(Some(answer)) => self.finish(answer, done),
@@ -589,7 +606,18 @@ impl Task {
         }
     }
 
-    fn note(&mut self, queue: &Queue, change: &Change) -> Result<Answer, Ended> {
+    /// Sets space of the journal aside for a change; none where it must be asked for first.
+    fn room_of_note(&self, change: &Change) -> Result<Option<u64>, SqsError> {
+        let Some(journal) = &self.journal else { return Ok(Some(0)) };
+        let bytes = serde_json::to_vec(change).map_or(0, |bytes| bytes.len()) + 512;
+        journal.set_aside(need_of_note(change), bytes as u64)
+    }
+
+    fn note(&mut self, noted: &Noted) -> Result<Answer, Ended> {
+        let Noted { queue, change, room } = noted;
+        if let Some(journal) = &self.journal {
+            journal.give_back(*room);
+        }
         let moment = self.clock.now();
         let store = {
             let mut state = queue.state();
@@ -712,9 +740,17 @@ fn need_of(ask: &Ask) -> Need {
     match ask {
         // A queue goes over to another name so that records can go.
         Ask::Create { creation, .. } if creation.before.is_some() => Need::Less,
-        Ask::Send { copies: Some(_), .. } | Ask::Receive { .. } | Ask::Change { .. } => Need::Same,
+        Ask::Send { copies: Some(_), .. } | Ask::Receive { own: false, .. } | Ask::Change { .. } => Need::Same,
         Ask::Create { .. } | Ask::Send { .. } => Need::More,
-        Ask::Delete { .. } | Ask::Remove { .. } => Need::Less,
+        // What the gateway is handed itself, it deletes or gives back.
+        Ask::Receive { .. } | Ask::Delete { .. } | Ask::Remove { .. } => Need::Less,
+    }
+}
+
+fn need_of_note(change: &Change) -> Need {
+    match change {
+        Change::Attributes(_) | Change::Tag(_) => Need::Same,
+        Change::Untag(_) | Change::Purged => Need::Less,
     }
 }
 
