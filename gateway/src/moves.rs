@@ -200,8 +200,30 @@ async fn try_to_delete(store: &Store, queue: &Arc<Queue>, sequence: u64) -> Resu
     }
 }
 
-/// Deletes all messages that have a copy, before anybody is served: their moves were cut off.
+/// So many messages are given back at once.
+const GIVEN_BACK_AT_ONCE: usize = 32;
+
+/// Brings to their end what was cut off, before anybody is served: messages that have a copy are deleted, and others
+/// that the gateway had handed to itself are given back.
 pub async fn finish(store: &Store) -> Result<(), SqsError> {
+    delete_copied(store).await?;
+    for queue in store.queues().all() {
+        let hidden = queue.state().hidden_for_the_gateway(store.clock().now());
+        let change = |receipt: &Receipt| Ask::Change { receipt: *receipt, visibility: 0, by_attempt: false };
+        for some in hidden.chunks(GIVEN_BACK_AT_ONCE) {
+            for answer in store.ask_all(&queue, some.iter().map(change).collect()).await {
+                match answer {
+                    // Its timeout ended in this moment.
+                    Ok(_) | Err(SqsError::MessageNotInflight) => {}
+                    Err(error) => return Err(error),
+                }
+            }
+        }
+    }
+    Ok(())
+}
+
+async fn delete_copied(store: &Store) -> Result<(), SqsError> {
     let by_mark: HashMap<u64, Arc<Queue>> =
         store.queues().all().into_iter().map(|queue| (queue.mark.0, queue)).collect();
     let mut finished = 0;

@@ -346,6 +346,38 @@ def names_of_two_programs() -> tuple[str, str]:
     return "letters.fifo", dead
 
 
+def children(gateway: Started) -> list[int]:
+    """The programs, by their places. Each thread has a list of the children that it started."""
+    lists = list(Path(f"/proc/{gateway.process.pid}/task").glob("*/children"))
+    return sorted(int(child) for child in " ".join(one.read_text() for one in lists).split())
+
+
+def test_a_move_that_was_cut_off_keeps_nobody_waiting(tmp_path):
+    queue, dead = names_of_two_programs()
+    gateway = Started("--journal", str(tmp_path / "journal"), "--shards", "2", room=tmp_path)
+    rules = Rules(ByBoto3(gateway.client()), lambda step: gateway.set_clock(gateway.moment + step))
+    rules.call("CreateQueue", QueueName=dead, Attributes={"FifoQueue": "true"})
+    rules.call("CreateQueue", QueueName=queue, Attributes={"FifoQueue": "true", "RedrivePolicy": policy(dead, 1)})
+    sent = rules.send(queue, "1", body="one")
+    rules.send(queue, "2", body="two")
+    assert len(rules.receive(queue, 1, VisibilityTimeout=0)) == 1
+    # The program of the other queue stands still, so the message is handed out and its copy isn't sent.
+    stopped = children(gateway)[zlib.crc32(dead.encode()) % 2]
+    os.kill(stopped, signal.SIGSTOP)
+    receive = threading.Thread(target=lambda: pytest.raises(Exception, rules.receive, queue, 1, VisibilityTimeout=43_200))
+    receive.start()
+    time.sleep(0.5)
+    gateway.kill()
+    os.kill(stopped, signal.SIGKILL)
+    receive.join()
+    gateway.start()
+    rules.call = ByBoto3(gateway.client())
+    assert rules.bodies(queue) == ["two"]
+    (moved,) = rules.receive(dead)
+    assert (moved["Body"], moved["MessageId"]) == ("one", sent["MessageId"])
+    assert gateway.stop() == 0
+
+
 @pytest.mark.parametrize("shards", [1, 2])
 def test_each_message_moves_once_whatever_is_killed(tmp_path, shards):
     load = Load(*names_of_two_programs(), seed=shards)
@@ -390,9 +422,8 @@ def run(gateway: Started, load: Load, kills_cq: bool) -> None:
         thread.start()
     time.sleep(load.random.uniform(0.1, 0.6))
     if kills_cq:
-        lists = list(Path(f"/proc/{gateway.process.pid}/task").glob("*/children"))
-        for child in " ".join(children.read_text() for children in lists).split():
-            os.kill(int(child), signal.SIGKILL)
+        for child in children(gateway):
+            os.kill(child, signal.SIGKILL)
         time.sleep(0.2)
         stop.set()
     else:

@@ -32,6 +32,8 @@ struct Message {
     /// How often the gateway has handed it to itself, and how often since the last handing to a client.
     own: u32,
     own_since: u32,
+    /// The gateway has it by the last handing, and no client.
+    is_own: bool,
     /// It is hidden until then.
     until: Moment,
     /// Its whole form, where the store has a stub in its place.
@@ -248,7 +250,8 @@ impl State {
         if let Some(groups) = &mut self.groups {
             groups.add(group, sequence, 0);
         }
-        let message = Message { sent: moment, group, last: None, own: 0, own_since: 0, until: 0, form, bytes };
+        let message =
+            Message { sent: moment, group, last: None, own: 0, own_since: 0, is_own: false, until: 0, form, bytes };
         self.messages.insert(sequence, message);
         self.open();
         Ok(Settled { outcome: Outcome::Sent { sequence, id }, changed: true, opened: true })
@@ -323,6 +326,7 @@ impl State {
         }
         let is_own = receiving.own || fate.is_some();
         message.own += u32::from(is_own);
+        message.is_own = is_own;
         if is_own && fate != Some(Fate::Dead) {
             message.own_since += 1;
         } else {
@@ -520,6 +524,12 @@ impl State {
     pub fn last_receipt_of(&self, sequence: u64) -> Option<Receipt> {
         let message = self.messages.get(&sequence).filter(|_| !self.removed)?;
         Some(Receipt { sequence, ordinal: message.last_ordinal() }).filter(|receipt| receipt.ordinal > 0)
+    }
+
+    /// The last receipts of messages that the gateway has handed to itself and that are hidden still.
+    pub fn hidden_for_the_gateway(&self, now: Moment) -> Vec<Receipt> {
+        let hidden = self.messages.iter().filter(|(_, message)| message.is_own && message.until > now);
+        hidden.map(|(sequence, message)| Receipt { sequence: *sequence, ordinal: message.last_ordinal() }).collect()
     }
 
     /// What the queue's policy says of dead letters, if it has one.
