@@ -48,6 +48,8 @@ pub enum SqsError {
     #[error("Batch requests cannot be longer than {limit} bytes. You have sent {sent} bytes.")]
     BatchRequestTooLong { limit: usize, sent: usize },
     #[error("{0}")]
+    ResourceNotFound(String),
+    #[error("{0}")]
     UnsupportedOperation(String),
     /// A request in JSON that can't be read as what its action takes.
     #[error("{0}")]
@@ -158,6 +160,9 @@ impl SqsError {
             }
             SqsError::BatchRequestTooLong { .. } => {
                 ("com.amazonaws.sqs#BatchRequestTooLong", "AWS.SimpleQueueService.BatchRequestTooLong", 400)
+            }
+            SqsError::ResourceNotFound(_) => {
+                ("com.amazonaws.sqs#ResourceNotFoundException", "ResourceNotFoundException", 404)
             }
             SqsError::UnsupportedOperation(_) => {
                 ("com.amazonaws.sqs#UnsupportedOperation", "AWS.SimpleQueueService.UnsupportedOperation", 400)

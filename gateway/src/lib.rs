@@ -24,6 +24,7 @@ pub mod limits;
 pub mod lines;
 pub mod messages;
 pub mod metrics;
+pub mod move_tasks;
 pub mod moves;
 pub mod policy;
 pub mod polling;

@@ -9,6 +9,7 @@ use std::sync::{Arc, Mutex, MutexGuard, PoisonError};
 use std::time::Duration;
 
 use serde::{Deserialize, Serialize};
+use uuid::Builder;
 
 use crate::errors::SqsError;
 use crate::handles::Receipt;
@@ -77,17 +78,37 @@ pub enum Moved {
     ByOthers,
 }
 
+/// Why messages are moved.
+#[derive(Clone, Copy, Debug, PartialEq, Eq)]
+pub enum Kind {
+    DeadLetter,
+    /// Out of a dead-letter queue. They are new messages with ids of their own
+    /// (API Reference, StartMessageMoveTask).
+    Redrive,
+}
+
 /// Moves messages that a receive set aside to the target of their queue. Where there is none any more they are given
-/// back, and so they are with an error.
+/// back.
 pub async fn move_to_target(store: &Store, queue: &Arc<Queue>, dead: Vec<Handed>) -> Result<Moved, SqsError> {
     let policy = queue.state().redrive().cloned();
     let Some(target) = policy.and_then(|policy| store.queues().find(&policy.target.name)) else {
         give_back(store, queue, &dead).await;
         return Ok(Moved::Done);
     };
+    move_all(store, queue, &target, dead, Kind::DeadLetter).await
+}
+
+/// Moves messages that nobody else is handed meanwhile. With an error those that couldn't be moved are given back.
+pub async fn move_all(
+    store: &Store,
+    queue: &Arc<Queue>,
+    target: &Arc<Queue>,
+    messages: Vec<Handed>,
+    kind: Kind,
+) -> Result<Moved, SqsError> {
     let copies = store.queues().copies();
     let (mut to_copy, mut copied, mut is_done) = (Vec::new(), Vec::new(), false);
-    for handed in dead {
+    for handed in messages {
         let origin = origin_of(queue, &handed);
         match copies.begin(origin) {
             // Others that were handed it as well may have moved it before this one began.
@@ -98,7 +119,7 @@ pub async fn move_to_target(store: &Store, queue: &Arc<Queue>, dead: Vec<Handed>
         }
         is_done = true;
     }
-    let sent = copy_all(store, queue, &target, to_copy, &mut copied).await;
+    let sent = copy_all(store, queue, target, to_copy, kind, &mut copied).await;
     for sequence in copied {
         delete(store, queue, sequence).await;
     }
@@ -116,11 +137,12 @@ async fn copy_all(
     queue: &Arc<Queue>,
     target: &Arc<Queue>,
     to_copy: Vec<Handed>,
+    kind: Kind,
     copied: &mut Vec<u64>,
 ) -> Result<(), SqsError> {
     let (mut asks, mut asked, mut failed, mut result) = (Vec::new(), Vec::new(), Vec::new(), Ok(()));
     for handed in to_copy {
-        match copy_of(store, queue, &handed) {
+        match copy_of(store, queue, &handed, kind) {
             Ok(ask) => {
                 asks.push(ask);
                 asked.push(handed);
@@ -152,12 +174,15 @@ async fn copy_all(
 }
 
 /// The send of a copy. Clients see the message as it was, but for the moment of its send and what it says of its
-/// queue.
-fn copy_of(store: &Store, queue: &Queue, handed: &Handed) -> Result<Ask, SqsError> {
+/// queue, and of one that leaves a dead-letter queue its id.
+fn copy_of(store: &Store, queue: &Queue, handed: &Handed, kind: Kind) -> Result<Ask, SqsError> {
     let no_form = || SqsError::InternalFailure("The store has a message in no form.".into());
     let (mut kept, body) = read_form(&handed.form).ok_or_else(no_form)?;
     kept.sent = store.clock().now();
-    kept.source = Some(queue.name.clone());
+    kept.source = (kind == Kind::DeadLetter).then(|| queue.name.clone());
+    if kind == Kind::Redrive {
+        kept.id = Builder::from_random_bytes(rand::random()).into_uuid();
+    }
     let form = Form::new(&kept, &Body::parse(body)?).map_err(|_| no_form())?;
     let group = GroupId::parse(&handed.group)?;
     let dedup = DedupId::parse(&hex(&rand::random::<[u8; 16]>()))?;

@@ -25,7 +25,8 @@ pub struct QueueArn {
 }
 
 impl QueueArn {
-    fn parse(text: &str) -> Option<QueueArn> {
+    /// None if the text is no ARN of a FIFO queue.
+    pub fn parse(text: &str) -> Option<QueueArn> {
         let parts: Vec<_> = text.split(':').collect();
         let ["arn", _, "sqs", _, account, name] = parts[..] else { return None };
         Some(QueueArn { account: account.into(), name: QueueName::parse(name)? })

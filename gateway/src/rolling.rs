@@ -61,8 +61,13 @@ async fn roll(store: &Store, queue: &Arc<Queue>, least: u64) -> Result<(), SqsEr
 }
 
 fn creation_of(queue: &Queue, state: &State) -> Creation {
-    let before =
-        Before { base: state.last_sequence, created: state.created, modified: state.modified, purged: state.purged };
+    let before = Before {
+        base: state.last_sequence,
+        created: state.created,
+        modified: state.modified,
+        purged: state.purged,
+        tasks: state.tasks().to_vec(),
+    };
     Creation {
         name: queue.name.clone(),
         mark: queue.mark.0,

@@ -22,6 +22,7 @@ use crate::http::{is_of_this_machine, listen, Addresses, Door, Service};
 use crate::journal::{self, Batch, Journal, Record, Taken};
 use crate::limits::Bounds;
 use crate::metrics::Metrics;
+use crate::move_tasks;
 use crate::moves;
 use crate::queues::ask::Ask;
 use crate::queues::shards::Shards;
@@ -237,6 +238,7 @@ async fn answer(
         bail!(why(ended).await);
     }
     let (end, ending) = End::new();
+    move_tasks::resume(&store);
     let (owner, metrics) = (settings.owner.clone(), admin.metrics.clone());
     let actions = Actions::new(store, owner, settings.polls, settings.pauses, metrics, ending.clone());
     actions.declare(&settings.queues).await;

@@ -245,6 +245,8 @@ class ByQuery:
                 found.setdefault("Failed", []).append(self._members(child))
             elif child.tag == "QueueUrl" and element.tag == "ListQueuesResult":
                 found.setdefault("QueueUrls", []).append(child.text)
+            elif child.tag == "ListMessageMoveTasksResultEntry":
+                found.setdefault("Results", []).append(self._members(child))
             elif child.tag == "QueueUrl" and element.tag == "ListDeadLetterSourceQueuesResult":
                 found.setdefault("queueUrls", []).append(child.text)
             else:

@@ -4,6 +4,7 @@ mod dead_letters;
 mod declared;
 mod identity;
 mod messages;
+mod move_tasks;
 mod permissions;
 mod queues;
 mod receiving;
@@ -187,6 +188,9 @@ impl Actions {
             Request::PurgeQueue { queue } => self.purge(&queue).await,
             Request::AddPermission { queue, permission } => self.add_permission(&queue, &permission).await,
             Request::RemovePermission { queue, label } => self.remove_permission(&queue, &label).await,
+            Request::StartMessageMoveTask { start } => self.start_move(start, caller).await,
+            Request::CancelMessageMoveTask { handle } => self.cancel_move(handle.as_ref()).await,
+            Request::ListMessageMoveTasks { source, most } => self.list_moves(source.as_ref(), most),
         }
     }
 }

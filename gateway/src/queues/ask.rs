@@ -10,6 +10,7 @@ use crate::attributes::{Given, QueueAttributes};
 use crate::clock::Moment;
 use crate::handles::Receipt;
 use crate::messages::Form;
+use crate::move_tasks::MoveTask;
 use crate::moves::Origin;
 use crate::texts::{AttemptId, DedupId, GroupId, QueueName};
 
@@ -91,6 +92,8 @@ pub struct Before {
     pub created: Moment,
     pub modified: Moment,
     pub purged: Option<Moment>,
+    #[serde(default, skip_serializing_if = "Vec::is_empty")]
+    pub tasks: Vec<MoveTask>,
 }
 
 /// A change of what the gateway keeps of a queue, of which the store knows nothing.
@@ -101,6 +104,8 @@ pub enum Change {
     Tag(BTreeMap<String, String>),
     Untag(Vec<String>),
     Purged,
+    /// How a task stands that moves messages.
+    Task(MoveTask),
 }
 
 /// A message as it is handed out.

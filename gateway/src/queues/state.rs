@@ -15,6 +15,7 @@ use crate::handles::{Handle, Receipt};
 use crate::limits::{ID_BYTES, MESSAGE_BYTES};
 use crate::lines::{read_receipt, Given, Reply};
 use crate::messages::{id_of_form, Form};
+use crate::move_tasks::{self, MoveTask, Status};
 use crate::redrive::RedrivePolicy;
 use crate::retention::Jumps;
 use crate::texts::{AttemptId, GroupId};
@@ -100,6 +101,7 @@ pub struct State {
     pub created: Moment,
     pub modified: Moment,
     pub purged: Option<Moment>,
+    tasks: Vec<MoveTask>,
     pub removed: bool,
     pub last_sequence: u64,
     pub last_send: Moment,
@@ -161,7 +163,7 @@ fn misfit() -> SqsError {
 
 impl State {
     pub fn new(store: StoreName, creation: &Creation, now: Moment) -> State {
-        let fresh = Before { base: 0, created: now, modified: now, purged: None };
+        let fresh = Before { base: 0, created: now, modified: now, purged: None, tasks: Vec::new() };
         let before = creation.before.clone().unwrap_or(fresh);
         let delay = creation.attributes.delay();
         State {
@@ -172,6 +174,7 @@ impl State {
             created: before.created,
             modified: before.modified,
             purged: before.purged,
+            tasks: before.tasks,
             removed: false,
             last_sequence: before.base,
             last_send: 0,
@@ -384,6 +387,7 @@ impl State {
             Change::Tag(tags) => self.tags.extend(tags.clone()),
             Change::Untag(keys) => self.tags.retain(|key, _| !keys.contains(key)),
             Change::Purged => self.purged = Some(moment),
+            Change::Task(task) => move_tasks::note(&mut self.tasks, task),
         }
     }
 
@@ -530,6 +534,20 @@ impl State {
     pub fn hidden_for_the_gateway(&self, now: Moment) -> Vec<Receipt> {
         let hidden = self.messages.iter().filter(|(_, message)| message.is_own && message.until > now);
         hidden.map(|(sequence, message)| Receipt { sequence: *sequence, ordinal: message.last_ordinal() }).collect()
+    }
+
+    /// The last tasks that move messages out of the queue, in order of their starts.
+    pub fn tasks(&self) -> &[MoveTask] {
+        &self.tasks
+    }
+
+    pub fn running_task(&self) -> Option<&MoveTask> {
+        self.tasks.iter().find(|task| task.status == Status::Running)
+    }
+
+    /// How many messages there are.
+    pub fn count(&self) -> u64 {
+        self.messages.len() as u64
     }
 
     /// What the queue's policy says of dead letters, if it has one.

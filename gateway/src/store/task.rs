@@ -749,7 +749,7 @@ fn need_of(ask: &Ask) -> Need {
 
 fn need_of_note(change: &Change) -> Need {
     match change {
-        Change::Attributes(_) | Change::Tag(_) => Need::Same,
+        Change::Attributes(_) | Change::Tag(_) | Change::Task(_) => Need::Same,
         Change::Untag(_) | Change::Purged => Need::Less,
     }
 }

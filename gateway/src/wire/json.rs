@@ -3,7 +3,7 @@
 use serde::Serialize;
 
 use super::requests::{self, Action, Request};
-use super::responses::{as_map, Done, Failed, Pairs, ReceivedMessage, Response};
+use super::responses::{as_map, Done, Failed, ListedTask, Pairs, ReceivedMessage, Response};
 use super::value::{Map, Value};
 use super::{fault, Incoming, Reply};
 use crate::errors::SqsError;
@@ -97,6 +97,24 @@ struct Batch<'a> {
 }
 
 #[derive(Serialize)]
+#[serde(rename_all = "PascalCase")]
+struct Task<'a> {
+    task_handle: &'a str,
+}
+
+#[derive(Serialize)]
+#[serde(rename_all = "PascalCase")]
+struct Moved {
+    approximate_number_of_messages_moved: u64,
+}
+
+#[derive(Serialize)]
+#[serde(rename_all = "PascalCase")]
+struct MoveTasks<'a> {
+    results: &'a [ListedTask],
+}
+
+#[derive(Serialize)]
 struct Refusal<'a> {
     #[serde(rename = "__type")]
     type_name: &'a str,
@@ -121,6 +139,9 @@ pub fn answer(response: &Response, request_id: String) -> Reply {
         Response::Sent(sent) => to_bytes(sent),
         Response::Messages(messages) => to_bytes(&Messages { messages }),
         Response::Batch { successful, failed } => to_bytes(&Batch { successful, failed }),
+        Response::TaskHandle(task_handle) => to_bytes(&Task { task_handle }),
+        Response::Moved(moved) => to_bytes(&Moved { approximate_number_of_messages_moved: *moved }),
+        Response::MoveTasks(results) => to_bytes(&MoveTasks { results }),
     };
     Reply { status: 200, content_type: CONTENT_TYPE, query_error: None, request_id, body }
 }

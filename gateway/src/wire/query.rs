@@ -7,7 +7,7 @@ use quick_xml::events::{BytesDecl, BytesEnd, BytesStart, BytesText, Event};
 use quick_xml::Writer;
 
 use super::requests::{self, Action, Request};
-use super::responses::{Done, Failed, ReceivedMessage, Response, Sent};
+use super::responses::{Done, Failed, ListedTask, ReceivedMessage, Response, Sent};
 use super::value::{Map, Value};
 use super::{fault, Incoming, Reply, Service};
 use crate::errors::SqsError;
@@ -384,7 +384,24 @@ fn result(xml: &mut Xml, action: Action, response: &Response) {
             successful.iter().for_each(|done| xml.element(&entry, |xml| done_entry(xml, done)));
             failed.iter().for_each(|one| xml.element("BatchResultErrorEntry", |xml| failed_entry(xml, one)));
         }
+        Response::TaskHandle(handle) => xml.leaf("TaskHandle", handle),
+        Response::Moved(moved) => xml.leaf("ApproximateNumberOfMessagesMoved", &moved.to_string()),
+        Response::MoveTasks(tasks) => {
+            tasks.iter().for_each(|task| xml.element("ListMessageMoveTasksResultEntry", |xml| listed_task(xml, task)));
+        }
     }
+}
+
+fn listed_task(xml: &mut Xml, task: &ListedTask) {
+    xml.optional("TaskHandle", task.task_handle.as_ref());
+    xml.leaf("Status", task.status);
+    xml.leaf("SourceArn", &task.source_arn);
+    xml.optional("DestinationArn", task.destination_arn.as_ref());
+    xml.optional("MaxNumberOfMessagesPerSecond", task.rate.map(|rate| rate.to_string()).as_ref());
+    xml.leaf("ApproximateNumberOfMessagesMoved", &task.moved.to_string());
+    xml.leaf("ApproximateNumberOfMessagesToMove", &task.to_move.to_string());
+    xml.optional("FailureReason", task.failure_reason.as_ref());
+    xml.leaf("StartedTimestamp", &task.started.to_string());
 }
 
 fn sent_message(xml: &mut Xml, sent: &Sent) {

@@ -2,18 +2,22 @@
 
 use std::str::FromStr;
 
+use uuid::Uuid;
+
 use super::members::Members;
 use super::value::Map;
 use crate::attributes::{Given, Wanted};
 use crate::errors::SqsError;
 use crate::messages::{AttributeValue, MessageAttributes};
 use crate::policy::{read_label, Permission};
+use crate::redrive::QueueArn;
 use crate::texts::{AttemptId, Body, DedupId, GroupId, QueueName};
 
 /// The actions that are done (API Reference, "Actions").
 #[derive(Clone, Copy, Debug, PartialEq, Eq, Hash)]
 pub enum Action {
     AddPermission,
+    CancelMessageMoveTask,
     ChangeMessageVisibility,
     ChangeMessageVisibilityBatch,
     CreateQueue,
@@ -25,6 +29,7 @@ pub enum Action {
     GetQueueAttributes,
     GetQueueUrl,
     ListDeadLetterSourceQueues,
+    ListMessageMoveTasks,
     ListQueueTags,
     ListQueues,
     PurgeQueue,
@@ -33,13 +38,15 @@ pub enum Action {
     SendMessage,
     SendMessageBatch,
     SetQueueAttributes,
+    StartMessageMoveTask,
     TagQueue,
     UntagQueue,
 }
 
 impl Action {
-    pub const ALL: [Action; 21] = [
+    pub const ALL: [Action; 24] = [
         Action::AddPermission,
+        Action::CancelMessageMoveTask,
         Action::ChangeMessageVisibility,
         Action::ChangeMessageVisibilityBatch,
         Action::CreateQueue,
@@ -50,6 +57,7 @@ impl Action {
         Action::GetQueueAttributes,
         Action::GetQueueUrl,
         Action::ListDeadLetterSourceQueues,
+        Action::ListMessageMoveTasks,
         Action::ListQueueTags,
         Action::ListQueues,
         Action::PurgeQueue,
@@ -58,6 +66,7 @@ impl Action {
         Action::SendMessage,
         Action::SendMessageBatch,
         Action::SetQueueAttributes,
+        Action::StartMessageMoveTask,
         Action::TagQueue,
         Action::UntagQueue,
     ];
@@ -70,6 +79,7 @@ impl Action {
     pub fn name(self) -> &'static str {
         match self {
             Action::AddPermission => "AddPermission",
+            Action::CancelMessageMoveTask => "CancelMessageMoveTask",
             Action::ChangeMessageVisibility => "ChangeMessageVisibility",
             Action::ChangeMessageVisibilityBatch => "ChangeMessageVisibilityBatch",
             Action::CreateQueue => "CreateQueue",
@@ -80,6 +90,7 @@ impl Action {
             Action::GetQueueAttributes => "GetQueueAttributes",
             Action::GetQueueUrl => "GetQueueUrl",
             Action::ListDeadLetterSourceQueues => "ListDeadLetterSourceQueues",
+            Action::ListMessageMoveTasks => "ListMessageMoveTasks",
             Action::ListQueueTags => "ListQueueTags",
             Action::ListQueues => "ListQueues",
             Action::PurgeQueue => "PurgeQueue",
@@ -88,6 +99,7 @@ impl Action {
             Action::SendMessage => "SendMessage",
             Action::SendMessageBatch => "SendMessageBatch",
             Action::SetQueueAttributes => "SetQueueAttributes",
+            Action::StartMessageMoveTask => "StartMessageMoveTask",
             Action::TagQueue => "TagQueue",
             Action::UntagQueue => "UntagQueue",
         }
@@ -133,18 +145,12 @@ impl Action {
     }
 }
 
-/// Actions that SQS has and that aren't done here.
-const UNSUPPORTED: [&str; 3] = ["CancelMessageMoveTask", "ListMessageMoveTasks", "StartMessageMoveTask"];
-
 impl FromStr for Action {
     type Err = SqsError;
 
     fn from_str(name: &str) -> Result<Action, SqsError> {
         if let Some(action) = Action::of_sqs().find(|action| action.name() == name) {
             return Ok(action);
-        }
-        if UNSUPPORTED.contains(&name) {
-            return Err(SqsError::UnsupportedOperation(format!("{name} is not supported.")));
         }
         Err(SqsError::UnknownOperation(name.into()))
     }
@@ -154,6 +160,7 @@ impl FromStr for Action {
 #[derive(Clone, Debug, PartialEq)]
 pub enum Request {
     AddPermission { queue: QueueName, permission: Permission },
+    CancelMessageMoveTask { handle: Option<TaskHandle> },
     ChangeMessageVisibility { queue: QueueName, change: Change },
     ChangeMessageVisibilityBatch { queue: QueueName, batch: Batch<Change> },
     CreateQueue { queue: QueueName, attributes: Given, tags: Tags },
@@ -164,6 +171,7 @@ pub enum Request {
     GetQueueAttributes { queue: QueueName, wanted: Wanted },
     GetQueueUrl { queue: Option<QueueName> },
     ListDeadLetterSourceQueues { queue: QueueName, most: Option<u32>, after: String },
+    ListMessageMoveTasks { source: Option<QueueArn>, most: u32 },
     ListQueueTags { queue: QueueName },
     ListQueues { prefix: String, most: Option<u32>, after: String },
     PurgeQueue { queue: QueueName },
@@ -172,6 +180,7 @@ pub enum Request {
     SendMessage { queue: QueueName, message: Message },
     SendMessageBatch { queue: QueueName, batch: Batch<Message> },
     SetQueueAttributes { queue: QueueName, attributes: Given },
+    StartMessageMoveTask { start: StartMove },
     TagQueue { queue: QueueName, tags: Tags },
     UntagQueue { queue: QueueName, keys: Vec<String> },
 }
@@ -182,6 +191,9 @@ impl Request {
         match self {
             Request::GetQueueUrl { queue } => queue.as_ref(),
             Request::GetCallerIdentity | Request::ListQueues { .. } => None,
+            Request::CancelMessageMoveTask { handle } => handle.as_ref().map(|handle| &handle.queue),
+            Request::ListMessageMoveTasks { source, .. } => source.as_ref().map(|arn| &arn.name),
+            Request::StartMessageMoveTask { start } => start.source.as_ref().map(|arn| &arn.name),
             Request::AddPermission { queue, .. }
             | Request::ChangeMessageVisibility { queue, .. }
             | Request::ChangeMessageVisibilityBatch { queue, .. }
@@ -206,6 +218,7 @@ impl Request {
     pub fn action(&self) -> Action {
         match self {
             Request::AddPermission { .. } => Action::AddPermission,
+            Request::CancelMessageMoveTask { .. } => Action::CancelMessageMoveTask,
             Request::ChangeMessageVisibility { .. } => Action::ChangeMessageVisibility,
             Request::ChangeMessageVisibilityBatch { .. } => Action::ChangeMessageVisibilityBatch,
             Request::CreateQueue { .. } => Action::CreateQueue,
@@ -216,6 +229,7 @@ impl Request {
             Request::GetQueueAttributes { .. } => Action::GetQueueAttributes,
             Request::GetQueueUrl { .. } => Action::GetQueueUrl,
             Request::ListDeadLetterSourceQueues { .. } => Action::ListDeadLetterSourceQueues,
+            Request::ListMessageMoveTasks { .. } => Action::ListMessageMoveTasks,
             Request::ListQueueTags { .. } => Action::ListQueueTags,
             Request::ListQueues { .. } => Action::ListQueues,
             Request::PurgeQueue { .. } => Action::PurgeQueue,
@@ -224,6 +238,7 @@ impl Request {
             Request::SendMessage { .. } => Action::SendMessage,
             Request::SendMessageBatch { .. } => Action::SendMessageBatch,
             Request::SetQueueAttributes { .. } => Action::SetQueueAttributes,
+            Request::StartMessageMoveTask { .. } => Action::StartMessageMoveTask,
             Request::TagQueue { .. } => Action::TagQueue,
             Request::UntagQueue { .. } => Action::UntagQueue,
         }
@@ -268,6 +283,39 @@ pub struct Receive {
     pub wait: Option<u32>,
     pub attempt: Option<AttemptId>,
     pub shown: Shown,
+}
+
+/// A task to start. An ARN that is none of a FIFO queue is kept as none.
+#[derive(Clone, Debug, PartialEq, Eq)]
+pub struct StartMove {
+    pub source: Option<QueueArn>,
+    /// None where each message goes to the queue from which it came.
+    pub destination: Option<Option<QueueArn>>,
+    /// Messages in a second, 1 to 500.
+    pub rate: Option<u32>,
+}
+
+/// What a client is given of a task that moves messages.
+#[derive(Clone, Debug, PartialEq, Eq)]
+pub struct TaskHandle {
+    pub id: Uuid,
+    /// The queue out of which it moves them.
+    pub queue: QueueName,
+}
+
+impl TaskHandle {
+    /// The handle as clients see it: id and queue in URL-safe base64.
+    pub fn outward(&self) -> String {
+        base64::encode_config(format!("{}/{}", self.id, self.queue), base64::URL_SAFE_NO_PAD)
+    }
+
+    /// None if the text is no handle.
+    fn parse(text: &str) -> Option<TaskHandle> {
+        let bytes = base64::decode_config(text, base64::URL_SAFE_NO_PAD).ok()?;
+        let text = String::from_utf8(bytes).ok()?;
+        let (id, queue) = text.split_once('/')?;
+        Some(TaskHandle { id: id.parse().ok()?, queue: QueueName::parse(queue)? })
+    }
 }
 
 /// Which system attributes of messages there are (API Reference, ReceiveMessage, `MessageSystemAttributeNames`).
@@ -407,6 +455,9 @@ pub fn read(action: Action, members: &Map<'_>) -> Result<Request, SqsError> {
     let queue = || QueueName::of_url(members.required_text("QueueUrl")?);
     Ok(match action {
         Action::AddPermission => Request::AddPermission { queue: queue()?, permission: permission(members)? },
+        Action::CancelMessageMoveTask => {
+            Request::CancelMessageMoveTask { handle: TaskHandle::parse(members.required_text("TaskHandle")?) }
+        }
         Action::ChangeMessageVisibility => {
             Request::ChangeMessageVisibility { queue: queue()?, change: change(members)? }
         }
@@ -426,6 +477,10 @@ pub fn read(action: Action, members: &Map<'_>) -> Result<Request, SqsError> {
             queue: queue()?,
             most: members.number("MaxResults", 1, 1000)?,
             after: members.text("NextToken")?.unwrap_or_default().into(),
+        },
+        Action::ListMessageMoveTasks => Request::ListMessageMoveTasks {
+            source: QueueArn::parse(members.required_text("SourceArn")?),
+            most: members.number("MaxResults", 1, 10)?.unwrap_or(1),
         },
         Action::ListQueueTags => Request::ListQueueTags { queue: queue()? },
         Action::ListQueues => Request::ListQueues {
@@ -448,6 +503,13 @@ pub fn read(action: Action, members: &Map<'_>) -> Result<Request, SqsError> {
             }
             Request::SetQueueAttributes { queue, attributes }
         }
+        Action::StartMessageMoveTask => Request::StartMessageMoveTask {
+            start: StartMove {
+                source: QueueArn::parse(members.required_text("SourceArn")?),
+                destination: members.text("DestinationArn")?.map(QueueArn::parse),
+                rate: members.number("MaxNumberOfMessagesPerSecond", 1, 500)?,
+            },
+        },
         Action::TagQueue => {
             let (queue, tags) = (queue()?, tags(members, "Tags")?);
             if tags.is_empty() {

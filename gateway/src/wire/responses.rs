@@ -33,6 +33,10 @@ pub enum Response {
         successful: Vec<Done>,
         failed: Vec<Failed>,
     },
+    TaskHandle(String),
+    /// How many messages a task has moved that was cancelled.
+    Moved(u64),
+    MoveTasks(Vec<ListedTask>),
 }
 
 /// Names and values in order.
@@ -67,6 +71,30 @@ pub struct ReceivedMessage {
     pub md5_of_attributes: Option<String>,
     #[serde(skip_serializing_if = "MessageAttributes::is_empty")]
     pub message_attributes: MessageAttributes,
+}
+
+/// A task as it is listed (API Reference, `ListMessageMoveTasksResultEntry`).
+#[derive(Clone, Debug, PartialEq, Eq, Serialize)]
+#[serde(rename_all = "PascalCase")]
+pub struct ListedTask {
+    /// Of one that runs.
+    #[serde(skip_serializing_if = "Option::is_none")]
+    pub task_handle: Option<String>,
+    pub status: &'static str,
+    pub source_arn: String,
+    #[serde(skip_serializing_if = "Option::is_none")]
+    pub destination_arn: Option<String>,
+    #[serde(rename = "MaxNumberOfMessagesPerSecond", skip_serializing_if = "Option::is_none")]
+    pub rate: Option<u32>,
+    #[serde(rename = "ApproximateNumberOfMessagesMoved")]
+    pub moved: u64,
+    #[serde(rename = "ApproximateNumberOfMessagesToMove")]
+    pub to_move: u64,
+    #[serde(skip_serializing_if = "Option::is_none")]
+    pub failure_reason: Option<String>,
+    /// Milliseconds since 1970.
+    #[serde(rename = "StartedTimestamp")]
+    pub started: u64,
 }
 
 /// An entry of a batch that was done. What its action tells of it stands beside its id.

@@ -42,8 +42,10 @@ impl Written {
 #[test]
 fn both_protocols_say_the_same() {
     let (by_query, by_json) = (written(BY_QUERY), written(BY_JSON));
-    assert_eq!(by_query.len(), Action::of_sqs().count());
-    for (old, new) in by_query.iter().zip(&by_json) {
+    // Version 1.29.27 doesn't know the three tasks that move messages yet.
+    assert_eq!((by_query.len() + 3, by_json.len()), (Action::of_sqs().count(), Action::of_sqs().count()));
+    let same = by_query.iter().map(|old| (old, by_json.iter().find(|new| new.call == old.call).unwrap()));
+    for (old, new) in same {
         assert_eq!((&old.call, old.target.is_none(), new.target.is_some()), (&new.call, true, true));
         assert_eq!((old.path.as_str(), new.path.as_str()), ("/", "/"));
         let (old_read, new_read) = (old.read(), new.read());
@@ -89,6 +91,11 @@ fn what_is_read_is_what_was_asked() {
             Request::ListDeadLetterSourceQueues { most, after, .. } => {
                 assert_eq!((most, after.as_str()), (Some(7), "orders.fifo"));
             }
+            Request::StartMessageMoveTask { start } => {
+                assert_eq!((start.destination, start.rate), (Some(start.source), Some(500)));
+            }
+            Request::CancelMessageMoveTask { handle } => assert_eq!(handle.unwrap().id.to_string().len(), 36),
+            Request::ListMessageMoveTasks { most, .. } => assert_eq!(most, 7),
             Request::ListQueues { prefix, most, after } => {
                 assert_eq!((prefix.as_str(), most, after.as_str()), ("or", Some(7), "orders.fifo"));
             }

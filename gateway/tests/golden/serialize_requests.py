@@ -7,6 +7,7 @@ The files beside this one are what two versions made of it: 1.29 speaks the quer
 
 from __future__ import annotations
 
+import base64
 import json
 import sys
 from urllib.parse import urlsplit
@@ -25,9 +26,12 @@ ATTRIBUTES = {
 TRACE = {"AWSTraceHeader": {"DataType": "String", "StringValue": "Root=1-5759e988-bd862e3fe1be46a994272793"}}
 MESSAGE = {"MessageBody": TEXT, "MessageGroupId": "g!1", "MessageDeduplicationId": "d~1", "MessageAttributes": ATTRIBUTES,
            "MessageSystemAttributes": TRACE}
+ARN = "arn:aws:sqs:us-east-1:000000000000:orders.fifo"
+HANDLE = base64.urlsafe_b64encode(b"00000000-0000-4000-8000-000000000007/orders.fifo").decode().rstrip("=")
 CALLS: list[tuple[str, dict]] = [
     ("add_permission", {"QueueUrl": URL, "Label": "l-1", "AWSAccountIds": ["123456789012", "210987654321"],
                         "Actions": ["SendMessage", "*"]}),
+    ("cancel_message_move_task", {"TaskHandle": HANDLE}),
     ("change_message_visibility", {"QueueUrl": URL, "ReceiptHandle": "h+/=", "VisibilityTimeout": 12}),
     ("change_message_visibility_batch", {"QueueUrl": URL, "Entries": [
         {"Id": "a", "ReceiptHandle": "1", "VisibilityTimeout": 0}, {"Id": "b", "ReceiptHandle": "2", "VisibilityTimeout": 43200}]}),
@@ -39,6 +43,7 @@ CALLS: list[tuple[str, dict]] = [
     ("get_queue_attributes", {"QueueUrl": URL, "AttributeNames": ["QueueArn", "VisibilityTimeout"]}),
     ("get_queue_url", {"QueueName": "orders.fifo"}),
     ("list_dead_letter_source_queues", {"QueueUrl": URL, "MaxResults": 7, "NextToken": "orders.fifo"}),
+    ("list_message_move_tasks", {"SourceArn": ARN, "MaxResults": 7}),
     ("list_queue_tags", {"QueueUrl": URL}),
     ("list_queues", {"QueueNamePrefix": "or", "MaxResults": 7, "NextToken": "orders.fifo"}),
     ("purge_queue", {"QueueUrl": URL}),
@@ -48,6 +53,7 @@ CALLS: list[tuple[str, dict]] = [
     ("send_message", {"QueueUrl": URL, **MESSAGE}),
     ("send_message_batch", {"QueueUrl": URL, "Entries": [{"Id": "1", **MESSAGE}, {"Id": "2-_", "MessageBody": "b", "MessageGroupId": "g"}]}),
     ("set_queue_attributes", {"QueueUrl": URL, "Attributes": {"VisibilityTimeout": "9"}}),
+    ("start_message_move_task", {"SourceArn": ARN, "DestinationArn": ARN, "MaxNumberOfMessagesPerSecond": 500}),
     ("tag_queue", {"QueueUrl": URL, "Tags": {"a": "1", "b": "2"}}),
     ("untag_queue", {"QueueUrl": URL, "TagKeys": ["a", "b"]}),
 ]
@@ -63,7 +69,8 @@ def main() -> None:
         return AWSResponse(request.url, 200, {}, None)
 
     client.meta.events.register("before-send.sqs", capture)
-    for name, members in CALLS:
+    # Version 1.29.27 doesn't know the tasks that move messages yet.
+    for name, members in [(name, members) for name, members in CALLS if hasattr(client, name)]:
         try:
             getattr(client, name)(**members)
         except Exception:  # (nothing answered)

@@ -1,0 +1,126 @@
+//! Starting, listing and cancelling tasks that move messages.
+
+use std::sync::Arc;
+
+use uuid::{Builder, Uuid};
+
+use super::{Actions, Caller, Performed};
+use crate::errors::SqsError;
+use crate::move_tasks::{run, MoveTask, Status};
+use crate::queues::ask::Change;
+use crate::queues::Queue;
+use crate::redrive::QueueArn;
+use crate::texts::QueueName;
+use crate::wire::requests::{Action, StartMove, TaskHandle};
+use crate::wire::responses::ListedTask;
+use crate::wire::Response;
+
+fn no_resource(parameter: &str) -> SqsError {
+    SqsError::ResourceNotFound(format!("The resource that you specified for the {parameter} parameter doesn't exist."))
+}
+
+impl Actions {
+    fn queue_of_arn(&self, arn: Option<&QueueArn>, parameter: &str) -> Result<Arc<Queue>, SqsError> {
+        let own = arn.filter(|arn| arn.account == self.owner.account);
+        own.and_then(|arn| self.store.queues().find(&arn.name)).ok_or_else(|| no_resource(parameter))
+    }
+
+    /// Starts a task, unless one of the queue runs (API Reference, StartMessageMoveTask).
+    pub(super) async fn start_move(&self, start: StartMove, caller: &Caller) -> Result<Performed, SqsError> {
+        let queue = self.queue_of_arn(start.source.as_ref(), "SourceArn")?;
+        let _turn = self.turn_of(&queue.name).lock().await;
+        let names_it =
+            |other: &Arc<Queue>| other.state().redrive().is_some_and(|policy| policy.target.name == queue.name);
+        if !self.store.queues().all().iter().any(names_it) {
+            let message = "Source queue must be configured as a Dead Letter Queue.";
+            return Err(SqsError::InvalidParameterValue(message.into()));
+        }
+        let destination = match &start.destination {
+            None => None,
+            Some(arn) => Some(self.destination(arn.as_ref(), &queue.name, caller)?),
+        };
+        let task = {
+            let state = queue.state();
+            if state.running_task().is_some() {
+                let message = "There is already a task running. Only one active task is allowed for a source queue \
+                               arn at a given time.";
+                return Err(SqsError::InvalidParameterValue(message.into()));
+            }
+            MoveTask {
+                id: Builder::from_random_bytes(rand::random()).into_uuid(),
+                destination,
+                rate: start.rate,
+                up_to: state.last_sequence,
+                to_move: state.count(),
+                moved: 0,
+                started: self.store.clock().now(),
+                status: Status::Running,
+                failure: None,
+            }
+        };
+        let id = task.id;
+        self.store.note(&queue, Change::Task(task)).await?;
+        let handle = TaskHandle { id, queue: queue.name.clone() }.outward();
+        tokio::spawn(run(self.store.clone(), queue, id));
+        Ok(Response::TaskHandle(handle).into())
+    }
+
+    fn destination(&self, arn: Option<&QueueArn>, source: &QueueName, caller: &Caller) -> Result<QueueName, SqsError> {
+        if let (Some(arn), Some(identity)) = (arn, &caller.identity) {
+            if !identity.sees(&arn.name) {
+                return Err(self.denied(identity, Action::StartMessageMoveTask, Some(&arn.name)));
+            }
+        }
+        let name = self.queue_of_arn(arn, "DestinationArn")?.name.clone();
+        if name == *source {
+            let message = "Source queue arn and destination queue arn cannot be the same.";
+            return Err(SqsError::InvalidParameterValue(message.into()));
+        }
+        Ok(name)
+    }
+
+    /// Ends a task that runs, and tells how many messages it has moved.
+    pub(super) async fn cancel_move(&self, handle: Option<&TaskHandle>) -> Result<Performed, SqsError> {
+        let no_task = || no_resource("TaskHandle");
+        let TaskHandle { id, queue: name } = handle.ok_or_else(no_task)?;
+        let _turn = self.turn_of(name).lock().await;
+        let queue = self.store.queues().find(name).ok_or_else(no_task)?;
+        let mut task = find(&queue, *id).ok_or_else(no_task)?;
+        if task.status != Status::Running {
+            let message = "Only tasks with the status RUNNING can be cancelled.";
+            return Err(SqsError::InvalidParameterValue(message.into()));
+        }
+        task.status = Status::Cancelled;
+        self.store.note(&queue, Change::Task(task)).await?;
+        let moved = find(&queue, *id).map_or(0, |task| task.moved);
+        Ok(Response::Moved(moved).into())
+    }
+
+    /// The last tasks of a queue, the newest first.
+    pub(super) fn list_moves(&self, source: Option<&QueueArn>, most: u32) -> Result<Performed, SqsError> {
+        let queue = self.queue_of_arn(source, "SourceArn")?;
+        let state = queue.state();
+        let newest = state.tasks().iter().rev().take(most as usize);
+        let listed = newest.map(|task| self.listed(&queue.name, task)).collect();
+        Ok(Performed::of_tables(Response::MoveTasks(listed)))
+    }
+
+    fn listed(&self, queue: &QueueName, task: &MoveTask) -> ListedTask {
+        let is_running = task.status == Status::Running;
+        ListedTask {
+            task_handle: is_running.then(|| TaskHandle { id: task.id, queue: queue.clone() }.outward()),
+            status: task.status.name(),
+            source_arn: self.owner.arn(queue.as_str()),
+            destination_arn: task.destination.as_ref().map(|name| self.owner.arn(name.as_str())),
+            rate: task.rate,
+            moved: task.moved,
+            to_move: task.to_move,
+            failure_reason: task.failure.clone(),
+            started: task.started,
+        }
+    }
+}
+
+fn find(queue: &Queue, id: Uuid) -> Option<MoveTask> {
+    queue.state().tasks().iter().find(|task| task.id == id).cloned()
+}

@@ -1,0 +1,212 @@
+"""Tasks that move messages out of dead-letter queues (API Reference, StartMessageMoveTask)."""
+
+from __future__ import annotations
+
+import json
+import time
+from collections.abc import Callable
+from typing import Any
+
+import pytest
+from botocore.auth import SigV4Auth
+from botocore.awsrequest import AWSRequest
+from botocore.credentials import Credentials
+
+from conftest import Rules
+from started import ByJson, ByQuery, Refused, Started, post
+
+
+def arn(url: str) -> str:
+    return f"arn:aws:sqs:us-east-1:000000000000:{url.rsplit('/', 1)[-1]}"
+
+
+def policy(target: str) -> str:
+    return json.dumps({"deadLetterTargetArn": arn(target), "maxReceiveCount": 1})
+
+
+# Debian's boto3 doesn't know these actions.
+@pytest.fixture(params=[ByJson, ByQuery])
+def tasks(request, gateway) -> Rules:
+    return Rules(request.param(gateway.url), lambda step: gateway.set_clock(gateway.moment + step))
+
+
+def dead_pair(rules: Rules, **attributes: str) -> tuple[str, str]:
+    dead = rules.queue(**attributes)
+    return rules.queue(VisibilityTimeout="0", RedrivePolicy=policy(dead)), dead
+
+
+def fill(rules: Rules, queue: str, count: int, groups: int = 2) -> None:
+    """Sends messages and receives them until all are in the dead-letter queue."""
+    for number in range(count):
+        rules.send(queue, f"d{number}", group=f"g{number % groups}", body=str(number))
+    while rules.receive(queue):
+        pass
+
+
+def wait_for(what: Callable[[], Any]) -> Any:
+    latest = time.monotonic() + 20
+    while not (found := what()):
+        assert time.monotonic() < latest
+        time.sleep(0.02)
+    return found
+
+
+def listed(rules: Rules, dead: str, most: int = 1) -> list[dict[str, Any]]:
+    return rules.call("ListMessageMoveTasks", SourceArn=arn(dead), MaxResults=most).get("Results", [])
+
+
+def ended(rules: Rules, dead: str) -> dict[str, Any]:
+    return wait_for(lambda: next((task for task in listed(rules, dead) if task["Status"] != "RUNNING"), None))
+
+
+def test_each_message_goes_back_to_its_queue(tasks):
+    first, dead = dead_pair(tasks)
+    second = tasks.queue(VisibilityTimeout="0", RedrivePolicy=policy(dead))
+    fill(tasks, first, 25)
+    fill(tasks, second, 3)
+    old = {message["MessageId"] for message in tasks.receive(dead, 10, VisibilityTimeout=0)}
+    handle = tasks.call("StartMessageMoveTask", SourceArn=arn(dead))["TaskHandle"]
+    task = ended(tasks, dead)
+    assert "TaskHandle" not in task and "DestinationArn" not in task and handle
+    assert (task["Status"], task["SourceArn"]) == ("COMPLETED", arn(dead))
+    assert [int(task[f"ApproximateNumberOfMessages{which}"]) for which in ("Moved", "ToMove")] == [28, 28]
+    assert tasks.receive(dead) == []
+    for queue, count in ((first, 25), (second, 3)):
+        there: dict[str, list[int]] = {}
+        while messages := tasks.receive(queue, 10, VisibilityTimeout=30, AttributeNames=["All"]):
+            for message in messages:
+                attributes = message["Attributes"]
+                assert attributes["ApproximateReceiveCount"] == "1" and "DeadLetterQueueSourceArn" not in attributes
+                assert attributes["MessageDeduplicationId"] == f"d{message['Body']}"
+                assert message["MessageId"] not in old
+                there.setdefault(attributes["MessageGroupId"], []).append(int(message["Body"]))
+                tasks.delete(queue, message)
+        assert there == {"g0": list(range(0, count, 2)), "g1": list(range(1, count, 2))}
+
+
+def test_a_task_has_a_rate_and_can_be_cancelled(tasks):
+    queue, dead = dead_pair(tasks)
+    other = tasks.queue(VisibilityTimeout="0")
+    fill(tasks, queue, 12)
+    start = lambda **more: tasks.call("StartMessageMoveTask", SourceArn=arn(dead), DestinationArn=arn(other), **more)  # noqa: E731
+    handle = start(MaxNumberOfMessagesPerSecond=5)["TaskHandle"]
+    (task,) = listed(tasks, dead)
+    assert (task["Status"], task["TaskHandle"], task["DestinationArn"]) == ("RUNNING", handle, arn(other))
+    assert int(task["MaxNumberOfMessagesPerSecond"]) == 5
+    tasks.refused("InvalidParameterValue", start)
+    wait_for(lambda: tasks.receive(other))
+    moved = int(tasks.call("CancelMessageMoveTask", TaskHandle=handle)["ApproximateNumberOfMessagesMoved"])
+    assert moved in (0, 5)
+    (task,) = listed(tasks, dead)
+    assert task["Status"] == "CANCELLED" and "TaskHandle" not in task
+    tasks.refused("InvalidParameterValue", lambda: tasks.call("CancelMessageMoveTask", TaskHandle=handle))
+    time.sleep(1.2)
+    assert len(tasks.receive(other)) == 5 and len(tasks.receive(dead, VisibilityTimeout=0)) == 7
+    start()
+    assert ended(tasks, dead)["Status"] == "COMPLETED"
+    assert [task["Status"] for task in listed(tasks, dead, 10)] == ["COMPLETED", "CANCELLED"]
+    bodies = []
+    while messages := tasks.receive(other):
+        for message in messages:
+            bodies.append(int(message["Body"]))
+            tasks.delete(other, message)
+    assert sorted(bodies) == list(range(12)) and tasks.receive(dead) == []
+
+
+def test_what_can_not_be_moved_is_refused_or_fails(tasks, gateway):
+    queue, dead = dead_pair(tasks)
+    start = lambda source, **more: lambda: tasks.call("StartMessageMoveTask", SourceArn=source, **more)  # noqa: E731
+    for source in ("arn:aws:sqs:us-east-1:000000000000:none.fifo", "nothing", arn(dead).replace(":000000000000:", ":1:")):
+        tasks.refused("ResourceNotFoundException", start(source))
+        tasks.refused("ResourceNotFoundException", lambda: tasks.call("ListMessageMoveTasks", SourceArn=source))
+    with pytest.raises(Refused) as refusal:
+        start("nothing")()
+    assert refusal.value.status == 404
+    tasks.refused("InvalidParameterValue", start(arn(queue)))
+    tasks.refused("InvalidParameterValue", start(arn(dead), DestinationArn=arn(dead)))
+    tasks.refused("InvalidParameterValue", start(arn(dead), MaxNumberOfMessagesPerSecond=501))
+    tasks.refused("ResourceNotFoundException", start(arn(dead), DestinationArn=arn("none.fifo")))
+    tasks.refused("MissingParameter", lambda: tasks.call("StartMessageMoveTask"))
+    for handle in ("x", "MDAwMDAwMDAtMDAwMC00MDAwLTgwMDAtMDAwMDAwMDAwMDA3L25vbmUuZmlmbw"):
+        tasks.refused("ResourceNotFoundException", lambda: tasks.call("CancelMessageMoveTask", TaskHandle=handle))
+    assert listed(tasks, dead) == []
+    # Nobody can say from where this one came.
+    tasks.send(dead, "own", body="own")
+    start(arn(dead))()
+    task = ended(tasks, dead)
+    assert (task["Status"], task["FailureReason"]) == ("FAILED", "CouldNotDetermineMessageSource")
+    (message,) = tasks.receive(dead, AttributeNames=["All"])
+    assert (message["Body"], message["Attributes"]["ApproximateReceiveCount"]) == ("own", "1")
+
+
+def test_what_somebody_has_stays_and_nothing_waits_for_it(tasks):
+    queue, dead = dead_pair(tasks, VisibilityTimeout="600")
+    fill(tasks, queue, 6)
+    (mine,) = tasks.receive(dead, 1)
+    tasks.call("StartMessageMoveTask", SourceArn=arn(dead))
+    assert ended(tasks, dead)["Status"] == "COMPLETED"
+    assert sorted(tasks.bodies(queue)) == ["1", "3", "5"]
+    tasks.delete(dead, mine)
+    assert tasks.bodies(dead) == ["2", "4"]
+
+
+def test_a_task_against_the_stream_ends(tasks):
+    one, other = dead_pair(tasks)
+    tasks.call("SetQueueAttributes", QueueUrl=other, Attributes={"RedrivePolicy": policy(one), "VisibilityTimeout": "0"})
+    fill_one = [tasks.send(one, str(number), body=str(number)) for number in range(5)]
+    assert len(fill_one) == len(tasks.receive(one)) == 5
+    assert tasks.receive(one) == []
+    tasks.call("StartMessageMoveTask", SourceArn=arn(other))
+    tasks.call("StartMessageMoveTask", SourceArn=arn(one), DestinationArn=arn(other))
+    assert ended(tasks, one)["Status"] == ended(tasks, other)["Status"] == "COMPLETED"
+    assert sorted(tasks.bodies(one) + tasks.bodies(other)) == list("01234")
+
+
+@pytest.mark.parametrize("is_killed", [True, False])
+def test_a_task_goes_on_after_a_restart(tmp_path, is_killed):
+    gateway = Started("--journal", str(tmp_path / "journal"), room=tmp_path)
+    rules = Rules(ByJson(gateway.url), lambda step: gateway.set_clock(gateway.moment + step))
+    queue, dead = dead_pair(rules)
+    fill(rules, queue, 30, groups=3)
+    rules.call("StartMessageMoveTask", SourceArn=arn(dead), MaxNumberOfMessagesPerSecond=10)
+    wait_for(lambda: int(listed(rules, dead)[0]["ApproximateNumberOfMessagesMoved"]) >= 10)
+    if is_killed:
+        gateway.kill()
+    else:
+        assert gateway.stop() == 0
+    gateway.start()
+    rules.call = ByJson(gateway.url)
+    task = ended(rules, dead)
+    assert (task["Status"], task["ApproximateNumberOfMessagesToMove"]) == ("COMPLETED", 30)
+    there: dict[str, list[int]] = {}
+    name = queue.rsplit("/", 1)[-1]
+    while messages := rules.receive(name, VisibilityTimeout=30, AttributeNames=["All"]):
+        for message in messages:
+            there.setdefault(message["Attributes"]["MessageGroupId"], []).append(int(message["Body"]))
+            rules.delete(name, message)
+    assert there == {f"g{group}": list(range(group, 30, 3)) for group in range(3)}
+    assert gateway.stop() == 0
+
+
+def test_a_destination_is_within_what_a_key_allows(tmp_path):
+    keys = tmp_path / "keys.toml"
+    keys.write_text('[[key]]\naccess_key = "A"\nsecret = "the secret of A"\n\n'
+                    '[[key]]\naccess_key = "B"\nsecret = "the secret of B"\nqueues = ["b-"]\n')
+    gateway = Started("--credentials", str(keys))
+
+    def call(key: str, action: str, **members) -> tuple[int, dict[str, Any]]:
+        headers = {"X-Amz-Target": f"AmazonSQS.{action}", "Content-Type": "application/x-amz-json-1.0"}
+        request = AWSRequest("POST", gateway.url + "/", headers, json.dumps(members).encode())
+        SigV4Auth(Credentials(key, f"the secret of {key}"), "sqs", "us-east-1").add_auth(request)
+        status, _, body = post(request.url, request.data, dict(request.headers))
+        return status, json.loads(body)
+
+    fifo = {"FifoQueue": "true"}
+    for name, more in (("a-1.fifo", {}), ("b-1.fifo", {}), ("b-2.fifo", {"RedrivePolicy": policy("b-1.fifo")})):
+        assert call("A", "CreateQueue", QueueName=name, Attributes={**fifo, **more})[0] == 200
+    for source, destination in (("b-1.fifo", "a-1.fifo"), ("a-1.fifo", "b-1.fifo"), ("b-1.fifo", "a-none.fifo")):
+        status, error = call("B", "StartMessageMoveTask", SourceArn=arn(source), DestinationArn=arn(destination))
+        assert (status, error["__type"].split("#")[1]) == (403, "AccessDeniedException")
+    status, started = call("B", "StartMessageMoveTask", SourceArn=arn("b-1.fifo"), DestinationArn=arn("b-2.fifo"))
+    assert status == 200 and started["TaskHandle"]
+    assert gateway.stop() == 0
