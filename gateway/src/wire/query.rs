@@ -74,8 +74,11 @@ enum Field {
 
 type Fields = BTreeMap<String, Field>;
 
-/// So deep may the names of fields go.
-const DEEPEST: usize = 16;
+/// So deep may the names of fields go: a list in an attribute of a batch's message has seven parts.
+const DEEPEST: usize = 8;
+
+/// The most fields of a form. A full batch of messages with ten attributes each has 343.
+const MOST_FIELDS: usize = 2000;
 
 fn wrong(message: String) -> SqsError {
     SqsError::InvalidParameterValue(message)
@@ -87,6 +90,10 @@ fn fields(text: &[u8]) -> Result<Fields, SqsError> {
     let has_good_parts = text.is_empty() || text.split(|byte| *byte == b'&').all(|part| part.contains(&b'='));
     if !has_good_parts || !text.is_ascii() || !is_utf8_behind_escapes(text) {
         return Err(no_form());
+    }
+    // A field of a few bytes takes a hundred times as many here.
+    if memchr::memchr_iter(b'&', text).count() >= MOST_FIELDS {
+        return Err(wrong(format!("A form has at most {MOST_FIELDS} fields.")));
     }
     let mut whole = Fields::new();
     for (name, value) in form_urlencoded::parse(text) {
@@ -503,9 +510,11 @@ mod tests {
             "Action=ListQueueTags&AttributeName.01=a",
             "Action=ListQueueTags&Tag.1.Value=a",
             &format!("Action=ListQueueTags&a{}=1", ".a".repeat(1000)),
+            &format!("Action=ListQueueTags{}", "&a=".repeat(MOST_FIELDS)),
         ] {
             assert!(read_form(body).is_err(), "{body}");
         }
+        assert!(read_form(&format!("Action=ListQueueTags{}", "&a=".repeat(MOST_FIELDS - 1))).is_ok());
         assert_eq!(read_form(""), Err(SqsError::MissingParameter("Action".into())));
         assert_eq!(read_form("Action=SendMessageBatch&Entries="), Err(SqsError::EmptyBatchRequest));
     }
