@@ -6,7 +6,9 @@ use std::time::Duration;
 
 use thiserror::Error;
 use tokio::io::AsyncReadExt;
-use tokio::process::{Child, ChildStdin, ChildStdout, Command};
+use tokio::process::{Child, Command};
+
+use crate::pipes::{Input, Output};
 
 /// Why there is no program to work with.
 #[derive(Clone, Debug, Error)]
@@ -26,8 +28,8 @@ pub enum CqError {
 /// A running `cq session`. It ends when this is dropped.
 pub struct Cq {
     process: Child,
-    pub input: ChildStdin,
-    pub output: ChildStdout,
+    pub input: Input,
+    pub output: Output,
 }
 
 const VERSION: &str = env!("CARGO_PKG_VERSION");
@@ -46,7 +48,7 @@ impl Cq {
             Command::from(command).kill_on_drop(true).spawn().map_err(|error| not_started(error.to_string()))?;
         let pipes = process.stdin.take().zip(process.stdout.take());
         let (input, output) = pipes.ok_or_else(|| not_started("it has no pipes".into()))?;
-        Ok(Cq { process, input, output })
+        Ok(Cq { process, input: Input::new(input), output: Output::new(output) })
     }
 
     /// Starts so many programs.

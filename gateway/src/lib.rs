@@ -26,6 +26,7 @@ pub mod messages;
 pub mod metrics;
 pub mod move_tasks;
 pub mod moves;
+pub mod pipes;
 pub mod policy;
 pub mod polling;
 pub mod presence;

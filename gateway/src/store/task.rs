@@ -270,6 +270,7 @@ impl Task {
         self.settle_ready()?;
         self.hand_over();
         self.tell_open();
+        self.cq.output.is_awaited = !self.open.is_empty();
         tokio::select! {
             biased;
             read = self.cq.output.read_buf(&mut self.incoming) => match read {

@@ -1,0 +1,166 @@
+//! The pipes of the program `cq`.
+//!
+//! tokio 1.24, which Debian has, counts its looks at what is ready by one byte, and clears what it knows of a pipe after
+//! a part was written or read. Where news of the pipe comes in between, and exactly 256 looks after the news before, it
+//! takes them for old ones and forgets them. Whoever waits for the pipe then waits for ever, and with it every client of
+//! the gateway. (It was seen once under much load, and later versions count further.) So what waits looks at the pipe
+//! itself every now and then.
+
+use std::future::Future;
+use std::io;
+use std::os::unix::io::{AsRawFd, RawFd};
+use std::pin::Pin;
+use std::task::{Context, Poll};
+use std::time::Duration;
+
+use rustix::fd::BorrowedFd;
+use tokio::io::{AsyncRead, AsyncWrite, ReadBuf};
+use tokio::process::{ChildStdin, ChildStdout};
+use tokio::time::{sleep_until, Instant, Sleep};
+
+/// So often a pipe is looked at that somebody waits for.
+const LOOK: Duration = Duration::from_millis(100);
+
+/// No more is read at such a look.
+const PIECE: usize = 64 * 1024;
+
+/// Tells when to look.
+#[derive(Default)]
+struct Looks(Option<Pin<Box<Sleep>>>);
+
+impl Looks {
+    /// Whether it is time. If not, the task is woken when it is.
+    fn are_due(&mut self, context: &mut Context<'_>) -> bool {
+        let timer = self.0.get_or_insert_with(|| Box::pin(sleep_until(Instant::now() + LOOK)));
+        if timer.as_mut().poll(context).is_pending() {
+            return false;
+        }
+        timer.as_mut().reset(Instant::now() + LOOK);
+        // It is polled once more, so that it wakes the task again.
+        let _ = timer.as_mut().poll(context);
+        true
+    }
+
+    fn end(&mut self) {
+        self.0 = None;
+    }
+}
+
+fn borrowed<'a>(pipe: RawFd) -> BorrowedFd<'a> {
+    // SAFETY: the pipe is open as long as its owner is, which each caller has for longer than what this gives.
+    unsafe { BorrowedFd::borrow_raw(pipe) }
+}
+
+/// Where the program reads.
+pub struct Input {
+    pipe: ChildStdin,
+    looks: Looks,
+}
+
+/// Where the program writes.
+pub struct Output {
+    pipe: ChildStdout,
+    looks: Looks,
+    /// Something is to come, so the pipe is looked at. An idle gateway looks at nothing.
+    pub is_awaited: bool,
+}
+
+impl Input {
+    pub fn new(pipe: ChildStdin) -> Input {
+        Input { pipe, looks: Looks::default() }
+    }
+}
+
+impl Output {
+    pub fn new(pipe: ChildStdout) -> Output {
+        Output { pipe, looks: Looks::default(), is_awaited: true }
+    }
+}
+
+impl AsyncWrite for Input {
+    fn poll_write(mut self: Pin<&mut Self>, context: &mut Context<'_>, bytes: &[u8]) -> Poll<io::Result<usize>> {
+        let written = Pin::new(&mut self.pipe).poll_write(context, bytes);
+        if written.is_ready() {
+            self.looks.end();
+            return written;
+        }
+        if !self.looks.are_due(context) {
+            return Poll::Pending;
+        }
+        match rustix::io::write(borrowed(self.pipe.as_raw_fd()), bytes) {
+            Ok(count) => Poll::Ready(Ok(count)),
+            // A fault that stays is told by tokio as well.
+            Err(_) => Poll::Pending,
+        }
+    }
+
+    fn poll_flush(mut self: Pin<&mut Self>, context: &mut Context<'_>) -> Poll<io::Result<()>> {
+        Pin::new(&mut self.pipe).poll_flush(context)
+    }
+
+    fn poll_shutdown(mut self: Pin<&mut Self>, context: &mut Context<'_>) -> Poll<io::Result<()>> {
+        Pin::new(&mut self.pipe).poll_shutdown(context)
+    }
+}
+
+impl AsyncRead for Output {
+    fn poll_read(
+        mut self: Pin<&mut Self>,
+        context: &mut Context<'_>,
+        buffer: &mut ReadBuf<'_>,
+    ) -> Poll<io::Result<()>> {
+        let read = Pin::new(&mut self.pipe).poll_read(context, buffer);
+        if read.is_ready() || !self.is_awaited {
+            self.looks.end();
+            return read;
+        }
+        if !self.looks.are_due(context) {
+            return Poll::Pending;
+        }
+        let mut piece = vec![0; PIECE.min(buffer.remaining())];
+        match rustix::io::read(borrowed(self.pipe.as_raw_fd()), &mut piece) {
+            Ok(count) => {
+                buffer.put_slice(&piece[..count]);
+                Poll::Ready(Ok(()))
+            }
+            Err(_) => Poll::Pending,
+        }
+    }
+}
+
+#[cfg(test)]
+mod tests {
+    use super::*;
+
+    use std::process::Stdio;
+
+    use tokio::io::{AsyncReadExt, AsyncWriteExt};
+    use tokio::process::Command;
+
+    /// `cat` with both pipes, more than they hold going through.
+    #[tokio::test]
+    async fn what_is_written_comes_out() {
+        let mut cat = Command::new("cat").stdin(Stdio::piped()).stdout(Stdio::piped()).spawn().unwrap();
+        let mut input = Input::new(cat.stdin.take().unwrap());
+        let mut output = Output::new(cat.stdout.take().unwrap());
+        let sent: Vec<u8> = (0..1_000_000u32).map(|number| (number % 251) as u8).collect();
+        let writing = tokio::spawn({
+            let sent = sent.clone();
+            async move { input.write_all(&sent).await }
+        });
+        let mut got = Vec::new();
+        output.read_to_end(&mut got).await.unwrap();
+        writing.await.unwrap().unwrap();
+        assert!(got == sent);
+    }
+
+    /// News that nobody is told of: the bytes are put into the pipe, and the pipe is looked at.
+    #[tokio::test]
+    async fn a_pipe_is_looked_at_without_news() {
+        let mut looks = Looks::default();
+        let begun = Instant::now();
+        std::future::poll_fn(|context| if looks.are_due(context) { Poll::Ready(()) } else { Poll::Pending }).await;
+        std::future::poll_fn(|context| if looks.are_due(context) { Poll::Ready(()) } else { Poll::Pending }).await;
+        assert!(begun.elapsed() >= 2 * LOOK && begun.elapsed() < 20 * LOOK);
+    }
+}
