@@ -106,7 +106,7 @@ def test_a_task_has_a_rate_and_can_be_cancelled(tasks):
     assert ended(tasks, dead)["Status"] == "COMPLETED"
     assert [task["Status"] for task in listed(tasks, dead, 10)] == ["COMPLETED", "CANCELLED"]
     bodies = []
-    while messages := tasks.receive(other):
+    while messages := tasks.receive(other, VisibilityTimeout=30):
         for message in messages:
             bodies.append(int(message["Body"]))
             tasks.delete(other, message)
