@@ -164,10 +164,31 @@ async fn never_begun(is_served: bool) {
     tokio::time::sleep(2 * LONGEST_TURNING_AWAY).await;
 }
 
-/// A permit to be served, or else one to be turned away.
+/// A permit to be served, or else one to be turned away: the first of them that is free.
 async fn enter(open: &Arc<Semaphore>, turned_away: &Arc<Semaphore>) -> Option<(OwnedSemaphorePermit, bool)> {
-    match open.clone().try_acquire_owned() {
-        Ok(permit) => Some((permit, true)),
-        Err(_) => turned_away.clone().acquire_owned().await.ok().map(|permit| (permit, false)),
+    tokio::select! {
+        biased;
+        permit = open.clone().acquire_owned() => permit.ok().map(|permit| (permit, true)),
+        permit = turned_away.clone().acquire_owned() => permit.ok().map(|permit| (permit, false)),
+    }
+}
+
+#[cfg(test)]
+mod tests {
+    use super::*;
+
+    #[tokio::test]
+    async fn whoever_waits_to_be_turned_away_is_served_where_that_is_free_first() {
+        let (open, turned_away) = (Arc::new(Semaphore::new(1)), Arc::new(Semaphore::new(1)));
+        let (first, is_served) = enter(&open, &turned_away).await.unwrap();
+        assert!(is_served);
+        let (_second, is_served) = enter(&open, &turned_away).await.unwrap();
+        assert!(!is_served);
+        let waiting = tokio::spawn(async move { enter(&open, &turned_away).await });
+        tokio::task::yield_now().await;
+        assert!(!waiting.is_finished());
+        drop(first);
+        let third = timeout(Duration::from_secs(5), waiting).await.expect("a place is free").unwrap();
+        assert!(third.unwrap().1);
     }
 }
