@@ -118,10 +118,14 @@ impl Entrance {
         Ok(Entrance { listener, keys, certificate })
     }
 
-    /// Reads the files again. What can't be read stays as it was.
-    fn read_again(keys: Option<&Keys>, certificate: Option<&Certificate>) {
-        tell_read_again("keys", keys.map(Keys::read_again));
-        tell_read_again("certificate", certificate.map(Certificate::read_again));
+    /// Reads the files again, beside all else: a file may be a pipe that nobody writes to. What can't be read stays as
+    /// it was.
+    fn read_again(keys: &Option<Arc<Keys>>, certificate: &Option<Arc<Certificate>>) {
+        let (keys, certificate) = (keys.clone(), certificate.clone());
+        tokio::task::spawn_blocking(move || {
+            tell_read_again("keys", keys.as_deref().map(Keys::read_again));
+            tell_read_again("certificate", certificate.as_deref().map(Certificate::read_again));
+        });
     }
 }
 
@@ -254,7 +258,7 @@ async fn answer(
     notify_supervisor(sd_notify::NotifyState::Ready);
     say(&format!("listening on {url}"));
     tokio::select! {
-        () = signals.wait_for_end(|| Entrance::read_again(keys.as_deref(), certificate.as_deref())) => {}
+        () = signals.wait_for_end(|| Entrance::read_again(&keys, &certificate)) => {}
         ended = &mut served => return Err(anyhow!("the server ended: {ended:?}")),
         reason = ended => bail!(reason.map_or_else(|_| "The store is gone.".to_string(), |ended| ended.to_string())),
     }

@@ -2,6 +2,7 @@
 
 from __future__ import annotations
 
+import os
 import shutil
 import signal
 import socket
@@ -166,6 +167,20 @@ def test_keys_are_read_again_at_sighup_and_a_file_that_is_wrong_changes_nothing(
         started.process.send_signal(signal.SIGHUP)
         time.sleep(0.5)
         assert new("ListQueues") == {} and refused(old, "ListQueues")[0] == "SignatureDoesNotMatch"
+    finally:
+        assert started.stop() == 0
+
+
+def test_a_file_of_keys_that_never_ends_keeps_nobody_waiting(tmp_path):
+    file = tmp_path / "keys.toml"
+    file.write_text(KEYS)
+    started = Started("--credentials", str(file))
+    try:
+        file.unlink()
+        os.mkfifo(file)
+        started.process.send_signal(signal.SIGHUP)
+        time.sleep(0.2)
+        assert ByBoto3(client(started, "ADMIN"))("ListQueues") == {}
     finally:
         assert started.stop() == 0
 

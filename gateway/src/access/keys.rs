@@ -23,6 +23,8 @@ use crate::errors::SqsError;
 pub struct Keys {
     path: PathBuf,
     table: RwLock<Arc<Table>>,
+    /// Whoever reads the file last is also the last to put its keys in.
+    reading: Mutex<()>,
 }
 
 type Table = HashMap<String, Key>;
@@ -37,11 +39,13 @@ struct Key {
 impl Keys {
     /// Reads a file of keys. An error is one line that names the file, the key and what is wrong, and has no secret.
     pub fn read(path: &Path) -> Result<Keys> {
-        Ok(Keys { path: path.into(), table: RwLock::new(Arc::new(read_table(path)?)) })
+        let table = RwLock::new(Arc::new(read_table(path)?));
+        Ok(Keys { path: path.into(), table, reading: Mutex::new(()) })
     }
 
     /// Reads the file again, and puts all its keys in the place of all the old ones. On an error the old ones stay.
     pub fn read_again(&self) -> Result<()> {
+        let _reading = self.reading.lock().unwrap_or_else(PoisonError::into_inner);
         let table = Arc::new(read_table(&self.path)?);
         *self.table.write().unwrap_or_else(PoisonError::into_inner) = table;
         Ok(())
