@@ -191,9 +191,15 @@ fn copy_of(store: &Store, queue: &Queue, handed: &Handed, kind: Kind) -> Result<
 
 /// Lets messages be handed out again at once, as far as they are still there and in flight.
 pub async fn give_back(store: &Store, queue: &Arc<Queue>, messages: &[Handed]) {
-    let change = |handed: &Handed| Ask::Change { receipt: handed.receipt, visibility: 0, by_attempt: false };
-    if !messages.is_empty() {
-        let _ = store.ask_all(queue, messages.iter().map(change).collect()).await;
+    let receipts: Vec<_> = {
+        let state = queue.state();
+        // Another receive may have set it aside as well, and hides it.
+        let last = |handed: &Handed| state.own_receipt_of(handed.receipt.sequence).unwrap_or(handed.receipt);
+        messages.iter().map(last).collect()
+    };
+    let change = |receipt| Ask::Change { receipt, visibility: 0, by_attempt: false };
+    if !receipts.is_empty() {
+        let _ = store.ask_all(queue, receipts.into_iter().map(change).collect()).await;
     }
 }
 

@@ -18,7 +18,7 @@ from botocore.config import Config
 from conftest import Rules, new_name
 from started import ByBoto3, ByJson, Refused, Started
 
-KILLS = int(os.environ.get("HOBBYCHAIR_TEST_KILLS", "50"))
+KILLS = max(20, int(os.environ.get("HOBBYCHAIR_TEST_KILLS", "50")))
 CLIENTS = 6
 
 
@@ -384,7 +384,10 @@ def test_each_message_moves_once_whatever_is_killed(tmp_path, shards):
     gateway = Started("--journal", str(tmp_path / "journal"), "--shards", str(shards), room=tmp_path)
     call = ByBoto3(gateway.client())
     call("CreateQueue", QueueName=load.dead, Attributes={"FifoQueue": "true"})
-    call("CreateQueue", QueueName=load.queue, Attributes={"FifoQueue": "true", "RedrivePolicy": policy(load.dead, 1)})
+    # With a delay the messages of one round are received in the next, since the clock stands still.
+    delay = {1: "0", 2: "1"}[shards]
+    call("CreateQueue", QueueName=load.queue, Attributes={
+        "FifoQueue": "true", "RedrivePolicy": policy(load.dead, 1), "DelaySeconds": delay})
     for kill in range(1, -(-KILLS // 2) + 1):
         run(gateway, load, kills_cq=kill % 3 == 0)
         # What is in flight and its ids are over, at the one time or the other.

@@ -107,6 +107,19 @@ def test_a_long_poll_is_served_when_a_message_is_due(delays):
     assert found == [["b"]] and time.monotonic() - began < 5
 
 
+def test_a_long_poll_is_served_when_the_delay_is_taken_away(delays):
+    queue = delays.queue(DelaySeconds="900")
+    delays.send(queue, "d", body="b")
+    found: list[list[str]] = []
+    poll = threading.Thread(target=lambda: found.append(delays.bodies(queue, 10, WaitTimeSeconds=20)))
+    poll.start()
+    time.sleep(0.2)
+    began = time.monotonic()
+    delays.call("SetQueueAttributes", QueueUrl=queue, Attributes={"DelaySeconds": "0"})
+    poll.join()
+    assert found == [["b"]] and time.monotonic() - began < 5
+
+
 def test_a_removal_ends_a_long_poll_of_a_delayed_queue(delays):
     queue = delays.queue(DelaySeconds="100")
     delays.send(queue, "d")

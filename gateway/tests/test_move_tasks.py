@@ -3,6 +3,7 @@
 from __future__ import annotations
 
 import json
+import random
 import time
 from collections.abc import Callable
 from typing import Any
@@ -162,29 +163,31 @@ def test_a_task_against_the_stream_ends(tasks):
     assert sorted(tasks.bodies(one) + tasks.bodies(other)) == list("01234")
 
 
-@pytest.mark.parametrize("is_killed", [True, False])
-def test_a_task_goes_on_after_a_restart(tmp_path, is_killed):
+@pytest.mark.parametrize("kills", [5, 0])
+def test_a_task_goes_on_after_a_restart(tmp_path, kills):
     gateway = Started("--journal", str(tmp_path / "journal"), room=tmp_path)
     rules = Rules(ByJson(gateway.url), lambda step: gateway.set_clock(gateway.moment + step))
     queue, dead = dead_pair(rules)
-    fill(rules, queue, 30, groups=3)
-    rules.call("StartMessageMoveTask", SourceArn=arn(dead), MaxNumberOfMessagesPerSecond=10)
-    wait_for(lambda: int(listed(rules, dead)[0]["ApproximateNumberOfMessagesMoved"]) >= 10)
-    if is_killed:
-        gateway.kill()
-    else:
-        assert gateway.stop() == 0
-    gateway.start()
-    rules.call = ByJson(gateway.url)
+    fill(rules, queue, 60, groups=3)
+    rules.call("StartMessageMoveTask", SourceArn=arn(dead), MaxNumberOfMessagesPerSecond=40)
+    chance = random.Random(kills)
+    for _ in range(max(kills, 1)):
+        time.sleep(chance.uniform(0, 0.2))
+        if kills:
+            gateway.kill()
+        else:
+            assert gateway.stop() == 0
+        gateway.start()
+        rules.call = ByJson(gateway.url)
     task = ended(rules, dead)
-    assert (task["Status"], task["ApproximateNumberOfMessagesToMove"]) == ("COMPLETED", 30)
+    assert (task["Status"], task["ApproximateNumberOfMessagesToMove"]) == ("COMPLETED", 60)
     there: dict[str, list[int]] = {}
     name = queue.rsplit("/", 1)[-1]
     while messages := rules.receive(name, VisibilityTimeout=30, AttributeNames=["All"]):
         for message in messages:
             there.setdefault(message["Attributes"]["MessageGroupId"], []).append(int(message["Body"]))
             rules.delete(name, message)
-    assert there == {f"g{group}": list(range(group, 30, 3)) for group in range(3)}
+    assert there == {f"g{group}": list(range(group, 60, 3)) for group in range(3)}
     assert gateway.stop() == 0
 
 

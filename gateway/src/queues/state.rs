@@ -530,6 +530,12 @@ impl State {
         Some(Receipt { sequence, ordinal: message.last_ordinal() }).filter(|receipt| receipt.ordinal > 0)
     }
 
+    /// The receipt of the message's last handing, if that was to the gateway itself.
+    pub fn own_receipt_of(&self, sequence: u64) -> Option<Receipt> {
+        let is_own = self.messages.get(&sequence).is_some_and(|message| message.is_own);
+        self.last_receipt_of(sequence).filter(|_| is_own)
+    }
+
     /// The last receipts of messages that the gateway has handed to itself and that are hidden still.
     pub fn hidden_for_the_gateway(&self, now: Moment) -> Vec<Receipt> {
         let hidden = self.messages.iter().filter(|(_, message)| message.is_own && message.until > now);

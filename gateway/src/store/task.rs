@@ -628,6 +628,10 @@ impl Task {
             state.apply(change, moment);
             state.store
         };
+        // What was delayed may be due by other attributes.
+        if matches!(change, Change::Attributes(_)) {
+            queue.opened.notify_one();
+        }
         self.keep(|| Record::of_note(moment, store, change))?;
         Ok(Ok(Outcome::Done))
     }
