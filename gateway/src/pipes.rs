@@ -1,10 +1,10 @@
 //! The pipes of the program `cq`.
 //!
-//! tokio 1.24, which Debian has, counts its looks at what is ready by one byte, and clears what it knows of a pipe after
-//! a part was written or read. Where news of the pipe comes in between, and exactly 256 looks after the news before, it
-//! takes them for old ones and forgets them. Whoever waits for the pipe then waits for ever, and with it every client of
-//! the gateway. (It was seen once under much load, and later versions count further.) So what waits looks at the pipe
-//! itself every now and then.
+//! Once, under much load, a gateway stood still for good: it had written the first 64 KiB of a request, `cq` had read
+//! them and waited for more, and the gateway was never told that the pipe was free. What follows is read from the source
+//! of tokio 1.24, which Debian has, and no test shows it: its looks at what is ready are counted by one byte, and what is
+//! known of a pipe is cleared after a part was written or read. News that come in between, a multiple of 256 looks after
+//! the news before, would be taken for old ones. Whatever it was, what waits looks at the pipe itself every now and then.
 
 use std::future::Future;
 use std::io;
@@ -154,9 +154,9 @@ mod tests {
         assert!(got == sent);
     }
 
-    /// News that nobody is told of: the bytes are put into the pipe, and the pipe is looked at.
+    /// The timer alone: that a pipe comes to be ready without news can't be brought about here.
     #[tokio::test]
-    async fn a_pipe_is_looked_at_without_news() {
+    async fn looks_are_due_again_and_again() {
         let mut looks = Looks::default();
         let begun = Instant::now();
         std::future::poll_fn(|context| if looks.are_due(context) { Poll::Ready(()) } else { Poll::Pending }).await;
