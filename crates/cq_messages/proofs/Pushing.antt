@@ -181,6 +181,10 @@ front-indexed ss new waits flights groups front same is =
     let l : length new ≤ length ss = let e = ap length front in omega (arith, e, length-take (length new) ss) in
     subst (λ xs. IsIndexed xs waits flights groups) (sym front) (indexed-trimmed ss (length new) waits flights groups l (ap live (sym front) ∙ same) is)
 
+-- the same of a list that has room for one more than the front
+pub reserved-indexed : (ss new left : List Slot) (waits flights : List ℕ) (groups : List (List ℕ × GroupKept)) → left ≡ new → new ≡ take (length new) ss → live new ≡ live ss → IsIndexed ss waits flights groups → IsIndexed left waits flights groups
+reserved-indexed ss new left waits flights groups all front same is = subst (λ xs. IsIndexed xs waits flights groups) (sym all) (front-indexed ss new waits flights groups front same is)
+
 -- after its last message a slot's number is above all
 pub last-above : (ss : List Slot) (n : ℕ) → IsAscending 0 ss → ((k : ℕ) → k + 1 ≡ length ss → (get_or ss k gone).message ≢ None) → ((m : Message) → Among m (live ss) → m.sequence < n) → (k : ℕ) → k < length ss → (get_or ss k gone).sequence < n
 last-above ss n h last below k l = by (get_or ss (length ss - 1) gone).message refl

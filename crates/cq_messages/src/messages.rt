@@ -14,6 +14,7 @@ ghost use Rattle.cq_messages.specs.declared.slot.TheConstants.{NEVER};
 ghost use Rattle.cq_messages.specs.Slots.{live, gone, IsAscending};
 ghost use Rattle.cq_messages.specs.Touched.{retimed};
 
+use crate::append::{append, make_place};
 use crate::compact::compact;
 use crate::copies::copies;
 use crate::counts::count_in_flight;
@@ -25,7 +26,7 @@ use crate::open::{self, Numbers};
 use crate::places::place_of;
 use crate::retime::retime;
 use crate::slot::{NEVER, Slot};
-use cq_base::{BatchSize, Delivery, GroupId, Moment, NoMemory};
+use cq_base::{BatchSize, Delivery, Moment, NoMemory};
 use cq_least::{NumberList, Packed, Tower, new_tower};
 use std::alloc::Global;
 use std::marker::Model;
@@ -265,36 +266,21 @@ impl Messages {
         ensures ok { OnOk result (self.new ≡ self.old ++ message ∷ []) }
         ensures err { OnErr result (self.new ≡ self.old) }
     {
-        trim(&mut self.slots);
-        self.slots.reserve(1)?;
-        let place = self.slots.len();
-        make_room(&mut self.waits, place)?;
-        make_room(&mut self.flights, place)?;
-        let wait = first_wait(has_none(&self.groups, &message.group));
-        let alloc = *self.slots.allocator();
-        self.groups.add(alloc, &message.group, message.sequence)?;
-        let sequence = message.sequence;
-        self.slots.push_reserved(Slot {
-            sequence,
-            message: Some(message),
-        });
-        self.waits.set(place, wait);
-        self.flights.set(place, NEVER);
+        make_place(
+            &mut self.slots,
+            &mut self.waits,
+            &mut self.flights,
+            &self.groups,
+        )?;
+        append(
+            &mut self.slots,
+            &mut self.waits,
+            &mut self.flights,
+            &mut self.groups,
+            message,
+        )?;
         self.count += 1;
         Ok(())
-    }
-}
-
-/// Takes the slots of deleted messages from the end.
-fn trim(slots: &mut Vec<Slot>)
-    ensures front { slots.new.items ≡ take (length slots.new.items) slots.old.items }
-    ensures same { live slots.new.items ≡ live slots.old.items }
-    ensures last { (k : ℕ) → k + 1 ≡ length slots.new.items → (get_or slots.new.items k gone).message ≢ None }
-{
-    let mut len = slots.len();
-    while len > 0 && slots[len - 1].message.is_none() {
-        slots.truncate(len - 1);
-        len -= 1;
     }
 }
 
@@ -322,36 +308,6 @@ fn empty(
         return true;
     }
     false
-}
-
-/// Makes the list longer than that place. What stands at earlier places stays, with memory or without.
-fn make_room<T: NumberList>(beside: &mut T, place: usize) -> Result<(), NoMemory>
-    requires { place ≤ length (T.numbers beside.old) }
-    ensures ok { OnOk result (place < length (T.numbers beside.new)) }
-    ensures long { place ≤ length (T.numbers beside.new) }
-    ensures same { (k : ℕ) → k < place → get_or (T.numbers beside.new) k 0 ≡ get_or (T.numbers beside.old) k 0 }
-{
-    if beside.len() == place {
-        beside.push(NEVER)?;
-    }
-    Ok(())
-}
-
-/// Whether a group has no message.
-fn has_none(groups: &Groups, group: &GroupId) -> bool
-    ensures { result ≡ (length (numbers_at groups.now group.now) == 0) }
-{
-    match groups.get(group) {
-        Some(kept) => kept.len() == 0,
-        None => true,
-    }
-}
-
-/// From when on a new message of a group leads it, if its group is open.
-fn first_wait(is_first: bool) -> u64
-    ensures { result ≡ cond is_first 0 NEVER }
-{
-    if is_first { 0 } else { NEVER }
 }
 
 /// Whether the number at that place stands at an earlier one, too.

@@ -3,7 +3,7 @@ use Rattle.std.proofs.Common.{◌≡◌, ◌+◌, ◌-◌, ◌∙◌, ap, sym, s
 use Rattle.std.proofs.lemmas.List.{take-take, get_or-take, get_or_read, length-take-le}
 use Rattle.cq_messages.specs.Slots.{live, gone}
 use Rattle.cq_messages.proofs.Pushing.{trimmed-more, no_some}
-use Rattle.cq_messages.proofs.messages.trim.Goals as goal
+use Rattle.cq_messages.proofs.append.trim.Goals as goal
 
 pub loop-len-preserved : goal.loop-len-preserved
 loop-len-preserved c =

@@ -1,7 +1,7 @@
 -- What is left is a front with the same messages.
 use Rattle.std.proofs.Common.{◌≡◌, ◌≤◌, take, length}
 use Rattle.cq_messages.specs.Slots.{live}
-use Rattle.cq_messages.proofs.messages.trim.Given as goal
+use Rattle.cq_messages.proofs.append.trim.Given as goal
 
 abbrev pub invariant-loop-len : goal.invariant-loop-len
 invariant-loop-len l = record {
