@@ -1,6 +1,8 @@
 -- What is known of each queue stays so.
-use Rattle.std.proofs.Common.{◌≡◌, ℕ, ◌+◌, ◌<◌, ◌≤◌, List, [], ◌∷◌, ◌++◌, map, Bool, true, false, cond, arith}
+use Rattle.std.proofs.Common.{◌≡◌, ℕ, ◌+◌, ◌<◌, ◌≤◌, List, [], ◌∷◌, ◌++◌, map, length, Bool, true, false, cond, ap, subst, sym, arith}
 use Rattle.std.specs.List.{filter, All}
+use Rattle.std.proofs.lemmas.List.{length_push}
+use Rattle.std.proofs.lemmas.List.Sums.{length-filter, count_by-le-length}
 use Rattle.std.proofs.lemmas.List.Elements.{All-map, All-weaker, All-filter, All-push}
 use Rattle.cq_base.specs.declared.limits.TheConstants.{HISTORY_LIMIT}
 use Rattle.cq_base.specs.Incarnations.{Accepted, is_recent}
@@ -30,6 +32,7 @@ sound-hidden number sent used messages sequence end last later accepted after h 
   handings = All-map (IsHandedUpTo used) (hidden_until sequence end) messages (All-weaker (IsHandedUpTo used) (λ m. IsHandedUpTo used (hidden_until sequence end m)) (λ m own. hidden_handings _ used end m own) messages h.handings);
   uses = h.uses;
   latest = by-later last later accepted after h.latest;
+  fewer = h.fewer;
 }
 
 marked_number : (b : Bool) (sent moment end : ℕ) (m : Message) → m.sequence ≤ sent → (cond b (handed_at_until moment end m) m).sequence ≤ sent
@@ -49,15 +52,20 @@ sound-marked number sent used messages moment end numbers last later accepted ro
   handings = All-map (IsHandedUpTo (used + 1)) (marked moment end numbers) messages (All-weaker (IsHandedUpTo used) (λ m. IsHandedUpTo (used + 1) (marked moment end numbers m)) (λ m own. marked_handings _ used moment end m own) messages h.handings);
   uses = omega arith;
   latest = by-later last later accepted after h.latest;
+  fewer = h.fewer;
 }
 
 -- after a delete
 pub sound-without : (number sent used : ℕ) (messages : List Message) (sequence last : ℕ) (accepted : List Accepted) → IsSound number sent used messages last accepted → IsSound number sent used (filter (is_other sequence) messages) last accepted
-sound-without number sent used messages sequence last accepted h = record { positive = h.positive; sends = h.sends; numbers = All-filter (is_other sequence) (IsNumberedUpTo sent) messages h.numbers; handings = All-filter (is_other sequence) (IsHandedUpTo used) messages h.handings; uses = h.uses; latest = h.latest }
+sound-without number sent used messages sequence last accepted h = record { positive = h.positive; sends = h.sends; numbers = All-filter (is_other sequence) (IsNumberedUpTo sent) messages h.numbers; handings = All-filter (is_other sequence) (IsHandedUpTo used) messages h.handings; uses = h.uses; latest = h.latest; fewer = h.fewer }
 
 -- the handings of all messages, with one more use
 more_used : (used : ℕ) (messages : List Message) → All (IsHandedUpTo used) messages → All (IsHandedUpTo (used + 1)) messages
 more_used used messages h = All-weaker (IsHandedUpTo used) (IsHandedUpTo (used + 1)) (λ m own. omega arith) messages h
+
+-- no more pass a test than there are
+passing-fewer : (p : Accepted → Bool) (accepted : List Accepted) (sent : ℕ) → length accepted ≤ sent → length (filter p accepted) ≤ sent
+passing-fewer p accepted sent h = omega (arith, length-filter p accepted, count_by-le-length p accepted, h)
 
 -- after a send that repeats one
 pub sound-repeated : (number sent used : ℕ) (messages : List Message) (last moment : ℕ) (accepted : List Accepted) → used < HISTORY_LIMIT → last ≤ moment → IsSound number sent used messages last accepted → IsSound number sent (used + 1) messages moment (filter (is_recent moment) accepted)
@@ -68,6 +76,7 @@ sound-repeated number sent used messages last moment accepted room after h = rec
   handings = more_used used messages h.handings;
   uses = omega arith;
   latest = All-filter (is_recent moment) (IsBy moment) accepted (by-later last moment accepted after h.latest);
+  fewer = passing-fewer (is_recent moment) accepted sent h.fewer;
 }
 
 -- after a send that is accepted
@@ -82,4 +91,5 @@ sound-accepted number sent used messages last moment accepted m a room after non
       handings = All-push (IsHandedUpTo (used + 1)) messages m repeated.handings (omega arith);
       uses = repeated.uses;
       latest = All-push (IsBy moment) (filter (is_recent moment) accepted) a repeated.latest (omega arith);
+      fewer = omega (arith, length_push (filter (is_recent moment) accepted) a, repeated.fewer);
     }

@@ -16,13 +16,13 @@ use Rattle.cq_base.specs.Lifetimes.{is_creation, is_removal, live, creations, re
 use Rattle.cq_base.proofs.OneMoreFact.{not_both}
 use Rattle.cq_base.specs.declared.reply.Delivery.{Delivery}
 use Rattle.cq_base.specs.declared.reply.Reply.TheVariants.{Received, Counts}
-use Rattle.cq_base.specs.Messages.{standing}
+use Rattle.cq_base.specs.Messages.{messages, standing}
 use Rattle.cq_base.specs.Receiving.{to_hand, delivery_of}
 use Rattle.cq_queue.specs.Entries.{StandsAfter, IsAnswered, IsSameQueue, IsReceive, AreOffered, AreCounted, IsCreate}
 use Rattle.cq_queue.proofs.Creates.{stands-created, reply-created}
 use Rattle.cq_store.specs.within.Asked.{own_facts, IsAnswer, IsCount}
 use Rattle.cq_store.specs.within.Rooms.{IsWithin, IsQueueWithin}
-use Rattle.cq_store.specs.Stands.{unknown, or_unknown, NameKept, NameStandsFor, LivesAs, IsLiving, AreIdsKept, ids_of, is_resting}
+use Rattle.cq_store.specs.Stands.{unknown, or_unknown, NameKept, NameStandsFor, LivesAs, IsLiving, AreIdsKept, ids_of, sent_of, is_resting}
 use Rattle.cq_store.proofs.OfLaws.Alone.{alone, IsAlone}
 use Rattle.cq_store.proofs.NamesStand.{entry-fresh, name-dead, with_creation, name-created, with_removal, name-removed, with_incarnation, told-on, comes-to, name-living}
 use Rattle.cq_store.proofs.FreshFacts.{fresh-live, fresh-dead}
@@ -212,16 +212,24 @@ ids_sent (Some p) creation moment own alone living lives ends =
     let same = told-on own creation p alone lives living in
     subst (λ fs. length p.accepted ≡ recent_sends moment fs) same (living.stands.trimmed moment (subst (λ fs. EndWithSend fs moment) (sym same) ends))
 
+-- no more are kept than sends were accepted, by the creation by which the queue lives
+ids_fewer : (count : ℕ) (p : Option Incarnation) (creation : Fact) (own : List Fact) → count ≤ sent_of p → IsAlone own → IsLiving p (Some creation) own → live own ≡ Some creation → count ≤ length (messages (on creation.count own))
+ids_fewer count None creation own few alone living lives = absurd living
+ids_fewer count (Some p) creation own few alone living lives =
+    let same = told-on own creation p alone lives living in
+    subst (λ fs. count ≤ length (messages fs)) same (subst (λ n. count ≤ n) living.stands.sent few)
+
 -- none are kept where no queue lives
 ids_dead : (p : Option Incarnation) (own : List Fact) → IsLiving p None own → ids_of p ≡ 0
 ids_dead None own living = refl
 ids_dead (Some p) own living = absurd living
 
 -- The ids that are kept of a queue.
-pub ids-kept : (kept : NameKept) (last : ℕ) (entries : List Entry) (queue : List ℕ) → NameStandsFor last kept (about queue (history entries)) → AreIdsKept (ids_of kept.living) entries queue
-ids-kept kept last entries queue h =
+pub ids-kept : (kept : NameKept) (last : ℕ) (entries : List Entry) (queue : List ℕ) → ids_of kept.living ≤ sent_of kept.living → NameStandsFor last kept (about queue (history entries)) → AreIdsKept (ids_of kept.living) entries queue
+ids-kept kept last entries queue few h =
     let own = about queue (history entries) in
     record {
+      fewer = λ creation lives. ids_fewer (ids_of kept.living) kept.living creation own few (alone queue entries) (subst (λ o. IsLiving kept.living o own) lives h.living) lives;
       sent = λ creation moment lives ends. ids_sent kept.living creation moment own (alone queue entries) (subst (λ o. IsLiving kept.living o own) lives h.living) lives ends;
       dead = λ dies. ids_dead kept.living own (subst (λ o. IsLiving kept.living o own) dies h.living);
     }

@@ -11,6 +11,7 @@ use Rattle.cq_base.specs.Facts.{Fact, about, on}
 use Rattle.cq_base.specs.History.{history, last_moment}
 use Rattle.cq_base.specs.Incarnations.{Incarnation, IncarnationStandsFor, EndWithSend, recent_sends}
 use Rattle.cq_base.specs.Lifetimes.{live, creations, removed_lately}
+use Rattle.cq_base.specs.Messages.{messages}
 
 -- ---- clients
 
@@ -77,6 +78,11 @@ abbrev pub ids_of : Option Incarnation → ℕ
 ids_of None = 0
 ids_of (Some kept) = length kept.accepted
 
+-- how many sends the incarnation as which a queue lives has accepted; 0 if it doesn't live
+abbrev pub sent_of : Option Incarnation → ℕ
+sent_of None = 0
+sent_of (Some kept) = kept.sent
+
 -- what is kept of a name that no creation took effect for
 abbrev pub unknown : NameKept
 unknown = record { creations = 0; removed = None; living = None }
@@ -116,13 +122,19 @@ pub record StandsFor (kept : StoreKept) (entries : List Entry) : Type 0 where
 abbrev pub done_on : List Entry → List ℕ → Fact → List Fact
 done_on entries queue creation = on creation.count (about queue (history entries))
 
--- So many deduplication ids are kept of a queue after these entries: where it lives, and the last that they did on it
--- was a send that was answered with a sequence number, as many as it accepted sends in the five minutes up to that
--- one; none where it doesn't live.
+-- So many deduplication ids are kept of a queue after these entries. Where it lives, and the last that they did on it
+-- was a send that was answered with a sequence number, there are as many as it accepted sends in the five minutes up to
+-- that one. A queue that lives never keeps more than it accepted sends, so that one which accepted none keeps none; nor
+-- does one that doesn't live.
 pub record AreIdsKept (count : ℕ) (entries : List Entry) (queue : List ℕ) : Type 0 where
+  pub fewer : (creation : Fact) → live (about queue (history entries)) ≡ Some creation → count ≤ length (messages (done_on entries queue creation))
   pub sent : (creation : Fact) (moment : ℕ) → live (about queue (history entries)) ≡ Some creation → EndWithSend (done_on entries queue creation) moment
       → count ≡ recent_sends moment (done_on entries queue creation)
   pub dead : live (about queue (history entries)) ≡ None → count ≡ 0
+
+-- so many ids are kept of the queue of that name, as the store has it
+abbrev pub ids_kept : StoreKept → List ℕ → ℕ
+ids_kept kept queue = ids_of (or_unknown (name_at kept.names queue)).living
 
 -- how many entries the store has taken
 abbrev pub count_of : StoreKept → ℕ

@@ -6,7 +6,7 @@ ghost use Rattle.cq_base.specs.declared.ask.Ask.TheVariants as asks;
 ghost use Rattle.cq_base.specs.Effects.{create_again};
 ghost use Rattle.cq_store.specs.within.Asked.{IsAnswer, IsCount};
 ghost use Rattle.cq_store.specs.within.Rooms.{IsWithin, CameBy};
-ghost use Rattle.cq_store.specs.Stands.{is_resting, unknown, ids_of};
+ghost use Rattle.cq_store.specs.Stands.{is_resting, unknown, ids_of, sent_of};
 
 use crate::answered::Answered;
 use cq_base::{
@@ -261,7 +261,8 @@ impl NameKept {
 
     /// How many deduplication ids the queue keeps; 0 if it doesn't live: O(1).
     pub fn kept_ids(&self) -> u64
-        ensures { result ≡ ids_of self.now.living }
+        ensures value { result ≡ ids_of self.now.living }
+        ensures fewer { result ≤ sent_of self.now.living }
     {
         match &self.living {
             Some(queue) => queue.kept_ids(),

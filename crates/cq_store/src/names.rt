@@ -1,11 +1,11 @@
 //! What is kept of all names.
-ghost use Rattle.std.specs.Prelude.{◌≡◌, ◌+◌, ◌-◌, ℕ, List, None, false, IfOk, OnErr};
+ghost use Rattle.std.specs.Prelude.{◌≡◌, ◌≤◌, ◌+◌, ◌-◌, ℕ, List, None, false, IfOk, OnErr};
 ghost use Rattle.std.specs.Str.{bytes_eq};
 ghost use Rattle.cq_base.specs.declared.limits.TheConstants.{HISTORY_LIMIT};
 ghost use Rattle.cq_base.specs.Asks.{queue_of};
 ghost use Rattle.cq_store.specs.within.Asked.{IsAnswer, IsCount};
 ghost use Rattle.cq_store.specs.within.Rooms.{IsWithin, CameBy};
-ghost use Rattle.cq_store.specs.Stands.{name_at, or_unknown, ids_of};
+ghost use Rattle.cq_store.specs.Stands.{name_at, or_unknown, ids_of, sent_of};
 
 use crate::answered::Answered;
 use crate::name::NameKept;
@@ -94,7 +94,8 @@ impl Names {
 
     /// How many deduplication ids the queue keeps; 0 if it doesn't live: O(1) expected.
     pub fn kept_ids(&self, queue: &QueueName) -> u64
-        ensures { result ≡ ids_of (or_unknown (name_at self.now queue.now)).living }
+        ensures value { result ≡ ids_of (or_unknown (name_at self.now queue.now)).living }
+        ensures fewer { result ≤ sent_of (or_unknown (name_at self.now queue.now)).living }
     {
         match self.kept.get(queue) {
             Some(name) => name.kept_ids(),

@@ -41,9 +41,10 @@ impl Queue {
         self.used
     }
 
-    /// How many deduplication ids are kept. O(1).
+    /// How many deduplication ids are kept: never more than sends were accepted. O(1).
     pub fn kept_ids(&self) -> u64
-        ensures { result ≡ length self.now.accepted }
+        ensures value { result ≡ length self.now.accepted }
+        ensures fewer { result ≤ self.now.sent }
     {
         self.window.len() as u64
     }

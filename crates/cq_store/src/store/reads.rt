@@ -2,7 +2,7 @@
 ghost use Rattle.std.specs.Prelude.{◌≡◌, List, length};
 ghost use Rattle.cq_base.specs.declared.ask.Entry.{Entry};
 ghost use Rattle.cq_base.specs.History.{last_moment};
-ghost use Rattle.cq_store.specs.Stands.{StandsFor, AreIdsKept, count_of, last_of};
+ghost use Rattle.cq_store.specs.Stands.{StandsFor, AreIdsKept, ids_kept, count_of, last_of};
 
 use super::Store;
 use cq_base::{Moment, QueueName};
@@ -25,8 +25,10 @@ impl Store {
     }
 
     /// How many deduplication ids the queue of that name keeps, and 0 if it doesn't live: O(1) expected. A send that is
-    /// answered with a sequence number forgets those whose five minutes are over; until the next one they stay.
+    /// answered with a sequence number forgets those whose five minutes are over; until the next one they stay. There are
+    /// never more of them than sends that the queue accepted.
     pub fn kept_ids(&self, queue: &QueueName) -> u64
+        ensures value { result ≡ ids_kept self.now queue.now }
         ensures stands { (entries : List Entry) → StandsFor self.now entries → AreIdsKept result entries queue.now }
     {
         self.names.kept_ids(queue)
