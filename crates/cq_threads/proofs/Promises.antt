@@ -1,5 +1,5 @@
 -- What comes back from threads that kept what they promised.
-use Rattle.std.proofs.Common.{◌≡◌, ◌<◌, ℕ, ◌∙◌, ap, sym, refl, subst, List, length, map, slice_get, Option, Some, None, Result, Ok, Err, IfOk}
+use Rattle.std.proofs.Common.{◌≡◌, ◌<◌, ℕ, ◌∙◌, ap, sym, refl, subst, List, length, map, slice_get, Option, Some, None}
 use Rattle.std.proofs.lemmas.List.{length-map}
 use Rattle.std.proofs.lemmas.Option.{same_Some, none-some, slice_get_within, slice_get-map, get_or_from_slice_get}
 use Rattle.std.specs.declared.thread.Promise as Promise
@@ -28,19 +28,3 @@ same_each {H} {P} {T} {I} put taken got was threads nodes count each = record {
   go : (place : ℕ) (a b : Held P T I) (o : Option H) → slice_get threads place ≡ o → option_map was o ≡ Some a → slice_get nodes place ≡ Some b → IsSameServer put taken got a b
   go place a b None none here there = absurd (none-some a here)
   go place a b (Some thread) is here there = subst (λ x. IsSameServer put taken got x b) (same_Some (was thread) a here) (each place thread b is there)
-
--- ---- results
-
--- what holds of a result that is there
-pub known : {A E : Type 0} (r : Result A E) (x : A) (Q : A → Type 0) → r ≡ Ok x → IfOk r Q → Q x
-known r x Q is h = subst (λ o. IfOk o Q) is h
-
--- what holds of the first of two holds of the first of a pair of both
-pub of_first : {A B E : Type 0} (r : Result (A × B) E) (one : Result A E) (Q : A → Type 0) → IfOk r (λ pair. one ≡ Ok pair.0) → IfOk one Q → IfOk r (λ pair. Q pair.0)
-of_first (Ok pair) one Q is h = known one pair.0 Q is h
-of_first (Err fault) one Q is h = tt
-
--- and what holds of the second, of the second
-pub of_second : {A B E : Type 0} (r : Result (A × B) E) (other : Result B E) (Q : B → Type 0) → IfOk r (λ pair. other ≡ Ok pair.1) → IfOk other Q → IfOk r (λ pair. Q pair.1)
-of_second (Ok pair) other Q is h = known other pair.1 Q is h
-of_second (Err fault) other Q is h = tt

@@ -3,7 +3,7 @@ ghost use Rattle.cq_live.specs.ClientNodes.{IsSameClient};
 ghost use Rattle.cq_live.specs.MasterNodes.{IsSameNode};
 ghost use Rattle.cq_live.specs.Nodes.{IsSameServer};
 ghost use Rattle.cq_threads.specs.SameNodes.{AreSame};
-ghost use Rattle.std.specs.Prelude.{◌≡◌, IfOk, Ok, map};
+ghost use Rattle.std.specs.Prelude.{◌≡◌, IfOk, map};
 
 use crate::fault::ThreadFault;
 use cq_base::Request;
@@ -254,26 +254,107 @@ fn join_servers<
     }
 }
 
-/// Both, if both are there.
-fn both<A: Drop, B: Drop>(
-    one: Result<A, ThreadFault>,
-    other: Result<B, ThreadFault>,
-) -> Result<(A, B), ThreadFault>
-    ensures one { IfOk result (λ pair. one ≡ Ok pair.0) }
-    ensures other { IfOk result (λ pair. other ≡ Ok pair.1) }
+/// Runs the clients' nodes. It comes back once both have ended.
+fn run_clients<
+    's,
+    'c: 's,
+    'd: 's,
+    E: 's,
+    R: Threads + Wait + Sync,
+    Q: PutEnd<Request> + Drop + Send + 's,
+    T: TakeEnd<Message> + Drop + Send + 's,
+>(
+    scope: &Scope<'s, E>,
+    rt: &'s R,
+    first: ClientNode<'c, Q, T>,
+    second: ClientNode<'d, Q, T>,
+    turns: u64,
+    flags: &'s Flags,
+) -> Result<(ClientNode<'c, Q, T>, ClientNode<'d, Q, T>), ThreadFault>
+    ensures first { IfOk result (λ ran. IsSameClient Q.link T.link first.entry ran.0) }
+    ensures second { IfOk result (λ ran. IsSameClient Q.link T.link second.entry ran.1) }
 {
-    let one = one?;
-    Ok((one, other?))
+    let first = start_client(scope, rt, first, turns, flags)?;
+    let second = start_client(scope, rt, second, turns, flags)?;
+    Ok((first.join(rt), second.join(rt)))
+}
+
+/// The nodes of the master and of the clients after their runs.
+type Others<'a, 'c, 'd, P, T, Q> = (
+    MasterNode<'a, P, T>,
+    (ClientNode<'c, Q, T>, ClientNode<'d, Q, T>),
+);
+
+/// Runs the master's node, and beside it those of the clients. It comes back once all three have ended.
+fn run_others<
+    's,
+    'a: 's,
+    'c: 's,
+    'd: 's,
+    E: 's,
+    R: Threads + Wait + Sync,
+    G: Gate + Sync,
+    P: PutEnd<Message> + Drop + Send + 's,
+    T: TakeEnd<Message> + Drop + Send + 's,
+    Q: PutEnd<Request> + Drop + Send + 's,
+>(
+    scope: &Scope<'s, E>,
+    rt: &'s R,
+    master: MasterNode<'a, P, T>,
+    first: ClientNode<'c, Q, T>,
+    second: ClientNode<'d, Q, T>,
+    turns: u64,
+    gate: &'s G,
+    flags: &'s Flags,
+) -> Result<Others<'a, 'c, 'd, P, T, Q>, ThreadFault>
+    ensures master { IfOk result (λ ran. IsSameNode P.link T.link master.entry ran.0) }
+    ensures first { IfOk result (λ ran. IsSameClient Q.link T.link first.entry ran.1.0) }
+    ensures second { IfOk result (λ ran. IsSameClient Q.link T.link second.entry ran.1.1) }
+{
+    let master = start_master(scope, rt, master, turns, gate, flags)?;
+    let clients = run_clients(scope, rt, first, second, turns, flags)?;
+    Ok((master.join(rt), clients))
 }
 
 /// The nodes after their runs: the servers', the master's and the clients'.
-type Ran<'a, P, T, I, Q> = (
-    Vec<ServerNode<'a, P, T, I>>,
-    (
-        MasterNode<'a, P, T>,
-        (ClientNode<'a, Q, T>, ClientNode<'a, Q, T>),
-    ),
-);
+type Ran<'a, 'b, 'c, 'd, P, T, I, Q> = (Vec<ServerNode<'b, P, T, I>>, Others<'a, 'c, 'd, P, T, Q>);
+
+/// Runs the servers' nodes, and beside them the others. Where there is no thread or no memory for one of them, those that
+/// run are to stop.
+fn run_servers<
+    's,
+    'a: 's,
+    'b: 's,
+    'c: 's,
+    'd: 's,
+    E: 's,
+    R: Threads + Wait + Sync,
+    G: Gate + Sync,
+    P: PutEnd<Message> + Drop + Send + 's,
+    T: TakeEnd<Message> + Drop + Send + 's,
+    I: TakeEnd<Request> + Drop + Send + 's,
+    Q: PutEnd<Request> + Drop + Send + 's,
+>(
+    scope: &Scope<'s, E>,
+    rt: &'s R,
+    alloc: Global,
+    master: MasterNode<'a, P, T>,
+    servers: Vec<ServerNode<'b, P, T, I>>,
+    first: ClientNode<'c, Q, T>,
+    second: ClientNode<'d, Q, T>,
+    turns: u64,
+    gate: &'s G,
+    flags: &'s Flags,
+) -> Result<Ran<'a, 'b, 'c, 'd, P, T, I, Q>, ThreadFault>
+    ensures servers { IfOk result (λ ran. AreSame P.link T.link I.link servers.entry.items ran.0.items) }
+    ensures master { IfOk result (λ ran. IsSameNode P.link T.link master.entry ran.1.0) }
+    ensures first { IfOk result (λ ran. IsSameClient Q.link T.link first.entry ran.1.1.0) }
+    ensures second { IfOk result (λ ran. IsSameClient Q.link T.link second.entry ran.1.1.1) }
+{
+    let servers = start_servers(scope, rt, alloc, servers, turns, gate, flags)?;
+    let others = run_others(scope, rt, master, first, second, turns, gate, flags)?;
+    Ok((join_servers(rt, servers)?, others))
+}
 
 /// Runs all nodes, each on a thread of its own, for so many turns or until they have ended. Where a thread can't be
 /// started, or there is no memory for the servers' threads, those that were are stopped. It comes back once all have ended.
@@ -295,7 +376,7 @@ pub(crate) fn run_all<
     turns: u64,
     gate: &G,
     flags: &Flags,
-) -> Result<Ran<'a, P, T, I, Q>, ThreadFault>
+) -> Result<Ran<'a, 'a, 'a, 'a, P, T, I, Q>, ThreadFault>
     ensures servers { IfOk result (λ ran. AreSame P.link T.link I.link servers.entry.items ran.0.items) }
     ensures master { IfOk result (λ ran. IsSameNode P.link T.link master.entry ran.1.0) }
     ensures first { IfOk result (λ ran. IsSameClient Q.link T.link first.entry ran.1.1.0) }
@@ -310,20 +391,13 @@ pub(crate) fn run_all<
             ensures first { IfOk result (λ ran. IsSameClient Q.link T.link first.entry ran.1.1.0) }
             ensures second { IfOk result (λ ran. IsSameClient Q.link T.link second.entry ran.1.1.1) }
         {
-            let servers = start_servers(scope, rt, alloc, servers, turns, gate, flags);
-            if servers.is_err() {
+            let ran = run_servers(
+                scope, rt, alloc, master, servers, first, second, turns, gate, flags,
+            );
+            if ran.is_err() {
                 flags.stop();
             }
-            let master = start_master(scope, rt, master, turns, gate, flags);
-            let first = start_client(scope, rt, first, turns, flags);
-            let second = start_client(scope, rt, second, turns, flags);
-            let ((servers, master), (first, second)) = both(
-                both(servers, master),
-                both(first, second),
-            )?;
-            let servers = join_servers(rt, servers);
-            let others = (master.join(rt), (first.join(rt), second.join(rt)));
-            both(servers, Ok(others))
+            ran
         },
     )
 }
