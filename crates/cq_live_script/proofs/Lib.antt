@@ -1,6 +1,2 @@
-pub mod Cutting
-pub mod Leading
-pub mod Ending
-pub mod Pieces
 -- worked lines
 pub mod Rows

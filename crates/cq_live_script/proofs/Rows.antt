@@ -10,10 +10,11 @@ use Rattle.cq_json.specs.Asks.{create_in, remove_in, send_in, receive_in, delete
 use Rattle.cq_json.specs.Receipts.{handle_in, receipt_handle}
 use Rattle.cq_plan.specs.declared.step.LiveStep.{LiveStep}
 use Rattle.cq_plan.specs.declared.step.LiveStep.TheVariants.{Client, Crash, Join}
-use Rattle.cq_script.specs.Lines.{lines_of}
-use Rattle.cq_script.specs.declared.fault.ScriptFault.TheVariants.{BadLine, TooManyLines}
+use Rattle.cq_lines.specs.Grammars.{parse_from, parse_text}
+use Rattle.cq_lines.specs.Lines.{lines_of}
+use Rattle.cq_lines.specs.declared.fault.ScriptFault.TheVariants.{BadLine, TooManyLines}
 use Rattle.cq_live_script.specs.Line.{step_line}
-use Rattle.cq_live_script.specs.Lines.{live_from, live_of}
+use Rattle.cq_live_script.specs.Lines.{live_limits, live_of, step_grammar}
 use Rattle.cq_live_script.specs.Steps.{client_in, server_in, step_in}
 
 -- what a row unfolds to compute a line
@@ -118,20 +119,20 @@ twice = refl
 -- lines are counted from 1, blank ones too, and the live script ends at its first fault
 numbers_of_lines :
     live_of (10 ∷ (json (codes "{'op':'crash','server':1,'after':5}") ++ (10 ∷ (codes "x" ++ (10 ∷ json (codes "{'op':'join','server':4,'after':6}"))))))
-    ≡ record { steps = Crash 1 5 ∷ []; fault = Some (BadLine 3) }
-unfolding live_of live_from lines_of lines_on_literals
+    ≡ record { values = Crash 1 5 ∷ []; fault = Some (BadLine 3) }
+unfolding parse_text parse_from lines_of lines_on_literals
 numbers_of_lines = refl
 
 -- the last line may lack its line feed
 last_lines :
-    live_of (json (codes "{'op':'crash','server':1,'after':5}") ++ (10 ∷ json (codes "{'op':'join','server':4,'after':6}"))) ≡ record { steps = Crash 1 5 ∷ Join 4 6 ∷ []; fault = None }
-unfolding live_of live_from lines_of lines_on_literals
+    live_of (json (codes "{'op':'crash','server':1,'after':5}") ++ (10 ∷ json (codes "{'op':'join','server':4,'after':6}"))) ≡ record { values = Crash 1 5 ∷ Join 4 6 ∷ []; fault = None }
+unfolding parse_text parse_from lines_of lines_on_literals
 last_lines = refl
 
-last_line : live_from 1000000 ([] ∷ []) ≡ record { steps = []; fault = None }
-unfolding live_from lines_on_literals
+last_line : parse_from step_grammar live_limits 1000000 ([] ∷ []) ≡ record { values = []; fault = None }
+unfolding parse_from lines_on_literals
 last_line = refl
 
-line_too_many : live_from 1000001 ([] ∷ []) ≡ record { steps = []; fault = Some TooManyLines }
-unfolding live_from lines_on_literals
+line_too_many : parse_from step_grammar live_limits 1000001 ([] ∷ []) ≡ record { values = []; fault = Some TooManyLines }
+unfolding parse_from lines_on_literals
 line_too_many = refl

@@ -1,4 +1,3 @@
 pub mod Steps
 pub mod Line
 pub mod Lines
-pub mod within

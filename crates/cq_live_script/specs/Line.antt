@@ -1,11 +1,9 @@
 -- What a line of a live run says. A line is the list of its bytes, its line feed left out.
-use Rattle.std.specs.Prelude.{ℕ, ◌≡◌, List, if◌then◌else◌, Option, Some, None, Result, Ok, Err}
+use Rattle.std.specs.Prelude.{ℕ, List, if◌then◌else◌, Option, Some, None, Result, Ok, Err}
 use Rattle.std.specs.List.{list_all}
 use Rattle.cq_json.specs.Fields.{Reason, ◌>>=◌, or_bad, json_of}
 use Rattle.cq_plan.specs.declared.step.LiveStep.{LiveStep}
-use Rattle.cq_script.specs.Line.{is_blank_byte}
-use Rattle.cq_script.specs.declared.event_line.LineFault.{LineFault}
-use Rattle.cq_script.specs.declared.event_line.LineFault.TheVariants.{Bad, NoMemory}
+use Rattle.cq_lines.specs.Lines.{is_blank_byte}
 use Rattle.cq_live_script.specs.Steps.{step_in}
 
 -- the step that the bytes say
@@ -20,9 +18,3 @@ line_saying (Err reason) = None
 -- the step that the line says, if it isn't blank; none: it is bad
 unfoldable pub step_line : List ℕ → Option (Option LiveStep)
 step_line bytes = if list_all is_blank_byte bytes then Some None else line_saying (step_from bytes)
-
--- the line was read as it says, unless memory was at fault
-abbrev pub Reads : Result (Option LiveStep) LineFault → Option (Option LiveStep) → Type 0
-Reads (Ok step) says = says ≡ Some step
-Reads (Err Bad) says = says ≡ None
-Reads (Err NoMemory) says = Unit {0}

@@ -2,7 +2,6 @@
 #![tactic(auto)]
 
 mod live;
-mod reading;
 mod step;
 mod step_line;
 

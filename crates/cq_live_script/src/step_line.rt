@@ -2,13 +2,14 @@
 ghost use Rattle.std.specs.Prelude.{◌≡◌, Ok, None, true};
 ghost use Rattle.std.specs.List.{list_all};
 ghost use Rattle.cq_json.specs.Readers.{Gives, same};
-ghost use Rattle.cq_script.specs.Line.{is_blank_byte};
-ghost use Rattle.cq_live_script.specs.Line.{step_from, step_line, Reads};
+ghost use Rattle.cq_lines.specs.Lines.{is_blank_byte};
+ghost use Rattle.cq_lines.specs.Grammars.{IsParsedAs};
+ghost use Rattle.cq_live_script.specs.Line.{step_from, step_line};
 
 use crate::step::read_step;
 use cq_json::{Stop, parse};
+use cq_lines::{LineFault, is_blank};
 use cq_plan::LiveStep;
-use cq_script::{LineFault, is_blank};
 use std::alloc::Global;
 
 fn read_object(alloc: Global, bytes: &[u8]) -> Result<LiveStep, Stop>
@@ -23,7 +24,7 @@ fn read_object(alloc: Global, bytes: &[u8]) -> Result<LiveStep, Stop>
 /// O(bytes).
 #[tactic(auto, unfolding(crate::specs::Line::step_line))]
 pub fn step_of(alloc: Global, bytes: &[u8]) -> Result<Option<LiveStep>, LineFault>
-    ensures says { Reads result (step_line bytes.now) }
+    ensures says { IsParsedAs result (step_line bytes.now) }
     ensures blank { list_all is_blank_byte bytes.now ≡ true → result ≡ Ok None }
 {
     if is_blank(bytes) {

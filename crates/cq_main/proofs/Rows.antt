@@ -2,7 +2,7 @@
 -- hand.
 use Rattle.std.proofs.Common.{◌≡◌, ◌∷◌, [], map, codes, refl}
 use Rattle.std.specs.Fmt.{digits}
-use Rattle.cq_script.specs.declared.fault.ScriptFault.TheVariants.{BadLine, LineTooLong, TooManyLines, ReadFailed, WriteFailed, NoMemory}
+use Rattle.cq_lines.specs.declared.fault.ScriptFault.TheVariants.{BadLine, LineTooLong, TooManyLines, ReadFailed, WriteFailed, NoMemory}
 use Rattle.cq_live_run.specs.declared.fault.LiveFault.TheVariants.{TurnLimit, AuditRefused, SpawnFailed, BadScript, NoMemory as NoRoom}
 use Rattle.cq_trace.specs.declared.fault.AuditFault.{AuditFault}
 use Rattle.cq_main.specs.LiveStatuses.{live_fault_text, live_status_of}

@@ -13,7 +13,7 @@ use Rattle.cq_main.specs.declared.live_fault.LiveEnd.{LiveEnd}
 use Rattle.cq_main.specs.declared.live_fault.LiveEnd.TheVariants.{Script, Live}
 use Rattle.cq_plan.specs.Steps.{first_bad}
 use Rattle.cq_plan.specs.declared.step.LiveStep.{LiveStep}
-use Rattle.cq_script.specs.declared.fault.ScriptFault.TheVariants.{ReadFailed, WriteFailed}
+use Rattle.cq_lines.specs.declared.fault.ScriptFault.TheVariants.{ReadFailed, WriteFailed}
 use Rattle.cq_world.specs.Laws.{Headline}
 
 -- The steps of a live script, which was read to its end, were run on so many servers: the report is of an order of what

@@ -2,8 +2,8 @@
 -- after.
 use Rattle.std.specs.Prelude.{◌≡◌, ◌≤◌, ◌⊎◌, ℕ, Bool, true, false, List, [], ◌∷◌, ◌++◌, codes, Option, Result, Ok, Err, OnOk}
 use Rattle.std.specs.Io.KnownBytes.{Appends, Consumes}
-use Rattle.cq_script.specs.declared.fault.ScriptFault.{ScriptFault}
-use Rattle.cq_script.specs.declared.fault.ScriptFault.TheVariants.{ReadFailed, WriteFailed}
+use Rattle.cq_lines.specs.declared.fault.ScriptFault.{ScriptFault}
+use Rattle.cq_lines.specs.declared.fault.ScriptFault.TheVariants.{ReadFailed, WriteFailed}
 use Rattle.cq_script.specs.Runs.{OnWritten}
 use Rattle.cq_main.specs.Statuses.{fault_text, status_of}
 

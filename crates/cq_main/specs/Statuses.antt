@@ -1,8 +1,8 @@
 -- The line of a fault, and the status with which the program ends.
 use Rattle.std.specs.Prelude.{ℕ, List, [], ◌∷◌, ◌++◌, codes, decimal, Option, Some, None}
-use Rattle.cq_script.specs.Faults.{code_of, name_of}
-use Rattle.cq_script.specs.declared.fault.ScriptFault.{ScriptFault}
-use Rattle.cq_script.specs.declared.fault.ScriptFault.TheVariants.{BadLine, LineTooLong, TooManyLines, ReadFailed, WriteFailed, NoMemory}
+use Rattle.cq_lines.specs.Faults.{code_of, name_of}
+use Rattle.cq_lines.specs.declared.fault.ScriptFault.{ScriptFault}
+use Rattle.cq_lines.specs.declared.fault.ScriptFault.TheVariants.{BadLine, LineTooLong, TooManyLines, ReadFailed, WriteFailed, NoMemory}
 
 -- 2 where the script is at fault, and else 3
 abbrev pub status_of : ScriptFault → ℕ

@@ -1,8 +1,8 @@
 //! Live runs: a live script is read and run, and what it did is told.
 ghost use Rattle.std.specs.Prelude.{◌≡◌, ℕ, List, false, true, IfErr, OnOk, OnErr};
 ghost use Rattle.std.specs.Io.KnownBytes.{Appends, Consumes};
-ghost use Rattle.cq_script.specs.Checks.{inner_of, is_failed, is_flushed};
-ghost use Rattle.cq_script.specs.declared.fault.ScriptFault.TheVariants.{WriteFailed};
+ghost use Rattle.cq_lines.specs.Checks.{inner_of, is_failed, is_flushed};
+ghost use Rattle.cq_lines.specs.declared.fault.ScriptFault.TheVariants.{WriteFailed};
 ghost use Rattle.cq_main.specs.LiveOutcomes.{IsReadFaithfully, Lived, RunsLive, TellsLive, report_text};
 
 use crate::live_fault::{LiveEnd, report_end};
@@ -48,7 +48,7 @@ fn tell_accepted<W: Write>(accepted: u64, output: &mut Checked<W>) -> Result<(),
     ensures fault { IfErr result (λ fault. fault ≡ WriteFailed) }
     ensures failed { OnErr result (is_failed output.new ≡ true) }
 {
-    output.tell(format_args!("accepted {accepted}\naudit ok\n"));
+    output.print(format_args!("accepted {accepted}\naudit ok\n"));
     if output.flush().is_err() || output.failed() {
         return Err(ScriptFault::WriteFailed);
     }

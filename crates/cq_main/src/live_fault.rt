@@ -1,6 +1,6 @@
 //! How the faults of a live run are told, and the status that the program ends with.
 ghost use Rattle.std.specs.Prelude.{◌≡◌};
-ghost use Rattle.cq_script.specs.Checks.{inner_of, is_failed};
+ghost use Rattle.cq_lines.specs.Checks.{inner_of, is_failed};
 ghost use Rattle.cq_main.specs.LiveOutcomes.{EndsAtLive, EndsLive};
 ghost use Rattle.cq_main.specs.LiveStatuses.{fault_step, live_status_of};
 
@@ -52,8 +52,8 @@ fn report_live<E: Write>(fault: &LiveFault, errors: &mut Checked<E>) -> u8
     let code = fault.code();
     let name = fault.name();
     match step_of(fault) {
-        Some(step) => errors.tell(format_args!("cq: {code} {name} step {step}\n")),
-        None => errors.tell(format_args!("cq: {code} {name}\n")),
+        Some(step) => errors.print(format_args!("cq: {code} {name} step {step}\n")),
+        None => errors.print(format_args!("cq: {code} {name}\n")),
     }
     live_status_of(fault)
 }

@@ -1,6 +1,6 @@
 //! How faults are told, and the status that the program ends with.
 ghost use Rattle.std.specs.Prelude.{◌≡◌};
-ghost use Rattle.cq_script.specs.Checks.{inner_of, is_failed};
+ghost use Rattle.cq_lines.specs.Checks.{inner_of, is_failed};
 ghost use Rattle.cq_main.specs.Outcomes.{EndsAt};
 ghost use Rattle.cq_main.specs.Statuses.{fault_line, status_of};
 
@@ -29,8 +29,8 @@ pub fn report<E: Write>(fault: &ScriptFault, errors: &mut Checked<E>) -> u8
     let code = fault.code();
     let name = fault.name();
     match line_of(fault) {
-        Some(line) => errors.tell(format_args!("cq: {code} {name} line {line}\n")),
-        None => errors.tell(format_args!("cq: {code} {name}\n")),
+        Some(line) => errors.print(format_args!("cq: {code} {name} line {line}\n")),
+        None => errors.print(format_args!("cq: {code} {name}\n")),
     }
     status_of(fault)
 }

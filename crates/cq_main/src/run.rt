@@ -3,7 +3,7 @@ ghost use Rattle.std.specs.Prelude.{◌≡◌, ◌≢◌, ◌⊎◌, ℕ, List, 
 ghost use Rattle.std.specs.Io.KnownBytes.{Appends};
 ghost use Rattle.std.specs.IoError.{error_kind};
 ghost use Rattle.clap.specs.Words.{fault_of, kind_of};
-ghost use Rattle.cq_script.specs.Checks.{inner_of, is_failed, is_flushed};
+ghost use Rattle.cq_lines.specs.Checks.{inner_of, is_failed, is_flushed};
 ghost use Rattle.cq_words.specs.CommandLine.{asked_choice, program_app};
 ghost use Rattle.cq_main.specs.Choices.{Runs};
 ghost use Rattle.cq_main.specs.Outcomes.{Ends, EndsAt, Helps, Refuses, RunsBy, TellsVersion, unread_text};
@@ -11,7 +11,7 @@ ghost use Rattle.cq_script.specs.Replays.{Headlines, Replays};
 ghost use Rattle.cq_script.specs.Sessions.{SessionHeadlines, Sessions};
 ghost use Rattle.cq_words.specs.WordFaults.{all_are, is_help, is_usage, is_version};
 ghost use Rattle.cq_words.specs.declared.choice.Choice.{Choice};
-ghost use Rattle.cq_script.specs.declared.fault.ScriptFault.TheVariants.{NoMemory};
+ghost use Rattle.cq_lines.specs.declared.fault.ScriptFault.TheVariants.{NoMemory};
 ghost use Rattle.std.specs.declared.io.ErrorKind.TheVariants.{OutOfMemory as NoRoom};
 
 use crate::live::run_live;
@@ -272,7 +272,7 @@ fn help<W: Write, E: Write>(
     let Ok(text) = error.to_string(alloc) else {
         return report(&ScriptFault::NoMemory, errors);
     };
-    output.tell(format_args!("{text}\n{GUIDE}\n"));
+    output.print(format_args!("{text}\n{GUIDE}\n"));
     if output.flush().is_err() || output.failed() {
         return report(&ScriptFault::WriteFailed, errors);
     }
@@ -286,7 +286,7 @@ fn tell_version<W: Write, E: Write>(output: &mut Checked<W>, errors: &mut Checke
         (W.contents (inner_of output.new)) (is_failed errors.new) (E.contents (inner_of errors.old))
         (E.contents (inner_of errors.new)) }
 {
-    output.tell(format_args!("cq {VERSION}\n"));
+    output.print(format_args!("cq {VERSION}\n"));
     if output.flush().is_err() || output.failed() {
         return report(&ScriptFault::WriteFailed, errors);
     }
@@ -302,7 +302,7 @@ fn refuse<E: Write>(alloc: Global, error: &Error, errors: &mut Checked<E>) -> u8
     let Ok(text) = error.to_string(alloc) else {
         return report(&ScriptFault::NoMemory, errors);
     };
-    errors.tell(text.as_str());
+    errors.print(text.as_str());
     USAGE
 }
 
@@ -318,6 +318,6 @@ pub fn tell_unread<E: Write>(error: &io::Error, errors: &mut Checked<E>) -> u8
     if error.kind() == io::ErrorKind::OutOfMemory {
         return report(&ScriptFault::NoMemory, errors);
     }
-    errors.tell("error: a word of the command line is not UTF-8\n");
+    errors.print("error: a word of the command line is not UTF-8\n");
     USAGE
 }

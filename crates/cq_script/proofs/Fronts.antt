@@ -1,25 +1,25 @@
--- The text of some items is a front of the text of more.
+-- The text of some lines is a front of the text of more.
 use Rattle.std.proofs.Common.{◌≡◌, ℕ, List, [], ◌∷◌, ◌++◌, Bool, Result, Ok, Err, refl, sym, ap, ◌∙◌, append_assoc, append-nil}
-use Rattle.cq_script.specs.declared.fault.ScriptFault.{ScriptFault}
-use Rattle.cq_script.specs.declared.fault.ScriptFault.TheVariants.{BadLine, LineTooLong, TooManyLines, ReadFailed, WriteFailed, NoMemory}
-use Rattle.cq_script.specs.declared.lines.Item.{Item}
-use Rattle.cq_script.specs.Output.{after_said, output, text_from, text_of}
+use Rattle.cq_lines.specs.declared.fault.ScriptFault.{ScriptFault}
+use Rattle.cq_lines.specs.declared.fault.ScriptFault.TheVariants.{BadLine, LineTooLong, TooManyLines, ReadFailed, WriteFailed, NoMemory}
+use Rattle.cq_script.specs.declared.script_line.ScriptLine.{ScriptLine}
+use Rattle.cq_script.specs.Output.{after_line, output, text_from, text_of}
 use Rattle.cq_events.specs.Worlds.{World, first_world}
 use Rattle.cq_base.specs.Relations.{Front}
 use Rattle.cq_script.specs.Runs.{WritesFront, EndsWriting}
 
-text_from-append : (w : World) (xs ys : List Item) → Front (text_from w xs) (text_from w (xs ++ ys))
+text_from-append : (w : World) (xs ys : List ScriptLine) → Front (text_from w xs) (text_from w (xs ++ ys))
 unfolding text_from
 text_from-append w [] ys = (text_from w ys, refl)
 text_from-append w (x ∷ xs) ys =
-    let later = text_from-append (after_said w x.said) xs ys in
-    (later.0, ap (λ text. output w x ++ text) later.1 ∙ sym (append_assoc (output w x) (text_from (after_said w x.said) xs) later.0))
+    let later = text_from-append (after_line w x.event) xs ys in
+    (later.0, ap (λ text. output w x ++ text) later.1 ∙ sym (append_assoc (output w x) (text_from (after_line w x.event) xs) later.0))
 
-pub text_of-append : (size : ℕ) (xs ys : List Item) → Front (text_of size xs) (text_of size (xs ++ ys))
+pub text_of-append : (size : ℕ) (xs ys : List ScriptLine) → Front (text_of size xs) (text_of size (xs ++ ys))
 unfolding text_of
 text_of-append size xs ys = text_from-append (first_world size) xs ys
 
--- the text of an item was written too
+-- the text of a line was written too
 pub text_written : (whole written text front later : List ℕ) → whole ≡ written ++ (text ++ later) → front ≡ text → whole ≡ (written ++ front) ++ later
 text_written whole written text front later is all =
     is ∙ ap (λ t. written ++ (t ++ later)) (sym all) ∙ sym (append_assoc written front later)
@@ -28,7 +28,7 @@ front_written : (whole written text front later : List ℕ) → whole ≡ writte
 front_written whole written text front later is part =
     (part.0 ++ later, is ∙ ap (λ t. written ++ (t ++ later)) part.1 ∙ ap (λ t. written ++ t) (append_assoc front part.0 later) ∙ sym (append_assoc written front (part.0 ++ later)))
 
--- a front of the text of an item was written
+-- a front of the text of a line was written
 pub fault_written : (f : ScriptFault) (whole written text front later : List ℕ) → whole ≡ written ++ (text ++ later)
     → WritesFront (Err f) text front → WritesFront (Err f) whole (written ++ front)
 fault_written (BadLine n) whole written text front later is part = absurd part

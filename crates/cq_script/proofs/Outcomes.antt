@@ -5,9 +5,9 @@ use Rattle.cq_chain.specs.declared.fault.WorldFault.{WorldFault}
 use Rattle.cq_chain.specs.declared.message.Answer.{Answer}
 use Rattle.cq_chain.specs.Faults.{code_of, name_of}
 use Rattle.cq_answers.specs.Answers.{refused_text}
-use Rattle.cq_script.specs.Output.{after_said, event_text, given_text, output, text_from}
-use Rattle.cq_script.specs.declared.lines.Item.{Item}
-use Rattle.cq_script.specs.within.Played.{after_items}
+use Rattle.cq_script.specs.Output.{after_line, event_text, given_text, output, text_from}
+use Rattle.cq_script.specs.declared.script_line.ScriptLine.{ScriptLine}
+use Rattle.cq_script.specs.within.Played.{after_lines}
 use Rattle.cq_events.specs.Events.{refusal_of, given_by, next, after}
 use Rattle.cq_world.specs.Stands.{StandsFor}
 use Rattle.cq_events.specs.Worlds.{World}
@@ -31,36 +31,36 @@ told_refused n w event fault sim text refused stands all = (
   subst (λ v. StandsFor sim v) (sym (after-refused w event fault refused)) stands,
 )
 
--- ---- many items
+-- ---- many lines
 
--- what is left to write begins with the text of the next item
-pub item_next : (whole written text new : List ℕ) (w : World) (i : ℕ) (items : List Item) (item : Item) → i < length items → item ≡ get_or items i item
-    → whole ≡ (written ++ text) ++ text_from w (drop i items) → new ≡ text ++ output w item
-    → whole ≡ (written ++ new) ++ text_from (after_said w item.said) (drop (i + 1) items)
+-- what is left to write begins with the text of the next line
+pub line_next : (whole written text new : List ℕ) (w : World) (i : ℕ) (lines : List ScriptLine) (line : ScriptLine) → i < length lines → line ≡ get_or lines i line
+    → whole ≡ (written ++ text) ++ text_from w (drop i lines) → new ≡ text ++ output w line
+    → whole ≡ (written ++ new) ++ text_from (after_line w line.event) (drop (i + 1) lines)
 unfolding text_from
-item_next whole written text new w i items item inside here so_far more =
-    so_far ∙ ap (λ xs. (written ++ text) ++ text_from w xs) (drop_more items i item inside)
-    ∙ ap (λ x. (written ++ text) ++ text_from w (x ∷ drop (i + 1) items)) (sym here)
-    ∙ sym (append_assoc (written ++ text) (output w item) (text_from (after_said w item.said) (drop (i + 1) items)))
-    ∙ ap (λ t. t ++ text_from (after_said w item.said) (drop (i + 1) items)) (append_assoc written text (output w item) ∙ ap (λ t. written ++ t) (sym more))
+line_next whole written text new w i lines line inside here so_far more =
+    so_far ∙ ap (λ xs. (written ++ text) ++ text_from w xs) (drop_more lines i line inside)
+    ∙ ap (λ x. (written ++ text) ++ text_from w (x ∷ drop (i + 1) lines)) (sym here)
+    ∙ sym (append_assoc (written ++ text) (output w line) (text_from (after_line w line.event) (drop (i + 1) lines)))
+    ∙ ap (λ t. t ++ text_from (after_line w line.event) (drop (i + 1) lines)) (append_assoc written text (output w line) ∙ ap (λ t. written ++ t) (sym more))
 
 -- and the world goes on with it
-pub world_next : (last w : World) (i : ℕ) (items : List Item) (item : Item) → i < length items → item ≡ get_or items i item
-    → last ≡ after_items w (drop i items) → last ≡ after_items (after_said w item.said) (drop (i + 1) items)
-unfolding after_items
-world_next last w i items item inside here is =
-    is ∙ ap (after_items w) (drop_more items i item inside) ∙ ap (λ x. after_items w (x ∷ drop (i + 1) items)) (sym here)
+pub world_next : (last w : World) (i : ℕ) (lines : List ScriptLine) (line : ScriptLine) → i < length lines → line ≡ get_or lines i line
+    → last ≡ after_lines w (drop i lines) → last ≡ after_lines (after_line w line.event) (drop (i + 1) lines)
+unfolding after_lines
+world_next last w i lines line inside here is =
+    is ∙ ap (after_lines w) (drop_more lines i line inside) ∙ ap (λ x. after_lines w (x ∷ drop (i + 1) lines)) (sym here)
 
--- behind the last item
-pub text_last : (whole written text : List ℕ) (w : World) (i : ℕ) (items : List Item) → length items ≤ i
-    → whole ≡ (written ++ text) ++ text_from w (drop i items) → whole ≡ written ++ (text ++ [])
+-- behind the last line
+pub text_last : (whole written text : List ℕ) (w : World) (i : ℕ) (lines : List ScriptLine) → length lines ≤ i
+    → whole ≡ (written ++ text) ++ text_from w (drop i lines) → whole ≡ written ++ (text ++ [])
 unfolding text_from
-text_last whole written text w i items past is =
-    is ∙ ap (λ xs. (written ++ text) ++ text_from w xs) (drop_all i items past) ∙ append_assoc written text []
+text_last whole written text w i lines past is =
+    is ∙ ap (λ xs. (written ++ text) ++ text_from w xs) (drop_all i lines past) ∙ append_assoc written text []
 
-pub world_last : (last w : World) (i : ℕ) (items : List Item) → length items ≤ i → last ≡ after_items w (drop i items) → w ≡ last
-unfolding after_items
-world_last last w i items past is = sym (is ∙ ap (after_items w) (drop_all i items past))
+pub world_last : (last w : World) (i : ℕ) (lines : List ScriptLine) → length lines ≤ i → last ≡ after_lines w (drop i lines) → w ≡ last
+unfolding after_lines
+world_last last w i lines past is = sym (is ∙ ap (after_lines w) (drop_all i lines past))
 
 pub whole_written : (whole written text took : List ℕ) → whole ≡ written ++ (text ++ []) → took ≡ text → written ++ took ≡ whole
 whole_written whole written text took is all = ap (λ t. written ++ t) (all ∙ sym (append-nil text)) ∙ sym is

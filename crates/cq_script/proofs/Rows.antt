@@ -1,6 +1,6 @@
 -- Worked lines and texts, each computed by the definitions to what the rules of the scripts give. The results were
 -- worked out by hand.
-use Rattle.std.proofs.Common.{◌≡◌, ℕ, List, [], ◌∷◌, ◌++◌, map, Option, None, Some, Ok, Err, true, false, cond, nat_eq, codes, refl}
+use Rattle.std.proofs.Common.{◌≡◌, ℕ, List, [], ◌∷◌, ◌++◌, map, Option, None, Some, Ok, Err, cond, nat_eq, codes, refl}
 use Rattle.std.specs.Prelude.{⊤}
 use Rattle.std.specs.Fmt.{digits}
 use Rattle.std.specs.Str.{chars, is_utf8}
@@ -21,18 +21,18 @@ use Rattle.cq_events.specs.Worlds.{first_world, numbers_from}
 use Rattle.cq_answers.specs.Answers.{answer_data, refused_data}
 use Rattle.cq_json.specs.Asks.{create_in, remove_in, send_in, receive_in, delete_in, change_in, ask_in}
 use Rattle.cq_script.specs.Events.{arrive_in, query_in, ends_in, server_in, event_in}
-use Rattle.cq_script.specs.Faults.{code_of, name_of}
+use Rattle.cq_lines.specs.Lines.{lines_of}
+use Rattle.cq_lines.specs.Grammars.{parse_from, parse_text, values_from}
+use Rattle.cq_lines.specs.declared.limits.TheConstants.{LINE_LIMIT}
 use Rattle.cq_script.specs.Line.{line_of}
-use Rattle.cq_script.specs.Lines.{lines_of, script_from, script_of, ended_part}
+use Rattle.cq_script.specs.Lines.{script_grammar, script_limits, script_of, session_grammar, session_lines}
 use Rattle.cq_script.specs.Output.{output, text_from, text_of}
 use Rattle.cq_json.specs.Receipts.{handle_in, receipt_handle}
-use Rattle.cq_script.specs.Sessions.{session_item, session_from, session_items}
 use Rattle.cq_script.specs.declared.event_line.Line.{Line}
 use Rattle.cq_script.specs.declared.event_line.Line.TheVariants.{Blank, Event, Refused}
 use Rattle.cq_script.specs.declared.fault.LineRefusal.TheVariants.{Text, Bad, TooLong}
-use Rattle.cq_script.specs.declared.fault.ScriptFault.{ScriptFault}
-use Rattle.cq_script.specs.declared.fault.ScriptFault.TheVariants.{BadLine, LineTooLong, TooManyLines, ReadFailed, WriteFailed, NoMemory}
-use Rattle.cq_script.specs.declared.lines.Item.{Item}
+use Rattle.cq_lines.specs.declared.fault.ScriptFault.TheVariants.{BadLine, TooManyLines}
+use Rattle.cq_script.specs.declared.script_line.ScriptLine.{ScriptLine}
 
 -- what a row unfolds to compute a line
 unfoldable lines_on_literals : ⊤
@@ -173,43 +173,31 @@ bad_requests = refl
 
 -- ---- scripts
 
-cut_lines : lines_of (codes "a" ++ (10 ∷ 10 ∷ codes "bc")) ≡ codes "a" ∷ [] ∷ codes "bc" ∷ []
-unfolding lines_of
-cut_lines = refl
-
-ended_lines : lines_of (codes "a" ++ (10 ∷ [])) ≡ codes "a" ∷ []
-unfolding lines_of
-ended_lines = refl
-
-ended_parts : map ended_part ([] ∷ codes "ab" ∷ (97 ∷ 10 ∷ 98 ∷ []) ∷ (97 ∷ 10 ∷ 98 ∷ 10 ∷ []) ∷ []) ≡ [] ∷ [] ∷ (97 ∷ 10 ∷ []) ∷ (97 ∷ 10 ∷ 98 ∷ 10 ∷ []) ∷ []
-unfolding ended_part
-ended_parts = refl
-
 -- lines are counted from 1, blank ones too, and the script ends at its first fault
 numbers_of_lines :
     script_of (10 ∷ (json (codes "{'op':'crash','server':1}") ++ (10 ∷ (json (codes "{'op':'ask','at':1,'client':7,'tag':9,'queue':'q'}") ++ (10 ∷ (codes "x" ++ (10 ∷ json (codes "{'op':'crash','server':2}"))))))))
-    ≡ record { items = record { number = 2; said = Ok (events.Crash 1) } ∷ record { number = 3; said = Err (Text BadQueueName) } ∷ []; fault = Some (BadLine 4) }
-unfolding script_of script_from lines_of lines_on_literals
+    ≡ record { values = record { number = 2; event = Ok (events.Crash 1) } ∷ record { number = 3; event = Err (Text BadQueueName) } ∷ []; fault = Some (BadLine 4) }
+unfolding parse_text parse_from lines_of lines_on_literals
 numbers_of_lines = refl
 
 -- a session goes on behind a bad line, as the last one is here
 lines_of_a_session :
-    session_items (10 ∷ (json (codes "{'op':'crash','server':1}") ++ (10 ∷ (codes "x" ++ (10 ∷ (json (codes "{'op':'ask','at':1,'client':7,'tag':9,'queue':'q'}") ++ (10 ∷ codes "y")))))))
-    ≡ record { number = 2; said = Ok (events.Crash 1) } ∷ record { number = 3; said = Err Bad } ∷ record { number = 4; said = Err (Text BadQueueName) } ∷ record { number = 5; said = Err Bad } ∷ []
-unfolding session_items session_from session_item lines_of lines_on_literals
+    session_lines (10 ∷ (json (codes "{'op':'crash','server':1}") ++ (10 ∷ (codes "x" ++ (10 ∷ (json (codes "{'op':'ask','at':1,'client':7,'tag':9,'queue':'q'}") ++ (10 ∷ codes "y")))))))
+    ≡ record { number = 2; event = Ok (events.Crash 1) } ∷ record { number = 3; event = Err Bad } ∷ record { number = 4; event = Err (Text BadQueueName) } ∷ record { number = 5; event = Err Bad } ∷ []
+unfolding session_lines values_from lines_of lines_on_literals
 lines_of_a_session = refl
 
 -- and counts them on behind the most that a script may have
-line_of_a_session : session_from 1000001 (codes "x" ∷ [] ∷ []) ≡ record { number = 1000001; said = Err Bad } ∷ []
-unfolding session_from session_item lines_on_literals
+line_of_a_session : values_from session_grammar LINE_LIMIT 1000001 (codes "x" ∷ [] ∷ []) ≡ record { number = 1000001; event = Err Bad } ∷ []
+unfolding values_from lines_on_literals
 line_of_a_session = refl
 
-last_line : script_from 1000000 ([] ∷ []) ≡ record { items = []; fault = None }
-unfolding script_from lines_on_literals
+last_line : parse_from script_grammar script_limits 1000000 ([] ∷ []) ≡ record { values = []; fault = None }
+unfolding parse_from lines_on_literals
 last_line = refl
 
-line_too_many : script_from 1000001 ([] ∷ []) ≡ record { items = []; fault = Some TooManyLines }
-unfolding script_from lines_on_literals
+line_too_many : parse_from script_grammar script_limits 1000001 ([] ∷ []) ≡ record { values = []; fault = Some TooManyLines }
+unfolding parse_from lines_on_literals
 line_too_many = refl
 
 -- ---- what a script writes
@@ -218,37 +206,26 @@ line_too_many = refl
 abbrev line : List ℕ → List ℕ
 line text = json text ++ (10 ∷ [])
 
-abbrev item : ℕ → WorldEvent → Item
-item number event = record { number = number; said = Ok event }
+abbrev script_line : ℕ → WorldEvent → ScriptLine
+script_line number event = record { number = number; event = Ok event }
 
 -- A text that breaks its rule does nothing, and a crash is for good; neither gives a line but of its refusal.
 refusals :
-    text_of 2 (record { number = 2; said = Err (Text BadGroup) } ∷ item 3 (events.Crash 2) ∷ item 5 (events.Crash 2) ∷ item 6 (events.Crash 3) ∷ [])
+    text_of 2 (record { number = 2; event = Err (Text BadGroup) } ∷ script_line 3 (events.Crash 2) ∷ script_line 5 (events.Crash 2) ∷ script_line 6 (events.Crash 3) ∷ [])
     ≡ line (codes "{'line':2,'name':'BadGroup','refused':12}") ++ (line (codes "{'line':5,'name':'ServerDown','refused':32}") ++ line (codes "{'line':6,'name':'NoSuchServer','refused':31}"))
 unfolding text_of text_from output first_world numbers_from refusal_of after next given_by refused_data digits serde_json_on_literals
 refusals = refl
 
 -- the lines that only a session goes on behind
 refused_lines :
-    text_of 1 (record { number = 3; said = Err Bad } ∷ record { number = 4; said = Err TooLong } ∷ [])
+    text_of 1 (record { number = 3; event = Err Bad } ∷ record { number = 4; event = Err TooLong } ∷ [])
     ≡ line (codes "{'line':3,'name':'BadLine','refused':61}") ++ line (codes "{'line':4,'name':'LineTooLong','refused':62}")
 unfolding text_of text_from output first_world refused_data digits serde_json_on_literals
 refused_lines = refl
 
 -- a put to the clients gives what waits for them, once
 given :
-    text_of 1 (item 1 (events.Ask 1 (record { client = 7; tag = 10; queue = codes "q.fifo" })) ∷ item 2 (events.Put (Server 1) Clients) ∷ item 3 (events.Put (Server 1) Clients) ∷ [])
+    text_of 1 (script_line 1 (events.Ask 1 (record { client = 7; tag = 10; queue = codes "q.fifo" })) ∷ script_line 2 (events.Put (Server 1) Clients) ∷ script_line 3 (events.Put (Server 1) Clients) ∷ [])
     ≡ line (codes "{'client':7,'length':0,'line':2,'reply':{'code':1,'kind':'refused','name':'QueueDoesNotExist'},'tag':10}") ++ line (codes "{'line':3,'name':'OutboxEmpty','refused':34}")
 unfolding text_of text_from output first_world numbers_from refusal_of refusal_of_query after next given_by asked history live creations last_moment counts_after about reply_to effect_of answer_data refused_data digits serde_json_on_literals
 given = refl
-
--- ---- faults
-
-abbrev faults : List ScriptFault
-faults = BadLine 3 ∷ LineTooLong 3 ∷ TooManyLines ∷ ReadFailed ∷ WriteFailed ∷ NoMemory ∷ []
-
-numbers_of_faults : map code_of faults ≡ 61 ∷ 62 ∷ 63 ∷ 64 ∷ 65 ∷ 20 ∷ []
-numbers_of_faults = refl
-
-names_of_faults : map name_of faults ≡ codes "BadLine" ∷ codes "LineTooLong" ∷ codes "TooManyLines" ∷ codes "ReadFailed" ∷ codes "WriteFailed" ∷ codes "NoMemory" ∷ []
-names_of_faults = refl

@@ -1,4 +1,4 @@
--- The text of items, told by what the run of their events gives and refuses.
+-- The text of lines, told by what the run of their events gives and refuses.
 use Rattle.std.proofs.Common.{◌≡◌, ℕ, ◌+◌, ◌<◌, ◌≤◌, ◌==◌, cond, false, List, [], ◌∷◌, ◌++◌, Option, None, Some, Result, Ok, Err, refl, sym, ap, ◌∙◌, arith}
 use borrow.Author.Tests.{ne_eqb, eq-eqb}
 use Rattle.cq_chain.specs.declared.fault.WorldFault.{WorldFault}
@@ -7,10 +7,10 @@ use Rattle.cq_events.specs.Events.{refusal_of, after}
 use Rattle.cq_events.specs.Runs.{numbered, given_if, given_from, refused_from}
 use Rattle.cq_events.specs.Worlds.{World, first_world}
 use Rattle.cq_events.specs.declared.event.Event.{Event}
-use Rattle.cq_script.specs.Laws.{of_number, outcome_text, said_by_run, number_after, told_by_run, TextIsOfTheRun}
-use Rattle.cq_script.specs.Output.{event_text, events_in, events_of, said_text, after_said, output, text_from, text_of}
+use Rattle.cq_script.specs.Laws.{of_number, outcome_text, line_by_run, number_after, told_by_run, TextIsOfTheRun}
+use Rattle.cq_script.specs.Output.{event_text, events_in, events_of, line_text, after_line, output, text_from, text_of}
 use Rattle.cq_script.specs.declared.fault.LineRefusal.{LineRefusal}
-use Rattle.cq_script.specs.declared.lines.Item.{Item}
+use Rattle.cq_script.specs.declared.script_line.ScriptLine.{ScriptLine}
 
 -- ---- numbers
 
@@ -44,7 +44,7 @@ refused-later j n w [] less = refl
 refused-later j n w (e ∷ es) less =
     number_before j n (refusal_of w e) (refused_from (n + 1) (after w e) es) less (refused-later j (n + 1) (after w e) es (omega (arith, less)))
 
--- ---- items
+-- ---- lines
 
 -- the lists have, from that number on, what these events give and refuse
 record IsOf (n : ℕ) (given : List (ℕ × Answer)) (refused : List (ℕ × WorldFault)) (w : World) (events : List Event) : Type 0 where
@@ -77,28 +77,28 @@ same_outcome line w e None = refl
 same_outcome line w e (Some fault) = refl
 
 -- a line, and those behind it
-told_line : (n line : ℕ) (given : List (ℕ × Answer)) (refused : List (ℕ × WorldFault)) (w : World) (said : Result Event LineRefusal) (items : List Item)
-    → ((m : ℕ) (v : World) → IsOf m given refused v (events_of items) → text_from v items ≡ told_by_run m given refused items)
-    → IsOf n given refused w (events_in said ++ events_of items)
-    → said_text line w said ++ text_from (after_said w said) items ≡ said_by_run n given refused line said ++ told_by_run (number_after n said) given refused items
-told_line n line given refused w (Ok e) items go is =
+told_line : (n line : ℕ) (given : List (ℕ × Answer)) (refused : List (ℕ × WorldFault)) (w : World) (event : Result Event LineRefusal) (lines : List ScriptLine)
+    → ((m : ℕ) (v : World) → IsOf m given refused v (events_of lines) → text_from v lines ≡ told_by_run m given refused lines)
+    → IsOf n given refused w (events_in event ++ events_of lines)
+    → line_text line w event ++ text_from (after_line w event) lines ≡ line_by_run n given refused line event ++ told_by_run (number_after n event) given refused lines
+told_line n line given refused w (Ok e) lines go is =
     let here : event_text line w e (refusal_of w e) ≡ outcome_text line (of_number n given) (of_number n refused) =
-    same_outcome line w e (refusal_of w e) ∙ sym (ap (λ g. outcome_text line g (of_number n refused)) (given_at n given refused w e (events_of items) is)
-    ∙ ap (λ r. outcome_text line (given_if w e (refusal_of w e)) r) (refused_at n given refused w e (events_of items) is)) in
-    ap (λ text. text ++ text_from (after w e) items) here
-    ∙ ap (λ text. outcome_text line (of_number n given) (of_number n refused) ++ text) (go (n + 1) (after w e) (IsOf-next n given refused w e (events_of items) is))
-told_line n line given refused w (Err fault) items go is = ap (λ text. said_text line w (Err fault) ++ text) (go n w is)
+    same_outcome line w e (refusal_of w e) ∙ sym (ap (λ g. outcome_text line g (of_number n refused)) (given_at n given refused w e (events_of lines) is)
+    ∙ ap (λ r. outcome_text line (given_if w e (refusal_of w e)) r) (refused_at n given refused w e (events_of lines) is)) in
+    ap (λ text. text ++ text_from (after w e) lines) here
+    ∙ ap (λ text. outcome_text line (of_number n given) (of_number n refused) ++ text) (go (n + 1) (after w e) (IsOf-next n given refused w e (events_of lines) is))
+told_line n line given refused w (Err fault) lines go is = ap (λ text. line_text line w (Err fault) ++ text) (go n w is)
 
-told_items : (n : ℕ) (given : List (ℕ × Answer)) (refused : List (ℕ × WorldFault)) (w : World) (items : List Item)
-    → IsOf n given refused w (events_of items) → text_from w items ≡ told_by_run n given refused items
+told_lines : (n : ℕ) (given : List (ℕ × Answer)) (refused : List (ℕ × WorldFault)) (w : World) (lines : List ScriptLine)
+    → IsOf n given refused w (events_of lines) → text_from w lines ≡ told_by_run n given refused lines
 unfolding text_from output told_by_run events_of
-told_items n given refused w [] is = refl
-told_items n given refused w (item ∷ items) is =
-    told_line n item.number given refused w item.said items (λ m v. told_items m given refused v items) is
+told_lines n given refused w [] is = refl
+told_lines n given refused w (line ∷ lines) is =
+    told_line n line.number given refused w line.event lines (λ m v. told_lines m given refused v lines) is
 
-pub text_is_of_the_run : (size : ℕ) (items : List Item) → TextIsOfTheRun size items
+pub text_is_of_the_run : (size : ℕ) (lines : List ScriptLine) → TextIsOfTheRun size lines
 unfolding TextIsOfTheRun text_of
-text_is_of_the_run size items =
+text_is_of_the_run size lines =
     let first = first_world size in
-    let events = events_of items in
-    told_items 1 (given_from 1 first events) (refused_from 1 first events) first items (record { gives = λ j l. refl; refuses = λ j l. refl })
+    let events = events_of lines in
+    told_lines 1 (given_from 1 first events) (refused_from 1 first events) first lines (record { gives = λ j l. refl; refuses = λ j l. refl })

@@ -8,7 +8,6 @@ pub mod Runs
 pub mod Replays
 pub mod Sessions
 pub mod Laws
--- faults, readers and writers
+-- refusals of lines
 pub mod Faults
-pub mod Checks
 pub mod within

@@ -1,17 +1,14 @@
 -- What a line of a script says. A line is the list of its bytes, its line feed left out.
-use Rattle.std.specs.Prelude.{ℕ, ◌≡◌, ◌||◌, ◌==◌, List, Bool, if◌then◌else◌, Option, Some, None, Result, Ok, Err}
+use Rattle.std.specs.Prelude.{ℕ, ◌≡◌, List, if◌then◌else◌, Option, Some, None, Result, Ok, Err}
 use Rattle.std.specs.List.{list_all}
+use Rattle.cq_lines.specs.Lines.{is_blank_byte}
 use Rattle.cq_script.specs.Events.{event_in}
 use Rattle.cq_json.specs.Fields.{Reason, bad, refused, ◌>>=◌, or_bad, json_of}
 use Rattle.cq_events.specs.declared.event.Event.{Event}
 use Rattle.cq_script.specs.declared.event_line.Line.{Line}
 use Rattle.cq_script.specs.declared.event_line.Line.TheVariants as lines
-use Rattle.cq_script.specs.declared.event_line.LineFault.{LineFault}
-use Rattle.cq_script.specs.declared.event_line.LineFault.TheVariants.{Bad, NoMemory}
-
--- a space, a tab or a carriage return
-abbrev pub is_blank_byte : ℕ → Bool
-is_blank_byte b = b == 32 || b == 9 || b == 13
+use Rattle.cq_lines.specs.declared.parser.LineFault.{LineFault}
+use Rattle.cq_lines.specs.declared.parser.LineFault.TheVariants.{Bad, NoMemory}
 
 -- the event that the bytes say
 abbrev pub event_from : List ℕ → Result Event Reason

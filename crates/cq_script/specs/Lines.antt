@@ -1,81 +1,54 @@
--- The script that bytes stand for.
-use Rattle.std.specs.Prelude.{◌≡◌, ℕ, ◌+◌, ◌==◌, Bool, false, nat_lt, if◌then◌else◌, List, [], ◌∷◌, ◌++◌, length, Option, None, Some, Ok, Err}
-use Rattle.std.specs.List.{list_any}
-use Rattle.cq_script.specs.declared.lines.TheConstants.{LINE_LIMIT, LINES_LIMIT}
-use Rattle.cq_script.specs.declared.fault.LineRefusal.TheVariants.{Text}
-use Rattle.cq_script.specs.declared.fault.ScriptFault.{ScriptFault}
-use Rattle.cq_script.specs.declared.fault.ScriptFault.TheVariants.{BadLine, LineTooLong, TooManyLines, ReadFailed, WriteFailed, NoMemory}
+-- The script that bytes stand for, and the lines of a session.
+use Rattle.std.specs.Prelude.{ℕ, List, Option, None, Some, option_map, Ok, Err}
+use Rattle.cq_lines.specs.Lines.{lines_of}
+use Rattle.cq_lines.specs.Grammars.{Grammar, Parsed, parse_text, values_from}
+use Rattle.cq_lines.specs.declared.limits.Limits.{Limits}
+use Rattle.cq_lines.specs.declared.limits.TheConstants.{LINE_LIMIT, LINES_LIMIT}
 use Rattle.cq_script.specs.declared.event_line.Line.{Line}
 use Rattle.cq_script.specs.declared.event_line.Line.TheVariants.{Blank, Event, Refused}
-use Rattle.cq_script.specs.declared.lines.Item.{Item}
+use Rattle.cq_script.specs.declared.fault.LineRefusal.{LineRefusal}
+use Rattle.cq_script.specs.declared.fault.LineRefusal.TheVariants.{Text, Bad, TooLong}
+use Rattle.cq_script.specs.declared.script_line.ScriptLine.{ScriptLine}
 use Rattle.cq_script.specs.Line.{line_of}
 
--- a byte before the first line
-abbrev pub put_first : ℕ → List (List ℕ) → List (List ℕ)
-put_first b [] = (b ∷ []) ∷ []
-put_first b (line ∷ lines) = (b ∷ line) ∷ lines
+-- line n, unless it is blank
+abbrev pub numbered : ℕ → Line → Option ScriptLine
+numbered n Blank = None
+numbered n (Event event) = Some (record { number = n; event = Ok event })
+numbered n (Refused fault) = Some (record { number = n; event = Err (Text fault) })
 
--- the lines of some bytes: each ends with a line feed, which is no part of it, and the last may lack it
-unfoldable pub lines_of : List ℕ → List (List ℕ)
-lines_of [] = []
-lines_of (b ∷ bs) = if b == 10 then [] ∷ lines_of bs else put_first b (lines_of bs)
+-- ---- scripts
 
--- the items of a script up to its first fault, and that fault
-pub record Script : Type 0 where
-  pub items : List Item
-  pub fault : Option ScriptFault
+-- the lines of a script, where one that is bad or overlong is a fault
+abbrev pub script_grammar : Grammar ScriptLine
+script_grammar = record { line_value = λ n bytes. option_map (numbered n) (line_of bytes); overlong_value = λ n. None }
 
--- a script that ends at a fault, with no item before it
-abbrev pub faulty : ScriptFault → Script
-faulty f = record { items = []; fault = Some f }
-
--- items before those of a script
-abbrev pub with_front : List Item → Script → Script
-with_front items script = record { items = items ++ script.items; fault = script.fault }
-
--- the item that a line makes, if it is not blank
-abbrev pub items_of_line : ℕ → Line → List Item
-items_of_line n Blank = []
-items_of_line n (Event event) = record { number = n; said = Ok event } ∷ []
-items_of_line n (Refused fault) = record { number = n; said = Err (Text fault) } ∷ []
-
--- line n, as it was judged, and then the rest of the script
-abbrev pub judged_before : ℕ → Option Line → Script → Script
-judged_before n None rest = faulty (BadLine n)
-judged_before n (Some line) rest = with_front (items_of_line n line) rest
-
--- the script of these lines, of which the first has the number n
-unfoldable pub script_from : ℕ → List (List ℕ) → Script
-script_from n [] = record { items = []; fault = None }
-script_from n (line ∷ lines) =
-    if nat_lt LINES_LIMIT n then faulty TooManyLines
-    else (if nat_lt LINE_LIMIT (length line) then faulty (LineTooLong n)
-    else judged_before n (line_of line) (script_from (n + 1) lines))
+-- a line has at most 2 MiB, and a script at most a million of them
+abbrev pub script_limits : Limits
+script_limits = record { line_len = LINE_LIMIT; line_count = LINES_LIMIT }
 
 -- the script that bytes stand for
-unfoldable pub script_of : List ℕ → Script
-script_of bytes = script_from 1 (lines_of bytes)
+abbrev pub script_of : List ℕ → Parsed ScriptLine
+script_of bytes = parse_text script_grammar script_limits bytes
 
--- a line ends among these bytes
-abbrev pub has_line_feed : List ℕ → Bool
-has_line_feed bytes = list_any (λ b. b == 10) bytes
+-- ---- sessions
 
--- the cut of bytes behind their first line: before it no line ends, and after it what is left; none: no line ends in them
-abbrev pub IsCut : List ℕ → Option (List ℕ × List ℕ) → Type 0
-IsCut bytes None = has_line_feed bytes ≡ false
-IsCut bytes (Some cut) = (has_line_feed cut.0 ≡ false) × (bytes ≡ cut.0 ++ 10 ∷ cut.1)
+-- line n, which is refused as a whole
+abbrev pub refused_line : ℕ → LineRefusal → Option ScriptLine
+refused_line n refusal = Some (record { number = n; event = Err refusal })
 
--- the bytes through the last line feed, which are the lines that have ended
-unfoldable pub ended_part : List ℕ → List ℕ
-ended_part [] = []
-ended_part (b ∷ bs) = if has_line_feed (b ∷ bs) then b ∷ ended_part bs else []
+-- line n as in a script, or refused where it is bad
+abbrev pub or_refused : ℕ → Option (Option ScriptLine) → Option ScriptLine
+or_refused n None = refused_line n Bad
+or_refused n (Some line) = line
 
--- no limit has been passed: the last line alone may be bad, and it may go on
-abbrev pub IsOpen : Option ScriptFault → Type 0
-IsOpen None = Unit {0}
-IsOpen (Some (BadLine n)) = Unit {0}
-IsOpen (Some (LineTooLong n)) = ⊥
-IsOpen (Some TooManyLines) = ⊥
-IsOpen (Some ReadFailed) = ⊥
-IsOpen (Some WriteFailed) = ⊥
-IsOpen (Some NoMemory) = ⊥
+-- the lines of a session, of which none is a fault
+abbrev pub session_grammar : Grammar ScriptLine
+session_grammar = record {
+  line_value = λ n bytes. Some (or_refused n (script_grammar.line_value n bytes));
+  overlong_value = λ n. Some (refused_line n TooLong);
+}
+
+-- The lines of a session. There is no limit to their number.
+unfoldable pub session_lines : List ℕ → List ScriptLine
+session_lines bytes = values_from session_grammar LINE_LIMIT 1 (lines_of bytes)

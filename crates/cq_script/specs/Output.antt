@@ -1,4 +1,4 @@
--- What the items of a script write, run on a world of servers.
+-- What the lines of a script write, run on a world of servers.
 use Rattle.std.specs.Prelude.{ℕ, List, [], ◌∷◌, ◌++◌, Option, None, Some, Result, Ok, Err}
 use Rattle.cq_chain.specs.declared.fault.WorldFault.{WorldFault}
 use Rattle.cq_chain.specs.declared.message.Answer.{Answer}
@@ -9,7 +9,7 @@ use Rattle.cq_events.specs.declared.event.Event.{Event}
 use Rattle.cq_script.specs.Faults.{line_code_of, line_name_of}
 use Rattle.cq_answers.specs.Answers.{answer_text, refused_text}
 use Rattle.cq_script.specs.declared.fault.LineRefusal.{LineRefusal}
-use Rattle.cq_script.specs.declared.lines.Item.{Item}
+use Rattle.cq_script.specs.declared.script_line.ScriptLine.{ScriptLine}
 
 -- the line that gives an answer, if there is one
 abbrev pub given_text : ℕ → Option Answer → List ℕ
@@ -22,27 +22,27 @@ event_text n w event None = given_text n (given_by w event)
 event_text n w event (Some fault) = refused_text n (worlds.code_of fault) (worlds.name_of fault)
 
 -- what is written by the line with that number, which says an event, or has a text that breaks its rule
-abbrev pub said_text : ℕ → World → Result Event LineRefusal → List ℕ
-said_text n w (Ok event) = event_text n w event (refusal_of w event)
-said_text n w (Err refusal) = refused_text n (line_code_of refusal) (line_name_of refusal)
+abbrev pub line_text : ℕ → World → Result Event LineRefusal → List ℕ
+line_text n w (Ok event) = event_text n w event (refusal_of w event)
+line_text n w (Err refusal) = refused_text n (line_code_of refusal) (line_name_of refusal)
 
 -- the world after such a line: a text that breaks its rule does nothing
-abbrev pub after_said : World → Result Event LineRefusal → World
-after_said w (Ok event) = after w event
-after_said w (Err refusal) = w
+abbrev pub after_line : World → Result Event LineRefusal → World
+after_line w (Ok event) = after w event
+after_line w (Err refusal) = w
 
--- What an item writes: one line with its line feed, or nothing.
-unfoldable pub output : World → Item → List ℕ
-output w item = said_text item.number w item.said
+-- What a line writes: one line of output with its line feed, or nothing.
+unfoldable pub output : World → ScriptLine → List ℕ
+output w line = line_text line.number w line.event
 
--- what items write from a world on
-unfoldable pub text_from : World → List Item → List ℕ
+-- what lines write from a world on
+unfoldable pub text_from : World → List ScriptLine → List ℕ
 text_from w [] = []
-text_from w (item ∷ items) = output w item ++ text_from (after_said w item.said) items
+text_from w (line ∷ lines) = output w line ++ text_from (after_line w line.event) lines
 
--- What the items of a script write, on a first world of so many servers.
-unfoldable pub text_of : ℕ → List Item → List ℕ
-text_of size items = text_from (first_world size) items
+-- What the lines of a script write, on a first world of so many servers.
+unfoldable pub text_of : ℕ → List ScriptLine → List ℕ
+text_of size lines = text_from (first_world size) lines
 
 -- ---- events apart from their lines
 
@@ -51,7 +51,7 @@ abbrev pub events_in : Result Event LineRefusal → List Event
 events_in (Ok event) = event ∷ []
 events_in (Err refusal) = []
 
--- the events that items say, in order
-unfoldable pub events_of : List Item → List Event
+-- the events that lines say, in order
+unfoldable pub events_of : List ScriptLine → List Event
 events_of [] = []
-events_of (item ∷ items) = events_in item.said ++ events_of items
+events_of (line ∷ lines) = events_in line.event ++ events_of lines

@@ -1,9 +1,9 @@
--- What a run of items has written.
+-- What a run of lines has written.
 use Rattle.std.specs.Prelude.{◌≡◌, ℕ, List, Option, Result, Ok, Err, Bool, true, false}
 use Rattle.std.specs.Io.KnownBytes.{Appends}
 use Rattle.cq_base.specs.Relations.{Front}
-use Rattle.cq_script.specs.declared.fault.ScriptFault.{ScriptFault}
-use Rattle.cq_script.specs.declared.fault.ScriptFault.TheVariants.{BadLine, LineTooLong, TooManyLines, ReadFailed, WriteFailed, NoMemory}
+use Rattle.cq_lines.specs.declared.fault.ScriptFault.{ScriptFault}
+use Rattle.cq_lines.specs.declared.fault.ScriptFault.TheVariants.{BadLine, LineTooLong, TooManyLines, ReadFailed, WriteFailed, NoMemory}
 
 -- all of the text was written, or a front of it where the writing failed or memory ran out
 abbrev pub WritesFront : Result (Unit {0}) ScriptFault → List ℕ → List ℕ → Type 0
@@ -18,16 +18,6 @@ WritesFront (Err NoMemory) text output = Front output text
 -- a writer took all of the text, or a front of it
 abbrev pub Takes : Result (Unit {0}) ScriptFault → List ℕ → Option (List ℕ) → Option (List ℕ) → Type 0
 Takes result text old new = (output : List ℕ) × Appends old new output × WritesFront result text output
-
--- whether memory ran out
-abbrev pub ends_by_memory : Result (Unit {0}) ScriptFault → Bool
-ends_by_memory (Ok _) = false
-ends_by_memory (Err (BadLine n)) = false
-ends_by_memory (Err (LineTooLong n)) = false
-ends_by_memory (Err TooManyLines) = false
-ends_by_memory (Err ReadFailed) = false
-ends_by_memory (Err WriteFailed) = false
-ends_by_memory (Err NoMemory) = true
 
 -- whether the writing was cut short
 abbrev pub is_cut_short : Result (Unit {0}) ScriptFault → Bool

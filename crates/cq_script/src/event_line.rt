@@ -1,7 +1,8 @@
 //! A line of a script, and the event that it says.
 ghost use Rattle.std.specs.Prelude.{◌≡◌, IfSome, Ok, Err, true};
 ghost use Rattle.std.specs.List.{list_all};
-ghost use Rattle.cq_script.specs.Line.{is_blank_byte, event_from, line_of, Reads};
+ghost use Rattle.cq_lines.specs.Lines.{is_blank_byte};
+ghost use Rattle.cq_script.specs.Line.{event_from, line_of, Reads};
 ghost use Rattle.cq_json.specs.Readers.{Gives, same};
 ghost use Rattle.cq_script.specs.declared.event_line.Line.TheVariants as lines;
 
@@ -9,10 +10,10 @@ use crate::event::read_event;
 use crate::flat_event::read_flat_event;
 use cq_base::BaseFault;
 use cq_json::{FlatObject, LineScratch, Stop, parse};
+use cq_lines::{LineFault, is_blank};
 use cq_world::Event;
 use simdutf8::basic::from_utf8;
 use std::alloc::Global;
-use thiserror::Error;
 
 /// The most bytes of a line after which the scratch is kept.
 const KEPT_LEN: usize = 65_536;
@@ -26,26 +27,6 @@ pub enum Line {
     Event(Event),
     /// It would say an event, but a text in it breaks that text's rule.
     Refused(BaseFault),
-}
-
-/// Why a line could not be read.
-#[derive(Clone, Copy, Debug, PartialEq, Eq, Error)]
-pub enum LineFault {
-    /// The line is none of the script's.
-    #[error("bad line")]
-    Bad,
-    /// There was no memory to read it.
-    #[error("no memory")]
-    NoMemory,
-}
-
-/// Whether the line has nothing but spaces, tabs and carriage returns: O(bytes).
-pub fn is_blank(bytes: &[u8]) -> bool
-    ensures { result ≡ list_all is_blank_byte bytes.now }
-{
-    bytes
-        .iter()
-        .all(|byte| *byte == b' ' || *byte == b'\t' || *byte == b'\r')
 }
 
 /// What the bytes say, if their object is a flat one: read without a map, and with no memory but that of the scratch and of

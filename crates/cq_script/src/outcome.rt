@@ -1,19 +1,18 @@
 //! What comes of the lines of a script.
 ghost use Rattle.std.specs.Prelude.{◌≡◌, ◌++◌, Err, OnOk, OnErr, true};
 ghost use Rattle.cq_script.specs.Runs.{Takes};
-ghost use Rattle.cq_script.specs.declared.fault.ScriptFault.TheVariants.{ReadFailed, WriteFailed};
-ghost use Rattle.cq_script.specs.within.Played.{after_items};
-ghost use Rattle.cq_script.specs.Output.{after_said, event_text, output, text_from};
+ghost use Rattle.cq_lines.specs.declared.fault.ScriptFault.TheVariants.{ReadFailed, WriteFailed};
+ghost use Rattle.cq_script.specs.within.Played.{after_lines};
+ghost use Rattle.cq_script.specs.Output.{after_line, event_text, output, text_from};
 ghost use Rattle.cq_events.specs.Events.{after, refusal_of};
 ghost use Rattle.cq_world.specs.Stands.{Shows, StandsFor};
 
-use crate::fault::ScriptFault;
-use crate::lines::Item;
-use crate::sink::Sink;
+use crate::script_line::ScriptLine;
 use crate::writing::{finish_writing, write_text};
 use cq_answers::{write_answer, write_refused};
 use cq_base::NoMemory;
 use cq_chain::WorldFault;
+use cq_lines::{ScriptFault, Sink};
 use cq_world::{Event, Sim};
 use std::alloc::Global;
 
@@ -37,36 +36,36 @@ fn run_event(number: u64, sim: &mut Sim, event: &Event, text: &mut Vec<u8>) -> R
     }
 }
 
-/// Has the item happen, and adds what comes of it to the text: O(what the servers do for its event, and the bytes of
+/// Runs the line, and adds what comes of it to the text: O(what the servers do for its event, and the bytes of
 /// what is added). After `NoMemory` the text is as before.
-fn run_item(sim: &mut Sim, item: &Item, text: &mut Vec<u8>) -> Result<(), NoMemory>
-    ensures ok { Shows sim.old (λ w. OnOk result ((text.new.items ≡ text.old.items ++ output w item.now)
-        × StandsFor sim.new (after_said w item.now.said))) }
+fn run_line(sim: &mut Sim, line: &ScriptLine, text: &mut Vec<u8>) -> Result<(), NoMemory>
+    ensures ok { Shows sim.old (λ w. OnOk result ((text.new.items ≡ text.old.items ++ output w line.now)
+        × StandsFor sim.new (after_line w line.now.event))) }
     ensures err { OnErr result (text.new.items ≡ text.old.items) }
 {
-    match &item.said {
-        Ok(event) => run_event(item.number, sim, event, text),
-        Err(refusal) => write_refused(text, item.number, refusal.code(), refusal.name()),
+    match &line.event {
+        Ok(event) => run_event(line.number, sim, event, text),
+        Err(refusal) => write_refused(text, line.number, refusal.code(), refusal.name()),
     }
 }
 
-/// Has the items happen one after another, writes what comes of each, and passes it on. The text of many is written at
-/// once, so that beside the servers no more is held than the text of one, and `TEXT_SIZE` bytes.
-pub(crate) fn run_items<W: Sink>(
+/// Runs the lines one after another, writes what comes of each, and flushes it. The text of many is written at once, so
+/// that beside the servers no more is held than the text of one, and `TEXT_SIZE` bytes.
+pub(crate) fn run_batch<W: Sink>(
     alloc: Global,
     sim: &mut Sim,
-    items: &[Item],
+    lines: &[ScriptLine],
     writer: &mut W,
 ) -> Result<(), ScriptFault>
-    ensures takes { Shows sim.old (λ w. Takes result (text_from w items.now) (W.contents writer.old) (W.contents writer.new)) }
-    ensures runs { Shows sim.old (λ w. OnOk result (StandsFor sim.new (after_items w items.now))) }
+    ensures takes { Shows sim.old (λ w. Takes result (text_from w lines.now) (W.contents writer.old) (W.contents writer.new)) }
+    ensures runs { Shows sim.old (λ w. OnOk result (StandsFor sim.new (after_lines w lines.now))) }
     ensures not_read { ¬ (result ≡ Err ReadFailed) }
     ensures flushed { OnOk result (W.has_flushed writer.new ≡ true) }
     ensures failed { result ≡ Err WriteFailed → W.has_failed writer.new ≡ true }
 {
     let mut text = Vec::new(alloc);
-    for item in items {
-        if run_item(sim, item, &mut text).is_err() {
+    for line in lines {
+        if run_line(sim, line, &mut text).is_err() {
             write_text(writer, text.as_slice())?;
             return Err(ScriptFault::NoMemory);
         }

@@ -1,19 +1,18 @@
 //! Writing text, all of it or a front of it.
 ghost use Rattle.std.specs.Prelude.{◌≡◌, true, if◌then◌else◌, Err, OnOk};
 ghost use Rattle.std.specs.Io.KnownBytes.{Keeps};
-ghost use Rattle.cq_script.specs.declared.fault.ScriptFault.TheVariants.{WriteFailed, NoMemory};
+ghost use Rattle.cq_lines.specs.declared.fault.ScriptFault.TheVariants.{WriteFailed, NoMemory};
 ghost use Rattle.cq_script.specs.Runs.{Takes, EndsWriting};
 
-use crate::fault::ScriptFault;
-use crate::sink::Sink;
+use cq_lines::{ScriptFault, Sink};
 
-/// Has the writer pass on what it may hold, and asks whether all of its calls went well.
+/// Flushes all that was written, and asks whether all of its calls went well.
 pub(crate) fn finish_writing<W: Sink>(writer: &mut W) -> Result<(), ScriptFault>
     ensures kept { Keeps (W.contents writer.old) (W.contents writer.new) }
     ensures answer { EndsWriting result (W.has_failed writer.new) }
     ensures flushed { OnOk result (W.has_flushed writer.new ≡ true) }
 {
-    if writer.pass_on().is_err() {
+    if writer.flush_written().is_err() {
         return Err(write_fault(writer));
     }
     if writer.failed() {

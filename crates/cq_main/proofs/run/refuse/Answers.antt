@@ -6,4 +6,4 @@ pub returns-in_default : goal.returns-in_default
 returns-in_default g c = inr c.report.ensures
 
 pub returns : goal.returns
-returns g c = inl (refl, (c.as_str.result.now, c.tell.ensures.bytes))
+returns g c = inl (refl, (c.as_str.result.now, c.print.ensures.bytes))

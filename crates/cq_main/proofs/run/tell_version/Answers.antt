@@ -1,7 +1,7 @@
 -- What is told and then flushed is the line of the version, where the writer has not failed.
 use Rattle.std.proofs.Common.{◌≡◌, ◌∙◌, true, false, inl, inr, refl, sym}
 use Rattle.std.proofs.KnownBytes.{Appends-kept}
-use Rattle.cq_script.specs.Checks.{inner_of, is_failed}
+use Rattle.cq_lines.specs.Checks.{inner_of, is_failed}
 use Rattle.cq_main.proofs.Told.{failed_by_error, not_failed_before}
 use Rattle.cq_main.proofs.run.tell_version.Goals as goal
 use Rattle.cq_main.proofs.run.tell_version.Goals.{then-is_err-via-then-is_err, then-is_err-via-else-is_err+then-failed}
@@ -9,7 +9,7 @@ use Rattle.cq_main.proofs.run.tell_version.Goals.{then-is_err-via-then-is_err, t
 pub returns-then-is_err : goal.returns-then-is_err
 returns-then-is_err g c =
     let failed : is_failed c.flush.new.self ≡ true = elim c.then-is_err.branch [
-      | then-is_err-via-then-is_err w ↦ failed_by_error (is_failed c.tell.new.self) _ _ _ c.flush.ensures.failed c.is_err.ensures.value w.if-is_err.true
+      | then-is_err-via-then-is_err w ↦ failed_by_error (is_failed c.print.new.self) _ _ _ c.flush.ensures.failed c.is_err.ensures.value w.if-is_err.true
       | then-is_err-via-else-is_err+then-failed w ↦ sym w.failed.ensures ∙ w.if-failed.true
     ] in
     inr (failed, c.report.ensures)
@@ -17,5 +17,5 @@ returns-then-is_err g c =
 pub returns : goal.returns
 returns g c =
     let kept : is_failed c.flush.new.self ≡ false = sym c.failed.ensures ∙ c.if-failed.false in
-    let told : is_failed c.tell.new.self ≡ false = not_failed_before (is_failed c.tell.new.self) _ _ c.flush.ensures.failed kept in
-    inl (kept, refl, refl, Appends-kept (g.W.Write.contents (inner_of c.args.output.now)) (g.W.Write.contents (inner_of c.tell.new.self)) (g.W.Write.contents (inner_of c.flush.new.self)) _ (c.tell.ensures.bytes told) c.flush.ensures.bytes)
+    let told : is_failed c.print.new.self ≡ false = not_failed_before (is_failed c.print.new.self) _ _ c.flush.ensures.failed kept in
+    inl (kept, refl, refl, Appends-kept (g.W.Write.contents (inner_of c.args.output.now)) (g.W.Write.contents (inner_of c.print.new.self)) (g.W.Write.contents (inner_of c.flush.new.self)) _ (c.print.ensures.bytes told) c.flush.ensures.bytes)

@@ -1,7 +1,0 @@
--- An interrupted call left what is known of the bytes as it was, and is no failure.
-use Rattle.std.proofs.Common.{◌≡◌}
-use Rattle.std.specs.Io.KnownBytes.{Keeps}
-use Rattle.cq_script.proofs.checked.CheckedWrite.flush.Given as goal
-
-abbrev pub invariant-loop : goal.invariant-loop
-invariant-loop g l = Keeps (g.W.Write.contents l.initial.self.inner) (g.W.Write.contents l.self.inner) × (l.self.failed ≡ l.initial.self.failed) × (l.self.flushed ≡ l.initial.self.flushed)
