@@ -1,0 +1,45 @@
+//! Which messages are older than the queue keeps them.
+
+use super::State;
+use crate::clock::Moment;
+use crate::retention::Jumps;
+
+impl State {
+    pub(super) fn horizon(&self, jumps: &Jumps, now: Moment) -> Option<Moment> {
+        jumps.horizon(now, self.attributes.retention())
+    }
+
+    /// Whether the message is there and older than the queue keeps messages.
+    pub fn is_old(&self, sequence: u64, jumps: &Jumps, now: Moment) -> bool {
+        let Some(horizon) = self.horizon(jumps, now) else { return false };
+        self.messages.get(&sequence).is_some_and(|message| message.sent <= horizon)
+    }
+
+    /// Whether any message is older than the queue keeps messages.
+    pub fn has_old(&mut self, jumps: &Jumps, now: Moment) -> bool {
+        let Some(horizon) = self.horizon(jumps, now) else { return false };
+        self.oldest = self.oldest.max(self.base);
+        while self.oldest < self.last_sequence && !self.messages.contains_key(&self.oldest) {
+            self.oldest += 1;
+        }
+        self.messages.get(&self.oldest).is_some_and(|oldest| oldest.sent <= horizon)
+    }
+
+    /// Whether a message that is too old isn't in flight, and something happened since a sweep found none.
+    pub fn is_worth_sweeping(&mut self, jumps: &Jumps, now: Moment) -> bool {
+        let openings = self.openings;
+        let is_vain = |(seen, end): (u64, Option<Moment>)| seen == openings && end.map_or(true, |end| now < end);
+        if self.removed || self.vain_sweep.is_some_and(is_vain) || !self.has_old(jumps, now) {
+            return false;
+        }
+        let horizon = self.horizon(jumps, now);
+        let from_oldest = (self.oldest..=self.last_sequence).filter_map(|sequence| self.messages.get(&sequence));
+        let mut old = from_oldest.take_while(|message| horizon.is_some_and(|horizon| message.sent <= horizon));
+        old.any(|message| message.until <= now)
+    }
+
+    /// A sweep found nothing to delete: what is too old waits behind what is in flight.
+    pub fn note_vain_sweep(&mut self, now: Moment) {
+        self.vain_sweep = Some((self.openings, self.next_end(now)));
+    }
+}

@@ -1,0 +1,431 @@
+//! What is kept of one queue. It follows the answers of the store.
+
+mod age;
+mod attempts;
+mod delay;
+mod message;
+mod receipts;
+#[cfg(test)]
+mod tests;
+
+use std::cmp::Reverse;
+use std::collections::{BTreeMap, BinaryHeap, HashMap, VecDeque};
+
+use uuid::Uuid;
+
+use super::ask::{Ask, Before, Change, Creation, Fate, Handed, Outcome, StoreName};
+use super::groups::{Group, Groups};
+use crate::attributes::QueueAttributes;
+use crate::clock::Moment;
+use crate::errors::SqsError;
+use crate::handles::Receipt;
+use crate::limits::{ID_BYTES, MESSAGE_BYTES};
+use crate::lines::{read_receipt, Given, Reply};
+use crate::messages::{id_of_form, Form};
+use crate::move_tasks::{self, MoveTask, Status};
+use crate::redrive::RedrivePolicy;
+use crate::retention::Jumps;
+use crate::texts::{AttemptId, GroupId};
+use attempts::{Attempt, Attempts};
+use message::{Handing, Message};
+
+/// So long a deduplication id counts, in milliseconds. A repeated attempt id is given the same messages as long.
+pub const WINDOW: u64 = 300_000;
+
+/// What all messages of a receive have in common.
+struct Receiving {
+    own: bool,
+    most: Option<u32>,
+    moment: Moment,
+    until: Moment,
+    /// What was sent by then is too old.
+    horizon: Option<Moment>,
+    /// What was sent by then is due; none of it is where there is no such moment.
+    due: Option<Moment>,
+}
+
+/// What is known of one incarnation of a queue.
+#[derive(Debug)]
+pub struct State {
+    pub store: StoreName,
+    /// The store counts from the message behind this one.
+    pub base: u64,
+    pub attributes: QueueAttributes,
+    pub tags: BTreeMap<String, String>,
+    pub created: Moment,
+    pub modified: Moment,
+    pub purged: Option<Moment>,
+    tasks: Vec<MoveTask>,
+    pub removed: bool,
+    pub last_sequence: u64,
+    pub last_send: Moment,
+    /// How often something happened that can open a group.
+    pub openings: u64,
+    messages: HashMap<u64, Message>,
+    /// The ids of the messages that were sent within the window, in order; the last is `last_sequence`'s.
+    recent: VecDeque<(Moment, Uuid)>,
+    /// How many of them were found to count no more. They stay for requests that are still on their way.
+    old: usize,
+    /// How many of those that count are of messages that were deleted.
+    left_ids: u64,
+    /// What the forms of the messages take.
+    form_bytes: u64,
+    attempts: Attempts,
+    ends: BinaryHeap<Reverse<(Moment, u64)>>,
+    /// No message before this one is there.
+    oldest: u64,
+    /// What the attributes say of dead letters.
+    redrive: Option<RedrivePolicy>,
+    /// So long messages are delayed, in milliseconds.
+    delay: u64,
+    /// Of a queue that delays its messages.
+    groups: Option<Groups>,
+    /// All messages up to this one are due.
+    due: u64,
+    /// How many openings there were at a sweep that found nothing to delete, and when the next timeout ended.
+    vain_sweep: Option<(u64, Option<Moment>)>,
+}
+
+/// What the answer to an ask did.
+pub struct Settled {
+    pub outcome: Outcome,
+    /// Something changed, so the journal has to know.
+    pub changed: bool,
+    /// Something happened that can open a group.
+    pub opened: bool,
+}
+
+impl Settled {
+    fn unchanged(outcome: Outcome) -> Settled {
+        Settled { outcome, changed: false, opened: false }
+    }
+
+    fn done(opened: bool) -> Settled {
+        Settled { outcome: Outcome::Done, changed: true, opened }
+    }
+}
+
+/// The store's refusal of a change of a message that isn't in flight, or that is deleted.
+const NOT_IN_FLIGHT: u32 = 5;
+
+/// The store answered an ask with what never answers it.
+fn misfit() -> SqsError {
+    SqsError::InternalFailure("The store's answer doesn't fit the request.".into())
+}
+
+impl State {
+    pub fn new(store: StoreName, creation: &Creation, now: Moment) -> State {
+        let fresh = Before { base: 0, created: now, modified: now, purged: None, tasks: Vec::new() };
+        let before = creation.before.clone().unwrap_or(fresh);
+        let delay = creation.attributes.delay();
+        State {
+            store,
+            base: before.base,
+            attributes: creation.attributes.clone(),
+            tags: creation.tags.clone(),
+            created: before.created,
+            modified: before.modified,
+            purged: before.purged,
+            tasks: before.tasks,
+            removed: false,
+            last_sequence: before.base,
+            last_send: 0,
+            openings: 0,
+            messages: HashMap::new(),
+            recent: VecDeque::new(),
+            old: 0,
+            left_ids: 0,
+            form_bytes: 0,
+            attempts: Attempts::default(),
+            ends: BinaryHeap::new(),
+            oldest: 0,
+            redrive: creation.attributes.redrive(),
+            delay,
+            groups: (delay > 0).then(Groups::default),
+            due: 0,
+            vain_sweep: None,
+        }
+    }
+
+    /// Takes up the store's answer to an ask of `moment`.
+    pub fn settle(&mut self, ask: &Ask, reply: Reply, moment: Moment, jumps: &Jumps) -> Result<Settled, SqsError> {
+        match (ask, reply) {
+            (Ask::Change { receipt, .. }, Reply::Refused(NOT_IN_FLIGHT)) if !self.has_message(*receipt) => {
+                Err(SqsError::of_no_message())
+            }
+            (_, Reply::Refused(code)) => Err(SqsError::of_refusal(code)),
+            (Ask::Create { store, .. }, Reply::Created) => {
+                if *store != self.store {
+                    self.go_over(*store);
+                }
+                Ok(Settled::done(false))
+            }
+            (Ask::Remove { .. }, Reply::Removed) => Ok(Settled::done(true)),
+            (Ask::Send { group, form, .. }, Reply::Sent(place)) => self.sent(group, form, place, moment),
+            (Ask::Receive { visibility, attempt, most, own, .. }, Reply::Received(given)) => {
+                let until = moment + 1000 * u64::from(*visibility);
+                let (horizon, due) = (self.horizon(jumps, moment), moment.checked_sub(self.delay));
+                let receiving = Receiving { own: *own, most: *most, moment, until, horizon, due };
+                self.received(given, attempt.as_ref(), &receiving)
+            }
+            (Ask::Delete { receipt, .. }, Reply::Deleted(removed)) => Ok(self.deleted(*receipt, removed)),
+            (Ask::Change { receipt, visibility, by_attempt }, Reply::Changed) => {
+                Ok(self.changed(*receipt, *visibility, *by_attempt, moment))
+            }
+            _ => Err(misfit()),
+        }
+    }
+
+    fn open(&mut self) {
+        self.openings += 1;
+    }
+
+    fn sent(&mut self, group: &GroupId, form: &Form, place: u64, moment: Moment) -> Result<Settled, SqsError> {
+        let sequence = self.base + place;
+        if sequence <= self.last_sequence {
+            let id = self.recent_id(sequence).ok_or_else(misfit)?;
+            return Ok(Settled::unchanged(Outcome::Sent { sequence, id }));
+        }
+        if sequence != self.last_sequence + 1 {
+            return Err(misfit());
+        }
+        let id = id_of_form(form.stored()).ok_or_else(misfit)?;
+        self.remember(moment, id);
+        self.last_sequence = sequence;
+        self.last_send = moment;
+        let bytes = form.bytes();
+        let form = match form {
+            Form::Whole(_) => None,
+            Form::Split { whole, .. } => Some(whole.as_str().into()),
+        };
+        self.form_bytes += bytes;
+        let group = Group::of(group.as_str());
+        if let Some(groups) = &mut self.groups {
+            groups.add(group, sequence, 0);
+        }
+        let message =
+            Message { sent: moment, group, last: None, own: 0, own_since: 0, is_own: false, until: 0, form, bytes };
+        self.messages.insert(sequence, message);
+        self.open();
+        Ok(Settled { outcome: Outcome::Sent { sequence, id }, changed: true, opened: true })
+    }
+
+    fn remember(&mut self, moment: Moment, id: Uuid) {
+        self.count_old(moment);
+        self.recent.drain(..self.old);
+        self.old = 0;
+        self.recent.push_back((moment, id));
+    }
+
+    /// Counts the ids that are too old at this moment. `last_sequence` is that of the last id.
+    fn count_old(&mut self, now: Moment) {
+        while self.recent.get(self.old).is_some_and(|(sent, _)| sent + WINDOW <= now) {
+            let sequence = self.last_sequence + 1 + self.old as u64 - self.recent.len() as u64;
+            if !self.messages.contains_key(&sequence) {
+                self.left_ids = self.left_ids.saturating_sub(1);
+            }
+            self.old += 1;
+        }
+    }
+
+    fn place_of(&self, sequence: u64) -> Option<usize> {
+        let from_end = usize::try_from(self.last_sequence.checked_sub(sequence)?).ok()?;
+        self.recent.len().checked_sub(1 + from_end)
+    }
+
+    fn recent_id(&self, sequence: u64) -> Option<Uuid> {
+        self.recent.get(self.place_of(sequence)?).map(|(_, id)| *id)
+    }
+
+    fn received(
+        &mut self,
+        given: Vec<Given>,
+        attempt: Option<&AttemptId>,
+        receiving: &Receiving,
+    ) -> Result<Settled, SqsError> {
+        let (moment, until) = (receiving.moment, receiving.until);
+        let (changed, opened) = (!given.is_empty(), !given.is_empty() && until <= moment);
+        let (mut handed, mut set_aside) = (Vec::with_capacity(given.len()), Vec::new());
+        for one in given {
+            match self.hand(one, receiving)? {
+                (one, None) => handed.push(one),
+                (one, Some(fate)) => set_aside.push((one, fate)),
+            }
+        }
+        if let (Some(attempt), false) = (attempt, handed.is_empty()) {
+            self.attempts.keep(attempt, Attempt { moment, handed: handed.clone() });
+        }
+        if opened {
+            self.open();
+        }
+        let outcome = Outcome::Received { handed, set_aside, openings: self.openings };
+        Ok(Settled { outcome, changed, opened })
+    }
+
+    fn hand(&mut self, given: Given, receiving: &Receiving) -> Result<(Handed, Option<Fate>), SqsError> {
+        let moment = receiving.moment;
+        let receipt = read_receipt(&given.receipt, self.base).ok_or_else(misfit)?;
+        let message = self.messages.get_mut(&receipt.sequence).ok_or_else(misfit)?;
+        let first = message.last.map_or(moment, |last| last.first);
+        let count = receipt.ordinal.saturating_sub(u64::from(message.own));
+        let is_old = receiving.horizon.is_some_and(|horizon| message.sent <= horizon);
+        let is_dead = receiving.most.is_some_and(|most| count > u64::from(most));
+        let is_due = receiving.due.is_some_and(|due| message.sent <= due);
+        let fates = [(Fate::Old, is_old), (Fate::Early, !is_due), (Fate::Dead, is_dead)];
+        let fate = fates.into_iter().find(|(_, applies)| *applies && !receiving.own).map(|(fate, _)| fate);
+        message.until = receiving.until;
+        if let Some(groups) = &mut self.groups {
+            groups.hide(message.group, receiving.until);
+        }
+        let is_own = receiving.own || fate.is_some();
+        message.own += u32::from(is_own);
+        message.is_own = is_own;
+        if is_own && fate != Some(Fate::Dead) {
+            message.own_since += 1;
+        } else {
+            // What is to be moved isn't with anybody any more who had it before.
+            message.last = Some(Handing { ordinal: receipt.ordinal, moment, first, touched: is_own });
+            message.own_since = 0;
+        }
+        let form = message.form.clone().unwrap_or_else(|| given.body.into());
+        self.note_end(receiving.until, receipt.sequence);
+        Ok((Handed { receipt, count, moment, first, group: given.group, form }, fate))
+    }
+
+    fn deleted(&mut self, receipt: Receipt, removed: bool) -> Settled {
+        if !removed {
+            return Settled::unchanged(Outcome::Done);
+        }
+        if let Some(message) = self.messages.remove(&receipt.sequence) {
+            if let Some(groups) = &mut self.groups {
+                groups.remove(message.group, receipt.sequence);
+            }
+            self.form_bytes -= message.bytes;
+            if self.place_of(receipt.sequence).is_some_and(|place| place >= self.old) {
+                self.left_ids += 1;
+            }
+        }
+        self.open();
+        Settled::done(true)
+    }
+
+    fn changed(&mut self, receipt: Receipt, visibility: u32, by_attempt: bool, moment: Moment) -> Settled {
+        let until = moment + 1000 * u64::from(visibility);
+        if let Some(message) = self.messages.get_mut(&receipt.sequence) {
+            message.until = until;
+            if let Some(groups) = &mut self.groups {
+                groups.hide(message.group, until);
+            }
+            if let Some(last) = &mut message.last {
+                last.touched |= !by_attempt;
+            }
+        }
+        self.note_end(until, receipt.sequence);
+        self.open();
+        Settled::done(true)
+    }
+
+    /// Takes up a change of which the store knows nothing.
+    pub fn apply(&mut self, change: &Change, moment: Moment) {
+        match change {
+            Change::Attributes(given) => {
+                self.attributes.set(given);
+                self.redrive = self.attributes.redrive();
+                self.set_delay(self.attributes.delay());
+                self.modified = moment;
+            }
+            Change::Tag(tags) => self.tags.extend(tags.clone()),
+            Change::Untag(keys) => self.tags.retain(|key, _| !keys.contains(key)),
+            Change::Purged => self.purged = Some(moment),
+            Change::Task(task) => move_tasks::note(&mut self.tasks, task),
+        }
+    }
+
+    fn note_end(&mut self, until: Moment, sequence: u64) {
+        self.ends.push(Reverse((until, sequence)));
+        if self.ends.len() > 1024 + 2 * self.messages.len() {
+            let messages = &self.messages;
+            let current = self.ends.drain().filter(|Reverse((until, sequence))| is_end(messages, *until, *sequence));
+            self.ends = current.collect();
+        }
+    }
+
+    /// The first end of a timeout that is still to come.
+    pub fn next_end(&mut self, now: Moment) -> Option<Moment> {
+        while let Some(Reverse((until, sequence))) = self.ends.peek() {
+            if *until > now && is_end(&self.messages, *until, *sequence) {
+                return Some(*until);
+            }
+            self.ends.pop();
+        }
+        None
+    }
+
+    /// Finds what counts no more at this moment: ids, and what attempts were given.
+    pub fn look_at_ages(&mut self, now: Moment) {
+        self.count_old(now);
+        self.attempts.forget_old(now);
+    }
+
+    /// What the queue takes of memory, in bytes: forms, and estimates for messages and ids that outlive theirs.
+    pub fn bytes_in_use(&self) -> u64 {
+        if self.removed {
+            return 0;
+        }
+        let messages = MESSAGE_BYTES * self.messages.len() as u64;
+        self.form_bytes + self.attempts.bytes() + messages + ID_BYTES * self.left_ids
+    }
+
+    /// What the attempt was given, if that is still all in the hands of who asked
+    /// (API Reference, ReceiveMessage, `ReceiveRequestAttemptId`).
+    pub fn attempt(&self, id: &AttemptId, now: Moment) -> Option<Vec<Handed>> {
+        let found = self.attempts.find(id, now)?;
+        let is_held = |handed: &Handed| {
+            let message = self.messages.get(&handed.receipt.sequence);
+            let is_with = message.is_some_and(|message| message.is_with(handed.receipt.ordinal));
+            is_with && message.and_then(|message| message.last).is_some_and(|last| !last.touched)
+        };
+        found.handed.iter().all(is_held).then(|| found.handed.clone())
+    }
+
+    /// The last tasks that move messages out of the queue, in order of their starts.
+    pub fn tasks(&self) -> &[MoveTask] {
+        &self.tasks
+    }
+
+    pub fn running_task(&self) -> Option<&MoveTask> {
+        self.tasks.iter().find(|task| task.status == Status::Running)
+    }
+
+    /// How many messages there are.
+    pub fn count(&self) -> u64 {
+        self.messages.len() as u64
+    }
+
+    /// What the queue's policy says of dead letters, if it has one.
+    pub fn redrive(&self) -> Option<&RedrivePolicy> {
+        self.redrive.as_ref()
+    }
+
+    /// Whether the queue is empty and remembers no deduplication id.
+    pub fn is_at_rest(&self, now: Moment) -> bool {
+        self.messages.is_empty() && self.last_send + WINDOW <= now
+    }
+
+    /// Goes over to another name of the store, which counts from 1 again.
+    fn go_over(&mut self, store: StoreName) {
+        self.store = store;
+        self.base = self.last_sequence;
+        self.recent = VecDeque::new();
+        self.old = 0;
+        self.left_ids = 0;
+        self.messages = HashMap::new();
+        self.groups = (self.delay > 0).then(Groups::default);
+        self.form_bytes = 0;
+        self.ends = BinaryHeap::new();
+    }
+}
+
+fn is_end(messages: &HashMap<u64, Message>, until: Moment, sequence: u64) -> bool {
+    messages.get(&sequence).is_some_and(|message| message.until == until)
+}

@@ -1,0 +1,114 @@
+//! The tables of a queue by themselves.
+
+use super::*;
+use crate::attributes::Given;
+use crate::handles::Handle;
+use crate::texts::{DedupId, QueueName};
+
+fn state() -> State {
+    let creation = Creation {
+        name: QueueName::parse("q.fifo").unwrap(),
+        mark: 1,
+        attributes: QueueAttributes::for_creation(&Given::read(&[]).unwrap()).unwrap(),
+        tags: BTreeMap::new(),
+        before: None,
+    };
+    State::new(StoreName(1), &creation, 0)
+}
+
+fn send(state: &mut State, place: u64, moment: Moment) {
+    let form = Form::Whole(format!("{{\"id\":\"{}\"}}\nbody", Uuid::from_u128(7)));
+    let (group, dedup) = (GroupId::parse("g").unwrap(), DedupId::parse("d").unwrap());
+    state
+        .settle(&Ask::Send { group, dedup, form, copies: None }, Reply::Sent(place), moment, &Jumps::default())
+        .unwrap();
+}
+
+fn delete(state: &mut State, sequence: u64, moment: Moment) {
+    let receipt = Receipt { sequence, ordinal: 1 };
+    let ask = Ask::Delete { receipt, by_client: true };
+    state.settle(&ask, Reply::Deleted(true), moment, &Jumps::default()).unwrap();
+}
+
+#[test]
+fn what_is_deleted_counts_by_its_id_until_that_is_too_old() {
+    let mut state = state();
+    send(&mut state, 1, 0);
+    let one = state.bytes_in_use();
+    assert!((MESSAGE_BYTES + 40..MESSAGE_BYTES + 100).contains(&one));
+    send(&mut state, 2, 1000);
+    send(&mut state, 3, 2000);
+    delete(&mut state, 2, 2000);
+    assert_eq!(state.bytes_in_use(), 2 * one + ID_BYTES);
+    // The first one's id grows old before it is deleted: nothing is left of it.
+    state.look_at_ages(WINDOW);
+    delete(&mut state, 1, WINDOW);
+    assert_eq!(state.bytes_in_use(), one + ID_BYTES);
+    state.look_at_ages(WINDOW + 999);
+    assert_eq!(state.bytes_in_use(), one + ID_BYTES);
+    // A send forgets what is old, also without a look.
+    send(&mut state, 4, WINDOW + 1000);
+    assert_eq!(state.bytes_in_use(), 2 * one);
+    delete(&mut state, 3, WINDOW + 1000);
+    delete(&mut state, 4, WINDOW + 1000);
+    assert_eq!(state.bytes_in_use(), 2 * ID_BYTES);
+    state.look_at_ages(3 * WINDOW);
+    assert_eq!(state.bytes_in_use(), 0);
+    state.removed = true;
+    assert_eq!(state.bytes_in_use(), 0);
+}
+
+fn receive(state: &mut State, ordinal: u64, own: bool, moment: Moment) -> (Vec<Handed>, Vec<(Handed, Fate)>) {
+    let ask = Ask::Receive { size: 1, visibility: 5, attempt: None, most: Some(2), own };
+    let (group, receipt) = ("g".into(), format!("1-1-{ordinal}"));
+    let given = crate::lines::Given { group, receipt, body: "b".into() };
+    let settled = state.settle(&ask, Reply::Received(vec![given]), moment, &Jumps::default()).unwrap();
+    match settled.outcome {
+        Outcome::Received { handed, set_aside, .. } => (handed, set_aside),
+        other => panic!("{other:?}"),
+    }
+}
+
+#[test]
+fn own_handings_are_not_counted_and_take_nothing_from_a_client() {
+    let mut state = state();
+    send(&mut state, 1, 0);
+    receive(&mut state, 1, true, 0);
+    let handle = |ordinal, moment| {
+        let receipt = Receipt { sequence: 1, ordinal };
+        Handle { mark: crate::handles::Mark(1), receipt, moment }
+    };
+    assert!(state.receipt_of(&handle(1, 0)).is_err(), "no client had it");
+    let given = &receive(&mut state, 2, false, 10_000).0[0];
+    assert_eq!((given.count, given.first), (1, 10_000));
+    receive(&mut state, 3, true, 20_000);
+    let receipt = state.receipt_of(&handle(2, 10_000)).unwrap();
+    assert_eq!(state.last_receipt(receipt).ordinal, 3);
+    assert!(state.receipt_of(&handle(3, 20_000)).is_err());
+    assert!(!state.are_in_flight(&[receipt], 20_000));
+    let again = &receive(&mut state, 4, false, 30_000).0[0];
+    assert_eq!((again.count, again.first), (2, 10_000));
+    // The handing before is none that anything can be done with.
+    assert_eq!(state.last_receipt(receipt), receipt);
+    assert!(state.are_in_flight(&[again.receipt], 34_999));
+    // Two handings are as many as there may be, and this one is none.
+    for moment in [40_000, 50_000] {
+        let ordinal = moment / 10_000 + 1;
+        let (handed, set_aside) = receive(&mut state, ordinal, false, moment);
+        assert_eq!((handed.len(), set_aside[0].1, set_aside[0].0.count), (0, Fate::Dead, 3));
+    }
+    assert_eq!(state.last_receipt_of(1), Some(Receipt { sequence: 1, ordinal: 6 }));
+    assert_eq!(state.last_receipt(again.receipt), again.receipt, "who had it can do nothing any more");
+}
+
+#[test]
+fn what_is_too_old_is_set_aside() {
+    let mut state = state();
+    send(&mut state, 1, 1000);
+    let four_days = 345_600_000;
+    assert_eq!(receive(&mut state, 1, false, 999 + four_days).1.len(), 0);
+    assert!(!state.has_old(&Jumps::default(), 999 + four_days));
+    assert!(state.has_old(&Jumps::default(), 1000 + four_days));
+    let (handed, set_aside) = receive(&mut state, 2, false, 1000 + four_days);
+    assert_eq!((handed.len(), set_aside[0].1), (0, Fate::Old));
+}
