@@ -1,0 +1,173 @@
+//! Answers: what the program said, what the journal keeps of it, and who is told.
+
+use tokio::sync::oneshot;
+
+use super::entries::{Asked, Entry, Noted, Open};
+use super::{Ended, Task};
+use crate::errors::SqsError;
+use crate::journal::Record;
+use crate::lines::{self, Output, Reply};
+use crate::queues::ask::{Ask, Change, Outcome};
+use crate::store::{Answer, Answers};
+
+impl Task {
+    pub(super) fn read_answers(&mut self) -> Result<(), Ended> {
+        let Some(end) = memchr::memrchr(b'\n', &self.incoming) else { return Ok(()) };
+        let whole = self.incoming.split_to(end + 1);
+        for line in whole[..end].split(|byte| *byte == b'\n') {
+            match lines::read_output(line)? {
+                Output::Nothing => {}
+                Output::Refused(code) => self.refused(code)?,
+                Output::Answer { client, number, reply, text } => self.answered(client, number, reply, text)?,
+            }
+            self.settle_ready()?;
+        }
+        Ok(())
+    }
+
+    fn refused(&mut self, code: u32) -> Result<(), Ended> {
+        let Some(Open { entry: Entry::Asked(asked), done }) = self.open.pop_front() else {
+            return Err(Ended::NotNext { client: 0, number: 0 });
+        };
+        self.close(&asked);
+        self.give_room_back(&asked);
+        let start: String = asked.raw.get().chars().take(200).collect();
+        tracing::error!("cq refused a line ({code}): {start}");
+        self.finish(Err(SqsError::of_refusal(code)), done);
+        Ok(())
+    }
+
+    fn answered(&mut self, client: u32, number: u64, reply: Reply, text: &str) -> Result<(), Ended> {
+        let Some(Open { entry, done }) = self.open.pop_front() else {
+            return Err(Ended::NotNext { client, number });
+        };
+        match entry {
+            Entry::Asked(asked) if (asked.client, asked.number) == (client, number) => {
+                self.close(&asked);
+                self.ends = 0;
+                let answer = self.settle(&asked, reply, text)?;
+                self.finish(answer, done);
+                Ok(())
+            }
+            Entry::Moment if number == 0 => {
+                if done.is_some() {
+                    self.finish(Ok(Outcome::Done), done);
+                }
+                Ok(())
+            }
+            Entry::Counted { tag, .. } if tag == number => {
+                let answer = match reply {
+                    Reply::Counts { visible, in_flight } => Ok(Outcome::Counts { visible, in_flight }),
+                    Reply::Refused(code) => Err(SqsError::of_refusal(code)),
+                    _ => Err(SqsError::InternalFailure("The store gave no counts.".into())),
+                };
+                self.finish(answer, done);
+                Ok(())
+            }
+            _ => Err(Ended::NotNext { client, number }),
+        }
+    }
+
+    fn settle(&mut self, asked: &Asked, reply: Reply, text: &str) -> Result<Answer, Ended> {
+        let settled = self.queues.settle(&asked.queue, &asked.ask, reply, asked.moment);
+        self.give_room_back(asked);
+        Ok(match settled {
+            Ok((outcome, changed)) => {
+                if changed {
+                    self.keep(|| Record::of_ask(asked.moment, &asked.ask, &asked.raw, text))?;
+                }
+                Ok(outcome)
+            }
+            Err(error) => Err(error),
+        })
+    }
+
+    fn keep<'r>(&mut self, record: impl FnOnce() -> Record<'r>) -> Result<(), Ended> {
+        if let Some(journal) = &self.journal {
+            let before = self.batch.records.len();
+            record().append(&mut self.batch.records)?;
+            self.batch.count += 1;
+            journal.use_room((self.batch.records.len() - before) as u64);
+        }
+        Ok(())
+    }
+
+    /// The program has answered this one.
+    fn close(&mut self, asked: &Asked) {
+        self.free.push(asked.client);
+        self.open_changes -= usize::from(matches!(asked.ask, Ask::Change { .. }));
+        self.waits_for_answer = false;
+    }
+
+    pub(super) fn give_room_back(&self, asked: &Asked) {
+        self.admission.answered(asked.weight);
+        if let Some(journal) = &self.journal {
+            journal.give_back(asked.room);
+        }
+    }
+
+    /// Settles what stands at the front and needs no answer of the store.
+    pub(super) fn settle_ready(&mut self) -> Result<(), Ended> {
+        loop {
+            match self.open.front() {
+                Some(Open { entry: Entry::Noted(_) | Entry::Ready(_), .. }) => {}
+                _ => return Ok(()),
+            }
+            let Some(Open { entry, done }) = self.open.pop_front() else { return Ok(()) };
+            match entry {
+                Entry::Noted(noted) => {
+                    let answer = self.note(&noted)?;
+                    self.finish(answer, done);
+                }
+                Entry::Ready(Some(answer)) => self.finish(answer, done),
+                _ => self.release(done),
+            }
+        }
+    }
+
+    fn note(&mut self, noted: &Noted) -> Result<Answer, Ended> {
+        let Noted { queue, change, room } = noted;
+        if let Some(journal) = &self.journal {
+            journal.give_back(*room);
+        }
+        let moment = self.clock.now();
+        let store = {
+            let mut state = queue.state();
+            if state.removed {
+                return Ok(Err(SqsError::QueueDoesNotExist));
+            }
+            state.apply(change, moment);
+            state.store
+        };
+        // What was delayed may be due by other attributes.
+        if matches!(change, Change::Attributes(_)) {
+            queue.opened.notify_one();
+        }
+        self.keep(|| Record::of_note(moment, store, change))?;
+        Ok(Ok(Outcome::Done))
+    }
+
+    fn finish(&mut self, answer: Answer, done: Option<oneshot::Sender<Answers>>) {
+        self.answers.push(answer);
+        if done.is_some() {
+            self.release(done);
+        }
+    }
+
+    fn release(&mut self, done: Option<oneshot::Sender<Answers>>) {
+        if let Some(done) = done {
+            self.batch.finished.push((done, std::mem::take(&mut self.answers)));
+        }
+    }
+
+    /// Lets the answers go that are there: by the journal, where there is one.
+    pub(super) fn hand_over(&mut self) {
+        if self.batch.finished.is_empty() && self.batch.records.is_empty() {
+            return;
+        }
+        match &self.journal {
+            Some(journal) => journal.hand_over(&mut self.batch),
+            None => self.batch.tell(),
+        }
+    }
+}

@@ -1,0 +1,184 @@
+//! Asks: what is written to the program, and what is answered without it.
+
+use std::sync::Arc;
+
+use serde_json::value::RawValue;
+
+use super::entries::{Asked, Asking, Entry, Noted, Open, Pending};
+use super::room::{bytes_of, need_of, need_of_note};
+use super::{Ended, Task, PIECE};
+use crate::clock::Moment;
+use crate::errors::SqsError;
+use crate::handles::Receipt;
+use crate::lines::{self, Fields};
+use crate::queues::ask::{Ask, Change, Outcome};
+use crate::queues::{Queue, State};
+use crate::store::{Answer, What};
+
+impl Task {
+    /// Writes what waits, as long as there are free clients.
+    pub(super) fn ask_pending(&mut self) -> Result<(), Ended> {
+        while !self.lacks_room && !self.waits_for_answer && !self.free.is_empty() && self.out.bytes.len() < PIECE {
+            let Some(Pending { queue, what, done }) = self.pending.pop_front() else { break };
+            let entry = match (queue, what) {
+                (Some(queue), Some(What::Ask(ask))) => match self.ask(queue, ask)? {
+                    Asking::Begun(entry) => entry,
+                    Asking::LacksRoom(queue, ask) => {
+                        let what = Some(What::Ask(ask));
+                        self.pending.push_front(Pending { queue: Some(queue), what, done });
+                        self.lacks_room = true;
+                        break;
+                    }
+                    Asking::WaitsForAnswer(queue, ask) => {
+                        let what = Some(What::Ask(ask));
+                        self.pending.push_front(Pending { queue: Some(queue), what, done });
+                        self.waits_for_answer = true;
+                        break;
+                    }
+                },
+                (Some(queue), Some(What::Count)) => self.count(queue)?,
+                (Some(queue), Some(What::Note(change))) => match self.room_of_note(&change) {
+                    Ok(Some(room)) => Entry::Noted(Noted { queue, change, room }),
+                    Ok(None) => {
+                        let what = Some(What::Note(change));
+                        self.pending.push_front(Pending { queue: Some(queue), what, done });
+                        self.lacks_room = true;
+                        break;
+                    }
+                    Err(error) => Entry::Ready(Some(Err(error))),
+                },
+                (Some(_), Some(What::Hold | What::LetGo)) => Entry::Ready(Some(Ok(Outcome::Done))),
+                (_, Some(What::Moment)) => self.moment()?,
+                _ => Entry::Ready(None),
+            };
+            self.open.push_back(Open { entry, done });
+        }
+        Ok(())
+    }
+
+    fn ask(&mut self, queue: Arc<Queue>, ask: Ask) -> Result<Asking, Ended> {
+        let ready = |answer| Ok(Asking::Begun(Entry::Ready(Some(answer))));
+        let (store, base, ask) = {
+            let state = queue.state();
+            (state.store, state.base, with_last_receipt(ask, &state))
+        };
+        if let Some(answer) = answer_about_earlier(&ask, base) {
+            return ready(answer);
+        }
+        let moment = self.clock.now();
+        if let Ask::Delete { receipt, by_client: true } = ask {
+            let has_expired = queue.state().has_expired(receipt, moment);
+            if self.is_decided_by_others(&queue, receipt, has_expired) {
+                return Ok(Asking::WaitsForAnswer(queue, ask));
+            }
+            // A receive that is open and hands the message out again counts as later than this.
+            if has_expired {
+                return ready(Err(SqsError::of_expiry()));
+            }
+        }
+        let weight = match self.admission.admit(&ask, moment) {
+            Ok(weight) => weight,
+            Err(error) => return ready(Err(error)),
+        };
+        let raw = serde_json::value::to_raw_value(&Fields::of(store, base, &ask))?;
+        match self.ask_admitted(queue, ask, raw, moment, weight)? {
+            Asking::Begun(entry @ Entry::Asked(_)) => Ok(Asking::Begun(entry)),
+            other => {
+                self.admission.answered(weight);
+                Ok(other)
+            }
+        }
+    }
+
+    fn ask_admitted(
+        &mut self,
+        queue: Arc<Queue>,
+        ask: Ask,
+        raw: Box<RawValue>,
+        moment: Moment,
+        weight: u64,
+    ) -> Result<Asking, Ended> {
+        let ready = |answer| Ok(Asking::Begun(Entry::Ready(Some(answer))));
+        let room = match &self.journal {
+            None => 0,
+            Some(journal) => match journal.set_aside(need_of(&ask), bytes_of(&ask, &raw)) {
+                Ok(Some(room)) => room,
+                Ok(None) => return Ok(Asking::LacksRoom(queue, ask)),
+                Err(error) => return ready(Err(error)),
+            },
+        };
+        let Some(client) = self.free.pop() else {
+            return ready(Err(SqsError::InternalFailure("No client is free.".into())));
+        };
+        self.last_number += 1;
+        self.open_changes += usize::from(matches!(ask, Ask::Change { .. }));
+        let asked = Asked { queue, ask, raw, moment, client, number: self.last_number, room, weight, ends: 0 };
+        self.write(&asked)?;
+        Ok(Asking::Begun(Entry::Asked(Box::new(asked))))
+    }
+
+    pub(super) fn write(&mut self, asked: &Asked) -> Result<(), Ended> {
+        let Asked { moment, client, number, raw, .. } = asked;
+        Ok(lines::append_request(&mut self.out.bytes, *moment, *client, *number, raw)?)
+    }
+
+    pub(super) fn moment(&mut self) -> Result<Entry, Ended> {
+        lines::append_moment(&mut self.out.bytes, self.clock.now())?;
+        Ok(Entry::Moment)
+    }
+
+    fn count(&mut self, queue: Arc<Queue>) -> Result<Entry, Ended> {
+        let entry = self.moment()?;
+        self.open.push_back(Open { entry, done: None });
+        self.last_number += 1;
+        let tag = self.last_number;
+        self.write_count(tag, &queue)?;
+        Ok(Entry::Counted { tag, queue })
+    }
+
+    pub(super) fn write_count(&mut self, tag: u64, queue: &Queue) -> Result<(), Ended> {
+        Ok(lines::append_count(&mut self.out.bytes, tag, queue.state().store)?)
+    }
+
+    /// Whether a change or a delete of this message isn't answered yet. Takes time in proportion to the open requests,
+    /// where the message has expired or changes are open.
+    fn is_decided_by_others(&self, queue: &Queue, receipt: Receipt, has_expired: bool) -> bool {
+        let is_of_message = |open: &Open| match &open.entry {
+            Entry::Asked(asked) => match asked.ask {
+                Ask::Change { receipt: other, .. } | Ask::Delete { receipt: other, .. } => {
+                    asked.queue.mark == queue.mark && other.sequence == receipt.sequence
+                }
+                _ => false,
+            },
+            _ => false,
+        };
+        (has_expired || self.open_changes > 0) && self.open.iter().any(is_of_message)
+    }
+
+    /// Sets space of the journal aside for a change; none where it must be asked for first.
+    fn room_of_note(&self, change: &Change) -> Result<Option<u64>, SqsError> {
+        let Some(journal) = &self.journal else { return Ok(Some(0)) };
+        let bytes = serde_json::to_vec(change).map_or(0, |bytes| bytes.len()) + 512;
+        journal.set_aside(need_of_note(change), bytes as u64)
+    }
+}
+
+/// What is answered about a message that the queue had before it went over to its name in the store. It is deleted.
+fn answer_about_earlier(ask: &Ask, base: u64) -> Option<Answer> {
+    match ask {
+        Ask::Delete { receipt, .. } if receipt.sequence <= base => Some(Ok(Outcome::Done)),
+        Ask::Change { receipt, .. } if receipt.sequence <= base => Some(Err(SqsError::of_no_message())),
+        _ => None,
+    }
+}
+
+/// Handings to the gateway itself take nothing from who had the message before.
+fn with_last_receipt(ask: Ask, state: &State) -> Ask {
+    match ask {
+        Ask::Delete { receipt, by_client } => Ask::Delete { receipt: state.last_receipt(receipt), by_client },
+        Ask::Change { receipt, visibility, by_attempt } => {
+            Ask::Change { receipt: state.last_receipt(receipt), visibility, by_attempt }
+        }
+        other => other,
+    }
+}

@@ -1,0 +1,334 @@
+//! The task that owns the program's pipe: it writes all asks that wait with one call, reads answers in large pieces,
+//! and hands each to who asked, when the journal has what it rests on.
+
+mod answering;
+mod asking;
+mod entries;
+mod outgoing;
+mod room;
+
+use std::collections::VecDeque;
+use std::sync::Arc;
+use std::time::Duration;
+
+use bytes::BytesMut;
+use thiserror::Error;
+use tokio::io::{AsyncReadExt, AsyncWriteExt};
+use tokio::sync::{mpsc, oneshot, watch};
+
+use super::admission::Admission;
+use super::figures::Counters;
+use super::replay::{replay, ReplayError};
+use super::{Answers, HeldJobs, Job, Store, What};
+use crate::clock::Clock;
+use crate::cq::{Cq, CqError};
+use crate::errors::SqsError;
+use crate::journal::{Batch, Journal, JournalError};
+use crate::limits::Bounds;
+use crate::lines::BadOutput;
+use crate::queues::ask::Ask;
+use crate::queues::shards::{Shard, Shards};
+use crate::queues::{Queue, Queues};
+use entries::{Entry, Open, Pending};
+use outgoing::Outgoing;
+
+/// Why the store doesn't go on.
+#[derive(Debug, Error)]
+pub enum Ended {
+    #[error(transparent)]
+    Cq(#[from] CqError),
+    #[error(transparent)]
+    BadOutput(#[from] BadOutput),
+    #[error("cq answered client {client}'s request {number}, which isn't the next one")]
+    NotNext { client: u32, number: u64 },
+    #[error(transparent)]
+    Replay(#[from] ReplayError),
+    #[error(transparent)]
+    Journal(#[from] JournalError),
+    #[error("a line for cq can't be written: {0}")]
+    Line(#[from] serde_json::Error),
+}
+
+/// Asks that are with the program at the same time have different clients, and there are so many.
+const CLIENTS: u32 = 256;
+
+/// No more is read from the pipe, or gathered for it, at once.
+const PIECE: usize = 256 * 1024;
+
+/// An ask may be with the program at this many ends of it, and no more.
+const MOST_ENDS: u32 = 2;
+
+struct Task {
+    shard: Shard,
+    program: String,
+    cq: Cq,
+    queues: Arc<Queues>,
+    clock: Arc<Clock>,
+    journal: Option<Journal>,
+    admission: Arc<Admission>,
+    counters: Arc<Counters>,
+    /// How many open requests the counters know of.
+    open_told: usize,
+    pending: VecDeque<Pending>,
+    held: HeldJobs,
+    open: VecDeque<Open>,
+    free: Vec<u32>,
+    last_number: u64,
+    out: Outgoing,
+    incoming: BytesMut,
+    /// The answers of the job at the front that are there.
+    answers: Answers,
+    batch: Batch,
+    /// What waits is not asked before the journal has found space.
+    lacks_room: bool,
+    /// What waits is not asked before something else is answered.
+    waits_for_answer: bool,
+    /// How many changes are with the program.
+    open_changes: usize,
+    grown: Option<watch::Receiver<()>>,
+    ends: u32,
+}
+
+/// What a store is started with.
+pub struct Start {
+    pub program: String,
+    pub shards: Shards,
+    /// One for each shard.
+    pub cqs: Vec<Cq>,
+    pub queues: Arc<Queues>,
+    pub clock: Arc<Clock>,
+    pub journal: Option<Journal>,
+    pub bounds: Bounds,
+}
+
+/// Starts the tasks, one for each shard. What the second value gives is why the first of them ended.
+pub fn start(start: Start) -> (Store, oneshot::Receiver<Ended>) {
+    let admission = Arc::new(Admission::new(start.queues.clone(), start.bounds.memory));
+    if let Some(journal) = &start.journal {
+        journal.set_bound(start.bounds.journal);
+    }
+    let counters = Arc::new(Counters::default());
+    let (ended, mut reasons) = mpsc::unbounded_channel();
+    let mut jobs = Vec::new();
+    for (cq, shard) in start.cqs.into_iter().zip(start.shards.all()) {
+        let (queue, waiting) = mpsc::unbounded_channel();
+        jobs.push(queue);
+        let mut task = Task {
+            shard,
+            program: start.program.clone(),
+            cq,
+            queues: start.queues.clone(),
+            clock: start.clock.clone(),
+            journal: start.journal.clone(),
+            admission: admission.clone(),
+            counters: counters.clone(),
+            open_told: 0,
+            pending: VecDeque::new(),
+            held: HeldJobs::new(),
+            open: VecDeque::new(),
+            free: (1..=CLIENTS).rev().collect(),
+            // Numbers in use begin above all that any earlier run can have used.
+            last_number: start.clock.now() << 20,
+            out: Outgoing::default(),
+            incoming: BytesMut::new(),
+            answers: Vec::new(),
+            batch: Batch::default(),
+            lacks_room: false,
+            waits_for_answer: false,
+            open_changes: 0,
+            grown: start.journal.as_ref().map(Journal::grown),
+            ends: 0,
+        };
+        let ended = ended.clone();
+        tokio::spawn(async move {
+            // Where nobody waits for it any more, another task has ended before.
+            let _ = ended.send(task.run(waiting).await);
+        });
+    }
+    let store = Store {
+        jobs: jobs.into(),
+        shards: start.shards,
+        queues: start.queues,
+        clock: start.clock,
+        journal: start.journal,
+        admission,
+        counters,
+    };
+    let (first, why) = oneshot::channel();
+    tokio::spawn(async move {
+        if let Some(reason) = reasons.recv().await {
+            let _ = first.send(reason);
+        }
+    });
+    (store, why)
+}
+
+impl Task {
+    async fn run(&mut self, mut jobs: mpsc::UnboundedReceiver<Job>) -> Ended {
+        loop {
+            match self.turn(&mut jobs).await {
+                Ok(()) => {}
+                Err(ended) => {
+                    let gone = matches!(ended, Ended::Cq(_) | Ended::BadOutput(_) | Ended::NotNext { .. });
+                    if !gone || self.journal.is_none() {
+                        return ended;
+                    }
+                    tracing::error!("{ended}");
+                    if let Err(ended) = self.start_again().await {
+                        return ended;
+                    }
+                }
+            }
+        }
+    }
+
+    /// Waits for one thing to happen, and does what follows from it.
+    async fn turn(&mut self, jobs: &mut mpsc::UnboundedReceiver<Job>) -> Result<(), Ended> {
+        self.ask_pending()?;
+        self.settle_ready()?;
+        self.hand_over();
+        self.tell_open();
+        self.cq.output.is_awaited = !self.open.is_empty();
+        tokio::select! {
+            biased;
+            read = self.cq.output.read_buf(&mut self.incoming) => match read {
+                Ok(0) => return Err(self.cq.end().await.into()),
+                Ok(_) => self.read_answers()?,
+                Err(error) => return Err(CqError::Gone(error.to_string()).into()),
+            },
+            written = self.cq.input.write(self.out.rest()), if !self.out.is_empty() => match written {
+                Ok(count) => self.out.advance(count),
+                // The end of its output tells how it ended.
+                Err(_) => self.out.clear(),
+            },
+            () = grown(self.grown.as_mut()), if self.lacks_room => self.lacks_room = false,
+            job = jobs.recv(), if self.pending.len() < 4 * CLIENTS as usize => {
+                let Some(job) = job else {
+                    return Err(CqError::Gone("nobody asks any more".into()).into());
+                };
+                self.take(job);
+                // Tasks that are ready now have their asks in the same write.
+                tokio::task::yield_now().await;
+                while let Ok(job) = jobs.try_recv() {
+                    self.take(job);
+                }
+            }
+        }
+        self.incoming.reserve(PIECE);
+        Ok(())
+    }
+
+    fn tell_open(&mut self) {
+        let open = self.pending.len() + self.open.len();
+        self.counters.note_open(self.open_told, open);
+        self.open_told = open;
+    }
+
+    fn take(&mut self, job: Job) {
+        let Some(queue) = &job.queue else {
+            let what = job.whats.into_iter().next();
+            self.pending.push_back(Pending { queue: None, what, done: Some(job.done) });
+            return;
+        };
+        if !job.passes {
+            if let Some(waiting) = self.held.get_mut(&queue.mark) {
+                waiting.push_back(job);
+                return;
+            }
+        }
+        self.append(job);
+    }
+
+    fn append(&mut self, job: Job) {
+        let Some(queue) = job.queue else { return };
+        let mut done = Some(job.done);
+        let count = job.whats.len();
+        for (place, what) in job.whats.into_iter().enumerate() {
+            match what {
+                What::Hold => {
+                    self.held.entry(queue.mark).or_default();
+                }
+                What::LetGo => {
+                    self.let_go(&queue);
+                    return;
+                }
+                _ => {}
+            }
+            let done = if place + 1 == count { done.take() } else { None };
+            self.pending.push_back(Pending { queue: Some(queue.clone()), what: Some(what), done });
+        }
+    }
+
+    /// Takes the jobs that waited for a held queue, up to one that holds it again.
+    fn let_go(&mut self, queue: &Queue) {
+        let mut waiting = self.held.remove(&queue.mark).unwrap_or_default();
+        while let Some(job) = waiting.pop_front() {
+            let holds = job.whats.iter().any(|what| matches!(what, What::Hold));
+            self.append(job);
+            if holds {
+                self.held.insert(queue.mark, waiting);
+                return;
+            }
+        }
+    }
+
+    /// Starts the program again, brings it to where the journal is, and asks what is open once more.
+    async fn start_again(&mut self) -> Result<(), Ended> {
+        let Some(journal) = self.journal.clone() else { return Ok(()) };
+        self.ends += 1;
+        self.counters.note_restart();
+        tokio::time::sleep(pause(self.ends)).await;
+        self.hand_over();
+        self.cq.stop().await;
+        journal.settled().await;
+        self.cq = Cq::start(&self.program)?;
+        replay(&mut self.cq, journal.records()?, self.shard, None).await?;
+        self.incoming.clear();
+        self.out.clear();
+        self.free = (1..=CLIENTS).rev().collect();
+        self.waits_for_answer = false;
+        for open in std::mem::take(&mut self.open) {
+            let entry = self.ask_again(open.entry)?;
+            self.open.push_back(Open { entry, done: open.done });
+        }
+        tracing::warn!("cq was started again, and is where the journal is");
+        Ok(())
+    }
+
+    fn ask_again(&mut self, entry: Entry) -> Result<Entry, Ended> {
+        Ok(match entry {
+            Entry::Asked(mut asked) => {
+                asked.ends += 1;
+                if asked.ends >= MOST_ENDS {
+                    self.open_changes -= usize::from(matches!(asked.ask, Ask::Change { .. }));
+                    self.give_room_back(&asked);
+                    let message = "The store ended twice at this request.";
+                    return Ok(Entry::Ready(Some(Err(SqsError::InternalFailure(message.into())))));
+                }
+                self.last_number += 1;
+                asked.number = self.last_number;
+                asked.client = self.free.pop().unwrap_or(1);
+                self.write(&asked)?;
+                Entry::Asked(asked)
+            }
+            Entry::Counted { tag, queue } => {
+                self.write_count(tag, &queue)?;
+                Entry::Counted { tag, queue }
+            }
+            Entry::Moment => self.moment()?,
+            other => other,
+        })
+    }
+}
+
+async fn grown(grown: Option<&mut watch::Receiver<()>>) {
+    if let Some(grown) = grown {
+        // The journal doesn't end before the task.
+        let _ = grown.changed().await;
+    }
+}
+
+/// Starts wait longer each time, up to five seconds. The first one doesn't wait.
+fn pause(ends: u32) -> Duration {
+    Duration::from_millis((10 * u64::from(ends - 1).pow(2)).min(5_000))
+}

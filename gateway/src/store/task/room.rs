@@ -1,0 +1,56 @@
+//! How much of the journal a request needs.
+
+use serde_json::value::RawValue;
+
+use crate::journal::Need;
+use crate::messages::Form;
+use crate::queues::ask::{Ask, Change};
+
+pub(super) fn need_of(ask: &Ask) -> Need {
+    match ask {
+        // A queue goes over to another name so that records can go.
+        Ask::Create { creation, .. } if creation.before.is_some() => Need::Less,
+        Ask::Send { copies: Some(_), .. } | Ask::Receive { own: false, .. } | Ask::Change { .. } => Need::Same,
+        Ask::Create { .. } | Ask::Send { .. } => Need::More,
+        // What the gateway is handed itself, it deletes or gives back.
+        Ask::Receive { .. } | Ask::Delete { .. } | Ask::Remove { .. } => Need::Less,
+    }
+}
+
+pub(super) fn need_of_note(change: &Change) -> Need {
+    match change {
+        Change::Attributes(_) | Change::Tag(_) | Change::Task(_) => Need::Same,
+        Change::Untag(_) | Change::Purged => Need::Less,
+    }
+}
+
+/// What the record of an ask takes at most.
+pub(super) fn bytes_of(ask: &Ask, raw: &RawValue) -> u64 {
+    let beside = match ask {
+        Ask::Create { creation, .. } => serde_json::to_vec(creation.as_ref()).map_or(0, |bytes| bytes.len()),
+        Ask::Send { form: Form::Split { whole, .. }, .. } => length_in_json(whole),
+        _ => 0,
+    };
+    (raw.get().len() + beside + 512) as u64
+}
+
+/// How many bytes a text has in JSON, without its quotes.
+fn length_in_json(text: &str) -> usize {
+    let length_of = |byte: u8| match byte {
+        b'"' | b'\\' | b'\n' | b'\r' | b'\t' | 8 | 12 => 2,
+        0..=0x1f => 6,
+        _ => 1,
+    };
+    text.bytes().map(length_of).sum()
+}
+
+#[cfg(test)]
+mod tests {
+    use super::*;
+
+    #[test]
+    fn a_record_has_the_room_that_was_set_aside_for_it() {
+        let text: String = (0..=0x2ff).filter_map(char::from_u32).collect();
+        assert_eq!(length_in_json(&text) + 2, serde_json::to_string(&text).unwrap().len());
+    }
+}
