@@ -7,6 +7,7 @@ use serde::{Deserialize, Serialize};
 use crate::errors::SqsError;
 use crate::policy::Policy;
 use crate::redrive::{RedriveAllowPolicy, RedrivePolicy, REDRIVE_ALLOW_POLICY, REDRIVE_POLICY};
+use crate::texts::QueueKind;
 
 /// The largest `MaximumMessageSize`, which is its default as well, in bytes. A batch has at most as many in all.
 pub const LONGEST_MESSAGE: usize = 1_048_576;
@@ -26,8 +27,16 @@ enum Rule {
     Policy(fn(&str) -> Result<(), SqsError>),
 }
 
+/// Which queues have an attribute.
+#[derive(Clone, Copy, PartialEq, Eq)]
+enum Kinds {
+    Both,
+    Fifo,
+}
+
 struct Attribute {
     name: &'static str,
+    kinds: Kinds,
     rule: Rule,
     default: Option<&'static str>,
     /// What is added to the refusal of a value.
@@ -35,7 +44,11 @@ struct Attribute {
 }
 
 const fn attribute(name: &'static str, rule: Rule, default: Option<&'static str>) -> Attribute {
-    Attribute { name, rule, default, reason: "" }
+    Attribute { name, kinds: Kinds::Both, rule, default, reason: "" }
+}
+
+const fn of_fifo(name: &'static str, rule: Rule, default: &'static str) -> Attribute {
+    Attribute { name, kinds: Kinds::Fifo, rule, default: Some(default), reason: "" }
 }
 
 /// The key of KMS, and whether SQS has keys of its own: two ways to encrypt, of which a queue has one.
@@ -44,11 +57,11 @@ const MANAGED_KEYS: &str = "SqsManagedSseEnabled";
 
 /// All attributes that a client can set (API Reference, CreateQueue, `Attributes`).
 static ATTRIBUTES: [Attribute; 15] = [
-    attribute("ContentBasedDeduplication", Rule::Flag, Some("false")),
-    attribute("DeduplicationScope", Rule::OneOf(&["queue", "messageGroup"]), Some("queue")),
+    of_fifo("ContentBasedDeduplication", Rule::Flag, "false"),
+    of_fifo("DeduplicationScope", Rule::OneOf(&["queue", "messageGroup"]), "queue"),
     attribute("DelaySeconds", Rule::Whole(0, 900), Some("0")),
-    attribute("FifoQueue", Rule::Flag, Some("true")),
-    attribute("FifoThroughputLimit", Rule::OneOf(&["perQueue", "perMessageGroupId"]), Some("perQueue")),
+    of_fifo("FifoQueue", Rule::Flag, "true"),
+    of_fifo("FifoThroughputLimit", Rule::OneOf(&["perQueue", "perMessageGroupId"]), "perQueue"),
     attribute("KmsDataKeyReusePeriodSeconds", Rule::Whole(60, 86_400), None),
     attribute(KEY, Rule::AnyText, None),
     attribute("MaximumMessageSize", Rule::Whole(1_024, LONGEST_MESSAGE as u64), Some("1048576")),
@@ -62,6 +75,10 @@ static ATTRIBUTES: [Attribute; 15] = [
 ];
 
 impl Attribute {
+    fn is_of(&self, kind: QueueKind) -> bool {
+        self.kinds == Kinds::Both || kind == QueueKind::Fifo
+    }
+
     fn read(&self, value: &str) -> Result<String, SqsError> {
         let read = match self.rule {
             Rule::Flag => Some(value.to_ascii_lowercase()).filter(|flag| flag == "true" || flag == "false"),
@@ -81,8 +98,12 @@ impl Attribute {
     }
 }
 
-fn find(name: &str) -> Option<&'static Attribute> {
-    ATTRIBUTES.iter().find(|attribute| attribute.name == name)
+fn of_kind(kind: QueueKind) -> impl Iterator<Item = &'static Attribute> {
+    ATTRIBUTES.iter().filter(move |attribute| attribute.is_of(kind))
+}
+
+fn find(kind: QueueKind, name: &str) -> Option<&'static Attribute> {
+    of_kind(kind).find(|attribute| attribute.name == name)
 }
 
 /// A policy of who may do what: a JSON object with a statement.
@@ -102,11 +123,12 @@ fn whole(text: &str) -> Option<u64> {
 pub struct Given(BTreeMap<String, String>);
 
 impl Given {
-    /// Tests names and values. An unknown name is `InvalidAttributeName`, a bad value `InvalidAttributeValue`.
-    pub fn read(given: &[(String, String)]) -> Result<Given, SqsError> {
+    /// Tests names and values. A name that queues of this kind don't have is `InvalidAttributeName`, a bad value
+    /// `InvalidAttributeValue`.
+    pub fn read(kind: QueueKind, given: &[(String, String)]) -> Result<Given, SqsError> {
         let mut good = BTreeMap::new();
         for (name, value) in given {
-            let attribute = find(name).ok_or_else(|| SqsError::InvalidAttributeName(name.clone()))?;
+            let attribute = find(kind, name).ok_or_else(|| SqsError::InvalidAttributeName(name.clone()))?;
             good.insert(name.clone(), attribute.read(value)?);
         }
         let given = Given(good);
@@ -155,9 +177,9 @@ pub struct QueueAttributes(BTreeMap<String, String>);
 
 impl QueueAttributes {
     /// Those of a new queue: what is given, and defaults.
-    pub fn for_creation(given: &Given) -> Result<QueueAttributes, SqsError> {
+    pub fn for_creation(kind: QueueKind, given: &Given) -> Result<QueueAttributes, SqsError> {
         let mut whole = BTreeMap::new();
-        for attribute in &ATTRIBUTES {
+        for attribute in of_kind(kind) {
             if let Some(default) = attribute.default {
                 whole.insert(attribute.name.to_string(), default.to_string());
             }
@@ -291,15 +313,15 @@ fn is_same(name: &str, one: &str, other: &str) -> bool {
 pub struct Wanted(BTreeSet<String>);
 
 impl Wanted {
-    /// Tests the names; `All` stands for each. An unknown one is `InvalidAttributeName`.
-    pub fn read(names: &[String]) -> Result<Wanted, SqsError> {
+    /// Tests the names; `All` stands for each. One that queues of this kind don't have is `InvalidAttributeName`.
+    pub fn read(kind: QueueKind, names: &[String]) -> Result<Wanted, SqsError> {
         for name in names {
-            if name != "All" && !is_known(name) {
+            if name != "All" && find(kind, name).is_none() && !is_told(name) {
                 return Err(SqsError::InvalidAttributeName(name.clone()));
             }
         }
         if names.iter().any(|name| name == "All") {
-            let all = ATTRIBUTES.iter().map(|attribute| attribute.name).chain(COUNTS).chain(TOLD);
+            let all = of_kind(kind).map(|attribute| attribute.name).chain(COUNTS).chain(TOLD);
             return Ok(Wanted(all.map(String::from).collect()));
         }
         Ok(Wanted(names.iter().cloned().collect()))
@@ -315,9 +337,13 @@ impl Wanted {
     }
 }
 
-/// Whether there is an attribute of queues with this name.
+/// Whether there is an attribute of queues of whichever kind with this name.
 pub fn is_known(name: &str) -> bool {
-    find(name).is_some() || COUNTS.contains(&name) || TOLD.contains(&name)
+    find(QueueKind::Fifo, name).is_some() || is_told(name)
+}
+
+fn is_told(name: &str) -> bool {
+    COUNTS.contains(&name) || TOLD.contains(&name)
 }
 
 #[cfg(test)]
@@ -326,7 +352,7 @@ mod tests {
 
     fn given(pairs: &[(&str, &str)]) -> Result<Given, SqsError> {
         let pairs: Vec<_> = pairs.iter().map(|(a, b)| (a.to_string(), b.to_string())).collect();
-        Given::read(&pairs)
+        Given::read(QueueKind::Fifo, &pairs)
     }
 
     #[test]
@@ -351,7 +377,7 @@ mod tests {
     #[test]
     fn a_queue_has_defaults_and_what_was_given() {
         let made = given(&[("VisibilityTimeout", "007"), ("FifoQueue", "TRUE")]).unwrap();
-        let attributes = QueueAttributes::for_creation(&made).unwrap();
+        let attributes = QueueAttributes::for_creation(QueueKind::Fifo, &made).unwrap();
         assert_eq!((attributes.visibility_timeout(), attributes.maximum_message_size()), (7, 1_048_576));
         assert!(attributes.test_same(&given(&[("VisibilityTimeout", "7")]).unwrap()).is_ok());
         assert!(attributes.test_same(&given(&[("VisibilityTimeout", "8")]).unwrap()).is_err());
@@ -365,7 +391,7 @@ mod tests {
     #[test]
     fn policies_are_compared_as_json() {
         let made = given(&[("Policy", r#"{"Id":"a","Statement":[{}]}"#)]).unwrap();
-        let attributes = QueueAttributes::for_creation(&made).unwrap();
+        let attributes = QueueAttributes::for_creation(QueueKind::Fifo, &made).unwrap();
         let same = given(&[("Policy", r#" {"Statement": [{}], "Id": "a"}"#)]).unwrap();
         assert!(attributes.test_same(&same).is_ok());
         let other = given(&[("Policy", r#"{"Statement":[{}],"Id":"b"}"#)]).unwrap();
@@ -375,17 +401,32 @@ mod tests {
     #[test]
     fn a_queue_has_one_kind_of_keys() {
         let told = |pairs: &[(&str, &str)]| {
-            let attributes = QueueAttributes::for_creation(&given(pairs).unwrap()).unwrap();
+            let attributes = QueueAttributes::for_creation(QueueKind::Fifo, &given(pairs).unwrap()).unwrap();
             (attributes.value(KEY).to_string(), attributes.value(MANAGED_KEYS).to_string())
         };
         assert_eq!(told(&[]), (String::new(), "true".into()));
         assert_eq!(told(&[(KEY, "k")]), ("k".into(), "false".into()));
         assert_eq!(told(&[(MANAGED_KEYS, "false")]), (String::new(), "false".into()));
         assert!(given(&[(KEY, "k"), (MANAGED_KEYS, "true")]).is_err());
-        let mut attributes = QueueAttributes::for_creation(&given(&[(KEY, "k")]).unwrap()).unwrap();
+        let mut attributes = QueueAttributes::for_creation(QueueKind::Fifo, &given(&[(KEY, "k")]).unwrap()).unwrap();
         attributes.set(&given(&[(MANAGED_KEYS, "true")]).unwrap().with_what_it_ends());
         assert_eq!((attributes.value(KEY), attributes.value(MANAGED_KEYS)), ("", "true"));
         attributes.set(&given(&[(KEY, "k")]).unwrap().with_what_it_ends());
         assert_eq!((attributes.value(KEY), attributes.value(MANAGED_KEYS)), ("k", "false"));
+    }
+
+    #[test]
+    fn a_standard_queue_has_no_attribute_of_fifo_queues() {
+        let standard = QueueKind::Standard;
+        for name in ["ContentBasedDeduplication", "DeduplicationScope", "FifoQueue", "FifoThroughputLimit"] {
+            let unknown = SqsError::InvalidAttributeName(name.into());
+            assert_eq!(Given::read(standard, &[(name.into(), "false".into())]), Err(unknown.clone()));
+            assert_eq!(Wanted::read(standard, &[name.into()]), Err(unknown));
+            assert!(Wanted::read(QueueKind::Fifo, &[name.into()]).is_ok() && is_known(name));
+        }
+        let made = QueueAttributes::for_creation(standard, &Given::read(standard, &[]).unwrap()).unwrap();
+        assert_eq!((made.text("FifoQueue"), made.text("DelaySeconds")), (None, Some("0")));
+        let all = Wanted::read(standard, &["All".into()]).unwrap();
+        assert!(all.has("DelaySeconds") && !all.has("FifoQueue") && all.has_counts());
     }
 }

@@ -3,6 +3,7 @@
 use std::sync::Arc;
 use std::time::Duration;
 
+use crate::delays::bring_up_to_date;
 use crate::errors::SqsError;
 use crate::moves::{give_back, move_to_target, Moved};
 use crate::queues::ask::{Ask, Fate, Handed, Outcome};
@@ -73,6 +74,12 @@ async fn receive_on(store: Store, queue: Arc<Queue>, ask: Ask) -> Result<Deliver
 
 /// The answers of the store to receives that are tried one after the other.
 pub async fn ask_all(store: &Store, queue: &Arc<Queue>, asks: Vec<Ask>) -> Vec<Answer> {
+    bring_up_to_date(store, queue).await;
+    if has_most_in_flight(store, queue) {
+        let openings = queue.state().openings;
+        let nothing = || Ok(Outcome::Received { handed: Vec::new(), set_aside: Vec::new(), openings });
+        return asks.iter().map(|_| nothing()).collect();
+    }
     let asks: Vec<_> = asks.iter().map(|ask| of_now(store, queue, ask)).collect();
     if !queue.state().has_delay() {
         return store.ask_all(queue, asks).await;
@@ -88,6 +95,11 @@ pub async fn ask_all(store: &Store, queue: &Arc<Queue>, asks: Vec<Ask>) -> Vec<A
         answers
     });
     asked.await.unwrap_or_else(|_| (0..count).map(|_| Err(gone())).collect())
+}
+
+/// Whether a receive can hand nothing out before a message is deleted or its timeout ends.
+pub fn has_most_in_flight(store: &Store, queue: &Queue) -> bool {
+    queue.state().has_most_in_flight(store.clock().now())
 }
 
 /// Asks for so many messages that none of them is delayed still: as many of the next group as are due, and then of the

@@ -224,6 +224,14 @@ impl SqsError {
         )
     }
 
+    /// A parameter that queues of the other kind have.
+    pub fn not_of_this_kind(parameter: &str, value: &str) -> SqsError {
+        SqsError::InvalidParameterValue(format!(
+            "Value {value} for parameter {parameter} is invalid. Reason: The request include parameter that is not \
+             valid for this queue type."
+        ))
+    }
+
     /// A delete comes after the timeout. Its handle isn't known here.
     pub fn of_expiry() -> SqsError {
         SqsError::StaleHandle { handle: String::new(), reason: Stale::Expired }

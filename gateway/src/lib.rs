@@ -12,6 +12,7 @@ pub mod clock;
 pub mod command_line;
 pub mod config;
 pub mod cq;
+pub mod delays;
 pub mod deliveries;
 pub mod digests;
 pub mod ending;

@@ -5,8 +5,9 @@ use std::collections::BTreeMap;
 use serde::{Deserialize, Serialize};
 use uuid::Uuid;
 
+use crate::clock::Moment;
 use crate::errors::SqsError;
-use crate::texts::{test_characters, Body, DedupId, QueueName, STORE_LIMIT};
+use crate::texts::{test_characters, Body, DedupId, GroupId, QueueName, STORE_LIMIT};
 
 /// The one message system attribute that a send may carry (API Reference, SendMessage, `MessageSystemAttributes`).
 pub const TRACE_HEADER: &str = "AWSTraceHeader";
@@ -188,15 +189,19 @@ pub fn size_of_attributes(attributes: &MessageAttributes) -> usize {
     attributes.iter().map(|(name, value)| name.len() + value.size()).sum()
 }
 
-/// All that is kept of a message beside its body, its group and its place.
+/// All that is kept of a message beside its body and its place, and a FIFO queue's beside its group.
 #[derive(Clone, Debug, PartialEq, Eq, Serialize, Deserialize)]
 pub struct Kept {
     /// The MessageId.
     pub id: Uuid,
     /// When it was sent, in milliseconds.
     pub sent: u64,
-    /// The deduplication id that clients see.
-    pub dedup: DedupId,
+    /// The deduplication id that clients see, of a FIFO queue.
+    #[serde(default, skip_serializing_if = "Option::is_none")]
+    pub dedup: Option<DedupId>,
+    /// The group that the sender named, of a standard queue. In the store each of its messages is a group by itself.
+    #[serde(default, skip_serializing_if = "Option::is_none")]
+    pub group: Option<GroupId>,
     /// Who sent it, by the access key, where signatures were looked at.
     #[serde(default, skip_serializing_if = "Option::is_none")]
     pub sender: Option<String>,
@@ -233,10 +238,15 @@ impl Form {
         whole.reserve_exact(1 + body.as_str().len());
         whole.push('\n');
         whole.push_str(body.as_str());
+        Form::of_whole(kept.id, whole)
+    }
+
+    /// The form of the message of this id whose whole form this is.
+    pub fn of_whole(id: Uuid, whole: String) -> Result<Form, serde_json::Error> {
         if whole.len() <= STORE_LIMIT {
             return Ok(Form::Whole(whole));
         }
-        let stub = serde_json::to_string(&Elsewhere { id: kept.id, elsewhere: true })?;
+        let stub = serde_json::to_string(&Elsewhere { id, elsewhere: true })?;
         Ok(Form::Split { stub, whole })
     }
 
@@ -245,6 +255,19 @@ impl Form {
         match self {
             Form::Whole(whole) => whole,
             Form::Split { stub, .. } => stub,
+        }
+    }
+
+    /// All of it.
+    pub fn whole(&self) -> &str {
+        match self {
+            Form::Whole(whole) | Form::Split { whole, .. } => whole,
+        }
+    }
+
+    pub fn into_whole(self) -> String {
+        match self {
+            Form::Whole(whole) | Form::Split { whole, .. } => whole,
         }
     }
 
@@ -263,14 +286,19 @@ pub fn read_form(whole: &str) -> Option<(Kept, &str)> {
     Some((serde_json::from_str(kept).ok()?, body))
 }
 
-/// The MessageId in a stored form, whole or not. Takes time in proportion to its first line.
-pub fn id_of_form(stored: &str) -> Option<Uuid> {
-    #[derive(Deserialize)]
-    struct Id {
-        id: Uuid,
+/// What the tables need of what is kept.
+#[derive(Clone, Copy, Debug, PartialEq, Eq, Deserialize)]
+pub struct Head {
+    pub id: Uuid,
+    /// In a whole form.
+    pub sent: Option<Moment>,
+}
+
+impl Head {
+    /// The head of a form, whole or not. Takes time in proportion to its first line.
+    pub fn of_form(form: &str) -> Option<Head> {
+        serde_json::from_str(form.split('\n').next()?).ok()
     }
-    let head = stored.split('\n').next()?;
-    serde_json::from_str::<Id>(head).ok().map(|found| found.id)
 }
 
 #[cfg(test)]
@@ -281,7 +309,8 @@ mod tests {
         Kept {
             id: Uuid::from_u128(7),
             sent: 1_700_000_000_000,
-            dedup: DedupId::parse("d").unwrap(),
+            dedup: DedupId::parse("d").ok(),
+            group: None,
             sender: None,
             attributes: MessageAttributes::new(),
             trace: None,
@@ -354,7 +383,7 @@ mod tests {
         kept.trace = Some(AttributeValue::new("t", "String", Some("Root=1"), None).unwrap());
         let form = Form::new(&kept, &Body::parse("one\ntwo").unwrap()).unwrap();
         assert_eq!(read_form(form.stored()), Some((kept.clone(), "one\ntwo")));
-        assert_eq!(id_of_form(form.stored()), Some(kept.id));
+        assert_eq!(Head::of_form(form.stored()), Some(Head { id: kept.id, sent: Some(kept.sent) }));
         assert_eq!(read_form("hello"), None);
     }
 
@@ -363,7 +392,7 @@ mod tests {
         let body = Body::parse(&"x".repeat(STORE_LIMIT)).unwrap();
         let form = Form::new(&kept(), &body).unwrap();
         assert!(matches!(&form, Form::Split { whole, .. } if read_form(whole).unwrap().1 == body.as_str()));
-        assert_eq!(id_of_form(form.stored()), Some(Uuid::from_u128(7)));
+        assert_eq!(Head::of_form(form.stored()), Some(Head { id: Uuid::from_u128(7), sent: None }));
         assert!(read_form(form.stored()).is_none());
     }
 }

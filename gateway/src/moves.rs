@@ -14,10 +14,10 @@ use uuid::Builder;
 use crate::errors::SqsError;
 use crate::handles::Receipt;
 use crate::messages::{read_form, Form};
-use crate::queues::ask::{Ask, Handed};
+use crate::queues::ask::{Ask, Cause, Handed};
 use crate::queues::Queue;
 use crate::store::Store;
-use crate::texts::{hex, Body, DedupId, GroupId};
+use crate::texts::{hex, Body, DedupId, GroupId, QueueKind};
 
 /// Which message a copy is of: the mark of its queue, and its sequence number there.
 #[derive(Clone, Copy, Debug, PartialEq, Eq, Hash, Serialize, Deserialize)]
@@ -178,7 +178,10 @@ async fn copy_all(
 fn copy_of(store: &Store, queue: &Queue, handed: &Handed, kind: Kind) -> Result<Ask, SqsError> {
     let no_form = || SqsError::InternalFailure("The store has a message in no form.".into());
     let (mut kept, body) = read_form(&handed.form).ok_or_else(no_form)?;
-    kept.sent = store.clock().now();
+    // Only in a standard queue a dead letter is as old as it was (Developer Guide, "Amazon SQS dead-letter queues").
+    if kind == Kind::Redrive || queue.name.kind() == QueueKind::Fifo {
+        kept.sent = store.clock().now();
+    }
     kept.source = (kind == Kind::DeadLetter).then(|| queue.name.clone());
     if kind == Kind::Redrive {
         kept.id = Builder::from_random_bytes(rand::random()).into_uuid();
@@ -186,7 +189,7 @@ fn copy_of(store: &Store, queue: &Queue, handed: &Handed, kind: Kind) -> Result<
     let form = Form::new(&kept, &Body::parse(body)?).map_err(|_| no_form())?;
     let group = GroupId::parse(&handed.group)?;
     let dedup = DedupId::parse(&hex(&rand::random::<[u8; 16]>()))?;
-    Ok(Ask::Send { group, dedup, form, copies: Some(origin_of(queue, handed)) })
+    Ok(Ask::Send { group, dedup, form, cause: Cause::Move(origin_of(queue, handed)) })
 }
 
 /// Lets messages be handed out again at once, as far as they are still there and in flight.

@@ -17,7 +17,7 @@ const DEFAULT_MOST: u32 = 10;
 /// The most queues that a policy can name (API Reference, SetQueueAttributes, `sourceQueueArns`).
 const MOST_SOURCES: usize = 10;
 
-/// The ARN of a FIFO queue. Its region isn't looked at: clients name the one that they were told.
+/// The ARN of a queue. Its region isn't looked at: clients name the one that they were told.
 #[derive(Clone, Debug, PartialEq, Eq, PartialOrd, Ord)]
 pub struct QueueArn {
     pub account: String,
@@ -25,7 +25,7 @@ pub struct QueueArn {
 }
 
 impl QueueArn {
-    /// None if the text is no ARN of a FIFO queue.
+    /// None if the text is no ARN of a queue.
     pub fn parse(text: &str) -> Option<QueueArn> {
         let parts: Vec<_> = text.split(':').collect();
         let ["arn", _, "sqs", _, account, name] = parts[..] else { return None };
@@ -74,7 +74,7 @@ impl RedrivePolicy {
         let target = policy.get("deadLetterTargetArn");
         let target = target.ok_or("Redrive policy does not contain mandatory attribute: deadLetterTargetArn.")?;
         let target = target.as_str().and_then(QueueArn::parse);
-        let target = target.ok_or("deadLetterTargetArn must be the ARN of a FIFO queue.")?;
+        let target = target.ok_or("deadLetterTargetArn must be the ARN of a queue.")?;
         let most = match policy.get("maxReceiveCount") {
             None => Some(DEFAULT_MOST),
             Some(Value::Number(number)) => number.as_u64().and_then(|number| number.try_into().ok()),
@@ -100,7 +100,7 @@ impl RedriveAllowPolicy {
             (Some("denyAll"), None) => Ok(RedriveAllowPolicy::None),
             (Some("byQueue"), Some(Value::Array(arns))) if (1..=MOST_SOURCES).contains(&arns.len()) => {
                 let parsed = arns.iter().map(|arn| arn.as_str().and_then(QueueArn::parse));
-                let sources = parsed.collect::<Option<_>>().ok_or("sourceQueueArns must be ARNs of FIFO queues.")?;
+                let sources = parsed.collect::<Option<_>>().ok_or("sourceQueueArns must be ARNs of queues.")?;
                 Ok(RedriveAllowPolicy::Queues(sources))
             }
             (Some("byQueue"), _) => Err("byQueue needs sourceQueueArns, a list of 1 to 10 ARNs.".into()),
@@ -140,7 +140,7 @@ mod tests {
             "[]".into(),
             "{".into(),
             r#"{"deadLetterTargetArn":"dead.fifo"}"#.into(),
-            r#"{"deadLetterTargetArn":"arn:aws:sqs:eu-west-3:000000000000:dead"}"#.into(),
+            r#"{"deadLetterTargetArn":"arn:aws:sqs:eu-west-3:000000000000:de.ad"}"#.into(),
             r#"{"deadLetterTargetArn":"arn:aws:sns:eu-west-3:000000000000:dead.fifo"}"#.into(),
             format!(r#"{{"deadLetterTargetArn":"{ARN}","maxReceiveCount":0}}"#),
             format!(r#"{{"deadLetterTargetArn":"{ARN}","maxReceiveCount":1001}}"#),

@@ -4,6 +4,7 @@ use std::collections::{HashMap, VecDeque};
 use std::sync::{Arc, Mutex, MutexGuard, PoisonError};
 use std::time::{Duration, Instant};
 
+use sha2::{Digest, Sha256};
 use tokio::sync::watch;
 
 use crate::clock::Clock;
@@ -36,6 +37,17 @@ impl Key {
     /// About how many bytes its texts take, which are kept twice.
     fn size(&self) -> usize {
         2 * (self.invocation.len() + self.access_key.len() + self.path.len())
+    }
+
+    /// What stands for the call and its repeats.
+    pub fn digest(&self) -> [u8; 32] {
+        let mut digest = Sha256::new();
+        for text in [self.action.name(), &self.invocation, &self.access_key, &self.path] {
+            digest.update((text.len() as u64).to_be_bytes());
+            digest.update(text.as_bytes());
+        }
+        digest.update(self.body);
+        digest.finalize().into()
     }
 
     /// Whether a lost answer of this action does harm, so that it is kept.

@@ -17,6 +17,7 @@ use crate::admin::{Admin, Health};
 use crate::clock::Clock;
 use crate::config::{Address, DeclaredQueue, Misuse};
 use crate::cq::{test_built, test_version, Cq};
+use crate::delays;
 use crate::ending::End;
 use crate::http::{is_of_this_machine, listen, Addresses, Door, Service};
 use crate::journal::{self, Batch, Journal, Record, Taken};
@@ -82,6 +83,7 @@ pub async fn serve(settings: Settings) -> Result<()> {
     // Only one store is ever set.
     let _ = admin.store.set(begun.store.clone());
     tokio::spawn(retention::keep_sweeping(begun.store.clone()));
+    tokio::spawn(delays::keep_sending(begun.store.clone()));
     if begun.journal.is_some() {
         tokio::spawn(crate::rolling::keep_rolling(begun.store.clone()));
     }

@@ -5,13 +5,23 @@ use std::sync::Arc;
 
 use serde::{Deserialize, Serialize};
 use sha2::{Digest, Sha256};
+use uuid::Uuid;
 
 use crate::errors::SqsError;
 
 /// The longest text that the store takes as a body, in bytes of UTF-8.
 pub const STORE_LIMIT: usize = 262_144;
 
-/// The name of a FIFO queue: 1 to 75 ASCII letters, digits, `-` and `_`, then `.fifo`
+/// The kinds of queues (Developer Guide, "Amazon SQS queue types").
+#[derive(Clone, Copy, Debug, PartialEq, Eq)]
+pub enum QueueKind {
+    Fifo,
+    Standard,
+}
+
+const FIFO_SUFFIX: &str = ".fifo";
+
+/// The name of a queue: 1 to 80 ASCII letters, digits, `-` and `_`, of which a FIFO queue's ends with `.fifo`
 /// (API Reference, CreateQueue, `QueueName`). Copies share the text.
 #[derive(Clone, Debug, PartialEq, Eq, Hash, PartialOrd, Ord, Serialize)]
 pub struct QueueName(Arc<str>);
@@ -19,13 +29,22 @@ pub struct QueueName(Arc<str>);
 impl QueueName {
     /// The name in `text`, or none if it breaks the rule.
     pub fn parse(text: &str) -> Option<QueueName> {
-        let stem = text.strip_suffix(".fifo")?;
+        let stem = text.strip_suffix(FIFO_SUFFIX).unwrap_or(text);
         let is_good = |byte: u8| byte.is_ascii_alphanumeric() || byte == b'-' || byte == b'_';
-        ((1..=75).contains(&stem.len()) && stem.bytes().all(is_good)).then(|| QueueName(text.into()))
+        let is_name = !stem.is_empty() && text.len() <= 80 && stem.bytes().all(is_good);
+        is_name.then(|| QueueName(text.into()))
     }
 
-    /// The name at the end of a queue's URL, before a slash that may stand behind it; a bare name is taken as well. Of a
-    /// queue that isn't FIFO there is none. What names no queue at all is `InvalidAddress`.
+    pub fn kind(&self) -> QueueKind {
+        if self.0.ends_with(FIFO_SUFFIX) {
+            QueueKind::Fifo
+        } else {
+            QueueKind::Standard
+        }
+    }
+
+    /// The name at the end of a queue's URL, before a slash that may stand behind it; a bare name is taken as well. What
+    /// names no queue is `InvalidAddress`.
     pub fn of_url(url: &str) -> Result<QueueName, SqsError> {
         let path = match url.split_once("://") {
             Some((_, rest)) => rest.split_once('/').map_or("", |(_, path)| path),
@@ -33,21 +52,21 @@ impl QueueName {
         };
         let path = path.strip_suffix('/').unwrap_or(path);
         let name = path.rsplit('/').next().unwrap_or(path);
-        let is_good = |byte: u8| byte.is_ascii_alphanumeric() || byte == b'-' || byte == b'_';
-        match QueueName::parse(name) {
-            Some(name) => Ok(name),
-            None if (1..=80).contains(&name.len()) && name.bytes().all(is_good) => Err(SqsError::QueueDoesNotExist),
-            None => Err(SqsError::InvalidAddress(url.into())),
-        }
+        QueueName::parse(name).ok_or_else(|| SqsError::InvalidAddress(url.into()))
     }
 
-    /// What a client is told of a name that breaks the rule.
-    pub fn refusal() -> SqsError {
-        SqsError::InvalidParameterValue(
-            "The name of a FIFO queue can only include alphanumeric characters, hyphens, or underscores, \
-             must end with .fifo suffix and be 1 to 80 in length."
-                .into(),
-        )
+    /// What a client is told of a name that no queue of this kind can have.
+    pub fn refusal(kind: QueueKind) -> SqsError {
+        let rule = match kind {
+            QueueKind::Fifo => {
+                "The name of a FIFO queue can only include alphanumeric characters, hyphens, or underscores, \
+                 must end with .fifo suffix and be 1 to 80 in length."
+            }
+            QueueKind::Standard => {
+                "Can only include alphanumeric characters, hyphens, or underscores. 1 to 80 in length"
+            }
+        };
+        SqsError::InvalidParameterValue(rule.into())
     }
 
     pub fn as_str(&self) -> &str {
@@ -90,6 +109,11 @@ impl GroupId {
         is_short_and_printable(text).then(|| GroupId(text.into())).ok_or_else(|| only_printable("MessageGroupId"))
     }
 
+    /// The group of this message alone.
+    pub fn of_message(id: Uuid) -> GroupId {
+        GroupId(id.as_simple().to_string())
+    }
+
     pub fn as_str(&self) -> &str {
         &self.0
     }
@@ -97,7 +121,7 @@ impl GroupId {
 
 /// A message deduplication id: 1 to 128 ASCII letters, digits and punctuation marks
 /// (API Reference, SendMessage, `MessageDeduplicationId`).
-#[derive(Clone, Debug, PartialEq, Eq, Serialize, Deserialize)]
+#[derive(Clone, Debug, PartialEq, Eq, Hash, Serialize, Deserialize)]
 #[serde(transparent)]
 pub struct DedupId(String);
 
@@ -111,6 +135,19 @@ impl DedupId {
     /// The id that stands for a body: its SHA-256 in hex (Developer Guide, "Using the message deduplication ID").
     pub fn of_body(body: &str) -> DedupId {
         DedupId(hex(&Sha256::digest(body.as_bytes())))
+    }
+
+    /// The id that stands for this message alone.
+    pub fn of_message(id: Uuid) -> DedupId {
+        DedupId(id.as_simple().to_string())
+    }
+
+    /// The id that stands for a message of a call, by the call's digest and the id of its entry, if it is a batch's.
+    pub fn of_call(call: &[u8; 32], entry: Option<&str>) -> DedupId {
+        let mut digest = Sha256::new();
+        digest.update(call);
+        digest.update(entry.unwrap_or_default().as_bytes());
+        DedupId(hex(&digest.finalize()))
     }
 
     /// The id that stands for this one in its group alone, where a queue's ids count by group.
@@ -192,9 +229,16 @@ mod tests {
     fn names_of_queues() {
         assert!(QueueName::parse("a.fifo").is_some());
         assert!(QueueName::parse(&format!("{}.fifo", "x".repeat(75))).is_some());
-        for bad in ["", ".fifo", "a", "a b.fifo", "ä.fifo", &format!("{}.fifo", "x".repeat(76))] {
+        assert!(QueueName::parse(&"x".repeat(80)).is_some());
+        let long = "x".repeat(81);
+        for bad in ["", ".fifo", "a b.fifo", "ä.fifo", "a.fifo.fifo", "a.b", &format!("{}.fifo", &long[5..]), &long] {
             assert!(QueueName::parse(bad).is_none(), "{bad}");
         }
+        let kind = |text: &str| QueueName::parse(text).unwrap().kind();
+        assert_eq!(
+            (kind("a.fifo"), kind("a-fifo"), kind("fifo")),
+            (QueueKind::Fifo, QueueKind::Standard, QueueKind::Standard)
+        );
         for url in ["http://host/1/a.fifo", "http://host/1/a.fifo/", "https://host/x/1/a.fifo", "/1/a.fifo", "a.fifo"] {
             assert_eq!(QueueName::of_url(url).unwrap().as_str(), "a.fifo", "{url}");
         }
@@ -203,7 +247,7 @@ mod tests {
         {
             assert_eq!(QueueName::of_url(bad), Err(SqsError::InvalidAddress(bad.into())));
         }
-        assert_eq!(QueueName::of_url("http://host/1/a"), Err(SqsError::QueueDoesNotExist));
+        assert_eq!(QueueName::of_url("http://host/1/a").unwrap().as_str(), "a");
     }
 
     #[test]
@@ -225,5 +269,9 @@ mod tests {
         let group = GroupId::parse("a").unwrap();
         let other = GroupId::parse("b").unwrap();
         assert_ne!(made.within(&group), made.within(&other));
+        let of_call = |call: u8, entry| DedupId::of_call(&[call; 32], entry);
+        assert_eq!(of_call(1, Some("a")), of_call(1, Some("a")));
+        assert_ne!(of_call(1, Some("a")), of_call(1, Some("b")));
+        assert_ne!(of_call(1, None), of_call(2, None));
     }
 }

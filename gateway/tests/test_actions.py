@@ -193,8 +193,14 @@ def test_tags(call):
 
 
 @pytest.mark.parametrize("name, attributes, code", [
-    ("standard", {}, "InvalidParameterValue"),
     ("standard", {"FifoQueue": "true"}, "InvalidParameterValue"),
+    ("standard", {"FifoQueue": "false"}, "InvalidAttributeName"),
+    ("standard", {"ContentBasedDeduplication": "false"}, "InvalidAttributeName"),
+    ("standard", {"DeduplicationScope": "queue"}, "InvalidAttributeName"),
+    ("standard", {"FifoThroughputLimit": "perQueue"}, "InvalidAttributeName"),
+    ("standard", {"DelaySeconds": "901"}, "InvalidAttributeValue"),
+    ("stan.dard", {}, "InvalidParameterValue"),
+    ("x" * 81, {}, "InvalidParameterValue"),
     ("q.fifo", {}, "InvalidParameterValue"),
     ("q.fifo", {"FifoQueue": "false"}, "InvalidParameterValue"),
     ("a b.fifo", {"FifoQueue": "true"}, "InvalidParameterValue"),

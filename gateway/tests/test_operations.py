@@ -149,14 +149,16 @@ def test_a_file_says_what_options_say_and_options_go_first(tmp_path):
     file.write_text(
         'host = "127.0.0.2"\naccount = "111111111111"\nregion = "eu-west-1"\nadmin = 0\nlog = "json"\n'
         '[[queue]]\nname = "a.fifo"\nattributes = { FifoQueue = "true", VisibilityTimeout = "7" }\ntags = { team = "x" }\n'
-        '[[queue]]\nname = "standard"\n[[queue]]\nname = "b.fifo"\nattributes = { FifoQueue = "true" }\n'
+        '[[queue]]\nname = "no name"\n[[queue]]\nname = "b.fifo"\nattributes = { FifoQueue = "true" }\n'
+        '[[queue]]\nname = "standard"\nattributes = { DelaySeconds = "3" }\n'
     )
     started = Started("--config", str(file), "--account", "222222222222")
     try:
         assert started.url.startswith("http://127.0.0.2:")
         call = ByJson(started.url)
         urls = call("ListQueues")["QueueUrls"]
-        assert [url.rsplit("/", 2)[1:] for url in urls] == [["222222222222", "a.fifo"], ["222222222222", "b.fifo"]]
+        names = ["a.fifo", "b.fifo", "standard"]
+        assert [url.rsplit("/", 2)[1:] for url in urls] == [["222222222222", name] for name in names]
         told = call("GetQueueAttributes", QueueUrl=urls[0], AttributeNames=["All"])["Attributes"]
         assert told["VisibilityTimeout"] == "7" and told["QueueArn"] == "arn:aws:sqs:eu-west-1:222222222222:a.fifo"
         assert call("ListQueueTags", QueueUrl=urls[0]) == {"Tags": {"team": "x"}}

@@ -120,9 +120,9 @@ def test_a_newer_journal_and_a_missing_segment_are_told(tmp_path):
     assert begun(path, tmp_path).stop() == 0
     segment = first_segment(path)
     data = segment.read_bytes()
-    segment.write_bytes(data.replace(b"journal 2", b"journal 3", 1))
+    segment.write_bytes(data.replace(b"journal 3", b"journal 4", 1))
     ended = start(path)
-    assert ended.returncode == 1 and "a journal of version 3" in ended.stderr
+    assert ended.returncode == 1 and "a journal of version 4" in ended.stderr
     segment.write_bytes(b"Dear Sir or Madam")
     assert "is no journal" in start(path).stderr
     segment.unlink()
@@ -393,6 +393,32 @@ def test_the_python_gateways_journal_is_read(tmp_path):
     assert [one["Body"] for one in call("ReceiveMessage", QueueUrl="gone.fifo", **whole)["Messages"]] == ["again"]
     assert gateway.stop() == 0
     assert path.with_name("journal.version1").read_bytes() == old and not path.exists()
+
+
+def test_a_journal_without_standard_queues_is_read_and_goes_on_behind_a_newer_head(tmp_path):
+    """A gateway without standard queues wrote the file: a dead letter, a body of 300,000 bytes, and a delayed message."""
+    path = tmp_path / "journal"
+    old = gzip.decompress(Path(__file__).with_name("version2.journal.gz").read_bytes())
+    first_segment(path).write_bytes(old)
+    assert old.startswith(b"hobbychair journal 2\n") and "undamaged" in run("verify", str(path)).stdout
+    gateway = Started("--journal", str(path), room=tmp_path)
+    call = ByJson(gateway.url)
+    names = [url.rsplit("/", 1)[-1] for url in call("ListQueues")["QueueUrls"]]
+    assert names == ["dead.fifo", "q.fifo", "slow.fifo"] and call("ListQueueTags", QueueUrl="q.fifo")["Tags"] == {"a": "b"}
+    call("CreateQueue", QueueName="standard")
+    call("SendMessage", QueueUrl="standard", MessageBody="b", DelaySeconds=10)
+    assert first_segment(path).read_bytes()[: len(old)] == old
+    assert path.with_name("journal.2").read_bytes().startswith(b"hobbychair journal 3\n")
+    gateway.kill()
+    gateway.set_clock(START + 10_000)
+    gateway.start()
+    call = ByJson(gateway.url)
+    found = {name: [one["Body"] for one in call("ReceiveMessage", QueueUrl=name, MaxNumberOfMessages=10)["Messages"]]
+             for name in [*names, "standard"]}
+    assert found == {"dead.fifo": ["letter"], "q.fifo": ["x" * 300_000, "kept"], "slow.fifo": ["delayed"],
+                     "standard": ["b"]}
+    assert gateway.stop() == 0
+    assert len(list(tmp_path.glob("journal.[0-9]*"))) == 2 and "undamaged" in run("verify", str(path)).stdout
 
 
 def test_a_spoilt_journal_of_the_python_gateway_is_refused(tmp_path):

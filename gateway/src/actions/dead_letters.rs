@@ -9,8 +9,9 @@ use crate::wire::requests::Action;
 use crate::wire::Response;
 
 impl Actions {
-    /// Tests a policy that is given for the queue of this name: its target has to be another queue that is there, that
-    /// the caller's key allows, and that lets itself be named (API Reference, SetQueueAttributes, `RedrivePolicy`).
+    /// Tests a policy that is given for the queue of this name: its target has to be another queue of the same kind that
+    /// is there, that the caller's key allows, and that lets itself be named (API Reference, SetQueueAttributes,
+    /// `RedrivePolicy`).
     pub(super) fn test_redrive(&self, name: &QueueName, given: &Given, caller: &Caller) -> Result<(), SqsError> {
         let Some(text) = given.text(REDRIVE_POLICY).filter(|text| !text.is_empty()) else { return Ok(()) };
         let QueueArn { account, name: target } = RedrivePolicy::parse(text)?.target;
@@ -21,6 +22,10 @@ impl Actions {
         let found = found.ok_or_else(|| refusal(REDRIVE_POLICY, text, "Dead letter target does not exist."))?;
         if target == *name {
             return Err(refusal(REDRIVE_POLICY, text, "A queue can't be its own dead-letter queue."));
+        }
+        if target.kind() != name.kind() {
+            let reason = "Dead-letter queue must be same type of queue as the source.";
+            return Err(refusal(REDRIVE_POLICY, text, reason));
         }
         let source = QueueArn { account, name: name.clone() };
         let allows = found.state().attributes.text(REDRIVE_ALLOW_POLICY).map(RedriveAllowPolicy::parse);

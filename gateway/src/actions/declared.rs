@@ -25,7 +25,7 @@ impl Actions {
         let target = Some("AmazonSQS.CreateQueue");
         let incoming = Incoming { target, path_queue: None, query: "", body: body.as_bytes() };
         let request = Protocol::Json.read(&incoming)?;
-        let caller = Caller { base_url: String::new(), presence: Presence::default(), identity: None };
+        let caller = Caller { base_url: String::new(), presence: Presence::default(), identity: None, call: None };
         self.perform(Box::new(request), &caller).await.map(drop)
     }
 }

@@ -9,11 +9,11 @@ use crate::attributes::LONGEST_MESSAGE;
 use crate::digests::{md5_of_attributes, md5_of_text};
 use crate::errors::SqsError;
 use crate::messages::{Form, Kept, MessageAttributes, TRACE_HEADER};
-use crate::queues::ask::{Ask, Outcome};
+use crate::queues::ask::{self, Ask, Cause, Delayed, Outcome};
 use crate::queues::Queue;
-use crate::store::Answer;
-use crate::texts::{DedupId, QueueName};
-use crate::wire::requests::{Batch, Change, Message};
+use crate::store::{Answer, Command};
+use crate::texts::{Body, DedupId, GroupId, QueueKind, QueueName};
+use crate::wire::requests::{Batch, Change, Message, Sending};
 use crate::wire::responses::{Done, Failed, Sent};
 use crate::wire::Response;
 
@@ -25,9 +25,9 @@ impl Actions {
         caller: &Caller,
     ) -> Result<Performed, SqsError> {
         let queue = self.queue(name)?;
-        let ask = self.send_ask(&queue, &message, caller)?;
-        let outcome = self.store.ask(&queue, ask).await?;
-        Ok(Response::Sent(sent(&message, &outcome)?).into())
+        let command = self.sending(&queue, None, &message, caller)?;
+        let outcome = self.store.command(&queue, command).await?;
+        Ok(Response::Sent(sent(&queue, &message, &outcome)?).into())
     }
 
     pub(super) async fn send_batch(
@@ -42,39 +42,71 @@ impl Actions {
         if size > LONGEST_MESSAGE {
             return Err(SqsError::BatchRequestTooLong { limit: LONGEST_MESSAGE, sent: size });
         }
-        let ask_of = |message: &Message| self.send_ask(&queue, message, caller);
-        self.answer_each(&queue, batch, ask_of, |message, answer| sent(message, &answer?).map(Some)).await
+        let command_of = |id: &str, message: &Message| self.sending(&queue, Some(id), message, caller);
+        self.answer_each(&queue, batch, command_of, |message, answer| sent(&queue, message, &answer?).map(Some)).await
     }
 
-    fn send_ask(&self, queue: &Queue, message: &Message, caller: &Caller) -> Result<Ask, SqsError> {
-        let (limit, by_content, by_group) = {
-            let state = queue.state();
-            let attributes = &state.attributes;
-            (attributes.maximum_message_size(), attributes.dedups_by_content(), attributes.dedups_by_group())
-        };
+    /// What sends a message. `entry` is its id in a batch.
+    fn sending(
+        &self,
+        queue: &Queue,
+        entry: Option<&str>,
+        message: &Message,
+        caller: &Caller,
+    ) -> Result<Command, SqsError> {
+        let limit = queue.state().attributes.maximum_message_size();
         if message.size() > limit {
             return Err(SqsError::InvalidParameterValue(format!(
                 "One or more parameters are invalid. Reason: Message must be shorter than {limit} bytes."
             )));
         }
-        let dedup = match &message.dedup {
+        match &message.sending {
+            Sending::Fifo { group, dedup } => self.fifo_send(queue, group, dedup.as_ref(), message, caller),
+            Sending::Standard { group, delay } => {
+                let call = caller.call.map(|call| DedupId::of_call(&call, entry));
+                let kept = Kept { group: group.clone(), ..self.kept(message, caller) };
+                let own_delay = queue.state().attributes.delay();
+                let delay = delay.map_or(own_delay, |seconds| 1000 * u64::from(seconds));
+                standard_send(&kept, call, delay, &message.body)
+            }
+        }
+    }
+
+    fn fifo_send(
+        &self,
+        queue: &Queue,
+        group: &GroupId,
+        dedup: Option<&DedupId>,
+        message: &Message,
+        caller: &Caller,
+    ) -> Result<Command, SqsError> {
+        let (by_content, by_group) = {
+            let attributes = &queue.state().attributes;
+            (attributes.dedups_by_content(), attributes.dedups_by_group())
+        };
+        let dedup = match dedup {
             Some(dedup) => dedup.clone(),
             None if by_content => DedupId::of_body(message.body.as_str()),
             None => return Err(SqsError::missing_dedup_id()),
         };
-        let for_store = if by_group { dedup.within(&message.group) } else { dedup.clone() };
-        let kept = Kept {
+        let for_store = if by_group { dedup.within(group) } else { dedup.clone() };
+        let kept = Kept { dedup: Some(dedup), ..self.kept(message, caller) };
+        let form = Form::new(&kept, &message.body).map_err(cannot_be_kept)?;
+        Ok(Command::Ask(Ask::Send { group: group.clone(), dedup: for_store, form, cause: Cause::Client }))
+    }
+
+    /// What is kept of a message of either kind of queue.
+    fn kept(&self, message: &Message, caller: &Caller) -> Kept {
+        Kept {
             id: Uuid::new_v4(),
             sent: self.store.clock().now(),
-            dedup,
+            dedup: None,
+            group: None,
             sender: caller.identity.as_ref().map(|identity| identity.name().to_string()),
             attributes: message.attributes.clone(),
             trace: message.trace.clone(),
             source: None,
-        };
-        let form = Form::new(&kept, &message.body)
-            .map_err(|error| SqsError::InternalFailure(format!("The message can't be kept: {error}")))?;
-        Ok(Ask::Send { group: message.group.clone(), dedup: for_store, form, copies: None })
+        }
     }
 
     pub(super) async fn delete(&self, name: &QueueName, handle: &str) -> Result<Performed, SqsError> {
@@ -89,7 +121,7 @@ impl Actions {
         self.answer_each(
             &queue,
             batch,
-            |handle| delete_ask(&queue, handle),
+            |_, handle| delete_ask(&queue, handle).map(Command::Ask),
             |handle, answer| nothing_of(handle, answer),
         )
         .await
@@ -105,31 +137,32 @@ impl Actions {
     pub(super) async fn change_batch(&self, name: &QueueName, batch: Batch<Change>) -> Result<Performed, SqsError> {
         let queue = self.queue(name)?;
         let result_of = |change: &Change, answer| nothing_of(&change.handle, answer);
-        self.answer_each(&queue, batch, |change| change_ask(&queue, change), result_of).await
+        let command_of = |_: &str, change: &Change| change_ask(&queue, change).map(Command::Ask);
+        self.answer_each(&queue, batch, command_of, result_of).await
     }
 
-    /// Asks for all good entries at once, and tells what came of each.
+    /// Performs all good entries at once, and tells what came of each. The commands are made of their ids and of them.
     async fn answer_each<T>(
         &self,
         queue: &Arc<Queue>,
         batch: Batch<T>,
-        ask_of: impl Fn(&T) -> Result<Ask, SqsError>,
+        command_of: impl Fn(&str, &T) -> Result<Command, SqsError>,
         result_of: impl Fn(&T, Answer) -> Result<Option<Sent>, SqsError>,
     ) -> Result<Performed, SqsError> {
-        let mut asks = Vec::with_capacity(batch.len());
+        let mut commands = Vec::with_capacity(batch.len());
         let mut entries = Vec::with_capacity(batch.len());
         for (id, entry) in batch {
-            let asked = entry.and_then(|entry| Ok((ask_of(&entry)?, entry)));
+            let read = entry.and_then(|entry| Ok((command_of(&id, &entry)?, entry)));
             entries.push((
                 id,
-                asked.map(|(ask, entry)| {
-                    asks.push(ask);
+                read.map(|(command, entry)| {
+                    commands.push(command);
                     entry
                 }),
             ));
         }
-        let is_asked = !asks.is_empty();
-        let answers = if is_asked { self.store.ask_all(queue, asks).await } else { Vec::new() };
+        let is_asked = !commands.is_empty();
+        let answers = if is_asked { self.store.command_all(queue, commands).await } else { Vec::new() };
         let mut answers = answers.into_iter();
         let (mut successful, mut failed) = (Vec::new(), Vec::new());
         for (id, entry) in entries {
@@ -143,6 +176,22 @@ impl Actions {
         let response = Response::Batch { successful, failed };
         Ok(Performed { is_settled: is_asked, ..response.into() })
     }
+}
+
+fn cannot_be_kept(error: serde_json::Error) -> SqsError {
+    SqsError::InternalFailure(format!("The message can't be kept: {error}"))
+}
+
+/// Sends a message to a standard queue: at once, or into the tables where it is delayed, by `delay` milliseconds. Where
+/// repeats of the call can be told, `call` stands for this message of it.
+fn standard_send(kept: &Kept, call: Option<DedupId>, delay: u64, body: &Body) -> Result<Command, SqsError> {
+    let form = Form::new(kept, body).map_err(cannot_be_kept)?;
+    if delay > 0 {
+        let delayed = Delayed { id: kept.id, due: kept.sent + delay, call, form: form.into_whole() };
+        return Ok(Command::Note(ask::Change::Delayed(Arc::new(delayed))));
+    }
+    let dedup = call.unwrap_or_else(|| DedupId::of_message(kept.id));
+    Ok(Command::Ask(Ask::Send { group: GroupId::of_message(kept.id), dedup, form, cause: Cause::Client }))
 }
 
 fn no_answer() -> SqsError {
@@ -165,19 +214,23 @@ fn change_ask(queue: &Queue, change: &Change) -> Result<Ask, SqsError> {
 }
 
 /// The MD5s are of what this send carried, also where the message is one that was sent before.
-fn sent(message: &Message, outcome: &Outcome) -> Result<Sent, SqsError> {
-    let Outcome::Sent { sequence, id } = outcome else { return Err(no_answer()) };
+fn sent(queue: &Queue, message: &Message, outcome: &Outcome) -> Result<Sent, SqsError> {
+    let (id, number) = match outcome {
+        Outcome::Sent { sequence, id } => (id, sequence_number(queue.name.kind(), *sequence)),
+        Outcome::Delayed { id } => (id, None),
+        _ => return Err(no_answer()),
+    };
     let system = message.trace.clone().map(|trace| MessageAttributes::from([(TRACE_HEADER.to_string(), trace)]));
     Ok(Sent {
         message_id: id.to_string(),
         md5_of_body: md5_of_text(message.body.as_str()),
         md5_of_attributes: (!message.attributes.is_empty()).then(|| md5_of_attributes(&message.attributes)),
         md5_of_system_attributes: system.as_ref().map(md5_of_attributes),
-        sequence_number: sequence_number(*sequence),
+        sequence_number: number,
     })
 }
 
-/// A sequence number as clients see it: 20 digits.
-pub(super) fn sequence_number(sequence: u64) -> String {
-    format!("{sequence:020}")
+/// A sequence number as clients see it: 20 digits. Messages of standard queues have none.
+pub(super) fn sequence_number(kind: QueueKind, sequence: u64) -> Option<String> {
+    (kind == QueueKind::Fifo).then(|| format!("{sequence:020}"))
 }

@@ -35,6 +35,8 @@ pub struct Caller {
     pub presence: Presence,
     /// Whose signature it was; none where nobody looks at signatures.
     pub identity: Option<Arc<Identity>>,
+    /// What stands for the client's call and its repeats, where that is asked for and can be told.
+    pub call: Option<[u8; 32]>,
 }
 
 /// What an action came to.

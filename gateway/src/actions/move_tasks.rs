@@ -76,6 +76,10 @@ impl Actions {
             let message = "Source queue arn and destination queue arn cannot be the same.";
             return Err(SqsError::InvalidParameterValue(message.into()));
         }
+        if name.kind() != source.kind() {
+            let message = "Source queue and destination queue must be of the same type.";
+            return Err(SqsError::InvalidParameterValue(message.into()));
+        }
         Ok(name)
     }
 

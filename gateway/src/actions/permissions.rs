@@ -31,7 +31,7 @@ impl Actions {
         let queue = self.queue(name)?;
         let mut policy = Policy::of_queue(queue.state().attributes.policy())?;
         change(&mut policy)?;
-        let given = Given::read(&[("Policy".into(), policy.text())])?;
+        let given = Given::read(name.kind(), &[("Policy".into(), policy.text())])?;
         self.store.note(&queue, Change::Attributes(given)).await?;
         Ok(Response::Nothing.into())
     }

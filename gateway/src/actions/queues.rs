@@ -4,10 +4,11 @@ use std::sync::Arc;
 
 use super::{Actions, Caller, Pauses, Performed, LONGEST_PAGE};
 use crate::attributes::{Given, QueueAttributes, Wanted, COUNTS};
+use crate::delays::bring_up_to_date;
 use crate::errors::SqsError;
 use crate::queues::ask::{Ask, Change, Creation, Outcome};
 use crate::queues::Queue;
-use crate::store::Held;
+use crate::store::{Answer, Held};
 use crate::texts::QueueName;
 use crate::wire::requests::{test_count_of_tags, Tags};
 use crate::wire::Response;
@@ -32,7 +33,7 @@ impl Actions {
             queue.state().attributes.test_same(&given)?;
             return Ok(Performed::of_tables(url));
         }
-        let attributes = QueueAttributes::for_creation(&given)?;
+        let attributes = QueueAttributes::for_creation(name.kind(), &given)?;
         self.test_redrive(&name, &given, caller)?;
         let now = self.store.clock().now();
         if self.pauses == Pauses::AsSqs {
@@ -72,17 +73,21 @@ impl Actions {
 
     pub(super) async fn get_attributes(&self, name: &QueueName, wanted: &Wanted) -> Result<Performed, SqsError> {
         let queue = self.queue(name)?;
-        let counts = if wanted.has_counts() { Some(self.store.count(&queue).await?) } else { None };
+        let counts = if wanted.has_counts() { Some(self.count(&queue).await?) } else { None };
         let is_settled = counts.is_some();
         let mut told = self.told(&queue);
         if let Some(Outcome::Counts { visible, in_flight }) = counts {
-            let delayed = queue.state().count_delayed(self.store.clock().now()).min(visible);
-            let counts = [visible - delayed, in_flight, delayed];
+            let counts = queue.state().counts(visible, in_flight, self.store.clock().now());
             told.extend(COUNTS.iter().zip(counts).map(|(name, count)| (name.to_string(), count.to_string())));
         }
         told.retain(|(name, _)| wanted.has(name));
         told.sort_unstable();
         Ok(Performed { is_settled, ..Performed::of_tables(Response::Attributes(told)) })
+    }
+
+    async fn count(&self, queue: &Arc<Queue>) -> Answer {
+        bring_up_to_date(&self.store, queue).await;
+        self.store.count(queue).await
     }
 
     fn told(&self, queue: &Queue) -> Vec<(String, String)> {

@@ -5,7 +5,7 @@ use std::time::Duration;
 
 use super::messages::sequence_number;
 use super::{Actions, Caller, Owner, Performed};
-use crate::deliveries::{self, Delivered};
+use crate::deliveries::{self, has_most_in_flight, Delivered};
 use crate::digests::{md5_of_attributes, md5_of_text};
 use crate::errors::SqsError;
 use crate::handles::Handle;
@@ -13,7 +13,7 @@ use crate::messages::{read_form, Kept, MessageAttributes};
 use crate::polling::{self, Waiting};
 use crate::queues::ask::{Ask, Handed};
 use crate::queues::Queue;
-use crate::texts::QueueName;
+use crate::texts::{QueueKind, QueueName};
 use crate::wire::requests::{Receive, Shown, SystemAttribute};
 use crate::wire::responses::ReceivedMessage;
 use crate::wire::Response;
@@ -40,6 +40,10 @@ impl Actions {
         }
         let ask = Ask::Receive { size: receive.size, visibility, attempt: receive.attempt, most: None, own: false };
         let Delivered { mut handed, openings } = deliveries::receive(&self.store, &queue, ask.clone()).await?;
+        if handed.is_empty() && wait == 0 && has_most_in_flight(&self.store, &queue) {
+            let message = "Too many messages of the queue are in flight.";
+            return Err(SqsError::OverLimit(message.into()));
+        }
         if handed.is_empty() && wait > 0 {
             let _permit = self.polls.try_acquire().map_err(|_| too_many_polls())?;
             let _counted = self.metrics.poll();
@@ -77,7 +81,8 @@ impl Actions {
             .ok_or_else(|| SqsError::InternalFailure("The store has a message in no form.".into()))?;
         let handle = Handle { mark: queue.mark, receipt: handed.receipt, moment: handed.moment };
         let system = shown.system().iter();
-        let told = |one: &SystemAttribute| Some((one.name(), told(*one, handed, &kept, &self.owner)?));
+        let told =
+            |one: &SystemAttribute| Some((one.name(), told(*one, queue.name.kind(), handed, &kept, &self.owner)?));
         let attributes = system.filter_map(told).collect();
         let wanted = kept.attributes.into_iter().filter(|(name, _)| shown.has(name));
         let message_attributes: MessageAttributes = wanted.collect();
@@ -97,16 +102,19 @@ fn too_many_polls() -> SqsError {
     SqsError::ServiceUnavailable("Too many long polls are open.".into())
 }
 
-fn told(attribute: SystemAttribute, handed: &Handed, kept: &Kept, owner: &Owner) -> Option<String> {
+fn told(attribute: SystemAttribute, kind: QueueKind, handed: &Handed, kept: &Kept, owner: &Owner) -> Option<String> {
     Some(match attribute {
         SystemAttribute::SenderId => kept.sender.as_deref().unwrap_or(SENDER).into(),
         SystemAttribute::SentTimestamp => kept.sent.to_string(),
         SystemAttribute::ApproximateReceiveCount => handed.count.to_string(),
         SystemAttribute::ApproximateFirstReceiveTimestamp => handed.first.to_string(),
         SystemAttribute::DeadLetterQueueSourceArn => owner.arn(kept.source.as_ref()?.as_str()),
-        SystemAttribute::SequenceNumber => sequence_number(handed.receipt.sequence),
-        SystemAttribute::MessageGroupId => handed.group.clone(),
-        SystemAttribute::MessageDeduplicationId => kept.dedup.as_str().into(),
+        SystemAttribute::SequenceNumber => sequence_number(kind, handed.receipt.sequence)?,
+        SystemAttribute::MessageGroupId => match kind {
+            QueueKind::Fifo => handed.group.clone(),
+            QueueKind::Standard => kept.group.as_ref()?.as_str().into(),
+        },
+        SystemAttribute::MessageDeduplicationId => kept.dedup.as_ref()?.as_str().into(),
         SystemAttribute::TraceHeader => kept.trace.as_ref()?.text()?.into(),
     })
 }

@@ -62,6 +62,8 @@ struct Call {
     request_id: Uuid,
     identity: Option<Arc<Identity>>,
     base_url: String,
+    /// Where repeats are told by nothing else.
+    digest: Option<[u8; 32]>,
 }
 
 /// A call of which there may be repeats, and whether it says that it is one.
@@ -146,7 +148,10 @@ impl Service {
         let base_url =
             if action.tells_urls() { self.addresses.base_url(&head.headers, told.arrival.peer) } else { String::new() };
         let (request, request_id) = (Box::new(request), told.request_id);
-        let call = Call { service: self, protocol, action, request, request_id, identity, base_url };
+        let mut call = Call { service: self, protocol, action, request, request_id, identity, base_url, digest: None };
+        if call.request.is_told_by_its_call() {
+            call.digest = call.key(head, body).map(|key| key.digest());
+        }
         let key = if Key::is_of(action) { call.key(head, body) } else { None };
         let is_again = text_of(&head.headers, "amz-sdk-request").is_some_and(is_repeat);
         Ok(Next::Perform(Box::new(call), key.map(|key| Box::new(Tried { key, is_again }))))
@@ -273,8 +278,8 @@ impl Call {
     }
 
     async fn perform(self: Box<Call>, presence: Presence) -> Made {
-        let Call { service, protocol, action, request, request_id, identity, base_url } = *self;
-        let caller = Caller { base_url, presence, identity };
+        let Call { service, protocol, action, request, request_id, identity, base_url, digest } = *self;
+        let caller = Caller { base_url, presence, identity, call: digest };
         match service.actions.perform(request, &caller).await {
             Ok(performed) => {
                 let is_worth_keeping = !performed.response.is_empty_receive();

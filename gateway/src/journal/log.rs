@@ -77,9 +77,12 @@ impl<F: Folder> Log<F> {
         }
         log.commit(&[])?;
         log.folder.sync()?;
-        if let Some(span) = scanned.spans.last_mut() {
-            *span = log.active.clone();
+        scanned.spans.pop();
+        if !log.active.is_of_this_version() {
+            // Records that an older gateway can't read go behind a head that tells it so.
+            scanned.spans.extend(log.close(sizes.piece)?);
         }
+        scanned.spans.push(log.active.clone());
         Ok((log, scanned))
     }
 

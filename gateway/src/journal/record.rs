@@ -6,12 +6,13 @@ use std::sync::Arc;
 use serde::{Deserialize, Serialize};
 use serde_json::value::RawValue;
 use sha2::{Digest, Sha256};
+use uuid::Uuid;
 
 use crate::clock::Moment;
 use crate::lines::{read_receipt, Fields, Kind};
 use crate::messages::Form;
 use crate::moves::Origin;
-use crate::queues::ask::{Ask, Change, Creation, StoreName};
+use crate::queues::ask::{Ask, Cause, Change, Creation, StoreName};
 use crate::texts::{hex, AttemptId, DedupId, GroupId, QueueName};
 
 /// A record as it stands in the journal.
@@ -36,6 +37,9 @@ pub struct Record<'a> {
     /// Of a send that moves a message.
     #[serde(default, skip_serializing_if = "Option::is_none")]
     pub copies: Option<Origin>,
+    /// Of a send of a message whose delay is over: its id.
+    #[serde(default, skip_serializing_if = "Option::is_none")]
+    pub due: Option<Uuid>,
     /// Of a receive.
     #[serde(default, skip_serializing_if = "Option::is_none")]
     pub attempt: Option<AttemptId>,
@@ -68,6 +72,7 @@ impl<'a> Record<'a> {
             removed: None,
             form: None,
             copies: None,
+            due: None,
             attempt: None,
             most: None,
             own: false,
@@ -86,8 +91,9 @@ impl<'a> Record<'a> {
         match ask {
             Ask::Create { creation, .. } => record.creation = Some(creation.clone()),
             Ask::Remove { name, .. } => record.removed = name.clone(),
-            Ask::Send { form, copies, .. } => {
-                record.copies = *copies;
+            Ask::Send { form, cause, .. } => {
+                record.copies = cause.origin();
+                record.due = cause.due();
                 if let Form::Split { whole, .. } = form {
                     record.form = Some(whole.into());
                 }
@@ -157,7 +163,7 @@ impl<'a> Record<'a> {
                 group: GroupId::parse(fields.group.as_deref()?).ok()?,
                 dedup: DedupId::parse(fields.dedup.as_deref()?).ok()?,
                 form: self.form_of(fields.body?.into_owned()),
-                copies: self.copies,
+                cause: self.cause(),
             },
             Kind::Receive => Ask::Receive {
                 size: fields.size?,
@@ -171,6 +177,11 @@ impl<'a> Record<'a> {
                 Ask::Change { receipt: receipt()?, visibility: fields.visibility?, by_attempt: self.by_attempt }
             }
         })
+    }
+
+    fn cause(&self) -> Cause {
+        let moved = self.copies.map(Cause::Move);
+        moved.or(self.due.map(Cause::Due)).unwrap_or(Cause::Client)
     }
 
     fn form_of(&self, stored: String) -> Form {
@@ -197,7 +208,13 @@ mod tests {
         let (group, dedup) = (GroupId::parse("g").unwrap(), DedupId::parse("d").unwrap());
         let receipt = Receipt { sequence: 15, ordinal: 1 };
         for ask in [
-            Ask::Send { group, dedup, form, copies: Some(Origin { mark: 1, sequence: 2 }) },
+            Ask::Send {
+                group: group.clone(),
+                dedup: dedup.clone(),
+                form: form.clone(),
+                cause: Cause::Move(Origin { mark: 1, sequence: 2 }),
+            },
+            Ask::Send { group, dedup, form, cause: Cause::Due(Uuid::from_u128(7)) },
             Ask::Receive { size: 3, visibility: 9, attempt: AttemptId::parse("x").ok(), most: Some(2), own: false },
             Ask::Receive { size: 3, visibility: 0, attempt: None, most: None, own: true },
             Ask::Change { receipt, visibility: 5, by_attempt: true },

@@ -21,7 +21,7 @@ pub enum JournalError {
     InUse(String),
     #[error("{0} is no journal: it doesn't begin as one")]
     NoJournal(String),
-    #[error("{0} is a journal of version {1}, and this gateway reads versions 1 and 2")]
+    #[error("{0} is a journal of version {1}, and this gateway reads versions 1 to 3")]
     NewerVersion(String, u32),
     #[error("segment {segment} of the journal is damaged at byte {place}, and there are good commits behind it")]
     Damaged { segment: u64, place: u64 },
@@ -48,8 +48,16 @@ impl From<io::Error> for JournalError {
     }
 }
 
-/// A segment begins with these bytes.
-pub const MAGIC: &[u8] = b"hobbychair journal 2\n";
+/// A segment begins with these bytes, which name the version.
+pub const MAGIC: &[u8] = b"hobbychair journal 3\n";
+
+/// The version that a gateway writes. Version 2 has the same frames, and no records of standard queues.
+const VERSION: u32 = 3;
+const OLDEST: u32 = 2;
+
+fn oldest() -> u32 {
+    OLDEST
+}
 
 /// The rules by which the store answers, as this gateway knows them.
 const RULES: u32 = 1;
@@ -57,6 +65,9 @@ const RULES: u32 = 1;
 /// What the first frame of a segment says.
 #[derive(Clone, Debug, PartialEq, Eq, Serialize, Deserialize)]
 pub struct Head {
+    /// The version of the journal, once more: here it is under a checksum. Version 2 says nothing.
+    #[serde(default = "oldest")]
+    pub version: u32,
     /// The rules by which the store answers. Other rules would give other replies.
     pub rules: u32,
     /// How many programs share the queues, and by which hash of their names.
@@ -71,7 +82,7 @@ pub struct Head {
 
 impl Head {
     pub fn new(shards: Shards, segment: u64, from: u64, previous: u64) -> Head {
-        Head { rules: RULES, shards: shards.count(), hash: HASH.into(), segment, from, previous }
+        Head { version: VERSION, rules: RULES, shards: shards.count(), hash: HASH.into(), segment, from, previous }
     }
 
     fn is_readable(&self) -> bool {
@@ -108,14 +119,14 @@ pub struct Span {
 
 /// Reads the head of a segment and finds its last good commit. Takes time in proportion to its bytes.
 pub fn scan(segment: u64, bytes: &[u8]) -> Result<Span, JournalError> {
-    let magic = bytes.get(..MAGIC.len()).unwrap_or(bytes);
-    if magic != MAGIC {
-        return Err(not_begun(segment, magic));
-    }
+    let version = version_of(segment, bytes.get(..MAGIC.len()).unwrap_or(bytes))?;
     let place = MAGIC.len() as u64;
     let damaged = JournalError::Damaged { segment, place };
     let first = frame::read(bytes, place).ok_or(damaged.clone())?;
-    let head: Head = serde_json::from_slice(first.payload).map_err(|_| damaged)?;
+    let head: Head = serde_json::from_slice(first.payload).map_err(|_| damaged.clone())?;
+    if head.version != version {
+        return Err(damaged);
+    }
     if !head.is_readable() {
         let needed = format!("rules {RULES} and shards by {HASH}");
         return Err(JournalError::OtherRules { segment, found: head.said(), needed });
@@ -136,13 +147,21 @@ pub fn scan(segment: u64, bytes: &[u8]) -> Result<Span, JournalError> {
     }
 }
 
-fn not_begun(segment: u64, magic: &[u8]) -> JournalError {
+fn version_of(segment: u64, magic: &[u8]) -> Result<u32, JournalError> {
     let name = format!("segment {segment}");
-    let text = String::from_utf8_lossy(magic);
+    let text = std::str::from_utf8(magic).unwrap_or_default();
     let version = text.strip_prefix("hobbychair journal ").and_then(|rest| rest.trim_end().parse().ok());
     match version {
-        Some(version) if version > 2 => JournalError::NewerVersion(name, version),
-        _ => JournalError::NoJournal(name),
+        Some(version) if version > VERSION => Err(JournalError::NewerVersion(name, version)),
+        Some(version) if version >= OLDEST && text.ends_with('\n') => Ok(version),
+        _ => Err(JournalError::NoJournal(name)),
+    }
+}
+
+impl Span {
+    /// Whether records of any kind may be written to it.
+    pub fn is_of_this_version(&self) -> bool {
+        self.head.version == VERSION
     }
 }
 
@@ -263,7 +282,7 @@ pub fn rewrite<F: Folder>(
         }
     }
     let last = &spans[consumed - 1];
-    let mut bytes = Head { segment: last.segment, ..first.head.clone() }.encode()?;
+    let mut bytes = Head { version: VERSION, segment: last.segment, ..first.head.clone() }.encode()?;
     for (number, payload) in kept {
         let again = frame::encode(number, bytes.len() as u64, &payload);
         bytes.extend(again.map_err(|error| JournalError::Io(error.to_string()))?);

@@ -23,7 +23,7 @@ use crate::attributes::{Given, QueueAttributes};
 use crate::cq::{Cq, CqError};
 use crate::lines::{self, read_receipt, Fields, Kind, Output, Reply};
 use crate::messages::{read_form, AttributeValue, Form, Kept, MessageAttributes};
-use crate::queues::ask::{Ask, Change, Creation, StoreName};
+use crate::queues::ask::{Ask, Cause, Change, Creation, StoreName};
 use crate::queues::shards::Shards;
 use crate::store::ReplayError;
 use crate::texts::{hex, AttemptId, Body, DedupId, GroupId, QueueName};
@@ -271,7 +271,8 @@ impl Conversion {
                 let kept = Kept {
                     id: old_message_id(&queue.mark, queue.sends),
                     sent: clock,
-                    dedup: message.dedup,
+                    dedup: Some(message.dedup),
+                    group: None,
                     sender: None,
                     attributes: message.attributes,
                     trace: message.trace,
@@ -281,7 +282,7 @@ impl Conversion {
                 if let Form::Split { stub, whole } = &form {
                     self.split.insert(stub.clone(), whole.clone());
                 }
-                Ask::Send { group: GroupId::parse(fields.group.as_deref()?).ok()?, dedup, form, copies: None }
+                Ask::Send { group: GroupId::parse(fields.group.as_deref()?).ok()?, dedup, form, cause: Cause::Client }
             }
             Kind::Receive => {
                 let (size, visibility) = (fields.size.unwrap_or(1), fields.visibility?);

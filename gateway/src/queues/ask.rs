@@ -47,8 +47,7 @@ pub enum Ask {
         group: GroupId,
         dedup: DedupId,
         form: Form,
-        /// Which message it moves here.
-        copies: Option<Origin>,
+        cause: Cause,
     },
     Receive {
         size: u8,
@@ -59,7 +58,7 @@ pub enum Ask {
         /// The gateway asks for itself: nobody sees that the messages were handed out.
         own: bool,
     },
-    /// `by_client`: it is refused when the timeout is over. A purge deletes what is there.
+    /// `by_client`: in a FIFO queue it is refused when the timeout is over. A purge deletes what is there.
     Delete {
         receipt: Receipt,
         by_client: bool,
@@ -70,6 +69,47 @@ pub enum Ask {
         visibility: u32,
         by_attempt: bool,
     },
+}
+
+/// Why a message is sent to the store.
+#[derive(Clone, Copy, Debug, PartialEq, Eq)]
+pub enum Cause {
+    /// A client sends it.
+    Client,
+    /// It is moved here, and this is the message that it copies.
+    Move(Origin),
+    /// The delay of the message of this id is over.
+    Due(Uuid),
+}
+
+impl Cause {
+    /// Which message is moved, if one is.
+    pub fn origin(self) -> Option<Origin> {
+        match self {
+            Cause::Move(origin) => Some(origin),
+            Cause::Client | Cause::Due(_) => None,
+        }
+    }
+
+    /// Which message is due, if one is.
+    pub fn due(self) -> Option<Uuid> {
+        match self {
+            Cause::Due(id) => Some(id),
+            Cause::Client | Cause::Move(_) => None,
+        }
+    }
+}
+
+/// A delayed message of a standard queue. The store has it from when it is due on.
+#[derive(Clone, Debug, PartialEq, Eq, Serialize, Deserialize)]
+pub struct Delayed {
+    pub id: Uuid,
+    pub due: Moment,
+    /// What stands for the client's call, where that can be told from others.
+    #[serde(default, skip_serializing_if = "Option::is_none")]
+    pub call: Option<DedupId>,
+    /// Its whole form.
+    pub form: String,
 }
 
 /// What the gateway keeps of a queue that is created.
@@ -103,9 +143,12 @@ pub enum Change {
     Attributes(Given),
     Tag(BTreeMap<String, String>),
     Untag(Vec<String>),
+    /// Delayed messages of a standard queue go with this.
     Purged,
     /// How a task stands that moves messages.
     Task(MoveTask),
+    /// A message was sent with a delay.
+    Delayed(Arc<Delayed>),
 }
 
 /// A message as it is handed out.
@@ -141,6 +184,10 @@ pub enum Outcome {
     /// The sequence number and the id of the message; those of the first send where this one repeats it.
     Sent {
         sequence: u64,
+        id: Uuid,
+    },
+    /// A message with a delay is kept; the id is that of the first send where this one repeats it.
+    Delayed {
         id: Uuid,
     },
     /// `openings` counts what happened to the queue by then that can open a group.

@@ -14,6 +14,7 @@ use std::sync::{Arc, Mutex, MutexGuard, PoisonError, RwLock};
 use tokio::sync::Notify;
 
 use crate::clock::Moment;
+use crate::delays::Alarms;
 use crate::errors::SqsError;
 use crate::handles::{Handle, Mark, Receipt};
 use crate::lines::Reply;
@@ -21,7 +22,7 @@ use crate::moves::Copies;
 use crate::polling::Polls;
 use crate::retention::Jumps;
 use crate::texts::QueueName;
-use ask::{Ask, Creation, Outcome, StoreName};
+use ask::{Ask, Cause, Change, Creation, Outcome, StoreName};
 pub use state::{State, WINDOW};
 
 /// So long a name isn't free after its queue was removed, in milliseconds
@@ -76,6 +77,7 @@ pub struct Queues {
     bytes_in_use: AtomicU64,
     jumps: Jumps,
     copies: Copies,
+    alarms: Alarms,
 }
 
 impl Queues {
@@ -95,6 +97,11 @@ impl Queues {
     /// Messages that are on their way to dead-letter queues.
     pub fn copies(&self) -> &Copies {
         &self.copies
+    }
+
+    /// When delayed messages are due.
+    pub fn alarms(&self) -> &Alarms {
+        &self.alarms
     }
 
     /// All queues, in order of their names.
@@ -150,13 +157,25 @@ impl Queues {
         match ask {
             Ask::Create { .. } => self.insert(queue),
             Ask::Remove { name: Some(name), .. } => self.remove(queue, name, moment),
-            Ask::Send { copies: Some(origin), .. } => self.copies.note(*origin),
+            Ask::Send { cause: Cause::Move(origin), .. } => self.copies.note(*origin),
             _ => {}
         }
         if settled.opened {
             queue.opened.notify_one();
         }
         Ok((settled.outcome, settled.changed))
+    }
+
+    /// Takes up a change of which the store knows nothing. The second value says whether the journal has to know.
+    pub fn apply(&self, queue: &Arc<Queue>, change: &Change, moment: Moment) -> (Outcome, bool) {
+        let settled = self.counted(queue, |state| state.apply(change, moment));
+        if matches!(change, Change::Delayed(_)) {
+            self.alarms.set_next(queue);
+        }
+        if settled.opened {
+            queue.opened.notify_one();
+        }
+        (settled.outcome, settled.changed)
     }
 
     /// Does something to a queue, and counts what it takes of memory from then on.

@@ -8,7 +8,7 @@ use proptest::sample::Index;
 use proptest::test_runner::TestCaseResult;
 use uuid::Uuid;
 
-use super::ask::{Ask, Change, Creation, Outcome, StoreName};
+use super::ask::{Ask, Cause, Change, Creation, Outcome, StoreName};
 use super::State;
 use crate::attributes::{Given, QueueAttributes};
 use crate::clock::Moment;
@@ -17,7 +17,7 @@ use crate::lines::{self, Reply};
 use crate::messages::Form;
 use crate::retention::Jumps;
 use crate::seeded::check;
-use crate::texts::{DedupId, GroupId, QueueName};
+use crate::texts::{DedupId, GroupId, QueueKind, QueueName};
 
 #[derive(Clone, Debug)]
 struct Message {
@@ -102,7 +102,8 @@ struct Both {
 
 impl Both {
     fn new() -> Both {
-        let attributes = QueueAttributes::for_creation(&Given::read(&[]).unwrap()).unwrap();
+        let attributes =
+            QueueAttributes::for_creation(QueueKind::Fifo, &Given::read(QueueKind::Fifo, &[]).unwrap()).unwrap();
         let name = QueueName::parse("q.fifo").unwrap();
         let creation = Creation { name, mark: 1, attributes, tags: BTreeMap::new(), before: None };
         let now = 1_700_000_000_000;
@@ -119,7 +120,7 @@ impl Both {
         self.list.messages.insert(sequence, Message { group, sent: self.now, until: 0, count: 0 });
         let form = Form::Whole(format!("{{\"id\":\"{}\"}}\nb", Uuid::from_u128(7)));
         let (group, dedup) = (GroupId::parse(group).unwrap(), DedupId::parse("d").unwrap());
-        self.settle(&Ask::Send { group, dedup, form, copies: None }, Reply::Sent(sequence));
+        self.settle(&Ask::Send { group, dedup, form, cause: Cause::Client }, Reply::Sent(sequence));
     }
 
     /// Asks as a receive does that is to hand out only what is due.
@@ -187,7 +188,7 @@ impl Both {
             }
             Step::Delay(seconds) => {
                 self.list.delay = 1000 * u64::from(*seconds);
-                let given = Given::read(&[("DelaySeconds".into(), seconds.to_string())]).unwrap();
+                let given = Given::read(QueueKind::Fifo, &[("DelaySeconds".into(), seconds.to_string())]).unwrap();
                 self.state.apply(&Change::Attributes(given), self.now);
             }
         }

@@ -6,7 +6,7 @@ use std::sync::Arc;
 use crate::clock::Moment;
 use crate::errors::SqsError;
 use crate::limits::{Bound, MESSAGE_BYTES};
-use crate::queues::ask::Ask;
+use crate::queues::ask::{Ask, Cause, Change};
 use crate::queues::Queues;
 
 /// Where the bound is full, ages are looked at again after so many milliseconds.
@@ -38,12 +38,24 @@ impl Admission {
     /// with; they are to be given back to `answered`.
     pub fn admit(&self, ask: &Ask, now: Moment) -> Result<u64, SqsError> {
         let bytes = match ask {
-            // What is moved goes from where it was.
-            Ask::Send { copies: Some(_), .. } => return Ok(0),
-            Ask::Send { form, .. } => form.bytes() + MESSAGE_BYTES,
+            Ask::Send { form, cause: Cause::Client, .. } => form.bytes() + MESSAGE_BYTES,
+            // What is moved goes from where it was, and what is due was counted before.
+            Ask::Send { .. } => return Ok(0),
             Ask::Create { creation, .. } if creation.before.is_none() => 0,
             _ => return Ok(0),
         };
+        self.admit_bytes(bytes, now)
+    }
+
+    /// Lets a change pass that the gateway alone keeps, as `admit` does an ask.
+    pub fn admit_change(&self, change: &Change, now: Moment) -> Result<u64, SqsError> {
+        match change {
+            Change::Delayed(message) => self.admit_bytes(message.form.len() as u64 + MESSAGE_BYTES, now),
+            _ => Ok(0),
+        }
+    }
+
+    fn admit_bytes(&self, bytes: u64, now: Moment) -> Result<u64, SqsError> {
         if self.is_full(bytes, now) {
             return Err(SqsError::OverLimit("The memory for messages is full.".into()));
         }
@@ -86,7 +98,7 @@ mod tests {
             group: GroupId::parse("g").unwrap(),
             dedup: DedupId::parse("d").unwrap(),
             form: Form::Whole("x".repeat(1000)),
-            copies: None,
+            cause: Cause::Client,
         };
         let one = 1000 + MESSAGE_BYTES;
         let admission = Admission::new(Arc::default(), Some(4 * one));

@@ -33,6 +33,14 @@ struct Job {
     done: oneshot::Sender<Answers>,
 }
 
+/// What is told to a queue.
+pub enum Command {
+    /// The store does it.
+    Ask(Ask),
+    /// A change of what the gateway alone keeps.
+    Note(Change),
+}
+
 enum What {
     Ask(Ask),
     Count,
@@ -42,6 +50,15 @@ enum What {
     /// Keeps all other jobs of the queue waiting until it is let go.
     Hold,
     LetGo,
+}
+
+impl From<Command> for What {
+    fn from(command: Command) -> What {
+        match command {
+            Command::Ask(ask) => What::Ask(ask),
+            Command::Note(change) => What::Note(change),
+        }
+    }
 }
 
 pub type Answer = Result<Outcome, SqsError>;
@@ -105,6 +122,16 @@ impl Store {
     /// The answers to asks that are written one after the other, in their order.
     pub async fn ask_all(&self, queue: &Arc<Queue>, asks: Vec<Ask>) -> Vec<Answer> {
         self.perform(queue, asks.into_iter().map(What::Ask).collect(), false).await
+    }
+
+    /// The answer to one command, as that of `ask`.
+    pub async fn command(&self, queue: &Arc<Queue>, command: Command) -> Answer {
+        self.perform_one(queue, command.into()).await
+    }
+
+    /// The answers to commands that are performed one after the other, in their order.
+    pub async fn command_all(&self, queue: &Arc<Queue>, commands: Vec<Command>) -> Vec<Answer> {
+        self.perform(queue, commands.into_iter().map(What::from).collect(), false).await
     }
 
     /// How many messages of the queue are visible and how many in flight, at this moment.

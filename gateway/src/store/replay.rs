@@ -319,7 +319,9 @@ impl Replay {
     fn settle_notes(&mut self) {
         while let Some(Waiting::Note { .. }) = self.waiting.front() {
             if let Some(Waiting::Note { queue, change, clock }) = self.waiting.pop_front() {
-                queue.state().apply(&change, clock);
+                if let Some(tables) = &self.tables {
+                    tables.queues.apply(&queue, &change, clock);
+                }
             }
         }
     }

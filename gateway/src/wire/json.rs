@@ -169,7 +169,7 @@ fn to_bytes<T: Serialize>(value: &T) -> Vec<u8> {
 #[cfg(test)]
 mod tests {
     use super::*;
-    use crate::wire::requests::Message;
+    use crate::wire::requests::{Message, Sending};
     use crate::wire::responses::Sent;
 
     fn read_body(action: &str, body: &[u8]) -> Result<Request, SqsError> {
@@ -185,7 +185,7 @@ mod tests {
     #[test]
     fn a_send_is_read() {
         let Ok(Request::SendMessage { queue, message }) = read_body("SendMessage", SEND) else { panic!() };
-        let Message { body, group, dedup, attributes, trace } = message;
+        let Message { body, sending: Sending::Fifo { group, dedup }, attributes, trace } = message else { panic!() };
         assert_eq!((queue.as_str(), body.as_str(), group.as_str()), ("q.fifo", "héllo", "g"));
         assert_eq!((dedup.unwrap().as_str(), attributes["a"].data(), trace), ("d", &b"\0\xff"[..], None));
     }
@@ -220,7 +220,7 @@ mod tests {
             md5_of_body: "m".into(),
             md5_of_attributes: None,
             md5_of_system_attributes: None,
-            sequence_number: "1".into(),
+            sequence_number: Some("1".into()),
         };
         let reply = answer(&Response::Sent(sent.clone()), "r".into());
         assert_eq!(reply.body, br#"{"MessageId":"i","MD5OfMessageBody":"m","SequenceNumber":"1"}"#);

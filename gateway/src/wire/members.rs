@@ -38,6 +38,14 @@ impl<'m, 'a> Members<'m, 'a> {
         text.ok_or_else(|| SqsError::MissingParameter(name.into()))
     }
 
+    /// A text that must not be there, since queues of this kind have none.
+    pub fn absent_text(&self, name: &str) -> Result<Option<&'m str>, SqsError> {
+        match self.text(name)? {
+            Some(text) => Err(SqsError::not_of_this_kind(name, text)),
+            None => Ok(None),
+        }
+    }
+
     /// A whole number from `least` to `most`.
     pub fn number(&self, name: &str, least: i64, most: i64) -> Result<Option<u32>, SqsError> {
         let (number, shown) = match self.0.get(name) {

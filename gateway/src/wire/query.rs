@@ -416,7 +416,7 @@ fn sent_message(xml: &mut Xml, sent: &Sent) {
     xml.leaf("MD5OfMessageBody", &sent.md5_of_body);
     xml.optional("MD5OfMessageAttributes", sent.md5_of_attributes.as_ref());
     xml.optional("MD5OfMessageSystemAttributes", sent.md5_of_system_attributes.as_ref());
-    xml.leaf("SequenceNumber", &sent.sequence_number);
+    xml.optional("SequenceNumber", sent.sequence_number.as_ref());
 }
 
 fn received(xml: &mut Xml, message: &ReceivedMessage) {

@@ -11,7 +11,7 @@ use crate::errors::SqsError;
 use crate::messages::{AttributeValue, MessageAttributes};
 use crate::policy::{read_label, Permission};
 use crate::redrive::QueueArn;
-use crate::texts::{AttemptId, Body, DedupId, GroupId, QueueName};
+use crate::texts::{AttemptId, Body, DedupId, GroupId, QueueKind, QueueName};
 
 /// The actions that are done (API Reference, "Actions").
 #[derive(Clone, Copy, Debug, PartialEq, Eq, Hash)]
@@ -215,6 +215,16 @@ impl Request {
         }
     }
 
+    /// Whether it sends to a standard queue, where nothing but the call itself tells its repeats.
+    pub fn is_told_by_its_call(&self) -> bool {
+        match self {
+            Request::SendMessage { queue, .. } | Request::SendMessageBatch { queue, .. } => {
+                queue.kind() == QueueKind::Standard
+            }
+            _ => false,
+        }
+    }
+
     pub fn action(&self) -> Action {
         match self {
             Request::AddPermission { .. } => Action::AddPermission,
@@ -260,10 +270,23 @@ pub struct Change {
 #[derive(Clone, Debug, PartialEq, Eq)]
 pub struct Message {
     pub body: Body,
-    pub group: GroupId,
-    pub dedup: Option<DedupId>,
+    pub sending: Sending,
     pub attributes: MessageAttributes,
     pub trace: Option<AttributeValue>,
+}
+
+/// How a message is sent, by the kind of its queue (API Reference, SendMessage).
+#[derive(Clone, Debug, PartialEq, Eq)]
+pub enum Sending {
+    Fifo {
+        group: GroupId,
+        dedup: Option<DedupId>,
+    },
+    /// `delay` is in seconds, from 0 to 900; the queue's if it is missing.
+    Standard {
+        group: Option<GroupId>,
+        delay: Option<u32>,
+    },
 }
 
 impl Message {
@@ -285,7 +308,7 @@ pub struct Receive {
     pub shown: Shown,
 }
 
-/// A task to start. An ARN that is none of a FIFO queue is kept as none.
+/// A task to start. An ARN that is none of a queue is kept as none.
 #[derive(Clone, Debug, PartialEq, Eq)]
 pub struct StartMove {
     pub source: Option<QueueArn>,
@@ -470,7 +493,9 @@ pub fn read(action: Action, members: &Map<'_>) -> Result<Request, SqsError> {
         Action::DeleteQueue => Request::DeleteQueue { queue: queue()? },
         Action::GetCallerIdentity => Request::GetCallerIdentity,
         Action::GetQueueAttributes => {
-            Request::GetQueueAttributes { queue: queue()?, wanted: Wanted::read(&members.texts("AttributeNames")?)? }
+            let queue = queue()?;
+            let wanted = Wanted::read(queue.kind(), &members.texts("AttributeNames")?)?;
+            Request::GetQueueAttributes { queue, wanted }
         }
         Action::GetQueueUrl => Request::GetQueueUrl { queue: QueueName::parse(members.required_text("QueueName")?) },
         Action::ListDeadLetterSourceQueues => Request::ListDeadLetterSourceQueues {
@@ -489,15 +514,27 @@ pub fn read(action: Action, members: &Map<'_>) -> Result<Request, SqsError> {
             after: members.text("NextToken")?.unwrap_or_default().into(),
         },
         Action::PurgeQueue => Request::PurgeQueue { queue: queue()? },
-        Action::ReceiveMessage => Request::ReceiveMessage { queue: queue()?, receive: receive(members)? },
+        Action::ReceiveMessage => {
+            let queue = queue()?;
+            let receive = receive(queue.kind(), members)?;
+            Request::ReceiveMessage { queue, receive }
+        }
         Action::RemovePermission => {
             Request::RemovePermission { queue: queue()?, label: read_label(members.required_text("Label")?)? }
         }
-        Action::SendMessage => Request::SendMessage { queue: queue()?, message: message(members)? },
-        Action::SendMessageBatch => Request::SendMessageBatch { queue: queue()?, batch: batch(members, message)? },
+        Action::SendMessage => {
+            let queue = queue()?;
+            let message = message(queue.kind(), members)?;
+            Request::SendMessage { queue, message }
+        }
+        Action::SendMessageBatch => {
+            let queue = queue()?;
+            let batch = batch(members, |entry| message(queue.kind(), entry))?;
+            Request::SendMessageBatch { queue, batch }
+        }
         Action::SetQueueAttributes => {
             let queue = queue()?;
-            let attributes = Given::read(&members.texts_by_name("Attributes")?)?;
+            let attributes = Given::read(queue.kind(), &members.texts_by_name("Attributes")?)?;
             if attributes.is_empty() {
                 return Err(SqsError::MissingParameter("Attributes".into()));
             }
@@ -530,25 +567,19 @@ pub fn read(action: Action, members: &Map<'_>) -> Result<Request, SqsError> {
 fn create(members: Members<'_, '_>) -> Result<Request, SqsError> {
     let name = members.required_text("QueueName")?;
     let given = members.texts_by_name("Attributes")?;
-    let is_fifo = given.iter().any(|(name, value)| name == "FifoQueue" && value.eq_ignore_ascii_case("true"));
-    if !is_fifo && !name.ends_with(".fifo") {
-        let message = "Standard queues are not supported: FifoQueue must be true.";
-        return Err(SqsError::InvalidParameterValue(message.into()));
-    }
-    let queue = QueueName::parse(name).ok_or_else(QueueName::refusal)?;
-    if !is_fifo {
-        return Err(SqsError::InvalidParameterValue(
-            "The name of a queue that isn't FIFO can't end with .fifo, and FifoQueue must be true here: \
-             standard queues are not supported."
-                .into(),
-        ));
-    }
+    let says_fifo = given.iter().any(|(name, value)| name == "FifoQueue" && value.eq_ignore_ascii_case("true"));
+    let kind = if says_fifo { QueueKind::Fifo } else { QueueKind::Standard };
+    let queue = QueueName::parse(name).filter(|queue| queue.kind() == kind).ok_or_else(|| QueueName::refusal(kind))?;
     let tags = tags(members, "tags")?;
-    Ok(Request::CreateQueue { queue, attributes: Given::read(&given)?, tags })
+    Ok(Request::CreateQueue { queue, attributes: Given::read(kind, &given)?, tags })
 }
 
-fn receive(members: Members<'_, '_>) -> Result<Receive, SqsError> {
-    let attempt = members.text("ReceiveRequestAttemptId")?;
+fn receive(kind: QueueKind, members: Members<'_, '_>) -> Result<Receive, SqsError> {
+    const ATTEMPT: &str = "ReceiveRequestAttemptId";
+    let attempt = match kind {
+        QueueKind::Fifo => members.text(ATTEMPT)?,
+        QueueKind::Standard => members.absent_text(ATTEMPT)?,
+    };
     Ok(Receive {
         size: members.number("MaxNumberOfMessages", 1, 10)?.unwrap_or(1) as u8,
         visibility: members.number("VisibilityTimeout", 0, LONGEST_TIMEOUT)?,
@@ -558,23 +589,27 @@ fn receive(members: Members<'_, '_>) -> Result<Receive, SqsError> {
     })
 }
 
-fn message(members: Members<'_, '_>) -> Result<Message, SqsError> {
+fn message(kind: QueueKind, members: Members<'_, '_>) -> Result<Message, SqsError> {
     let body = Body::parse(members.required_text("MessageBody")?)?;
-    if members.number("DelaySeconds", 0, 900)?.unwrap_or(0) > 0 {
-        return Err(SqsError::InvalidParameterValue(
-            "Value for parameter DelaySeconds is invalid. Reason: The request include parameter that is not valid \
-             for this queue type."
-                .into(),
-        ));
+    let delay = members.number("DelaySeconds", 0, 900)?;
+    let sending = match kind {
+        QueueKind::Fifo => fifo_sending(delay, members)?,
+        QueueKind::Standard => standard_sending(delay, members)?,
+    };
+    Ok(Message { body, sending, attributes: members.message_attributes()?, trace: members.trace_header()? })
+}
+
+fn fifo_sending(delay: Option<u32>, members: Members<'_, '_>) -> Result<Sending, SqsError> {
+    if let Some(delay) = delay.filter(|delay| *delay > 0) {
+        return Err(SqsError::not_of_this_kind("DelaySeconds", &delay.to_string()));
     }
-    let dedup = members.text("MessageDeduplicationId")?;
-    Ok(Message {
-        body,
-        group: GroupId::parse(members.required_text("MessageGroupId")?)?,
-        dedup: dedup.map(DedupId::parse).transpose()?,
-        attributes: members.message_attributes()?,
-        trace: members.trace_header()?,
-    })
+    let dedup = members.text("MessageDeduplicationId")?.map(DedupId::parse).transpose()?;
+    Ok(Sending::Fifo { group: GroupId::parse(members.required_text("MessageGroupId")?)?, dedup })
+}
+
+fn standard_sending(delay: Option<u32>, members: Members<'_, '_>) -> Result<Sending, SqsError> {
+    members.absent_text("MessageDeduplicationId")?;
+    Ok(Sending::Standard { group: members.text("MessageGroupId")?.map(GroupId::parse).transpose()?, delay })
 }
 
 fn handle(members: Members<'_, '_>) -> Result<String, SqsError> {
@@ -600,7 +635,10 @@ fn permission(members: Members<'_, '_>) -> Result<Permission, SqsError> {
 }
 
 /// The entries, if the batch as a whole is good.
-fn batch<T>(members: Members<'_, '_>, read: fn(Members<'_, '_>) -> Result<T, SqsError>) -> Result<Batch<T>, SqsError> {
+fn batch<T>(
+    members: Members<'_, '_>,
+    read: impl Fn(Members<'_, '_>) -> Result<T, SqsError>,
+) -> Result<Batch<T>, SqsError> {
     let entries = members.entries()?;
     match entries.len() {
         0 => return Err(SqsError::EmptyBatchRequest),

@@ -53,7 +53,9 @@ pub struct Sent {
     pub md5_of_attributes: Option<String>,
     #[serde(rename = "MD5OfMessageSystemAttributes", skip_serializing_if = "Option::is_none")]
     pub md5_of_system_attributes: Option<String>,
-    pub sequence_number: String,
+    /// In a FIFO queue.
+    #[serde(skip_serializing_if = "Option::is_none")]
+    pub sequence_number: Option<String>,
 }
 
 /// A message as a receive shows it.

@@ -3,7 +3,7 @@
 use proptest::prelude::*;
 use serde::Deserialize;
 
-use super::requests::{Action, Request};
+use super::requests::{Action, Request, Sending};
 use super::responses::{ReceivedMessage, Response};
 use super::{Incoming, Protocol};
 use crate::messages::MessageAttributes;
@@ -70,15 +70,16 @@ fn what_is_read_is_what_was_asked() {
                 assert_eq!(Permission::new("l-1", texts(accounts), texts(actions)), Ok(permission));
             }
             Request::SendMessage { message, .. } => {
-                assert_eq!((message.body.as_str(), message.group.as_str()), (text, "g!1"));
-                assert_eq!(message.dedup.unwrap().as_str(), "d~1");
+                let Sending::Fifo { group, dedup } = message.sending else { panic!() };
+                assert_eq!((message.body.as_str(), group.as_str()), (text, "g!1"));
+                assert_eq!(dedup.unwrap().as_str(), "d~1");
                 assert_eq!(message.attributes.keys().collect::<Vec<_>>(), ["bytes", "color", "count"]);
                 assert_eq!(message.attributes["color"].text(), Some("blue & green"));
                 assert!(message.trace.unwrap().text().unwrap().starts_with("Root=1-"));
             }
             Request::SendMessageBatch { batch, .. } => {
                 assert_eq!(batch.iter().map(|(id, _)| id.as_str()).collect::<Vec<_>>(), ["1", "2-_"]);
-                assert_eq!(batch[1].1.as_ref().unwrap().dedup, None);
+                assert!(matches!(batch[1].1.as_ref().unwrap().sending, Sending::Fifo { dedup: None, .. }));
             }
             Request::ReceiveMessage { receive, .. } => {
                 assert_eq!((receive.size, receive.visibility, receive.wait), (10, Some(0), Some(20)));

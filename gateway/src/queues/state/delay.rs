@@ -1,9 +1,15 @@
-//! Delays of a whole queue: which messages are due.
+//! Delays: which messages are due.
+
+use std::sync::Arc;
+
+use uuid::Uuid;
 
 use super::message::Message;
 use super::State;
 use crate::clock::Moment;
+use crate::queues::ask::Delayed;
 use crate::queues::groups::{Groups, Standing};
+use crate::texts::QueueKind;
 
 impl State {
     pub(super) fn set_delay(&mut self, delay: u64) {
@@ -24,7 +30,7 @@ impl State {
         self.open();
     }
 
-    /// Whether the queue delays its messages.
+    /// Whether all messages of the queue are delayed, as in a FIFO queue.
     pub fn has_delay(&self) -> bool {
         self.delay > 0
     }
@@ -51,7 +57,39 @@ impl State {
         self.due + 1
     }
 
-    /// How many messages are neither due nor in flight. Takes time in proportion to those that aren't due.
+    /// The first messages of a standard queue whose delay is over and that the store doesn't have, at most so many.
+    pub fn delayed_and_due(&self, now: Moment, most: usize) -> Vec<Arc<Delayed>> {
+        self.delayed.due(now, most)
+    }
+
+    /// When somebody has to look for messages that are due, if nobody does by then.
+    pub fn next_alarm(&mut self) -> Option<Moment> {
+        self.delayed.next_alarm()
+    }
+
+    /// An alarm has come.
+    pub fn forget_alarm(&mut self) {
+        self.delayed.forget_alarm();
+    }
+
+    /// Whether this message was sent to a standard queue with a delay, and the store doesn't have it.
+    pub fn is_delayed(&self, id: Uuid) -> bool {
+        self.delayed.has(id)
+    }
+
+    /// How many messages are visible, in flight and delayed, by the counts of the store. Takes time in proportion to
+    /// those that aren't due.
+    pub fn counts(&mut self, visible: u64, in_flight: u64, now: Moment) -> [u64; 3] {
+        match self.kind {
+            QueueKind::Fifo => {
+                let delayed = self.count_delayed(now).min(visible);
+                [visible - delayed, in_flight, delayed]
+            }
+            QueueKind::Standard => [visible, in_flight, self.delayed.count() as u64],
+        }
+    }
+
+    /// How many messages of the store are neither due nor in flight. Takes time in proportion to those that aren't due.
     pub fn count_delayed(&mut self, now: Moment) -> u64 {
         let first = self.first_delayed(now);
         let delayed = (first..=self.last_sequence).filter_map(|sequence| self.messages.get(&sequence));

@@ -3,6 +3,7 @@
 mod age;
 mod attempts;
 mod delay;
+mod delayed;
 mod message;
 mod receipts;
 #[cfg(test)]
@@ -10,10 +11,11 @@ mod tests;
 
 use std::cmp::Reverse;
 use std::collections::{BTreeMap, BinaryHeap, HashMap, VecDeque};
+use std::sync::Arc;
 
 use uuid::Uuid;
 
-use super::ask::{Ask, Before, Change, Creation, Fate, Handed, Outcome, StoreName};
+use super::ask::{Ask, Before, Cause, Change, Creation, Delayed, Fate, Handed, Outcome, StoreName};
 use super::groups::{Group, Groups};
 use crate::attributes::QueueAttributes;
 use crate::clock::Moment;
@@ -21,16 +23,20 @@ use crate::errors::SqsError;
 use crate::handles::Receipt;
 use crate::limits::{ID_BYTES, MESSAGE_BYTES};
 use crate::lines::{read_receipt, Given, Reply};
-use crate::messages::{id_of_form, Form};
+use crate::messages::{Form, Head};
 use crate::move_tasks::{self, MoveTask, Status};
 use crate::redrive::RedrivePolicy;
 use crate::retention::Jumps;
-use crate::texts::{AttemptId, GroupId};
+use crate::texts::{AttemptId, GroupId, QueueKind};
 use attempts::{Attempt, Attempts};
+use delayed::DelayedMessages;
 use message::{Handing, Message};
 
 /// So long a deduplication id counts, in milliseconds. A repeated attempt id is given the same messages as long.
 pub const WINDOW: u64 = 300_000;
+
+/// The most messages of a standard queue that are in flight at once.
+const MOST_IN_FLIGHT: usize = 120_000;
 
 /// What all messages of a receive have in common.
 struct Receiving {
@@ -47,6 +53,7 @@ struct Receiving {
 /// What is known of one incarnation of a queue.
 #[derive(Debug)]
 pub struct State {
+    kind: QueueKind,
     pub store: StoreName,
     /// The store counts from the message behind this one.
     pub base: u64,
@@ -76,10 +83,12 @@ pub struct State {
     oldest: u64,
     /// What the attributes say of dead letters.
     redrive: Option<RedrivePolicy>,
-    /// So long messages are delayed, in milliseconds.
+    /// So long all messages of a FIFO queue are delayed, in milliseconds.
     delay: u64,
-    /// Of a queue that delays its messages.
+    /// Of a FIFO queue that delays its messages.
     groups: Option<Groups>,
+    /// Of a standard queue.
+    delayed: DelayedMessages,
     /// All messages up to this one are due.
     due: u64,
     /// How many openings there were at a sweep that found nothing to delete, and when the next timeout ended.
@@ -117,8 +126,10 @@ impl State {
     pub fn new(store: StoreName, creation: &Creation, now: Moment) -> State {
         let fresh = Before { base: 0, created: now, modified: now, purged: None, tasks: Vec::new() };
         let before = creation.before.clone().unwrap_or(fresh);
-        let delay = creation.attributes.delay();
+        let kind = creation.name.kind();
+        let delay = delay_of_all(kind, &creation.attributes);
         State {
+            kind,
             store,
             base: before.base,
             attributes: creation.attributes.clone(),
@@ -142,6 +153,7 @@ impl State {
             redrive: creation.attributes.redrive(),
             delay,
             groups: (delay > 0).then(Groups::default),
+            delayed: DelayedMessages::default(),
             due: 0,
             vain_sweep: None,
         }
@@ -161,7 +173,13 @@ impl State {
                 Ok(Settled::done(false))
             }
             (Ask::Remove { .. }, Reply::Removed) => Ok(Settled::done(true)),
-            (Ask::Send { group, form, .. }, Reply::Sent(place)) => self.sent(group, form, place, moment),
+            (Ask::Send { group, form, cause, .. }, Reply::Sent(place)) => {
+                let settled = self.sent(group, form, place, moment)?;
+                if let Cause::Due(id) = cause {
+                    self.delayed.remove(*id);
+                }
+                Ok(settled)
+            }
             (Ask::Receive { visibility, attempt, most, own, .. }, Reply::Received(given)) => {
                 let until = moment + 1000 * u64::from(*visibility);
                 let (horizon, due) = (self.horizon(jumps, moment), moment.checked_sub(self.delay));
@@ -189,7 +207,12 @@ impl State {
         if sequence != self.last_sequence + 1 {
             return Err(misfit());
         }
-        let id = id_of_form(form.stored()).ok_or_else(misfit)?;
+        let Head { id, sent } = Head::of_form(form.whole()).ok_or_else(misfit)?;
+        let sent = match self.kind {
+            QueueKind::Fifo => moment,
+            // It may have been delayed, or be moved with the age that it has.
+            QueueKind::Standard => sent.map_or(moment, |sent| sent.min(moment)),
+        };
         self.remember(moment, id);
         self.last_sequence = sequence;
         self.last_send = moment;
@@ -203,8 +226,7 @@ impl State {
         if let Some(groups) = &mut self.groups {
             groups.add(group, sequence, 0);
         }
-        let message =
-            Message { sent: moment, group, last: None, own: 0, own_since: 0, is_own: false, until: 0, form, bytes };
+        let message = Message { sent, group, last: None, own: 0, own_since: 0, is_own: false, until: 0, form, bytes };
         self.messages.insert(sequence, message);
         self.open();
         Ok(Settled { outcome: Outcome::Sent { sequence, id }, changed: true, opened: true })
@@ -326,18 +348,34 @@ impl State {
     }
 
     /// Takes up a change of which the store knows nothing.
-    pub fn apply(&mut self, change: &Change, moment: Moment) {
+    pub fn apply(&mut self, change: &Change, moment: Moment) -> Settled {
         match change {
+            Change::Delayed(message) => return self.delay_message(message, moment),
             Change::Attributes(given) => {
                 self.attributes.set(given);
                 self.redrive = self.attributes.redrive();
-                self.set_delay(self.attributes.delay());
+                self.set_delay(delay_of_all(self.kind, &self.attributes));
                 self.modified = moment;
             }
             Change::Tag(tags) => self.tags.extend(tags.clone()),
             Change::Untag(keys) => self.tags.retain(|key, _| !keys.contains(key)),
-            Change::Purged => self.purged = Some(moment),
+            Change::Purged => {
+                self.purged = Some(moment);
+                self.delayed.clear();
+            }
             Change::Task(task) => move_tasks::note(&mut self.tasks, task),
+        }
+        // What was delayed may be due by other attributes.
+        Settled::done(matches!(change, Change::Attributes(_)))
+    }
+
+    fn delay_message(&mut self, message: &Arc<Delayed>, moment: Moment) -> Settled {
+        match self.delayed.add(message, moment) {
+            Some(first) => Settled::unchanged(Outcome::Delayed { id: first }),
+            None => {
+                self.last_send = moment;
+                Settled { outcome: Outcome::Delayed { id: message.id }, changed: true, opened: false }
+            }
         }
     }
 
@@ -348,6 +386,19 @@ impl State {
             let current = self.ends.drain().filter(|Reverse((until, sequence))| is_end(messages, *until, *sequence));
             self.ends = current.collect();
         }
+    }
+
+    /// Whether so many messages are in flight that none may be added (Developer Guide, "Amazon SQS message quotas"). Of
+    /// a FIFO queue nobody is told so.
+    pub fn has_most_in_flight(&mut self, now: Moment) -> bool {
+        if self.kind == QueueKind::Fifo || self.ends.len() < MOST_IN_FLIGHT {
+            return false;
+        }
+        let messages = &self.messages;
+        let is_current =
+            |Reverse((until, sequence)): &Reverse<(Moment, u64)>| *until > now && is_end(messages, *until, *sequence);
+        self.ends = self.ends.drain().filter(is_current).collect();
+        self.ends.len() >= MOST_IN_FLIGHT
     }
 
     /// The first end of a timeout that is still to come.
@@ -365,6 +416,7 @@ impl State {
     pub fn look_at_ages(&mut self, now: Moment) {
         self.count_old(now);
         self.attempts.forget_old(now);
+        self.delayed.forget_old_calls(now);
     }
 
     /// What the queue takes of memory, in bytes: forms, and estimates for messages and ids that outlive theirs.
@@ -373,7 +425,7 @@ impl State {
             return 0;
         }
         let messages = MESSAGE_BYTES * self.messages.len() as u64;
-        self.form_bytes + self.attempts.bytes() + messages + ID_BYTES * self.left_ids
+        self.form_bytes + self.attempts.bytes() + self.delayed.bytes() + messages + ID_BYTES * self.left_ids
     }
 
     /// What the attempt was given, if that is still all in the hands of who asked
@@ -409,7 +461,7 @@ impl State {
 
     /// Whether the queue is empty and remembers no deduplication id.
     pub fn is_at_rest(&self, now: Moment) -> bool {
-        self.messages.is_empty() && self.last_send + WINDOW <= now
+        self.messages.is_empty() && self.delayed.count() == 0 && self.last_send + WINDOW <= now
     }
 
     /// Goes over to another name of the store, which counts from 1 again.
@@ -423,6 +475,15 @@ impl State {
         self.groups = (self.delay > 0).then(Groups::default);
         self.form_bytes = 0;
         self.ends = BinaryHeap::new();
+    }
+}
+
+/// So long all messages of a queue are delayed, in milliseconds. In a standard queue each has the delay of its own send
+/// (Developer Guide, "Amazon SQS delay queues").
+fn delay_of_all(kind: QueueKind, attributes: &QueueAttributes) -> u64 {
+    match kind {
+        QueueKind::Fifo => attributes.delay(),
+        QueueKind::Standard => 0,
     }
 }
 

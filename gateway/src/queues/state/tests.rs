@@ -6,21 +6,21 @@ use crate::handles::Handle;
 use crate::texts::{DedupId, QueueName};
 
 fn state() -> State {
-    let creation = Creation {
-        name: QueueName::parse("q.fifo").unwrap(),
-        mark: 1,
-        attributes: QueueAttributes::for_creation(&Given::read(&[]).unwrap()).unwrap(),
-        tags: BTreeMap::new(),
-        before: None,
-    };
-    State::new(StoreName(1), &creation, 0)
+    state_of("q.fifo")
+}
+
+fn state_of(name: &str) -> State {
+    let name = QueueName::parse(name).unwrap();
+    let given = Given::read(name.kind(), &[]).unwrap();
+    let attributes = QueueAttributes::for_creation(name.kind(), &given).unwrap();
+    State::new(StoreName(1), &Creation { name, mark: 1, attributes, tags: BTreeMap::new(), before: None }, 0)
 }
 
 fn send(state: &mut State, place: u64, moment: Moment) {
     let form = Form::Whole(format!("{{\"id\":\"{}\"}}\nbody", Uuid::from_u128(7)));
     let (group, dedup) = (GroupId::parse("g").unwrap(), DedupId::parse("d").unwrap());
     state
-        .settle(&Ask::Send { group, dedup, form, copies: None }, Reply::Sent(place), moment, &Jumps::default())
+        .settle(&Ask::Send { group, dedup, form, cause: Cause::Client }, Reply::Sent(place), moment, &Jumps::default())
         .unwrap();
 }
 
@@ -111,4 +111,61 @@ fn what_is_too_old_is_set_aside() {
     assert!(state.has_old(&Jumps::default(), 1000 + four_days));
     let (handed, set_aside) = receive(&mut state, 2, false, 1000 + four_days);
     assert_eq!((handed.len(), set_aside[0].1), (0, Fate::Old));
+}
+
+fn form(id: u128, sent: Moment) -> Form {
+    Form::Whole(format!("{{\"id\":\"{}\",\"sent\":{sent}}}\nbody", Uuid::from_u128(id)))
+}
+
+fn send_standard(state: &mut State, place: u64, sent: Moment, cause: Cause, moment: Moment) -> Outcome {
+    let id = Uuid::from_u128(u128::from(place));
+    let (group, dedup) = (GroupId::of_message(id), DedupId::of_message(id));
+    let ask = Ask::Send { group, dedup, form: form(u128::from(place), sent), cause };
+    state.settle(&ask, Reply::Sent(place), moment, &Jumps::default()).unwrap().outcome
+}
+
+fn delay(state: &mut State, id: u128, due: Moment, moment: Moment) -> bool {
+    let form = form(id, moment).into_whole();
+    let message = Delayed { id: Uuid::from_u128(id), due, call: None, form };
+    state.apply(&Change::Delayed(Arc::new(message)), moment).changed
+}
+
+#[test]
+fn a_delayed_message_is_as_old_as_its_send() {
+    let mut state = state_of("standard");
+    assert!(delay(&mut state, 1, 5000, 1000) && delay(&mut state, 2, 6000, 1000));
+    let delayed = state.bytes_in_use();
+    assert_eq!((state.counts(7, 8, 1000), state.is_at_rest(WINDOW + 5000)), ([7, 8, 2], false));
+    let due = |state: &State, now| state.delayed_and_due(now, 9).len();
+    assert_eq!((due(&state, 4999), due(&state, 5000), due(&state, 6000)), (0, 1, 2));
+    let id = Uuid::from_u128(1);
+    assert!(matches!(send_standard(&mut state, 1, 1000, Cause::Due(id), 5001), Outcome::Sent { .. }));
+    assert!(!state.is_delayed(id) && state.bytes_in_use() == delayed);
+    let four_days = 345_600_000;
+    assert!(state.has_old(&Jumps::default(), 1000 + four_days) && !state.has_old(&Jumps::default(), 999 + four_days));
+    state.apply(&Change::Purged, 5500);
+    assert_eq!((due(&state, 6000), state.counts(1, 0, 6000)), (0, [1, 0, 0]));
+    assert!(state.bytes_in_use() < delayed);
+}
+
+fn given(places: std::ops::RangeInclusive<u64>) -> Reply {
+    let given = |place| crate::lines::Given { group: "g".into(), receipt: format!("1-{place}-1"), body: "b".into() };
+    Reply::Received(places.map(given).collect())
+}
+
+#[test]
+fn a_standard_queue_has_120_000_messages_in_flight_and_a_fifo_queue_more() {
+    let most = MOST_IN_FLIGHT as u64;
+    let ask = Ask::Receive { size: 1, visibility: 5, attempt: None, most: None, own: false };
+    for (name, is_bounded) in [("standard", true), ("q.fifo", false)] {
+        let mut state = state_of(name);
+        (1..=most).for_each(|place| drop(send_standard(&mut state, place, 0, Cause::Client, 0)));
+        state.settle(&ask, given(1..=most - 1), 1000, &Jumps::default()).unwrap();
+        assert!(!state.has_most_in_flight(1000));
+        state.settle(&ask, given(most..=most), 2000, &Jumps::default()).unwrap();
+        assert_eq!((state.has_most_in_flight(2000), state.has_most_in_flight(5999)), (is_bounded, is_bounded));
+        delete(&mut state, 1, 5999);
+        assert!(!state.has_most_in_flight(5999));
+        assert_eq!((state.next_end(5999), state.next_end(6000)), (Some(6000), Some(7000)));
+    }
 }

@@ -7,7 +7,7 @@ use super::{Ended, Task};
 use crate::errors::SqsError;
 use crate::journal::Record;
 use crate::lines::{self, Output, Reply};
-use crate::queues::ask::{Ask, Change, Outcome};
+use crate::queues::ask::{Ask, Outcome};
 use crate::store::{Answer, Answers};
 
 impl Task {
@@ -126,25 +126,24 @@ impl Task {
     }
 
     fn note(&mut self, noted: &Noted) -> Result<Answer, Ended> {
-        let Noted { queue, change, room } = noted;
+        let Noted { queue, change, room, weight } = noted;
+        self.admission.answered(*weight);
         if let Some(journal) = &self.journal {
             journal.give_back(*room);
         }
         let moment = self.clock.now();
-        let store = {
-            let mut state = queue.state();
-            if state.removed {
-                return Ok(Err(SqsError::QueueDoesNotExist));
-            }
-            state.apply(change, moment);
-            state.store
+        let (store, removed) = {
+            let state = queue.state();
+            (state.store, state.removed)
         };
-        // What was delayed may be due by other attributes.
-        if matches!(change, Change::Attributes(_)) {
-            queue.opened.notify_one();
+        if removed {
+            return Ok(Err(SqsError::QueueDoesNotExist));
         }
-        self.keep(|| Record::of_note(moment, store, change))?;
-        Ok(Ok(Outcome::Done))
+        let (outcome, changed) = self.queues.apply(queue, change, moment);
+        if changed {
+            self.keep(|| Record::of_note(moment, store, change))?;
+        }
+        Ok(Ok(outcome))
     }
 
     fn finish(&mut self, answer: Answer, done: Option<oneshot::Sender<Answers>>) {

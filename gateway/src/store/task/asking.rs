@@ -4,16 +4,17 @@ use std::sync::Arc;
 
 use serde_json::value::RawValue;
 
-use super::entries::{Asked, Asking, Entry, Noted, Open, Pending};
-use super::room::{bytes_of, need_of, need_of_note};
+use super::entries::{Asked, Asking, Entry, Noted, Open, Pending, Unnoted};
+use super::room::{bytes_of, bytes_of_note, need_of, need_of_note};
 use super::{Ended, Task, PIECE};
 use crate::clock::Moment;
 use crate::errors::SqsError;
 use crate::handles::Receipt;
 use crate::lines::{self, Fields};
-use crate::queues::ask::{Ask, Change, Outcome};
+use crate::queues::ask::{Ask, Cause, Change, Outcome};
 use crate::queues::{Queue, State};
 use crate::store::{Answer, What};
+use crate::texts::QueueKind;
 
 impl Task {
     /// Writes what waits, as long as there are free clients.
@@ -37,15 +38,15 @@ impl Task {
                     }
                 },
                 (Some(queue), Some(What::Count)) => self.count(queue)?,
-                (Some(queue), Some(What::Note(change))) => match self.room_of_note(&change) {
-                    Ok(Some(room)) => Entry::Noted(Noted { queue, change, room }),
-                    Ok(None) => {
+                (Some(queue), Some(What::Note(change))) => match self.note_with_room(queue, change) {
+                    Ok(noted) => Entry::Noted(noted),
+                    Err(Unnoted::LacksRoom(queue, change)) => {
                         let what = Some(What::Note(change));
                         self.pending.push_front(Pending { queue: Some(queue), what, done });
                         self.lacks_room = true;
                         break;
                     }
-                    Err(error) => Entry::Ready(Some(Err(error))),
+                    Err(Unnoted::Refused(error)) => Entry::Ready(Some(Err(error))),
                 },
                 (Some(_), Some(What::Hold | What::LetGo)) => Entry::Ready(Some(Ok(Outcome::Done))),
                 (_, Some(What::Moment)) => self.moment()?,
@@ -65,8 +66,12 @@ impl Task {
         if let Some(answer) = answer_about_earlier(&ask, base) {
             return ready(answer);
         }
+        if is_of_no_use(&ask, &queue) {
+            return ready(Ok(Outcome::Done));
+        }
         let moment = self.clock.now();
-        if let Ask::Delete { receipt, by_client: true } = ask {
+        if let (Ask::Delete { receipt, by_client: true }, QueueKind::Fifo) = (&ask, queue.name.kind()) {
+            let receipt = *receipt;
             let has_expired = queue.state().has_expired(receipt, moment);
             if self.is_decided_by_others(&queue, receipt, has_expired) {
                 return Ok(Asking::WaitsForAnswer(queue, ask));
@@ -155,11 +160,26 @@ impl Task {
         (has_expired || self.open_changes > 0) && self.open.iter().any(is_of_message)
     }
 
-    /// Sets space of the journal aside for a change; none where it must be asked for first.
-    fn room_of_note(&self, change: &Change) -> Result<Option<u64>, SqsError> {
-        let Some(journal) = &self.journal else { return Ok(Some(0)) };
-        let bytes = serde_json::to_vec(change).map_or(0, |bytes| bytes.len()) + 512;
-        journal.set_aside(need_of_note(change), bytes as u64)
+    /// Sets space of the journal and memory aside for a change.
+    fn note_with_room(&self, queue: Arc<Queue>, change: Change) -> Result<Noted, Unnoted> {
+        let weight = self.admission.admit_change(&change, self.clock.now()).map_err(Unnoted::Refused)?;
+        let room = match &self.journal {
+            None => Ok(Some(0)),
+            Some(journal) => journal.set_aside(need_of_note(&change), bytes_of_note(&change)),
+        };
+        if let Ok(Some(room)) = room {
+            return Ok(Noted { queue, change, room, weight });
+        }
+        self.admission.answered(weight);
+        Err(room.err().map_or(Unnoted::LacksRoom(queue, change), Unnoted::Refused))
+    }
+}
+
+/// Whether this is the send of a due message that the store has by now, or that a purge has taken.
+fn is_of_no_use(ask: &Ask, queue: &Queue) -> bool {
+    match ask {
+        Ask::Send { cause: Cause::Due(id), .. } => !queue.state().is_delayed(*id),
+        _ => false,
     }
 }
 

@@ -6,6 +6,7 @@ use serde_json::value::RawValue;
 use tokio::sync::oneshot;
 
 use crate::clock::Moment;
+use crate::errors::SqsError;
 use crate::queues::ask::{Ask, Change};
 use crate::queues::Queue;
 use crate::store::{Answer, Answers, What};
@@ -35,6 +36,8 @@ pub(super) struct Noted {
     pub(super) change: Change,
     /// Bytes that were set aside for its record.
     pub(super) room: u64,
+    /// Bytes of memory that it was counted with.
+    pub(super) weight: u64,
 }
 
 pub(super) struct Asked {
@@ -58,6 +61,13 @@ pub(super) enum Asking {
     LacksRoom(Arc<Queue>, Ask),
     /// What is to be answered is decided by something that isn't answered yet.
     WaitsForAnswer(Arc<Queue>, Ask),
+}
+
+/// Why a change isn't noted.
+pub(super) enum Unnoted {
+    /// The journal has to find space first.
+    LacksRoom(Arc<Queue>, Change),
+    Refused(SqsError),
 }
 
 /// What waits until there is a free client.

@@ -4,14 +4,14 @@ use serde_json::value::RawValue;
 
 use crate::journal::Need;
 use crate::messages::Form;
-use crate::queues::ask::{Ask, Change};
+use crate::queues::ask::{Ask, Cause, Change};
 
 pub(super) fn need_of(ask: &Ask) -> Need {
     match ask {
         // A queue goes over to another name so that records can go.
         Ask::Create { creation, .. } if creation.before.is_some() => Need::Less,
-        Ask::Send { copies: Some(_), .. } | Ask::Receive { own: false, .. } | Ask::Change { .. } => Need::Same,
-        Ask::Create { .. } | Ask::Send { .. } => Need::More,
+        Ask::Create { .. } | Ask::Send { cause: Cause::Client, .. } => Need::More,
+        Ask::Send { .. } | Ask::Receive { own: false, .. } | Ask::Change { .. } => Need::Same,
         // What the gateway is handed itself, it deletes or gives back.
         Ask::Receive { .. } | Ask::Delete { .. } | Ask::Remove { .. } => Need::Less,
     }
@@ -19,6 +19,7 @@ pub(super) fn need_of(ask: &Ask) -> Need {
 
 pub(super) fn need_of_note(change: &Change) -> Need {
     match change {
+        Change::Delayed(_) => Need::More,
         Change::Attributes(_) | Change::Tag(_) | Change::Task(_) => Need::Same,
         Change::Untag(_) | Change::Purged => Need::Less,
     }
@@ -32,6 +33,15 @@ pub(super) fn bytes_of(ask: &Ask, raw: &RawValue) -> u64 {
         _ => 0,
     };
     (raw.get().len() + beside + 512) as u64
+}
+
+/// What the record of a change takes at most.
+pub(super) fn bytes_of_note(change: &Change) -> u64 {
+    let bytes = match change {
+        Change::Delayed(message) => length_in_json(&message.form),
+        _ => serde_json::to_vec(change).map_or(0, |bytes| bytes.len()),
+    };
+    (bytes + 512) as u64
 }
 
 /// How many bytes a text has in JSON, without its quotes.
