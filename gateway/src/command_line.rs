@@ -5,7 +5,8 @@ use std::os::unix::fs::PermissionsExt;
 use std::path::{Path, PathBuf};
 
 use anyhow::{anyhow, Result};
-use clap::{Parser, Subcommand};
+use clap::{CommandFactory, Parser, Subcommand};
+use clap_complete::Shell;
 
 use crate::config::{Log, LogForm, LogLevel, Misuse, Options};
 use crate::inspect;
@@ -14,7 +15,7 @@ use crate::serve::serve;
 /// The variable that names the program cq.
 const PROGRAM: &str = "HOBBYCHAIR_CQ";
 
-/// The protocol of Amazon SQS in front of cq, which keeps FIFO queues.
+/// The protocol of Amazon SQS in front of cq, which keeps the queues.
 #[derive(Parser)]
 #[command(name = "hobbychair", version, arg_required_else_help = true)]
 struct CommandLine {
@@ -35,6 +36,11 @@ enum Command {
     Verify {
         /// The journal, as serve is given it
         file: PathBuf,
+    },
+    /// Write the completions of this command line for a shell
+    Completions {
+        /// The shell
+        shell: Shell,
     },
 }
 
@@ -64,6 +70,9 @@ fn run(command: Command) -> Result<()> {
         Command::Serve(options) => serve_by(*options)?,
         Command::Dump { file } => inspect::dump(&file, &mut out)?,
         Command::Verify { file } => inspect::verify(&file, &mut out)?,
+        Command::Completions { shell } => {
+            clap_complete::generate(shell, &mut CommandLine::command(), "hobbychair", &mut out);
+        }
     }
     Ok(out.flush()?)
 }

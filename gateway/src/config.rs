@@ -419,6 +419,21 @@ mod tests {
     }
 
     #[test]
+    fn the_example_is_read_with_each_of_its_lines() {
+        let example = include_str!("../../packaging/hobbychair.toml");
+        assert!(toml::from_str::<Options>(example).unwrap().queue.is_empty());
+        let whole: Vec<_> = example
+            .lines()
+            .map(|line| line.strip_prefix('#').filter(|rest| !rest.starts_with(' ')).unwrap_or(line))
+            .collect();
+        let options: Options = toml::from_str(&whole.join("\n")).unwrap();
+        assert_eq!(options.queue.len(), 1);
+        let unit = Options { journal: Some("journal".into()), ..Options::default() };
+        let settings = settings(unit.or(options)).unwrap();
+        assert_eq!((settings.host.as_str(), settings.port), ("127.0.0.1", 9324));
+    }
+
+    #[test]
     fn what_cannot_be_meant_is_refused() {
         for bad in ["prot = 1", "port = 70000", "memory = \"1MB\"", "log = \"xml\"", "[[queue]]\nnames = \"a\""] {
             assert!(toml::from_str::<Options>(bad).is_err(), "{bad}");

@@ -33,6 +33,19 @@ def test_help_names_the_commands():
     assert "--journal" in run("serve", "--help").stdout
 
 
+@pytest.mark.parametrize("shell", ["bash", "zsh", "fish"])
+def test_completions_know_commands_and_options(shell):
+    ended = run("completions", shell)
+    assert ended.returncode == 0 and ended.stderr == ""
+    assert all(word in ended.stdout for word in ("serve", "verify", "journal-size"))
+
+
+def test_both_programs_have_one_version():
+    version = run("--version").stdout.split()[1]
+    told = subprocess.run([environment()["HOBBYCHAIR_CQ"], "--version"], capture_output=True, text=True, timeout=60)
+    assert told.stdout == f"cq {version}\n"
+
+
 def test_a_missing_program_is_told():
     for words, variables in ([["--cq", "/nowhere/cq"], {}], [[], {"HOBBYCHAIR_CQ": "/nowhere/cq"}]):
         ended = run("--port", "0", *words, **variables)
