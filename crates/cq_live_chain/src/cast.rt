@@ -72,6 +72,24 @@ fn client_of<'a>(
     Ok(ClientNode::new(alloc, id, asks, links, flags))
 }
 
+/// The nodes of both clients.
+fn clients_of<'a>(
+    alloc: Global,
+    steps: &[LiveStep],
+    first: ClientPorts<Message>,
+    second: ClientPorts<Message>,
+    flags: &'a Flags,
+) -> Result<(Client<'a>, Client<'a>), NoMemory>
+    requires first { IsClientFit first }
+    requires second { IsClientFit second }
+    ensures first { IfOk result (λ nodes. nodes.0 ≡ client_held 1 (asks_of 1 steps.now) first.outs.items first.ins.items []) }
+    ensures second { IfOk result (λ nodes. nodes.1 ≡ client_held 2 (asks_of 2 steps.now) second.outs.items second.ins.items []) }
+{
+    let first = client_of(alloc, 1, steps, first, flags)?;
+    let second = client_of(alloc, 2, steps, second, flags)?;
+    Ok((first, second))
+}
+
 /// The nodes of a run of these steps with so many servers, over ends that nobody used. `joins` are those of the steps.
 pub(crate) fn cast_of<'a>(
     alloc: Global,
@@ -95,8 +113,7 @@ pub(crate) fn cast_of<'a>(
     } = clients;
     let (own, master) = master_of(alloc, size, joins, ports.remove(0), flags)?;
     let servers = servers_of(alloc, size, roles, ports, servers, flags)?;
-    let first = client_of(alloc, 1, steps, first, flags)?;
-    let second = client_of(alloc, 2, steps, second, flags)?;
+    let (first, second) = clients_of(alloc, steps, first, second, flags)?;
     Ok(Cast {
         own,
         master,
