@@ -10,7 +10,7 @@ mod receipts;
 mod tests;
 
 use std::cmp::Reverse;
-use std::collections::{BTreeMap, BinaryHeap, HashMap, VecDeque};
+use std::collections::{BTreeMap, BinaryHeap, HashMap, HashSet, VecDeque};
 use std::sync::Arc;
 
 use uuid::Uuid;
@@ -397,7 +397,9 @@ impl State {
         let messages = &self.messages;
         let is_current =
             |Reverse((until, sequence)): &Reverse<(Moment, u64)>| *until > now && is_end(messages, *until, *sequence);
-        self.ends = self.ends.drain().filter(is_current).collect();
+        // A timeout that is changed to the same end again has another entry.
+        let current: HashSet<_> = self.ends.drain().filter(is_current).collect();
+        self.ends = current.into_iter().collect();
         self.ends.len() >= MOST_IN_FLIGHT
     }
 
