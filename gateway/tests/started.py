@@ -97,6 +97,12 @@ class Started:
         return boto3_client(self.url)
 
 
+def children(gateway: Started) -> list[int]:
+    """The programs, by their places. Each thread has a list of the children that it started."""
+    lists = list(Path(f"/proc/{gateway.process.pid}/task").glob("*/children"))
+    return sorted(int(child) for child in " ".join(one.read_text() for one in lists).split())
+
+
 def boto3_client(url: str | None, **more: Any):
     return boto3.client(
         "sqs",

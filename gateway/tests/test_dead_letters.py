@@ -9,14 +9,13 @@ import signal
 import threading
 import time
 import zlib
-from pathlib import Path
 
 import boto3
 import pytest
 from botocore.config import Config
 
 from conftest import Rules, new_name
-from started import ByBoto3, ByJson, Refused, Started
+from started import ByBoto3, ByJson, Refused, Started, children
 
 KILLS = max(20, int(os.environ.get("HOBBYCHAIR_TEST_KILLS", "50")))
 CLIENTS = 6
@@ -344,12 +343,6 @@ def names_of_two_programs() -> tuple[str, str]:
     place = lambda name: zlib.crc32(name.encode()) % 2  # noqa: E731
     dead = next(name for name in (f"dead{number}.fifo" for number in range(99)) if place(name) != place("letters.fifo"))
     return "letters.fifo", dead
-
-
-def children(gateway: Started) -> list[int]:
-    """The programs, by their places. Each thread has a list of the children that it started."""
-    lists = list(Path(f"/proc/{gateway.process.pid}/task").glob("*/children"))
-    return sorted(int(child) for child in " ".join(one.read_text() for one in lists).split())
 
 
 def test_a_move_that_was_cut_off_keeps_nobody_waiting(tmp_path):

@@ -3,6 +3,8 @@
 from __future__ import annotations
 
 import json
+import os
+import signal
 import threading
 import time
 from typing import Any
@@ -10,7 +12,7 @@ from typing import Any
 import pytest
 
 from conftest import Rules
-from started import ByBoto3, ByJson, ByQuery, Refused, Started, post
+from started import ByBoto3, ByJson, ByQuery, Refused, Started, children, post
 
 WAYS = {"boto3": lambda gateway: ByBoto3(gateway.client()), "json": lambda gateway: ByJson(gateway.url),
         "query": lambda gateway: ByQuery(gateway.url)}
@@ -368,6 +370,27 @@ def test_a_long_poll_is_served_when_a_message_is_due(standard, gateway):
     standard.move(100_000)
     poll.join()
     assert found == [["b"]] and time.monotonic() - began < 5
+
+
+def test_a_due_message_is_sent_once_however_long_the_store_takes(tmp_path):
+    gateway = Started(room=tmp_path)
+    rules = rules_of(gateway, "json")
+    queue = rules.queue()
+    rules.send(queue, "b", DelaySeconds=5)
+    found: list[str] = []
+    polls = [threading.Thread(target=lambda: found.extend(rules_of(gateway, "json").bodies(queue))) for _ in range(3)]
+    (stopped,) = children(gateway)
+    os.kill(stopped, signal.SIGSTOP)
+    # After five minutes a deduplication id doesn't count.
+    for step, poll in zip((5000, 300_000, 300_000), polls):
+        rules.move(step)
+        poll.start()
+        time.sleep(0.5)
+    os.kill(stopped, signal.SIGCONT)
+    for poll in polls:
+        poll.join()
+    assert found == ["b"] and rules.counts(queue) == (0, 1, 0)
+    assert gateway.stop() == 0
 
 
 class Killed(Standard):

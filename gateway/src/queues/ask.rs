@@ -71,6 +71,16 @@ pub enum Ask {
     },
 }
 
+impl Ask {
+    /// Which message is due, if this sends one that is.
+    pub fn due(&self) -> Option<Uuid> {
+        match self {
+            Ask::Send { cause, .. } => cause.due(),
+            _ => None,
+        }
+    }
+}
+
 /// Why a message is sent to the store.
 #[derive(Clone, Copy, Debug, PartialEq, Eq)]
 pub enum Cause {

@@ -95,8 +95,16 @@ impl Task {
     /// The program has answered this one.
     fn close(&mut self, asked: &Asked) {
         self.free.push(asked.client);
-        self.open_changes -= usize::from(matches!(asked.ask, Ask::Change { .. }));
+        self.forget_open(&asked.ask);
         self.waits_for_answer = false;
+    }
+
+    /// The program doesn't have this one any more.
+    pub(super) fn forget_open(&mut self, ask: &Ask) {
+        self.open_changes -= usize::from(matches!(ask, Ask::Change { .. }));
+        if let Some(id) = ask.due() {
+            self.open_due.remove(&id);
+        }
     }
 
     pub(super) fn give_room_back(&self, asked: &Asked) {

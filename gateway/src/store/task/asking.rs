@@ -11,7 +11,7 @@ use crate::clock::Moment;
 use crate::errors::SqsError;
 use crate::handles::Receipt;
 use crate::lines::{self, Fields};
-use crate::queues::ask::{Ask, Cause, Change, Outcome};
+use crate::queues::ask::{Ask, Change, Outcome};
 use crate::queues::{Queue, State};
 use crate::store::{Answer, What};
 use crate::texts::QueueKind;
@@ -66,7 +66,7 @@ impl Task {
         if let Some(answer) = answer_about_earlier(&ask, base) {
             return ready(answer);
         }
-        if is_of_no_use(&ask, &queue) {
+        if self.is_of_no_use(&ask, &queue) {
             return ready(Ok(Outcome::Done));
         }
         let moment = self.clock.now();
@@ -117,9 +117,16 @@ impl Task {
         };
         self.last_number += 1;
         self.open_changes += usize::from(matches!(ask, Ask::Change { .. }));
+        self.open_due.extend(ask.due());
         let asked = Asked { queue, ask, raw, moment, client, number: self.last_number, room, weight, ends: 0 };
         self.write(&asked)?;
         Ok(Asking::Begun(Entry::Asked(Box::new(asked))))
+    }
+
+    /// Whether this is the send of a due message that the store has by now, that a purge has taken, or that is with the
+    /// program. A second send might come to the store when it doesn't know the first any more; it is answered behind it.
+    fn is_of_no_use(&self, ask: &Ask, queue: &Queue) -> bool {
+        ask.due().is_some_and(|id| self.open_due.contains(&id) || !queue.state().is_delayed(id))
     }
 
     pub(super) fn write(&mut self, asked: &Asked) -> Result<(), Ended> {
@@ -172,14 +179,6 @@ impl Task {
         }
         self.admission.answered(weight);
         Err(room.err().map_or(Unnoted::LacksRoom(queue, change), Unnoted::Refused))
-    }
-}
-
-/// Whether this is the send of a due message that the store has by now, or that a purge has taken.
-fn is_of_no_use(ask: &Ask, queue: &Queue) -> bool {
-    match ask {
-        Ask::Send { cause: Cause::Due(id), .. } => !queue.state().is_delayed(*id),
-        _ => false,
     }
 }
 

@@ -7,7 +7,7 @@ mod entries;
 mod outgoing;
 mod room;
 
-use std::collections::VecDeque;
+use std::collections::{HashSet, VecDeque};
 use std::sync::Arc;
 use std::time::Duration;
 
@@ -15,6 +15,7 @@ use bytes::BytesMut;
 use thiserror::Error;
 use tokio::io::{AsyncReadExt, AsyncWriteExt};
 use tokio::sync::{mpsc, oneshot, watch};
+use uuid::Uuid;
 
 use super::admission::Admission;
 use super::figures::Counters;
@@ -26,7 +27,6 @@ use crate::errors::SqsError;
 use crate::journal::{Batch, Journal, JournalError};
 use crate::limits::Bounds;
 use crate::lines::BadOutput;
-use crate::queues::ask::Ask;
 use crate::queues::shards::{Shard, Shards};
 use crate::queues::{Queue, Queues};
 use entries::{Entry, Open, Pending};
@@ -85,6 +85,8 @@ struct Task {
     waits_for_answer: bool,
     /// How many changes are with the program.
     open_changes: usize,
+    /// Due messages whose sends are with the program.
+    open_due: HashSet<Uuid>,
     grown: Option<watch::Receiver<()>>,
     ends: u32,
 }
@@ -136,6 +138,7 @@ pub fn start(start: Start) -> (Store, oneshot::Receiver<Ended>) {
             lacks_room: false,
             waits_for_answer: false,
             open_changes: 0,
+            open_due: HashSet::new(),
             grown: start.journal.as_ref().map(Journal::grown),
             ends: 0,
         };
@@ -287,6 +290,8 @@ impl Task {
         self.out.clear();
         self.free = (1..=CLIENTS).rev().collect();
         self.waits_for_answer = false;
+        // One whose answer couldn't be read isn't among those that are open.
+        self.open_due.clear();
         for open in std::mem::take(&mut self.open) {
             let entry = self.ask_again(open.entry)?;
             self.open.push_back(Open { entry, done: open.done });
@@ -300,7 +305,7 @@ impl Task {
             Entry::Asked(mut asked) => {
                 asked.ends += 1;
                 if asked.ends >= MOST_ENDS {
-                    self.open_changes -= usize::from(matches!(asked.ask, Ask::Change { .. }));
+                    self.forget_open(&asked.ask);
                     self.give_room_back(&asked);
                     let message = "The store ended twice at this request.";
                     return Ok(Entry::Ready(Some(Err(SqsError::InternalFailure(message.into())))));
@@ -308,6 +313,7 @@ impl Task {
                 self.last_number += 1;
                 asked.number = self.last_number;
                 asked.client = self.free.pop().unwrap_or(1);
+                self.open_due.extend(asked.ask.due());
                 self.write(&asked)?;
                 Entry::Asked(asked)
             }
