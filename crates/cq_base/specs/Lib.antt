@@ -15,3 +15,4 @@ pub mod Receiving
 pub mod Effects
 pub mod History
 pub mod Incarnations
+pub mod within

@@ -7,6 +7,8 @@ ghost use Rattle.std.specs.Str.{bytes_eq};
 ghost use Rattle.std.specs.Hash as fed;
 ghost use Rattle.std.specs.Cmp.Rules.{comparing, hashing};
 ghost use Rattle.std.proofs.Common.{rules};
+ghost use Rattle.cq_base.specs.within.PlainBytes.{IsPlain};
+ghost use Rattle.cq_base.specs.declared.text.TheConstants.{NONCHARACTER_SECOND, FFFE_LAST, FFFF_LAST};
 ghost use Rattle.cq_base.specs.Texts.{is_name_byte, is_queue_name, is_id_byte, is_id, is_body_character, has_body_characters, has_body_length, is_body, made_id};
 
 use crate::fault::{BaseFault, NoMemory};
@@ -20,6 +22,18 @@ use std::sync::ArcStr;
 
 /// How many bytes of a body are looked at before it is asked whether one isn't plain.
 const PIECE: usize = 256;
+
+/// The first byte of U+FFFE and of U+FFFF in UTF-8.
+const NONCHARACTER_FIRST: u8 = 0xEF;
+
+/// The second byte of both.
+const NONCHARACTER_SECOND: u8 = 0xBF;
+
+/// The last byte of U+FFFE.
+const FFFE_LAST: u8 = 0xBE;
+
+/// The last byte of U+FFFF.
+const FFFF_LAST: u8 = 0xBF;
 
 fn is_name_byte(byte: u8) -> bool
     ensures { result ≡ is_name_byte byte }
@@ -67,15 +81,30 @@ fn are_body_characters(text: &str) -> bool
     text.chars().all(|character| is_body_character(character))
 }
 
-/// Whether this byte, behind that one, shows no character that a body may not have. These are the controls, of one byte
-/// below 32, and U+FFFE and U+FFFF, which end with 0xBF and one of 0xBE and 0xBF.
+/// Whether a body may have a character of this one byte; a byte of a longer character passes.
+#[inline(always)]
+fn is_no_control(byte: u8) -> bool
+    ensures { OnTrue result (is_body_character byte ≡ true) }
+{
+    (b' ' <= byte) | (byte == b'\t') | (byte == b'\n') | (byte == b'\r')
+}
+
+/// Whether this byte, behind that one, shows no character that a body may not have. These are the controls, and U+FFFE and
+/// U+FFFF; of the latter the last two bytes are looked at, which some other characters have, too.
 #[inline(always)]
 fn is_plain(before: u8, byte: u8) -> bool
-    ensures { OnTrue result ((is_body_character byte ≡ true) × (before ≡ 0xBF → 0xBE ≤ byte → byte ≤ 0xBF → ⊥)) }
+    ensures { OnTrue result ((is_body_character byte ≡ true)
+        × (before ≡ NONCHARACTER_SECOND → FFFE_LAST ≤ byte → byte ≤ FFFF_LAST → ⊥)) }
 {
-    let is_space = (byte == b'\t') | (byte == b'\n') | (byte == b'\r');
-    let is_end = (before == 0xBF) & (0xBE <= byte) & (byte <= 0xBF);
-    ((b' ' <= byte) | is_space) & !is_end
+    let is_end = (before == NONCHARACTER_SECOND) & (FFFE_LAST <= byte) & (byte <= FFFF_LAST);
+    is_no_control(byte) & !is_end
+}
+
+/// The same of a byte behind those two, by all three bytes of U+FFFE and U+FFFF.
+fn is_plain_behind(first: u8, second: u8, byte: u8) -> bool
+    ensures { OnTrue result (IsPlain first second byte) }
+{
+    is_no_control(byte) && (first != NONCHARACTER_FIRST || is_plain(second, byte))
 }
 
 /// Whether the bytes at the places from the one up to the other are plain: O(places). It goes on past one that isn't,
@@ -84,8 +113,7 @@ fn are_plain(bytes: &[u8], from: usize, to: usize) -> bool
     requires from { 0 < from }
     requires to { to ≤ length bytes.now }
     ensures { OnTrue result ((k : ℕ) → from ≤ k → k < to
-        → (is_body_character (get_or bytes.now k 0) ≡ true)
-        × (get_or bytes.now (k - 1) 0 ≡ 0xBF → 0xBE ≤ get_or bytes.now k 0 → get_or bytes.now k 0 ≤ 0xBF → ⊥)) }
+        → IsPlain (get_or bytes.now (k - 2) 0) (get_or bytes.now (k - 1) 0) (get_or bytes.now k 0)) }
 {
     let mut plain = true;
     for at in from..to {
@@ -94,19 +122,44 @@ fn are_plain(bytes: &[u8], from: usize, to: usize) -> bool
     plain
 }
 
+/// The same by three bytes for each place, one place after the other: O(places).
+fn are_plain_behind(bytes: &[u8], from: usize, to: usize) -> bool
+    requires from { 0 < from }
+    requires to { to ≤ length bytes.now }
+    ensures { OnTrue result ((k : ℕ) → from ≤ k → k < to
+        → IsPlain (get_or bytes.now (k - 2) 0) (get_or bytes.now (k - 1) 0) (get_or bytes.now k 0)) }
+{
+    for at in from..to {
+        if !is_plain_behind(bytes[at.saturating_sub(2)], bytes[at - 1], bytes[at]) {
+            return false;
+        }
+    }
+    true
+}
+
+/// The same, by two bytes for each place where these tell it already.
+fn is_plain_piece(bytes: &[u8], from: usize, to: usize) -> bool
+    requires from { 0 < from }
+    requires to { to ≤ length bytes.now }
+    ensures { OnTrue result ((k : ℕ) → from ≤ k → k < to
+        → IsPlain (get_or bytes.now (k - 2) 0) (get_or bytes.now (k - 1) 0) (get_or bytes.now k 0)) }
+{
+    are_plain(bytes, from, to) || are_plain_behind(bytes, from, to)
+}
+
 /// Whether the bytes alone show that a body may have each character. It looks at no piece of the text behind the first
 /// with a byte that isn't plain: O(bytes before that one, and one piece).
 fn are_plain_bytes(text: &str) -> bool
     ensures { OnTrue result (has_body_characters text.now ≡ true) }
 {
     let bytes = text.as_bytes();
-    if bytes.is_empty() || !is_plain(0, bytes[0]) {
+    if bytes.is_empty() || !is_no_control(bytes[0]) {
         return false;
     }
     let mut from = 1;
     while from < bytes.len() {
         let to = from + PIECE.min(bytes.len() - from);
-        if !are_plain(bytes, from, to) {
+        if !is_plain_piece(bytes, from, to) {
             return false;
         }
         from = to;

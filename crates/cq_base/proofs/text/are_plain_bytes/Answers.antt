@@ -9,7 +9,7 @@ loop-from-preserved c =
     let from = c.loop-from.from in
     let to = from + c.min.result in
     record {
-      plain = with_more bytes from to c.loop-from.invariant.some c.loop-from.invariant.plain c.if-not-are_plain.ensures;
+      plain = with_more bytes from to c.loop-from.invariant.plain c.if-not-is_plain_piece.ensures;
       some = omega arith;
       within = omega arith;
     }
@@ -17,5 +17,5 @@ loop-from-preserved c =
 pub returns : goal.returns
 returns c =
     let bytes = c.as_bytes-bytes.result.now in
-    let all : ArePlain 0 bytes (length bytes) = λ k below. c.loop-from.invariant.plain k (omega arith) in
-    plain_text c.args.text.now c.utf8.text (subst (λ t. ArePlain 0 t (length t)) c.as_bytes-bytes.ensures.value all)
+    let all : ArePlain bytes (length bytes) = λ k below. c.loop-from.invariant.plain k (omega arith) in
+    plain_text c.args.text.now c.utf8.text (subst (λ t. ArePlain t (length t)) c.as_bytes-bytes.ensures.value all)

@@ -5,7 +5,7 @@ use Rattle.cq_base.proofs.text.are_plain_bytes.Given as goal
 
 abbrev pub invariant-loop-from : goal.invariant-loop-from
 invariant-loop-from l = record {
-  plain : ArePlain 0 l.bytes l.from;
+  plain : ArePlain l.bytes l.from;
   some : 0 < l.from;
   within : l.from ≤ length l.bytes;
 }

@@ -1,0 +1,7 @@
+-- So far each byte is plain.
+use Rattle.std.proofs.Common.{◌<◌, ◌≤◌, ◌-◌, ℕ, get_or}
+use Rattle.cq_base.specs.within.PlainBytes.{IsPlain}
+use Rattle.cq_base.proofs.text.are_plain_behind.Given as goal
+
+abbrev pub invariant-loop-at : goal.invariant-loop-at
+invariant-loop-at l = (k : ℕ) → l.from ≤ k → k < l.at → IsPlain (get_or l.bytes (k - 2) 0) (get_or l.bytes (k - 1) 0) (get_or l.bytes k 0)
