@@ -103,14 +103,14 @@ fn take_out(
     exchange(places, positions, position, last);
 }
 
-/// The end of the block of a position, or of the positions where these end before it.
-fn end_of_block(places: &[usize], position: usize) -> usize
-    requires { position < length places.now }
+/// The end of the block of a position, or the end of the positions that are read where this comes before it.
+fn end_of_block(position: usize, end: usize) -> usize
+    requires { position < end }
     ensures after { position < result }
-    ensures within { result ≤ length places.now }
+    ensures within { result ≤ end }
 {
-    let end = (position / BLOCK + 1) * BLOCK;
-    end.min(places.len())
+    let left = BLOCK - position % BLOCK;
+    position + left.min(end - position)
 }
 
 /// How many of the numbers at the positions from `from` up to `to` are at most the limit: O(to - from), with no search.
@@ -184,7 +184,7 @@ impl Packed {
         while from < self.small {
             match self.numbers.first_at_most(from, limit) {
                 Some(position) => {
-                    let run_end = end_of_block(&self.places, position);
+                    let run_end = end_of_block(position, self.small);
                     count += count_between(
                         &self.numbers,
                         &self.places,

@@ -22,7 +22,7 @@ loop-from-preserved c =
     record {
       within = omega arith;
       few = omega (arith, run.few);
-      counted = omega (arith, rw c.deref-in-Some.ensures.value at run.counted);
+      counted = omega (arith, rw c.deref.ensures.value at run.counted);
     }
 
 pub returns-in-None : goal.returns-in-None
