@@ -1,5 +1,5 @@
 //! A flat object: at most eight members, whose values are texts, whole numbers, truth values and `null`, and
-//! one inner object of the same kind at most. It takes no memory.
+//! one inner object of the same kind at most. It takes no memory from the allocator.
 ghost use Rattle.std.specs.Prelude.{◌≡◌, ◌≤◌, None, map, option_map, IfSome, IfOk, IsNone, Ok, true};
 ghost use Rattle.std.specs.List.{list_any, list_all};
 ghost use Rattle.std.specs.Str.{bytes_eq};
@@ -20,7 +20,7 @@ use cq_base::{
 };
 
 /// The most members of an object that is read as a flat one.
-const MOST: usize = 8;
+pub(crate) const MOST: usize = 8;
 
 /// The value of a member.
 #[derive(Clone, Copy)]

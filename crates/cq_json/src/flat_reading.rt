@@ -6,22 +6,22 @@ ghost use Rattle.cq_json.specs.Flat.{flat_data, object_data, IsEmpty};
 
 use crate::flat::{Flat, Members};
 use crate::flat_text::take_object;
-use crate::spares::Spares;
+use crate::spares::{SPARES, Spares};
 use std::alloc::Global;
+use std::array;
 
-/// The memory that reading lines takes, to be kept from line to line: it grows to the longest two strings with escapes.
+/// The memory that reading lines takes, to be kept from line to line: each string grows to the longest text with escapes
+/// that it was used for.
 #[derive(Drop)]
 pub struct LineScratch {
-    first: String,
-    second: String,
+    strings: [String; SPARES],
 }
 
 impl LineScratch {
     /// No memory so far.
     pub fn new(alloc: Global) -> LineScratch {
         LineScratch {
-            first: String::new(alloc),
-            second: String::new(alloc),
+            strings: array::from_fn(|_| String::new(alloc)),
         }
     }
 }
@@ -45,14 +45,14 @@ impl<'a> FlatObject<'a> {
     }
 
     /// Reads the object that the text is, in one pass over its bytes: O(bytes). It answers false, and has some of the members
-    /// then, for an object with more than eight members, with other values or names than a flat object has, or with escapes
-    /// in more than two strings or in a name; for any text that is no object; and where there is no memory for the scratch.
+    /// then, for an object without members or with more than eight, with other values or names than a flat object has (of a
+    /// number also those of 20 digits), or with escapes in a name; for a second object in it, or one in that; for a line feed
+    /// between its parts; for any text that is no object; and where there is no memory for the scratch.
     pub fn read(&mut self, text: &'a str, scratch: &'a mut LineScratch) -> bool
         requires { IsEmpty self.old }
         ensures { OnTrue result (spec.json_of text.now ≡ Some (object_data self.new)) }
     {
-        let LineScratch { first, second } = scratch;
-        let mut spares = Spares::of(first, second);
+        let mut spares = Spares::of(&mut scratch.strings);
         take_object(text, &mut self.members, &mut self.inner, &mut spares).is_some()
     }
 

@@ -1,26 +1,27 @@
 //! The strings that texts with escapes are written to.
 
-/// Strings that aren't used yet, two at most.
+use crate::flat::MOST;
+use std::slice::IterMut;
+
+/// How many strings there are: as many as an object and the one in it can have members.
+pub(crate) const SPARES: usize = 2 * MOST;
+
+/// Strings that aren't used yet.
 #[derive(Drop)]
 pub(crate) struct Spares<'a> {
-    first: Option<&'a mut String>,
-    second: Option<&'a mut String>,
+    strings: IterMut<'a, String>,
 }
 
 impl<'a> Spares<'a> {
-    /// These two.
-    pub(crate) fn of(first: &'a mut String, second: &'a mut String) -> Spares<'a> {
+    /// These.
+    pub(crate) fn of(strings: &'a mut [String; SPARES]) -> Spares<'a> {
         Spares {
-            first: Some(first),
-            second: Some(second),
+            strings: strings.iter_mut(),
         }
     }
 
     /// One that isn't used yet, if there is one.
     pub(crate) fn take(&mut self) -> Option<&'a mut String> {
-        match self.first.take() {
-            Some(string) => Some(string),
-            None => self.second.take(),
-        }
+        self.strings.next()
     }
 }
