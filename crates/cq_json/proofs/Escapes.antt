@@ -10,7 +10,7 @@ use Rattle.json.specs.Text.{content, plain, after_u, after_high, prepend, code_u
 use Rattle.json.specs.Run.{is_plain}
 use Rattle.json.specs.Lex.{Lexeme, Mode, token, string_token, lex, lex_byte, in_string, operator, space, other}
 use Rattle.json.specs.Print.{quoted}
-use Rattle.cq_json.specs.FlatText.{Spelled, SpelledFrom, IsUnit, Same}
+use Rattle.cq_json.specs.within.FlatText.{Spelled, SpelledFrom, IsUnit, Same}
 use Rattle.cq_json.proofs.SameText.{lex-quoted}
 
 -- ---- a run of plain bytes

@@ -1,5 +1,6 @@
 -- The members of a flat object, as they are read.
 use Rattle.std.proofs.Common.{◌≡◌, ℕ, ◌-◌, ◌<◌, ◌≤◌, List, [], ◌∷◌, length, false, Option, Some, None, option_map, option_and_then, IsUtf8, refl, ap, ◌∙◌}
+use Rattle.std.specs.Fmt.{decimal}
 use Rattle.json.specs.Token.{Token}
 use Rattle.json.specs.Lex.{tokens}
 use Rattle.json.specs.Json as json
@@ -11,9 +12,21 @@ use Rattle.serde_json.proofs.Numbers.{number_of-decimal}
 use Rattle.cq_json.specs.Fields.{json_of}
 use Rattle.cq_json.proofs.JsonText.{json_of_read}
 use Rattle.cq_json.specs.Flat.{scalar_data, is_inner}
-use Rattle.cq_json.specs.FlatReading.{scalar_token, IsInRange, rest_of}
+use Rattle.cq_json.specs.within.FlatText.{IsInRange}
 use Rattle.cq_json.specs.declared.flat.Scalar.{Scalar}
 use Rattle.cq_json.specs.declared.flat.Scalar.TheVariants.{Text, Number, Truth, Null, Inner}
+
+-- the token of a value; of the inner object its first
+abbrev pub scalar_token : Scalar → Token
+scalar_token (Text text) = Token.string text.now
+scalar_token (Number n) = Token.number (decimal n)
+scalar_token (Truth truth) = Token.boolean truth
+scalar_token Null = Token.null
+scalar_token Inner = Token.begin_object
+
+-- what the rest of an object's text gives, after the members that were found
+abbrev pub rest_of : Members → ℕ → ℕ → List Token → Option (Members × List Token)
+rest_of found depth n tokens = converted (λ ms. of_members ms found) (json.members (json.value depth) n tokens)
 
 -- ---- what was read, as data
 

@@ -17,12 +17,11 @@ use Rattle.serde_json.specs.Read.{of_json, converted, max_depth}
 use Rattle.cq_json.specs.Fields.{json_of}
 use Rattle.cq_json.specs.Keys.{key_text}
 use Rattle.cq_json.specs.Flat.{scalar_data, is_inner, puts, inner_members}
-use Rattle.cq_json.specs.FlatReading.{IsInRange, rest_of}
-use Rattle.cq_json.specs.FlatText.{run_end, Same, IsWhole, value_text, member_text, members_text, AreInRange, Takes}
+use Rattle.cq_json.specs.within.FlatText.{IsInRange, run_end, Same, IsWhole, value_text, member_text, members_text, AreInRange, Takes}
 use Rattle.cq_json.specs.declared.flat_text.Pause.TheVariants as pauses
 use Rattle.cq_json.proofs.PlainText.{escape_plain}
 use Rattle.cq_json.proofs.SameText.{behind_brace, behind_comma, behind_colon, behind_end, behind_quoted, members_whole}
-use Rattle.cq_json.proofs.FlatReading.{member_read, members_over, opened, text_read, scalar_read}
+use Rattle.cq_json.proofs.FlatReading.{rest_of, member_read, members_over, opened, text_read, scalar_read}
 use Rattle.cq_json.specs.declared.flat.Scalar.{Scalar}
 use Rattle.cq_json.specs.declared.flat.Scalar.TheVariants.{Text, Number, Truth, Null, Inner}
 use Rattle.cq_json.specs.declared.flat.Member.{Member}

@@ -1,5 +1,5 @@
 -- Texts with the same tokens, commas and colons.
-use Rattle.std.proofs.Common.{◌≡◌, ℕ, List, [], ◌∷◌, ◌++◌, true, false, cond, ◌||◌, refl, sym, ap, ap₂, ◌∙◌, append_assoc}
+use Rattle.std.proofs.Common.{◌≡◌, ℕ, codes, List, [], ◌∷◌, ◌++◌, true, false, cond, ◌||◌, refl, sym, ap, ap₂, ◌∙◌, append_assoc}
 use Rattle.std.specs.Fmt.{decimal}
 use Rattle.json.specs.Token.{begin_object, end_object, string, number, boolean, null, bad}
 use Rattle.json.specs.Word.{ends_word, is_operator, is_space, word}
@@ -9,8 +9,8 @@ use Rattle.json.proofs.Printed.Strings.{content-escape, lex-escape}
 use Rattle.json.proofs.Printed.Numbers.{lex-number, in_word-ended}
 use Rattle.json.proofs.Printed.Decimals.{IsNumber-decimal}
 use Rattle.cq_json.specs.Keys.{key_text}
-use Rattle.cq_json.specs.FlatReading.{IsInRange}
-use Rattle.cq_json.specs.FlatText.{Same, IsWhole, value_text, member_text, members_text, AreInRange}
+use Rattle.cq_json.specs.within.FlatText.{IsInRange}
+use Rattle.cq_json.specs.within.FlatText.{Same, IsWhole, value_text, member_text, members_text, AreInRange}
 use Rattle.cq_json.specs.declared.flat.Scalar.{Scalar}
 use Rattle.cq_json.specs.declared.flat.Scalar.TheVariants.{Text, Number, Truth, Null, Inner}
 use Rattle.cq_json.specs.declared.flat.Member.{Member}
@@ -39,6 +39,10 @@ pub space_passed : (text rest : List ℕ) → text ≡ 32 ∷ rest → Same text
 unfolding lex
 space_passed text rest is = ap (lex between) is
 
+pub spaces_passed : (text rest : List ℕ) → text ≡ codes "                " ++ rest → Same text rest
+unfolding lex
+spaces_passed text rest is = ap (lex between) is
+
 pub tab_passed : (text rest : List ℕ) → text ≡ 9 ∷ rest → Same text rest
 unfolding lex
 tab_passed text rest is = ap (lex between) is
@@ -49,6 +53,9 @@ return_passed text rest is = ap (lex between) is
 
 pub space_ends : (text rest : List ℕ) → text ≡ 32 ∷ rest → ends_word text ≡ true
 space_ends text rest is = ap ends_word is
+
+pub spaces_end : (text rest : List ℕ) → text ≡ codes "                " ++ rest → ends_word text ≡ true
+spaces_end text rest is = ap ends_word is
 
 pub tab_ends : (text rest : List ℕ) → text ≡ 9 ∷ rest → ends_word text ≡ true
 tab_ends text rest is = ap ends_word is

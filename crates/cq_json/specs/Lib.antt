@@ -4,5 +4,4 @@ pub mod Asks
 pub mod Readers
 pub mod Keys
 pub mod Flat
-pub mod FlatReading
-pub mod FlatText
+pub mod within

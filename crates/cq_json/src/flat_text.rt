@@ -1,4 +1,5 @@
-//! A flat object's text, read straight from its bytes.
+//! A flat object's text, read straight from its bytes. A body that ends with `let x = f()?; Some(x)` gives a name to what its
+//! proof speaks of.
 ghost use Rattle.std.specs.Prelude.{◌≡◌, ◌<◌, ◌^◌, [], ◌∷◌, ◌++◌, length, IfSome, IsNone, OnSome, Some, true};
 ghost use Rattle.std.specs.Fmt.{decimal};
 ghost use Rattle.std.specs.Char.{encode_utf8};
@@ -9,8 +10,8 @@ ghost use Rattle.json.specs.Text.{short_escape, is_high_surrogate, after_u, afte
 ghost use Rattle.serde_json.specs.Data.{object, no_members};
 ghost use Rattle.cq_json.specs.Fields.{json_of};
 ghost use Rattle.cq_json.specs.Flat.{puts, inner_members};
-ghost use Rattle.cq_json.specs.FlatReading.{IsInRange};
-ghost use Rattle.cq_json.specs.FlatText.{IsAscii, run_end, Spelled, SpelledFrom, IsUnit, Same, value_text, member_text, Takes};
+ghost use Rattle.cq_json.specs.within.FlatText.{IsInRange, IsAscii, run_end, Spelled, SpelledFrom, IsUnit, Same, value_text, member_text, Takes};
+ghost use Rattle.cq_json.specs.declared.flat_text.TheConstants.{NUMBERED};
 
 use crate::flat::{Member, Members, Scalar};
 use crate::key::Key;
@@ -19,6 +20,12 @@ use crate::spares::Spares;
 
 /// Numbers from here on are not read.
 const NUMBER_END: u64 = 1_000_000_000_000_000_000;
+
+/// The letter of an escape by numbers, as in `\u00e9`.
+const NUMBERED: u8 = b'u';
+
+/// Sixteen spaces.
+const SPACES: &str = "                ";
 
 /// Where the reading of members came to a stop.
 enum Pause {
@@ -82,17 +89,55 @@ fn after_space(text: &str) -> Option<&str>
     Some(rest)
 }
 
+/// What follows the sixteen spaces at the front, or else the one space, tab or carriage return.
+fn after_some_spaces(text: &str) -> Option<&str>
+    ensures same { IfSome result (λ rest. Same text.now rest.now) }
+    ensures ends { IfSome result (λ rest. ends_word text.now ≡ true) }
+    ensures shorter { IfSome result (λ rest. length rest.now < length text.now) }
+{
+    if let Some(rest) = text.strip_prefix(SPACES) {
+        return Some(rest);
+    }
+    after_space(text)
+}
+
+/// What follows the white space at the front, of which there is much: O(its bytes).
+fn after_many_spaces(text: &str) -> &str
+    ensures same { Same text.now result.now }
+    ensures ends { ends_word result.now ≡ true → ends_word text.now ≡ true }
+{
+    let mut rest = text;
+    'spaces: while let Some(behind) = after_some_spaces(rest) {
+        rest = behind;
+    }
+    rest
+}
+
 /// What follows the white space at the front: O(its bytes).
 #[inline(never)]
 fn after_spaces(text: &str) -> &str
     ensures same { Same text.now result.now }
     ensures ends { ends_word result.now ≡ true → ends_word text.now ≡ true }
 {
-    let mut rest = text;
-    'spaces: while let Some(behind) = after_space(rest) {
-        rest = behind;
+    let Some(one) = after_space(text) else {
+        return text;
+    };
+    let Some(two) = after_space(one) else {
+        return one;
+    };
+    after_many_spaces(two)
+}
+
+/// The same, and no call where there is no white space.
+#[inline(always)]
+fn without_spaces(text: &str) -> &str
+    ensures same { Same text.now result.now }
+    ensures ends { ends_word result.now ≡ true → ends_word text.now ≡ true }
+{
+    match text.as_bytes().first() {
+        Some(first) if *first <= b' ' => after_spaces(text),
+        _ => text,
     }
-    rest
 }
 
 /// What follows that ASCII character, which may stand behind white space.
@@ -105,8 +150,7 @@ fn after_mark(text: &str, mark: u8) -> Option<&str>
     if let Some(rest) = after(text, mark) {
         return Some(rest);
     }
-    let rest = after(after_spaces(text), mark)?;
-    Some(rest)
+    after(after_spaces(text), mark)
 }
 
 /// The string at the front, which may stand behind white space, if it has no escapes, and what follows it: O(its bytes).
@@ -122,7 +166,7 @@ fn read_string(text: &str) -> Option<(&str, &str)>
 fn escaped_by(letter: u8) -> Option<char>
     ensures value { IfSome result (λ character. short_escape letter ≡ Some character) }
     ensures ascii { IfSome result (λ character. IsAscii character × IsAscii letter) }
-    ensures short { letter ≡ 117 → IsNone result }
+    ensures numbered { letter ≡ NUMBERED → IsNone result }
 {
     match letter {
         b'"' => Some('"'),
@@ -185,7 +229,7 @@ fn read_escape(text: &str) -> Option<(char, &str)>
     ensures value { IfSome result (λ parts. Spelled (92 ∷ text.now) (encode_utf8 parts.0) parts.1.now) }
     ensures shorter { IfSome result (λ parts. length parts.1.now < length text.now) }
 {
-    if let Some(digits) = after(text, b'u') {
+    if let Some(digits) = after(text, NUMBERED) {
         let (character, rest) = read_numbered(digits)?;
         return Some((character, rest));
     }
@@ -276,17 +320,6 @@ fn read_truth(text: &str) -> Option<(bool, &str)>
     Some((false, text.strip_prefix("false")?))
 }
 
-/// The same text without the white space at its front: O(bytes of that).
-#[inline(always)]
-fn without_spaces(text: &str) -> &str
-    ensures { Same text.now result.now }
-{
-    match text.as_bytes().first() {
-        Some(first) if *first <= b' ' => after_spaces(text),
-        _ => text,
-    }
-}
-
 /// The value at the front, which may stand behind white space, and what follows it; of the inner object nothing is passed.
 fn read_value<'a>(text: &'a str, spares: &mut Spares<'a>) -> Option<(Scalar<'a>, &'a str)>
     ensures { IfSome result (λ parts. Same text.now (value_text [] parts.0 ++ parts.1.now) × IsInRange parts.0) }
@@ -331,8 +364,9 @@ fn take_members<'a>(
 {
     let mut rest = text;
     'members: loop {
+        rest = without_spaces(rest);
         let opening = if members.is_empty() { b'{' } else { b',' };
-        let Some(next) = after_mark(rest, opening) else {
+        let Some(next) = after(rest, opening) else {
             break 'members;
         };
         if members.is_full() {
@@ -348,7 +382,7 @@ fn take_members<'a>(
     if members.is_empty() {
         return None;
     }
-    let rest = after_mark(rest, b'}')?;
+    let rest = after(rest, b'}')?;
     Some((Pause::End, rest))
 }
 

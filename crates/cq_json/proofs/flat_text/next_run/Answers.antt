@@ -4,7 +4,7 @@ use Rattle.std.proofs.lemmas.Str.{IsCharBoundary-after_ascii}
 use Rattle.std.specs.Str.{IsCharBoundary}
 use Rattle.json.specs.Run.{is_plain}
 use Rattle.json.specs.Print.{escape}
-use Rattle.cq_json.specs.FlatText.{run_end, Spelled}
+use Rattle.cq_json.specs.within.FlatText.{run_end, Spelled}
 use Rattle.cq_json.proofs.FlatText.{run_front, run_end_ascii}
 use Rattle.cq_json.proofs.Escapes.{run_spelled}
 use Rattle.cq_json.proofs.flat_text.next_run.Goals as goal

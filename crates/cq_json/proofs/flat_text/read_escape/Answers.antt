@@ -2,7 +2,7 @@ use Rattle.std.proofs.Common.{◌≡◌, ◌∷◌, rules, subst, sym}
 use Rattle.std.proofs.lemmas.Bool.{true≢false}
 use Rattle.std.proofs.lemmas.Str.{IsCharBoundary-after_ascii}
 use Rattle.std.specs.Char.{encode_utf8}
-use Rattle.cq_json.specs.FlatText.{Spelled}
+use Rattle.cq_json.specs.within.FlatText.{Spelled}
 use Rattle.cq_json.proofs.Escapes.{short_spelled, numbered_spelled}
 use Rattle.cq_json.proofs.flat_text.read_escape.Goals as goal
 
@@ -19,7 +19,7 @@ returns-clause-value c =
     let letter = c.in_ok-first.field-0.now in
     let is : text ≡ letter ∷ rest = search rules in
     let escaped = c.in_ok-character-2.ensures in
-    short_spelled text rest letter c.in_ok-character-2.character is escaped.value escaped.ascii.0 (λ e. true≢false (escaped.short e))
+    short_spelled text rest letter c.in_ok-character-2.character is escaped.value escaped.ascii.0 (λ e. true≢false (escaped.numbered e))
 
 pub range_from-requires : goal.range_from-requires
 range_from-requires c = λ _. IsCharBoundary-after_ascii c.args.text.now 0 c.utf8.text (search rules) (search rules)

@@ -4,7 +4,7 @@ use denote.Text.{Utf8}
 use denote.Shadow.{shadow}
 use Rattle.std.specs.String.{string_bytes}
 use Rattle.json.specs.Print.{escape}
-use Rattle.cq_json.specs.FlatText.{run_end, Spelled}
+use Rattle.cq_json.specs.within.FlatText.{run_end, Spelled}
 use Rattle.cq_json.proofs.flat_text.read_escaped.Given as goal
 
 abbrev pub invariant-escapes : goal.invariant-escapes

@@ -1,7 +1,7 @@
 use Rattle.std.proofs.Common.{◌++◌, ◌∷◌, [], ap, sym, ◌∙◌, append_assoc}
 use Rattle.json.specs.Lex.{lex, between}
 use Rattle.json.specs.Print.{quoted}
-use Rattle.cq_json.specs.FlatText.{value_text}
+use Rattle.cq_json.specs.within.FlatText.{value_text}
 use Rattle.cq_json.specs.Keys.{key_text}
 use Rattle.cq_json.proofs.SameText.{behind_colon, behind_quoted}
 use Rattle.cq_json.proofs.flat_text.read_member.Goals as goal

@@ -2,7 +2,7 @@ use Rattle.std.proofs.Common.{◌≡◌, true, false, arith, subst, sym}
 use Rattle.std.proofs.lemmas.Bool.Decides.{nat_tests}
 use Rattle.std.specs.Char.{encode_utf8}
 use Rattle.json.specs.Text.{after_u, is_high_surrogate, is_low_surrogate}
-use Rattle.cq_json.specs.FlatText.{SpelledFrom}
+use Rattle.cq_json.specs.within.FlatText.{SpelledFrom}
 use Rattle.cq_json.proofs.Escapes.{alone_spelled, high_spelled}
 use Rattle.cq_json.proofs.flat_text.read_numbered.Goals as goal
 

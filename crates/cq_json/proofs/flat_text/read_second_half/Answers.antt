@@ -2,7 +2,7 @@ use Rattle.std.proofs.Common.{◌≡◌, ◌∷◌, true, arith, rules, subst, s
 use Rattle.std.proofs.lemmas.Bool.Decides.{nat_tests}
 use Rattle.std.specs.Char.{encode_utf8}
 use Rattle.json.specs.Text.{after_high, is_low_surrogate, surrogate_pair}
-use Rattle.cq_json.specs.FlatText.{SpelledFrom}
+use Rattle.cq_json.specs.within.FlatText.{SpelledFrom}
 use Rattle.cq_json.proofs.Escapes.{low_spelled}
 use Rattle.cq_json.proofs.flat_text.read_second_half.Goals as goal
 

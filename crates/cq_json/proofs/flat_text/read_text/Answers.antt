@@ -1,7 +1,7 @@
 use Rattle.std.proofs.Common.{◌≡◌, ◌++◌, ◌∷◌, ap, ◌∙◌}
 use Rattle.json.specs.Lex.{lex, between}
 use Rattle.json.specs.Print.{escape}
-use Rattle.cq_json.specs.FlatText.{run_end}
+use Rattle.cq_json.specs.within.FlatText.{run_end}
 use Rattle.cq_json.proofs.Escapes.{closed}
 use Rattle.cq_json.proofs.flat_text.read_text.Goals as goal
 

@@ -3,6 +3,7 @@ use Rattle.std.proofs.lemmas.Bool.{eqb-true, eqb-false}
 use Rattle.json.specs.Lex.{lex, between}
 use Rattle.json.specs.Word.{is_operator}
 use Rattle.cq_json.proofs.FlatText.{opening_of, opening_operator, opening_first, opening_later, take_more, take_inner, take_end, AreInRange-push}
+use Rattle.cq_json.proofs.SameText.{operator_ends}
 use Rattle.cq_json.proofs.flat_text.take_members.Goals as goal
 use Rattle.cq_json.proofs.flat_text.take_members.Goals.{then-is_empty, else-is_empty}
 
@@ -14,8 +15,8 @@ returns-then-is_inner c =
       | then-is_empty w ↦ w.opening-is ∙ sym (opening_first ms (eqb-true (length ms) 0 (sym c.is_empty.ensures ∙ w.if-is_empty.true)))
       | else-is_empty w ↦ w.opening-is ∙ sym (opening_later ms (omega (arith, eqb-false (length ms) 0 (sym c.is_empty.ensures ∙ w.if-is_empty.false))))
     ] in
-    let opened = c.in-Some.ensures.same ∙ ap (λ b. lex between (b ∷ c.in-Some.next.now)) opening in
-    let ends = c.in-Some.ensures.ends (subst (λ b. is_operator b ≡ true) (sym opening) (opening_operator ms)) in
+    let opened = c.without_spaces-rest.ensures.same ∙ ap (lex between) (c.in-Some.ensures ∙ ap (λ b. b ∷ c.in-Some.next.now) opening) in
+    let ends = c.without_spaces-rest.ensures.ends (operator_ends c.without_spaces-rest.result.now c.in-Some.next.now c.if-is_empty.opening c.in-Some.ensures (subst (λ b. is_operator b ≡ true) (sym opening) (opening_operator ms))) in
     rw c.push.ensures.items (
       take_inner c.args.text.now c.args.members.now.items ms c.members.rest.now c.in-Some.next.now c.in_ok-member.left.now c.members.invariant.1.0 c.members.invariant.1.1 m opened ends c.in_ok-member.ensures.0
           (sym c.is_inner.ensures ∙ c.if-is_inner.true),
@@ -30,8 +31,8 @@ members-preserved c =
       | then-is_empty w ↦ w.opening-is ∙ sym (opening_first ms (eqb-true (length ms) 0 (sym c.is_empty.ensures ∙ w.if-is_empty.true)))
       | else-is_empty w ↦ w.opening-is ∙ sym (opening_later ms (omega (arith, eqb-false (length ms) 0 (sym c.is_empty.ensures ∙ w.if-is_empty.false))))
     ] in
-    let opened = c.in-Some.ensures.same ∙ ap (λ b. lex between (b ∷ c.in-Some.next.now)) opening in
-    let ends = c.in-Some.ensures.ends (subst (λ b. is_operator b ≡ true) (sym opening) (opening_operator ms)) in
+    let opened = c.without_spaces-rest.ensures.same ∙ ap (lex between) (c.in-Some.ensures ∙ ap (λ b. b ∷ c.in-Some.next.now) opening) in
+    let ends = c.without_spaces-rest.ensures.ends (operator_ends c.without_spaces-rest.result.now c.in-Some.next.now c.if-is_empty.opening c.in-Some.ensures (subst (λ b. is_operator b ≡ true) (sym opening) (opening_operator ms))) in
     rw c.push.ensures.items (
       search rules,
       (
@@ -46,4 +47,4 @@ returns c =
     let ms = c.members.members.items in
     let took = c.members.invariant.1 in
     let some : 0 < length ms = omega (arith, eqb-false (length ms) 0 (sym c.is_empty-2.ensures ∙ c.if-is_empty-2.false)) in
-    (take_end c.args.text.now c.args.members.now.items ms c.members.rest.now c.in_ok-rest.rest.now took.0 took.1 c.in_ok-rest.ensures.same (c.in_ok-rest.ensures.ends refl), (took.1, some))
+    (take_end c.args.text.now c.args.members.now.items ms c.members.rest.now c.in_ok-rest.rest.now took.0 took.1 (c.without_spaces-rest.ensures.same ∙ ap (lex between) c.in_ok-rest.ensures) (c.without_spaces-rest.ensures.ends (operator_ends c.without_spaces-rest.result.now c.in_ok-rest.rest.now 125 c.in_ok-rest.ensures refl)), (took.1, some))

@@ -2,7 +2,7 @@
 use Rattle.std.proofs.Common.{ℕ, ◌-◌, List, ◌++◌, length}
 use denote.Text.{Utf8}
 use denote.Shadow.{shadow}
-use Rattle.cq_json.specs.FlatText.{Same, IsWhole, members_text, AreInRange}
+use Rattle.cq_json.specs.within.FlatText.{Same, IsWhole, members_text, AreInRange}
 use Rattle.cq_json.proofs.flat_text.take_members.Given as goal
 
 abbrev pub invariant-members : goal.invariant-members

@@ -1,12 +1,11 @@
--- The text of a flat object, read straight from its bytes. Only the clauses of private functions cite it.
-use Rattle.std.specs.Prelude.{Bool, true, false, ◌≡◌, ◌<◌, ◌≤◌, ℕ, List, [], ◌∷◌, ◌++◌, length, get_or, drop, Some}
+-- The text of a flat object, read straight from its bytes.
+use Rattle.std.specs.Prelude.{Bool, true, false, ◌≡◌, ◌<◌, ◌≤◌, ◌^◌, ℕ, List, [], ◌∷◌, ◌++◌, length, get_or, drop, Some}
 use Rattle.std.specs.Fmt.{decimal}
 use Rattle.json.specs.Token.{boolean, null}
 use Rattle.json.specs.Text.{Within, content, plain, prepend, code_unit}
 use Rattle.json.specs.Lex.{lex, between, in_string}
 use Rattle.json.specs.Word.{ends_word}
 use Rattle.json.specs.Print.{quoted, token_text}
-use Rattle.cq_json.specs.FlatReading.{IsInRange}
 use Rattle.cq_json.specs.Keys.{key_text}
 use Rattle.cq_json.specs.declared.flat.Scalar.{Scalar}
 use Rattle.cq_json.specs.declared.flat.Scalar.TheVariants.{Text, Number, Truth, Null, Inner}
@@ -42,6 +41,14 @@ Same a b = lex between a ≡ lex between b
 -- texts that are the same, and begin where a word ends, are so behind the text
 abbrev pub IsWhole : List ℕ → Type 0
 IsWhole text = (a b : List ℕ) → ends_word a ≡ true → ends_word b ≡ true → Same a b → Same (text ++ a) (text ++ b)
+
+-- a number is below 2^64
+abbrev pub IsInRange : Scalar → Type 0
+IsInRange (Text text) = Unit {0}
+IsInRange (Number n) = n < 2 ^ 64
+IsInRange (Truth truth) = Unit {0}
+IsInRange Null = Unit {0}
+IsInRange Inner = Unit {0}
 
 -- the text of a value, where the inner object has that text
 abbrev pub value_text : List ℕ → Scalar → List ℕ

@@ -1,5 +1,5 @@
 use Rattle.std.proofs.Common.{◌∙◌, rules}
-use Rattle.cq_json.proofs.flat_text.after_spaces.Goals as goal
+use Rattle.cq_json.proofs.flat_text.after_many_spaces.Goals as goal
 
 pub spaces-preserved : goal.spaces-preserved
 spaces-preserved c =
