@@ -53,13 +53,17 @@ fn read_object(alloc: Global, bytes: &[u8]) -> Result<Event, Stop>
     read_event(alloc, &value)
 }
 
-/// The event that the bytes say, from a flat object, or else from any other.
+/// The event that the bytes say, from a flat object, or else from any other. The memory of the scratch is let go before the
+/// bytes are read anew.
 fn read_line(alloc: Global, scratch: &mut LineScratch, bytes: &[u8]) -> Result<Event, Stop>
     ensures { Gives same result (event_from bytes.now) }
 {
     match read_at_once(alloc, scratch, bytes) {
         Some(read) => read,
-        None => read_object(alloc, bytes),
+        None => {
+            *scratch = LineScratch::new(alloc);
+            read_object(alloc, bytes)
+        }
     }
 }
 
