@@ -89,8 +89,7 @@ fn put_refused(row: &mut Row, line: u64, code: u16, name: &str) -> Result<(), No
 }
 
 /// Writes the line that tells this answer, given at the script's line with that number, with its line feed, at the end
-/// of the text: O(bytes of it). The text's room is all that it needs, but for strings with escapes. After `NoMemory`
-/// the text is as before.
+/// of the text: O(bytes of it). It takes no memory but what the text grows by. After `NoMemory` the text is as before.
 pub fn write_answer(text: &mut Vec<u8>, line: u64, answer: &Answer) -> Result<(), NoMemory>
     ensures ok { OnOk result (text.new.items ≡ text.old.items ++ answer_text line answer.now) }
     ensures err { OnErr result (text.new.items ≡ text.old.items) }

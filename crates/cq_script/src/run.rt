@@ -17,7 +17,8 @@ use std::alloc::Global;
 /// answered in place of one of the script. Where memory runs out, what came of the events before is written, but of
 /// those that the same read brought only if it ran out in the run. Where a read has failed, nothing is told of a line
 /// that had begun. What was written is flushed, unless the writing was cut short. O(bytes of the script), and what the
-/// servers take for its events. Beside the servers it holds what one read brings, and the partial line.
+/// servers take for its events. Beside the servers it holds what one read brings, the partial line, and the memory that
+/// lines of up to 65,536 bytes took for texts with escapes.
 pub fn replay<R: Source, W: Sink>(
     alloc: Global,
     size: ChainSize,

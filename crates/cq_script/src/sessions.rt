@@ -15,9 +15,9 @@ use std::alloc::Global;
 /// one read brings is run, and what comes of it is written and passed on, before more is read. A bad line (61) and one
 /// that is too long (62) are told by a line of output like that of a refused event, and the session goes on; of a line
 /// that is too long nothing is kept. It ends where the reader ends or fails (64), where the writer fails (65), where
-/// memory runs out (20), and with TooManyLines (63) where the bytes can't be counted in 64 bits any more. O(bytes that
-/// come), and what the servers take for the events. Beside the servers it holds what one read brings, and the line that
-/// has begun.
+/// memory runs out (20), and with TooManyLines (63) where reads or lines can't be counted in 64 bits any more. O(bytes that
+/// come), and what the servers take for the events. Beside the servers it holds what one read brings, the line that has
+/// begun, and the memory that lines of up to 65,536 bytes took for texts with escapes.
 pub fn session<R: Source, W: Sink>(
     alloc: Global,
     size: ChainSize,
