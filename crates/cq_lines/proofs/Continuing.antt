@@ -164,7 +164,7 @@ module _ {T : Type 0} (grammar : Grammar T) where
       let next : ContinuesTo s part [] (goes new) = rw is at (part_of-continues s part none) in
       next
 
-  -- ---- the end of the text
+  -- ---- where the text ends
 
   -- there is no partial line
   pub end_between_lines : (s : Progress T) → s.partial ≡ [] → parse_after grammar s [] ≡ record { values = s.values; fault = None }

@@ -74,7 +74,7 @@ module _ {T : Type 0} (grammar : Grammar T) (limits : Limits) (strict : (n : ℕ
       absurd (rw (fault_of_long n line [] (ltb-false limits.line_count n is_many) (ltb-true limits.line_len (length line) is_long)) at yet)
   keeps_limits-cases n line false false is_many is_long yet = record { few = ltb-false limits.line_count n is_many; short = ltb-false limits.line_len (length line) is_long }
 
-  -- ---- byte by byte
+  -- ---- one byte after another
 
   -- The bytes pass no limit behind the partial line n, and the lines that end in them are no fault.
   record KeepsOn (n : ℕ) (partial bytes : List ℕ) : Type 0 where
