@@ -1,6 +1,6 @@
 //! The job `live`: a chain of three servers, a master and two clients, each on a thread of its own. The middle server crashes
-//! a third of the way, and another server joins. The digest has how many sends were accepted, and the requests of each client
-//! in the order in which they first arrived, which are the same however the threads run.
+//! a third of the way, and another server joins. The digest has how many sends were accepted, how many servers found no
+//! memory, and all that each client asked, in the order in which it first arrived, which is the same however the threads run.
 use crate::common::{Draws, stop};
 use crate::digest::Digest;
 use cq_base::{
@@ -131,6 +131,65 @@ fn steps_of(alloc: Global, seed: u64, rounds: u64) -> io::Result<Vec<LiveStep>> 
     Ok(plan.steps)
 }
 
+/// Adds the parts of a send.
+fn add_send(digest: &mut Digest, group: &GroupId, dedup: Option<&DedupId>, body: &Body) {
+    digest.add_bytes(group.as_str().as_bytes());
+    if let Some(dedup) = dedup {
+        digest.add_bytes(dedup.as_str().as_bytes());
+    }
+    digest.add_bytes(body.as_str().as_bytes());
+}
+
+/// Adds the numbers of a receipt.
+fn add_receipt(digest: &mut Digest, receipt: Receipt) {
+    digest.add(receipt.incarnation());
+    digest.add(receipt.sequence());
+    digest.add(receipt.handing());
+}
+
+/// Adds all that is asked, with a number of its own for each kind.
+fn add_ask(digest: &mut Digest, ask: &Ask) {
+    digest.add_bytes(ask.queue().as_str().as_bytes());
+    match ask {
+        Ask::Create {
+            visibility,
+            content,
+            ..
+        } => {
+            digest.add(1);
+            digest.add(u64::from(visibility.get()));
+            digest.add(u64::from(*content));
+        }
+        Ask::Remove { .. } => digest.add(2),
+        Ask::Send {
+            group,
+            dedup,
+            body,
+            ..
+        } => {
+            digest.add(3);
+            add_send(digest, group, dedup.as_ref(), body);
+        }
+        Ask::Receive { size, .. } => {
+            digest.add(4);
+            digest.add(u64::from(size.get()));
+        }
+        Ask::Delete { receipt, .. } => {
+            digest.add(5);
+            add_receipt(digest, *receipt);
+        }
+        Ask::Change {
+            receipt,
+            visibility,
+            ..
+        } => {
+            digest.add(6);
+            add_receipt(digest, *receipt);
+            digest.add(u64::from(visibility.get()));
+        }
+    }
+}
+
 /// The requests of one client, as they arrive.
 #[derive(Clone, Copy)]
 struct Arrivals {
@@ -153,8 +212,7 @@ impl Arrivals {
         if request.client == self.client && request.number > self.last {
             self.last = request.number;
             self.digest.add(request.number);
-            self.digest
-                .add_bytes(request.ask.queue().as_str().as_bytes());
+            add_ask(&mut self.digest, &request.ask);
         }
     }
 }
@@ -189,6 +247,7 @@ pub fn run<H: Threads + Wait + Sync>(
     ))?;
     let mut digest = Digest::new();
     digest.add(report.accepted);
+    digest.add(report.starved.len() as u64);
     digest.add(arrivals_of(1, &report.events));
     digest.add(arrivals_of(2, &report.events));
     Ok(digest.value())
