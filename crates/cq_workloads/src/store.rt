@@ -15,6 +15,12 @@ const SENDING: u64 = 299_000;
 /// Each group gets about so many messages.
 const GROUP_LENGTH: u64 = 50;
 
+/// By how many milliseconds the clock goes on between two receives.
+const PAUSE: u64 = 1_000;
+
+/// For so many seconds a message is kept for longer.
+const LONGER: u32 = 60;
+
 /// After so many receives the store is copied, as for a server that joins.
 const RECEIVES_TO_COPY: u64 = 4_096;
 
@@ -148,12 +154,13 @@ impl Shelf {
         receipts_of(alloc, &reply)
     }
 
-    /// One in four messages gets another timeout, half of these none, and all others are deleted.
+    /// One in four messages gets another timeout, half of these none, and all others are deleted. One that isn't deleted is
+    /// handed out again.
     fn end_one(&mut self, receipt: Receipt) -> io::Result<()> {
         let drawn = self.draws.below(8);
         let queue = self.name()?;
         let ask = if drawn < 2 {
-            let visibility = Seconds::new(drawn as u32 * 7_200).ok_or(stop("no timeout"))?;
+            let visibility = Seconds::new(drawn as u32 * LONGER).ok_or(stop("no timeout"))?;
             Ask::Change {
                 queue,
                 receipt,
@@ -196,7 +203,7 @@ impl Shelf {
         let receipts = self.receive(alloc)?;
         self.end_all(receipts.as_slice())?;
         self.count()?;
-        self.moment = self.moment.saturating_add(1);
+        self.moment = self.moment.saturating_add(PAUSE);
         if number % RECEIVES_TO_COPY == 0 {
             self.copy()?;
         }
@@ -215,12 +222,17 @@ fn receipts_of(alloc: Global, reply: &Reply) -> io::Result<Vec<Receipt>> {
     Ok(receipts)
 }
 
-/// So many messages, and a tenth as many receives of ten.
+/// How many receives of ten hand out so many messages, of which a quarter comes again each time, and some later.
+fn receives_of(messages: u64) -> u64 {
+    messages.saturating_mul(7) / 50
+}
+
+/// So many messages, and the receives that hand out all of them.
 pub fn run(alloc: Global, seed: u64, size: u64) -> io::Result<u64> {
     let mut shelf = Shelf::new(alloc, seed)?;
     shelf.create()?;
     shelf.send_all(alloc, size)?;
-    for number in 0..size / 10 {
+    for number in 0..receives_of(size) {
         shelf.round(alloc, number)?;
     }
     Ok(shelf.digest.value())
