@@ -1,5 +1,6 @@
 //! The job `backlog`: producers have been at work for long before a consumer comes. One queue has letters of many groups,
-//! and of many alphabets; then they are handed out by tens, some are given back, and most are deleted.
+//! and of many alphabets; then they are handed out by tens, some are given back, and the others are deleted.
+use crate::letters::{Handed, Letters};
 use crate::lines::{Lines, Name};
 use crate::orders::Orders;
 use crate::script::Maker;
@@ -15,10 +16,13 @@ const QUEUE: u64 = 1;
 /// By how many milliseconds the clock goes on between two requests, at most.
 const PAUSE: u64 = 4;
 
-/// How many messages a receive asks for.
-const BATCH: u64 = 10;
+/// How many letters a receive asks for.
+const BATCH: usize = 10;
 
-/// Each group has about so many messages.
+/// For so many seconds a letter is kept for longer.
+const LONGER: u64 = 3_600;
+
+/// Each group has about so many letters.
 const GROUP_LENGTH: u64 = 16;
 
 /// So many requests, or rounds, are made at a time.
@@ -27,23 +31,25 @@ const AT_ONCE: u64 = 64;
 /// One queue, and how far the script has come.
 #[derive(Drop)]
 struct Backlog {
+    alloc: Global,
     orders: Orders,
-    messages: u64,
+    count: u64,
     groups: u64,
     sent: u64,
-    /// How many messages have been handed out, where each receive gives what it may.
-    handed: u64,
+    letters: Letters,
     is_made: bool,
 }
 
 impl Backlog {
-    fn new(alloc: Global, seed: u64, messages: u64) -> io::Result<Backlog> {
+    fn new(alloc: Global, seed: u64, count: u64) -> io::Result<Backlog> {
+        let groups = 1 + count / GROUP_LENGTH;
         Ok(Backlog {
+            alloc,
             orders: Orders::new(alloc, seed, PAUSE)?,
-            messages,
-            groups: 1 + messages / GROUP_LENGTH,
+            count,
+            groups,
             sent: 0,
-            handed: 0,
+            letters: Letters::new(alloc, groups)?,
             is_made: false,
         })
     }
@@ -61,6 +67,7 @@ impl Backlog {
     fn send(&mut self, lines: &mut Lines) -> io::Result<()> {
         self.sent = self.sent.saturating_add(1);
         let group = self.orders.draws.below(self.groups);
+        self.letters.add(group as usize, self.sent)?;
         self.orders
             .begin_send(lines, SERVER, QUEUE, group, self.sent)?;
         write_letter(&mut self.orders.draws, lines)?;
@@ -69,37 +76,63 @@ impl Backlog {
     }
 
     fn send_some(&mut self, lines: &mut Lines) -> io::Result<()> {
-        for _ in 0..AT_ONCE.min(self.messages.saturating_sub(self.sent)) {
+        for _ in 0..AT_ONCE.min(self.count.saturating_sub(self.sent)) {
             self.send(lines)?;
         }
         Ok(())
     }
 
-    /// Ends with a message: one in eight is given back at once, another one in eight is kept for longer, and all others are
-    /// deleted.
-    fn end_one(&mut self, lines: &mut Lines, message: u64) -> io::Result<()> {
-        match self.orders.draws.below(8) {
-            0 => self.orders.change(lines, SERVER, QUEUE, message, 0)?,
-            1 => self.orders.change(lines, SERVER, QUEUE, message, 3_600)?,
-            _ => self.orders.delete(lines, SERVER, QUEUE, message, 1)?,
-        }
+    fn change(&mut self, lines: &mut Lines, handed: Handed, visibility: u64) -> io::Result<()> {
+        let Handed {
+            letter,
+            handing,
+            ..
+        } = handed;
+        self.orders
+            .change(lines, SERVER, QUEUE, letter, handing, visibility)?;
         self.answer(lines)
     }
 
-    /// Hands out up to ten messages, and ends with as many.
-    fn round(&mut self, lines: &mut Lines) -> io::Result<()> {
-        self.orders.receive(lines, SERVER, QUEUE, BATCH)?;
-        self.answer(lines)?;
-        for place in 0..BATCH {
-            self.end_one(lines, self.handed.saturating_add(place + 1))?;
+    fn delete(&mut self, lines: &mut Lines, handed: Handed) -> io::Result<()> {
+        let Handed {
+            letter,
+            handing,
+            ..
+        } = handed;
+        self.orders.delete(lines, SERVER, QUEUE, letter, handing)?;
+        self.answer(lines)
+    }
+
+    /// Ends with a letter, and tells whether it was given back: so is one in eight, at once. Another one in eight is kept for
+    /// longer and then deleted, and all others are deleted.
+    fn end_one(&mut self, lines: &mut Lines, handed: Handed) -> io::Result<bool> {
+        let drawn = self.orders.draws.below(8);
+        if drawn < 2 {
+            self.change(lines, handed, drawn.saturating_mul(LONGER))?;
         }
-        self.handed = self.handed.saturating_add(BATCH);
-        Ok(())
+        if drawn > 0 {
+            self.delete(lines, handed)?;
+        }
+        Ok(drawn == 0)
+    }
+
+    /// Hands out up to ten letters, and ends with each.
+    fn round(&mut self, lines: &mut Lines) -> io::Result<()> {
+        self.orders.receive(lines, SERVER, QUEUE, BATCH as u64)?;
+        self.answer(lines)?;
+        let batch = self.letters.hand(self.alloc, BATCH)?;
+        let mut given_back = Vec::new(self.alloc);
+        for handed in batch.as_slice() {
+            if self.end_one(lines, *handed)? {
+                given_back.push(*handed)?;
+            }
+        }
+        self.letters.end(batch.as_slice(), given_back.as_slice())
     }
 
     fn receive_some(&mut self, lines: &mut Lines) -> io::Result<()> {
         for _ in 0..AT_ONCE {
-            if self.handed >= self.messages {
+            if self.letters.is_empty() {
                 break;
             }
             self.round(lines)?;
@@ -114,17 +147,17 @@ impl Maker for Backlog {
         if !self.is_made {
             self.make(lines)?;
         }
-        if self.sent < self.messages {
+        if self.sent < self.count {
             return self.send_some(lines);
         }
-        if self.handed < self.messages {
+        if !self.letters.is_empty() {
             return self.receive_some(lines);
         }
         Ok(())
     }
 }
 
-/// So many messages.
+/// So many letters.
 pub fn run(alloc: Global, seed: u64, size: u64) -> io::Result<u64> {
     run_session(alloc, Backlog::new(alloc, seed, size)?)
 }

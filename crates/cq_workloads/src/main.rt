@@ -14,6 +14,7 @@ mod backlog;
 mod chain;
 mod common;
 mod digest;
+mod letters;
 mod lines;
 mod live;
 mod orders;

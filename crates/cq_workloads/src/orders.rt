@@ -149,17 +149,18 @@ impl Orders {
         lines.text("}}\n")
     }
 
-    /// The line of another timeout, in seconds, of a message by the receipt of its first handing.
+    /// The line of another timeout, in seconds, of a message by the receipt of that handing.
     pub fn change(
         &mut self,
         lines: &mut Lines,
         server: u64,
         queue: u64,
         message: u64,
+        handing: u64,
         visibility: u64,
     ) -> io::Result<()> {
         self.begin_on(lines, server, "change", queue)?;
-        self.receipt(lines, message, 1)?;
+        self.receipt(lines, message, handing)?;
         lines.text(",\"visibility\":")?;
         lines.number(visibility)?;
         lines.text("}}\n")

@@ -114,7 +114,7 @@ impl Shop {
     fn keep_one(&mut self, lines: &mut Lines, queue: u64) -> io::Result<()> {
         if self.orders.draws.one_in(8) {
             let last = self.count_of(queue);
-            self.orders.change(lines, SERVER, queue, last, 120)?;
+            self.orders.change(lines, SERVER, queue, last, 1, 120)?;
             self.answer(lines)?;
         }
         Ok(())
