@@ -137,19 +137,17 @@ impl<'a> Record<'a> {
 
     /// The name in the store of the queue that the record is about.
     pub fn store_name(&self) -> Option<StoreName> {
-        #[derive(Deserialize)]
-        struct Queue<'q> {
-            #[serde(borrow)]
-            queue: Cow<'q, str>,
-        }
-        match (&self.ask, &self.queue) {
-            (Some(raw), _) => {
-                let found: Queue<'_> = serde_json::from_str(raw.get()).ok()?;
-                StoreName::parse(&found.queue)
-            }
+        match (self.ask, &self.queue) {
+            (Some(raw), _) => Some(Subject::of(raw)?.1),
             (None, Some(queue)) => StoreName::parse(queue),
             (None, None) => None,
         }
+    }
+
+    /// The name that goes from the store with this record, if it asks for a removal.
+    pub fn removes(&self) -> Option<StoreName> {
+        let (kind, name) = Subject::of(self.ask?)?;
+        (kind == Kind::Remove).then_some(name)
     }
 
     /// The ask of this record. `base` is where the store's count of the queue's messages begins.
@@ -189,6 +187,21 @@ impl<'a> Record<'a> {
             None => Form::Whole(stored),
             Some(whole) => Form::Split { stub: stored, whole: whole.to_string() },
         }
+    }
+}
+
+/// What an ask is about.
+#[derive(Deserialize)]
+struct Subject<'a> {
+    kind: Kind,
+    #[serde(borrow)]
+    queue: Cow<'a, str>,
+}
+
+impl Subject<'_> {
+    fn of(ask: &RawValue) -> Option<(Kind, StoreName)> {
+        let Subject { kind, queue } = serde_json::from_str(ask.get()).ok()?;
+        Some((kind, StoreName::parse(&queue)?))
     }
 }
 

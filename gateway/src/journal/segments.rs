@@ -222,8 +222,8 @@ pub fn scan_all<F: Folder>(folder: &F) -> Result<Scanned, JournalError> {
     Ok(Scanned { spans: kept, replaced, removed })
 }
 
-/// Texts in JSON have no quotes by themselves, so these bytes stand in the record of a removal alone.
-const REMOVAL: &[u8] = b"\"kind\":\"remove\"";
+/// The record of a removal has these bytes, and others may have them too: clients choose the keys and values of tags.
+const PERHAPS_REMOVAL: &[u8] = b"\"remove\"";
 
 fn note_removed(span: &Span, bytes: &[u8], removed: &mut HashSet<StoreName>) -> Result<(), JournalError> {
     for frame in frames(span, bytes) {
@@ -233,15 +233,17 @@ fn note_removed(span: &Span, bytes: &[u8], removed: &mut HashSet<StoreName>) -> 
     Ok(())
 }
 
-/// The names of the store that the lines of a payload remove. None if a line can't be read.
+/// The names of the store that the lines of a payload remove. None if a line that may be a removal can't be read.
 pub fn removed_by(payload: &[u8]) -> Option<Vec<StoreName>> {
-    let found = memchr::memmem::find_iter(payload, REMOVAL).map(|found| {
-        let start = memchr::memrchr(b'\n', &payload[..found]).map_or(0, |place| place + 1);
-        let length = memchr::memchr(b'\n', &payload[start..]);
-        let line = &payload[start..length.map_or(payload.len(), |length| start + length)];
-        Record::read(line).and_then(|record| record.store_name())
-    });
-    found.collect()
+    let mut removed = Vec::new();
+    let mut rest = payload;
+    while let Some(found) = memchr::memmem::find(rest, PERHAPS_REMOVAL) {
+        let start = memchr::memrchr(b'\n', &rest[..found]).map_or(0, |place| place + 1);
+        let end = memchr::memchr(b'\n', &rest[found..]).map_or(rest.len(), |length| found + length);
+        removed.extend(Record::read(&rest[start..end])?.removes());
+        rest = &rest[end..];
+    }
+    Some(removed)
 }
 
 /// Segments that were written anew, as one, and don't have its name yet.
@@ -327,4 +329,38 @@ fn without(payload: &[u8], removed: &HashSet<StoreName>) -> Vec<u8> {
         }
     }
     kept
+}
+
+#[cfg(test)]
+mod tests {
+    use std::collections::BTreeMap;
+    use std::sync::Arc;
+
+    use super::*;
+    use crate::attributes::{Given, QueueAttributes};
+    use crate::lines::Fields;
+    use crate::queues::ask::{Ask, Change, Creation};
+    use crate::texts::{QueueKind, QueueName};
+
+    fn append(payload: &mut Vec<u8>, ask: &Ask) {
+        let raw = serde_json::value::to_raw_value(&Fields::of(StoreName(8), 0, ask)).unwrap();
+        Record::of_ask(1, ask, &raw, "{}").append(payload).unwrap();
+    }
+
+    #[test]
+    fn what_asks_for_a_removal_removes_and_nothing_that_a_client_wrote() {
+        let tags = BTreeMap::from([("kind".to_string(), "remove".to_string())]);
+        let mut payload = Vec::new();
+        Record::of_note(1, StoreName(7), &Change::Tag(tags.clone())).append(&mut payload).unwrap();
+        let given = Given::read(QueueKind::Standard, &[]).unwrap();
+        let attributes = QueueAttributes::for_creation(QueueKind::Standard, &given).unwrap();
+        let name = QueueName::parse("q").unwrap();
+        let creation = Arc::new(Creation { name: name.clone(), mark: 1, attributes, tags, before: None });
+        append(&mut payload, &Ask::Create { store: StoreName(8), visibility: 30, creation });
+        assert_eq!(removed_by(&payload), Some(Vec::new()));
+        append(&mut payload, &Ask::Remove { store: StoreName(9), name: Some(name) });
+        assert_eq!(removed_by(&payload), Some(vec![StoreName(9)]));
+        payload.extend_from_slice(b"{\"kind\":\"remove\"\n");
+        assert_eq!(removed_by(&payload), None, "this can't be read");
+    }
 }
