@@ -57,9 +57,9 @@ impl Clock {
 
     /// Time goes on from `moment` where the clock is behind it.
     pub fn go_on_from(&self, moment: Moment) {
-        let behind = moment as i64 - self.reading() as i64;
-        if behind > 0 && matches!(self.source, Source::SinceBoot) {
-            self.offset.fetch_add(behind, Ordering::Relaxed);
+        if matches!(self.source, Source::SinceBoot) {
+            // The offset itself is the larger one, so that several may do this side by side.
+            self.offset.fetch_max(moment as i64 - since_boot(), Ordering::Relaxed);
         }
         self.last.fetch_max(moment, Ordering::Relaxed);
     }
@@ -110,5 +110,25 @@ mod tests {
         assert!((first + 3_600_000..first + 3_660_000).contains(&later));
         std::thread::sleep(Duration::from_millis(20));
         assert!(clock.now() > later, "time isn't held until the wall clock has caught up");
+    }
+
+    #[test]
+    fn those_who_go_on_from_one_moment_side_by_side_set_the_clock_ahead_once() {
+        const HOUR: u64 = 3_600_000;
+        let clocks: Vec<_> = (0..20_000).map(|_| Clock::new()).collect();
+        let moment = clocks[0].now() + HOUR;
+        let together = std::sync::Barrier::new(2);
+        std::thread::scope(|scope| {
+            for _ in 0..2 {
+                scope.spawn(|| {
+                    for clock in &clocks {
+                        together.wait();
+                        clock.go_on_from(moment);
+                    }
+                });
+            }
+        });
+        let ahead = clocks.iter().filter(|clock| clock.now() > moment + HOUR / 2).count();
+        assert_eq!(ahead, 0, "so many were set ahead twice");
     }
 }
