@@ -2,6 +2,8 @@
 //!
 //! In the query form all values are texts, also where they are numbers.
 
+use std::collections::HashSet;
+
 use super::value::{Map, Value};
 use crate::errors::SqsError;
 use crate::messages::{test_attribute_name, AttributeValue, MessageAttributes, MOST_ATTRIBUTES, TRACE_HEADER};
@@ -76,7 +78,8 @@ impl<'m, 'a> Members<'m, 'a> {
         }
     }
 
-    /// A map of texts. Clients also give whole numbers and truth values there, and mean their texts.
+    /// A map of texts, in which no name stands twice. Clients also give whole numbers and truth values there, and mean
+    /// their texts.
     pub fn texts_by_name(&self, name: &str) -> Result<Vec<(String, String)>, SqsError> {
         let not_texts = || wrong_kind(format!("{name} must be a map of strings."));
         let map = match self.0.get(name) {
@@ -84,8 +87,11 @@ impl<'m, 'a> Members<'m, 'a> {
             Some(Value::Map(map)) => map,
             Some(_) => return Err(not_texts()),
         };
-        let mut pairs = Vec::with_capacity(map.0.len());
+        let (mut pairs, mut names) = (Vec::with_capacity(map.0.len()), HashSet::new());
         for (key, value) in &map.0 {
+            if !names.insert(key) {
+                return Err(wrong(format!("{name} has {key} twice.")));
+            }
             let text = match value {
                 Value::Text(text) => text.to_string(),
                 Value::Integer(number) => number.to_string(),

@@ -6,6 +6,7 @@ use serde::Deserialize;
 use super::requests::{Action, Request, Sending};
 use super::responses::{ReceivedMessage, Response};
 use super::{Incoming, Protocol};
+use crate::errors::SqsError;
 use crate::messages::MessageAttributes;
 use crate::policy::Permission;
 use crate::seeded::{check, edits, spoilt};
@@ -167,4 +168,19 @@ fn any_body_comes_back_in_both_protocols() {
         prop_assert_eq!(body_in_xml(std::str::from_utf8(&xml.body).unwrap()), body);
         Ok(())
     });
+}
+
+#[test]
+fn a_name_that_stands_twice_in_a_map_is_refused() {
+    let twice = "Attribute.1.Name=FifoQueue&Attribute.1.Value=true&Attribute.2.Name=FifoQueue&Attribute.2.Value=false";
+    let by_query = format!("Action=CreateQueue&QueueName=z.fifo&{twice}");
+    let by_json = r#"{"QueueName":"z.fifo","Attributes":{"FifoQueue":"true","FifoQueue":"false"}}"#;
+    for (target, body) in [(None, by_query.as_str()), (Some("AmazonSQS.CreateQueue"), by_json)] {
+        let incoming = Incoming { target, path_queue: None, query: "", body: body.as_bytes() };
+        let refused = Protocol::of(&incoming).read(&incoming);
+        assert!(
+            matches!(&refused, Err(SqsError::InvalidParameterValue(why)) if why.contains("FifoQueue")),
+            "{refused:?}"
+        );
+    }
 }
