@@ -262,6 +262,7 @@ mod tests {
 
     use proptest::prelude::*;
 
+    use crate::queues::ask::Changer;
     use crate::seeded::{check, edits, spoilt};
 
     fn line_of(ask: &Ask) -> String {
@@ -274,7 +275,7 @@ mod tests {
     #[test]
     fn requests_become_two_lines() {
         let receipt = Receipt { sequence: 12, ordinal: 4 };
-        let line = line_of(&Ask::Change { receipt, visibility: 9, by_attempt: false });
+        let line = line_of(&Ask::Change { receipt, visibility: 9, by: Changer::Client });
         let expected = "{\"op\":\"arrive\",\"at\":1,\"clock\":5,\"client\":2,\"number\":3,\"ask\":{\"kind\":\"change\",\
             \"queue\":\"7.fifo\",\"visibility\":9,\"receipt\":\"1-2-4\"}}\n{\"op\":\"put\",\"from\":1,\"to\":\"clients\"}\n";
         assert_eq!(line, expected);

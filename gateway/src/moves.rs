@@ -14,7 +14,7 @@ use uuid::Builder;
 use crate::errors::SqsError;
 use crate::handles::Receipt;
 use crate::messages::{read_form, Form};
-use crate::queues::ask::{Ask, Cause, Handed};
+use crate::queues::ask::{Ask, Cause, Changer, Handed};
 use crate::queues::Queue;
 use crate::store::Store;
 use crate::texts::{hex, Body, DedupId, GroupId, QueueKind};
@@ -200,7 +200,7 @@ pub async fn give_back(store: &Store, queue: &Arc<Queue>, messages: &[Handed]) {
         let last = |handed: &Handed| state.own_receipt_of(handed.receipt.sequence).unwrap_or(handed.receipt);
         messages.iter().map(last).collect()
     };
-    let change = |receipt| Ask::Change { receipt, visibility: 0, by_attempt: false };
+    let change = |receipt| Ask::Change { receipt, visibility: 0, by: Changer::Gateway };
     if !receipts.is_empty() {
         let _ = store.ask_all(queue, receipts.into_iter().map(change).collect()).await;
     }
@@ -238,26 +238,42 @@ async fn try_to_delete(store: &Store, queue: &Arc<Queue>, sequence: u64) -> Resu
 const GIVEN_BACK_AT_ONCE: usize = 32;
 
 /// Brings to their end what was cut off, before anybody is served: messages that have a copy are deleted, and others
-/// that the gateway had handed to itself are given back.
-pub async fn finish(store: &Store) -> Result<(), SqsError> {
-    delete_copied(store).await?;
+/// that the gateway had handed to itself are given back. What a full disk doesn't take is tried again until it is done.
+pub async fn finish(store: &Store) {
+    delete_copied(store).await;
     for queue in store.queues().all() {
         let hidden = queue.state().hidden_for_the_gateway(store.clock().now());
-        let change = |receipt: &Receipt| Ask::Change { receipt: *receipt, visibility: 0, by_attempt: false };
-        for some in hidden.chunks(GIVEN_BACK_AT_ONCE) {
-            for answer in store.ask_all(&queue, some.iter().map(change).collect()).await {
-                match answer {
-                    // Its timeout ended in this moment.
-                    Ok(_) | Err(SqsError::MessageNotInflight) => {}
-                    Err(error) => return Err(error),
-                }
-            }
+        let left = give_back_all(store, &queue, hidden).await;
+        if !left.is_empty() {
+            tracing::warn!("{} messages of {} are given back later", left.len(), queue.name);
+            tokio::spawn(keep_giving_back(store.clone(), queue, left));
         }
     }
-    Ok(())
 }
 
-async fn delete_copied(store: &Store) -> Result<(), SqsError> {
+async fn keep_giving_back(store: Store, queue: Arc<Queue>, mut left: Vec<Receipt>) {
+    while !left.is_empty() {
+        tokio::time::sleep(PAUSE).await;
+        left = give_back_all(&store, &queue, left).await;
+    }
+}
+
+/// Gives messages back, and tells which have to wait.
+async fn give_back_all(store: &Store, queue: &Arc<Queue>, receipts: Vec<Receipt>) -> Vec<Receipt> {
+    let mut left = Vec::new();
+    let change = |receipt: &Receipt| Ask::Change { receipt: *receipt, visibility: 0, by: Changer::Gateway };
+    for some in receipts.chunks(GIVEN_BACK_AT_ONCE) {
+        let answers = store.ask_all(queue, some.iter().map(change).collect()).await;
+        let waiting = some.iter().zip(answers).filter(|(_, answer)| {
+            // With any other refusal there is nothing to give back any more.
+            matches!(answer, Err(SqsError::ServiceUnavailable(_) | SqsError::InternalFailure(_)))
+        });
+        left.extend(waiting.map(|(receipt, _)| *receipt));
+    }
+    left
+}
+
+async fn delete_copied(store: &Store) {
     let by_mark: HashMap<u64, Arc<Queue>> =
         store.queues().all().into_iter().map(|queue| (queue.mark.0, queue)).collect();
     let mut finished = 0;
@@ -265,12 +281,13 @@ async fn delete_copied(store: &Store) -> Result<(), SqsError> {
         let Some(queue) = by_mark.get(&origin.mark) else { continue };
         let receipt: Option<Receipt> = queue.state().last_receipt_of(origin.sequence);
         if receipt.is_some() {
-            try_to_delete(store, queue, origin.sequence).await?;
+            // Until it is deleted, nobody copies it again.
+            store.queues().copies().note(origin);
+            delete(store, queue, origin.sequence).await;
             finished += 1;
         }
     }
     if finished > 0 {
-        tracing::info!("{finished} messages were deleted that had been moved to dead-letter queues");
+        tracing::info!("{finished} messages had been moved to dead-letter queues, and were there still");
     }
-    Ok(())
 }

@@ -187,7 +187,7 @@ async fn begin(settings: &Settings, health: &Health) -> Result<Begun> {
             cqs = fed;
             let journal = opened.begin(replayed.records, end_at_once)?;
             if let Some(uncounted) = retention::uncounted(replayed.latest, tables.clock.now()) {
-                note_jump(&journal, &tables, uncounted).await?;
+                note_jump(&journal, &tables, uncounted)?;
             }
             (Some(journal), replayed)
         }
@@ -198,20 +198,20 @@ async fn begin(settings: &Settings, health: &Health) -> Result<Begun> {
     }
     let (program, bounds) = (settings.program.clone(), settings.bounds);
     let (store, ended) = store::start(Start { program, shards, cqs, queues, clock, journal: journal.clone(), bounds });
-    remove_left_over(&store, &replayed).await?;
-    moves::finish(&store).await?;
+    remove_left_over(&store, &replayed).await;
+    moves::finish(&store).await;
     Ok(Begun { store, ended, journal })
 }
 
 /// The clock is more than a day ahead of the journal: of that time a day counts for retention, now and at later starts.
-async fn note_jump(journal: &Journal, tables: &Tables, uncounted: u64) -> Result<()> {
+fn note_jump(journal: &Journal, tables: &Tables, uncounted: u64) -> Result<()> {
     let now = tables.clock.now();
     tracing::warn!("the clock is far ahead of the last record: {uncounted} ms of it make no message older");
     let mut batch = Batch { count: 1, ..Batch::default() };
     Record::of_jump(now, uncounted).append(&mut batch.records)?;
+    // Where the disk is full it waits, and all that comes then is written behind it.
     journal.use_room(batch.records.len() as u64);
     journal.hand_over(&mut batch);
-    journal.settled().await;
     tables.queues.jumps().note(now, uncounted);
     Ok(())
 }
@@ -223,12 +223,14 @@ async fn take_journal(settings: &Settings) -> Result<Option<Taken>> {
     Ok(Some(taken))
 }
 
-/// What a queue left in the store that was going over to another name when the gateway ended.
-async fn remove_left_over(store: &Store, replayed: &Replayed) -> Result<()> {
+/// What a queue left in the store that was going over to another name when the gateway ended. What can't be removed now,
+/// since the disk is full, goes later.
+async fn remove_left_over(store: &Store, replayed: &Replayed) {
     for (name, queue) in &replayed.left_over {
-        store.ask(queue, Ask::Remove { store: *name, name: None }).await?;
+        if let Err(error) = store.ask(queue, Ask::Remove { store: *name, name: None }).await {
+            tracing::warn!("an earlier name of {} stays in the store for now: {error}", queue.name);
+        }
     }
-    Ok(())
 }
 
 async fn answer(

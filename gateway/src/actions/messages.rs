@@ -9,7 +9,7 @@ use crate::attributes::LONGEST_MESSAGE;
 use crate::digests::{md5_of_attributes, md5_of_text};
 use crate::errors::SqsError;
 use crate::messages::{Form, Kept, MessageAttributes, TRACE_HEADER};
-use crate::queues::ask::{self, Ask, Cause, Delayed, Outcome};
+use crate::queues::ask::{self, Ask, Cause, Changer, Delayed, Outcome};
 use crate::queues::Queue;
 use crate::store::{Answer, Command};
 use crate::texts::{Body, DedupId, GroupId, QueueKind, QueueName};
@@ -210,7 +210,7 @@ fn delete_ask(queue: &Queue, handle: &str) -> Result<Ask, SqsError> {
 fn change_ask(queue: &Queue, change: &Change) -> Result<Ask, SqsError> {
     let receipt = queue.receipt_of(&change.handle)?;
     let visibility = change.visibility.unwrap_or_else(|| queue.state().attributes.visibility_timeout());
-    Ok(Ask::Change { receipt, visibility, by_attempt: false })
+    Ok(Ask::Change { receipt, visibility, by: Changer::Client })
 }
 
 /// The MD5s are of what this send carried, also where the message is one that was sent before.

@@ -11,7 +11,7 @@ use crate::errors::SqsError;
 use crate::handles::Handle;
 use crate::messages::{read_form, Kept, MessageAttributes};
 use crate::polling::{self, Waiting};
-use crate::queues::ask::{Ask, Handed};
+use crate::queues::ask::{Ask, Changer, Handed};
 use crate::queues::Queue;
 use crate::texts::{QueueKind, QueueName};
 use crate::wire::requests::{Receive, Shown, SystemAttribute};
@@ -64,7 +64,7 @@ impl Actions {
     ) -> Result<Option<Vec<Handed>>, SqsError> {
         let Some(attempt) = &receive.attempt else { return Ok(None) };
         let Some(found) = queue.state().attempt(attempt, self.store.clock().now()) else { return Ok(None) };
-        let change = |handed: &Handed| Ask::Change { receipt: handed.receipt, visibility, by_attempt: true };
+        let change = |handed: &Handed| Ask::Change { receipt: handed.receipt, visibility, by: Changer::Attempt };
         let answers = self.store.ask_all(queue, found.iter().map(change).collect()).await;
         Ok(answers.iter().all(Result::is_ok).then_some(found))
     }

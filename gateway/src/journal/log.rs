@@ -36,6 +36,8 @@ pub struct Log<F: Folder> {
     allocated: u64,
     /// The number of the last commit that was tried.
     number: u64,
+    /// An empty commit goes before the next one.
+    owes_frame: bool,
 }
 
 impl<F: Folder> Log<F> {
@@ -70,20 +72,43 @@ impl<F: Folder> Log<F> {
         // A copy may have holes where there was space.
         let length = bytes.len() as u64;
         let allocated = if file.allocate(length).is_ok() { length } else { active.end };
-        let mut log = Log { folder, sizes, shards, allocated, number: active.last + 1, file, active };
+        let number = active.last + 1;
+        let mut log = Log { folder, sizes, shards, allocated, number, file, active, owes_frame: true };
         // No number is used again: the one that is passed over may have been that of a commit that failed.
         if log.is_short() {
             log.grow();
         }
-        log.commit(&[])?;
+        if log.space() >= frame::HEAD as u64 {
+            log.pay()?;
+        }
         log.folder.sync()?;
         scanned.spans.pop();
-        if !log.active.is_of_this_version() {
+        if log.is_outdated() {
             // Records that an older gateway can't read go behind a head that tells it so.
-            scanned.spans.extend(log.close(sizes.piece)?);
+            scanned.spans.extend(log.renew()?);
         }
         scanned.spans.push(log.active.clone());
         Ok((log, scanned))
+    }
+
+    /// Goes over to a segment of this version. Where the disk is full, it has the space that this one doesn't need.
+    fn renew(&mut self) -> Result<Option<Span>, JournalError> {
+        let piece = self.sizes.piece;
+        if let Some(closed) = self.close(piece)? {
+            return Ok(Some(closed));
+        }
+        self.give_back(self.space())?;
+        for room in halves_of(piece).chain([0]) {
+            if let Some(closed) = self.close(room)? {
+                return Ok(Some(closed));
+            }
+        }
+        Ok(None)
+    }
+
+    /// Whether no record may be written to the segment, since an older gateway would take it for its own.
+    pub fn is_outdated(&self) -> bool {
+        !self.active.is_of_this_version()
     }
 
     fn begin(
@@ -96,7 +121,7 @@ impl<F: Folder> Log<F> {
         publish(folder.as_ref(), 1)?;
         let allocated = active.end + sizes.piece;
         scanned.spans.push(active.clone());
-        Ok((Log { folder, sizes, shards, file, active, allocated, number: 0 }, scanned))
+        Ok((Log { folder, sizes, shards, file, active, allocated, number: 0, owes_frame: false }, scanned))
     }
 
     /// The segment that is written to.
@@ -104,14 +129,38 @@ impl<F: Folder> Log<F> {
         &self.active
     }
 
-    /// How many bytes can be written without more space.
+    /// How many bytes of records can be written without more space.
     pub fn room(&self) -> u64 {
+        let owed = if self.owes_frame { frame::HEAD as u64 } else { 0 };
+        if self.is_outdated() {
+            return 0;
+        }
+        self.space().saturating_sub(owed)
+    }
+
+    fn space(&self) -> u64 {
         self.allocated.saturating_sub(self.active.end)
     }
 
     /// Writes one commit. After it returns well the payload outlives a power cut. After it fails the log is of no
     /// use any more: what the disk has isn't known.
     pub fn commit(&mut self, payload: &[u8]) -> io::Result<()> {
+        if self.is_outdated() {
+            return Err(io::Error::new(io::ErrorKind::InvalidInput, "this segment is of an older version"));
+        }
+        self.pay()?;
+        self.write(payload)
+    }
+
+    /// Writes the empty commit that is owed.
+    fn pay(&mut self) -> io::Result<()> {
+        if std::mem::take(&mut self.owes_frame) {
+            self.write(&[])?;
+        }
+        Ok(())
+    }
+
+    fn write(&mut self, payload: &[u8]) -> io::Result<()> {
         self.number += 1;
         let place = self.active.end;
         let bytes = frame::encode(self.number, place, payload);
@@ -129,14 +178,31 @@ impl<F: Folder> Log<F> {
         self.room() < self.sizes.ahead
     }
 
-    /// Allocates one more piece, if the disk has it. A disk that is full leaves the room as it is.
+    /// Allocates one more piece, or at least as much as there should be ahead, if the disk has it. A disk that is full
+    /// leaves the room as it is.
     pub fn grow(&mut self) -> bool {
-        let wanted = self.allocated + self.sizes.piece;
-        let is_grown = self.file.allocate(wanted).is_ok();
-        if is_grown {
+        let ahead = self.sizes.ahead.saturating_sub(self.space());
+        self.allocate(self.sizes.piece) || (ahead > 0 && self.allocate(ahead))
+    }
+
+    /// Has so much space at least, if the disk has it.
+    pub fn reach(&mut self, space: u64) -> bool {
+        self.allocate(space.saturating_sub(self.space()))
+    }
+
+    fn allocate(&mut self, more: u64) -> bool {
+        let wanted = self.allocated + more;
+        let is_there = self.file.allocate(wanted).is_ok();
+        if is_there {
             self.allocated = wanted;
         }
-        is_grown
+        is_there
+    }
+
+    /// Gives so much of the space back to the disk.
+    pub fn give_back(&mut self, bytes: u64) -> io::Result<()> {
+        self.allocated -= bytes.min(self.space());
+        self.file.set_length(self.allocated)
     }
 
     /// Whether this segment is long enough to be followed by another one.
@@ -170,6 +236,11 @@ impl<F: Folder> Log<F> {
         let _ = old.set_length(closed.end);
         Ok(closed)
     }
+}
+
+/// Ever smaller shares of a size, down to a sixteenth.
+pub fn halves_of(size: u64) -> impl Iterator<Item = u64> {
+    (1..=4).map(move |times| size >> times)
 }
 
 /// Puts zeros where a commit was torn. The space stays: it may be the last that there is.

@@ -12,7 +12,7 @@ use crate::clock::Moment;
 use crate::lines::{read_receipt, Fields, Kind};
 use crate::messages::Form;
 use crate::moves::Origin;
-use crate::queues::ask::{Ask, Cause, Change, Creation, StoreName};
+use crate::queues::ask::{Ask, Cause, Change, Changer, Creation, StoreName};
 use crate::texts::{hex, AttemptId, DedupId, GroupId, QueueName};
 
 /// A record as it stands in the journal.
@@ -103,7 +103,7 @@ impl<'a> Record<'a> {
                 record.most = *most;
                 record.own = *own;
             }
-            Ask::Change { by_attempt, .. } => record.by_attempt = *by_attempt,
+            Ask::Change { by, .. } => record.by_attempt = *by == Changer::Attempt,
             Ask::Delete { .. } => {}
         }
         record
@@ -172,7 +172,9 @@ impl<'a> Record<'a> {
             },
             Kind::Delete => Ask::Delete { receipt: receipt()?, by_client: false },
             Kind::Change => {
-                Ask::Change { receipt: receipt()?, visibility: fields.visibility?, by_attempt: self.by_attempt }
+                // Those of the gateway and those of clients do the same.
+                let by = if self.by_attempt { Changer::Attempt } else { Changer::Client };
+                Ask::Change { receipt: receipt()?, visibility: fields.visibility?, by }
             }
         })
     }
@@ -230,7 +232,7 @@ mod tests {
             Ask::Send { group, dedup, form, cause: Cause::Due(Uuid::from_u128(7)) },
             Ask::Receive { size: 3, visibility: 9, attempt: AttemptId::parse("x").ok(), most: Some(2), own: false },
             Ask::Receive { size: 3, visibility: 0, attempt: None, most: None, own: true },
-            Ask::Change { receipt, visibility: 5, by_attempt: true },
+            Ask::Change { receipt, visibility: 5, by: Changer::Attempt },
             Ask::Remove { store: StoreName(7), name: QueueName::parse("q.fifo") },
         ] {
             let raw = serde_json::value::to_raw_value(&Fields::of(StoreName(7), 10, &ask)).unwrap();

@@ -223,6 +223,9 @@ impl Segment for File {
     fn write_at(&self, place: u64, bytes: &[u8]) -> io::Result<()> {
         let mut guard = self.disk.state();
         let state = &mut *guard;
+        if state.is_full && state.files[self.place].cache.len() < place as usize + bytes.len() {
+            return Err(failure("the disk is full"));
+        }
         if state.step().is_err() || state.fails() {
             let part = state.random.gen_range(0..=bytes.len());
             state.files[self.place].write(place as usize, &bytes[..part]);
@@ -241,13 +244,13 @@ impl Segment for File {
 
     fn allocate(&self, length: u64) -> io::Result<()> {
         let mut state = self.disk.state();
+        if state.files[self.place].cache.len() >= length as usize {
+            return Ok(());
+        }
         if state.is_full || state.fails() {
             return Err(failure("the disk is full"));
         }
-        let file = &mut state.files[self.place];
-        if file.cache.len() < length as usize {
-            file.set_length(length as usize);
-        }
+        state.files[self.place].set_length(length as usize);
         Ok(())
     }
 
@@ -353,13 +356,15 @@ struct Run {
     tried: Vec<Act>,
     last_queue: u64,
     last_text: u32,
+    /// The disk is full for some time.
+    is_full: bool,
 }
 
 impl Run {
     fn new(seed: u64) -> Run {
         let (disk, random) = (Disk::new(seed), StdRng::seed_from_u64(seed ^ 0xffff));
         let (sure, tried) = (Model::default(), Vec::new());
-        let mut run = Run { disk, random, log: None, sure, tried, last_queue: 1, last_text: 0 };
+        let mut run = Run { disk, random, log: None, sure, tried, last_queue: 1, last_text: 0, is_full: false };
         run.start();
         run
     }
@@ -373,7 +378,8 @@ impl Run {
                 let mut state = self.disk.state();
                 state.failing = if is_last { 0.0 } else { 0.1 };
                 state.left = (!is_last && self.random.gen_bool(0.3)).then(|| self.random.gen_range(0..8));
-                state.is_full = false;
+                // Also a disk that is full takes a start.
+                state.is_full = self.is_full;
             }
             let opened = Log::open(Arc::new(self.disk.clone()), SIZES, Shards::ONE);
             let mut state = self.disk.state();
@@ -443,7 +449,7 @@ impl Run {
         self.tried.extend(&acts);
         let (log, scanned) = self.log.as_mut().unwrap();
         let room = log.room();
-        if room < (payload.len() + 64) as u64 {
+        if room < (payload.len() + super::frame::HEAD) as u64 {
             // The gateway refuses this before it asks.
             self.tried.clear();
             log.grow();
@@ -501,7 +507,10 @@ impl Run {
         {
             let mut state = self.disk.state();
             state.failing = if self.random.gen_bool(0.15) { 0.3 } else { 0.0 };
-            state.is_full = self.random.gen_bool(0.15);
+            if self.random.gen_bool(0.05) {
+                self.is_full = !self.is_full;
+            }
+            state.is_full = self.is_full;
             state.left = self.random.gen_bool(0.2).then(|| self.random.gen_range(0..6));
         }
         match self.random.gen_range(0..12) {
@@ -544,5 +553,41 @@ fn no_flipped_bit_is_a_silent_loss() {
         drop(state);
         let refused = Log::open(Arc::new(disk.clone()), SIZES, Shards::ONE);
         assert!(refused.is_err(), "bit {bit} of byte {} went unseen", bit / 8);
+    }
+}
+
+/// The bytes of a segment of version 2 with one record, which an older gateway wrote, with so much space behind it.
+fn old_segment(space: usize) -> Vec<u8> {
+    let head = r#"{"rules":1,"shards":1,"hash":"crc32","segment":1,"from":1,"previous":0}"#;
+    let mut bytes = b"hobbychair journal 2\n".to_vec();
+    bytes.extend(super::frame::encode(0, bytes.len() as u64, head.as_bytes()).unwrap());
+    bytes.extend(super::frame::encode(1, bytes.len() as u64, &Act::Send(1, 1).line()).unwrap());
+    bytes.resize(bytes.len() + space, 0);
+    bytes
+}
+
+#[test]
+fn a_full_disk_gets_no_record_into_a_segment_that_older_gateways_read() {
+    for space in [0, 10, 300] {
+        let disk = Disk::new(1);
+        {
+            let mut state = disk.state();
+            let bytes = old_segment(space);
+            state.files.push(Bytes { cache: bytes.clone(), platter: bytes, ..Bytes::default() });
+            state.names = BTreeMap::from([(1, 0)]);
+            state.names_on_platter = state.names.clone();
+            state.is_full = true;
+        }
+        let (mut log, _) = Log::open(Arc::new(disk.clone()), SIZES, Shards::ONE).unwrap();
+        let payload = Act::Send(1, 2).line();
+        assert!(log.commit(&payload).is_err(), "this would go into version 2");
+        assert_eq!(log.room(), 0);
+        disk.state().is_full = false;
+        log.close(log.piece()).unwrap().unwrap();
+        log.commit(&payload).unwrap();
+        drop(log);
+        let (_, scanned) = Log::open(Arc::new(disk.clone()), SIZES, Shards::ONE).unwrap();
+        assert_eq!(Model::read(&disk, &scanned).texts, BTreeSet::from([(1, 1), (1, 2)]));
+        assert_eq!(scanned.spans.iter().map(|span| span.head.version).collect::<Vec<_>>(), [2, 3]);
     }
 }

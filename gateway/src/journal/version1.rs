@@ -23,7 +23,7 @@ use crate::attributes::{Given, QueueAttributes};
 use crate::cq::{Cq, CqError};
 use crate::lines::{self, read_receipt, Fields, Kind, Output, Reply};
 use crate::messages::{read_form, AttributeValue, Form, Kept, MessageAttributes};
-use crate::queues::ask::{Ask, Cause, Change, Creation, StoreName};
+use crate::queues::ask::{Ask, Cause, Change, Changer, Creation, StoreName};
 use crate::queues::shards::Shards;
 use crate::store::ReplayError;
 use crate::texts::{hex, AttemptId, Body, DedupId, GroupId, QueueName};
@@ -290,7 +290,8 @@ impl Conversion {
             }
             Kind::Delete => Ask::Delete { receipt: receipt()?, by_client: false },
             Kind::Change => {
-                Ask::Change { receipt: receipt()?, visibility: fields.visibility?, by_attempt: beside.by_attempt }
+                let by = if beside.by_attempt { Changer::Attempt } else { Changer::Client };
+                Ask::Change { receipt: receipt()?, visibility: fields.visibility?, by }
             }
         })
     }

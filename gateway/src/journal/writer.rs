@@ -5,9 +5,10 @@ use std::sync::PoisonError;
 use std::time::{Duration, Instant};
 
 use super::disk::Files;
-use super::log::Log;
+use super::log::{halves_of, Log};
 use super::segments::{removed_by, rewrite, JournalError};
 use super::{bytes_of, locked, Batch, Journal};
+use crate::queues::ask::StoreName;
 
 /// After so long without a commit an empty one is written, so that damage of the last real one is seen.
 const QUIET: Duration = Duration::from_secs(1);
@@ -54,25 +55,24 @@ fn keep_writing(mut log: Log<Files>, journal: &Journal, failed: fn(&str)) -> Res
     loop {
         rewrite_aside(&mut log, journal, failed)?;
         match wait(journal, is_quiet) {
-            Next::Grow => grow(&mut log, journal),
+            Next::Grow => grow(&mut log, journal)?,
             Next::Rewrite => {}
             Next::Write(mut batch) => {
-                if !batch.records.is_empty() {
-                    commit(&mut log, journal, &batch)?;
-                    is_quiet = false;
+                is_quiet &= batch.records.is_empty();
+                if batch.records.is_empty() || commit(&mut log, journal, &batch)? {
+                    batch.tell();
                 }
-                batch.tell();
             }
             Next::Quiet => {
                 commit_nothing(&mut log, journal)?;
                 is_quiet = true;
             }
             Next::Close(mut batch) => {
-                if !batch.records.is_empty() {
-                    commit(&mut log, journal, &batch)?;
-                }
+                let is_written = batch.records.is_empty() || commit(&mut log, journal, &batch)?;
                 commit_nothing(&mut log, journal)?;
-                batch.tell();
+                if is_written {
+                    batch.tell();
+                }
                 journal.0.ended.notify_one();
                 return Ok(());
             }
@@ -109,7 +109,11 @@ fn wait(journal: &Journal, is_quiet: bool) -> Next {
     }
 }
 
-fn commit(log: &mut Log<Files>, journal: &Journal, batch: &Batch) -> Result<(), JournalError> {
+/// Writes records. False if the journal was closed before there was space for them.
+fn commit(log: &mut Log<Files>, journal: &Journal, batch: &Batch) -> Result<bool, JournalError> {
+    if !wait_for_room(log, journal, batch)? {
+        return Ok(false);
+    }
     let shared = &journal.0;
     let before = log.room();
     let mut rest = batch.records.as_slice();
@@ -139,12 +143,29 @@ fn commit(log: &mut Log<Files>, journal: &Journal, batch: &Batch) -> Result<(), 
     }
     drop(spans);
     if log.is_short() {
-        grow(log, journal);
+        grow(log, journal)?;
     }
     if log.is_long() {
         begin_segment(log, journal)?;
     }
-    Ok(())
+    Ok(true)
+}
+
+/// Waits until the disk has space for the records. What a start notes of itself has none set aside; nothing else waits
+/// here. False if the journal is closed before.
+fn wait_for_room(log: &mut Log<Files>, journal: &Journal, batch: &Batch) -> Result<bool, JournalError> {
+    let bytes = batch.records.len() as u64 + batch.count * super::frame::HEAD as u64;
+    while log.room() < bytes {
+        grow(log, journal)?;
+        if log.room() >= bytes {
+            break;
+        }
+        if journal.waiting().is_closed {
+            return Ok(false);
+        }
+        std::thread::sleep(QUIET);
+    }
+    Ok(true)
 }
 
 /// How many bytes of these lines go into one commit: whole lines of `most` bytes in all, or one that is longer.
@@ -156,24 +177,77 @@ fn length_of_first(records: &[u8], most: usize) -> usize {
     end.map_or(records.len(), |end| end + 1)
 }
 
-/// Has the log begin another segment, unless the disk is full.
-fn begin_segment(log: &mut Log<Files>, journal: &Journal) -> Result<(), JournalError> {
-    let (shared, before) = (&journal.0, log.room() as i64);
-    // What is promised from here on has to fit into the fresh segment, and so has what was promised before.
-    let piece = log.piece() as i64;
-    let left = shared.room.fetch_add(piece - before, Ordering::Relaxed) + piece - before;
-    let room = piece + (-left).max(0);
-    shared.room.fetch_add(room - piece, Ordering::Relaxed);
+/// Has the log begin another segment. Where the disk is full, that one has less space: as much as there is, and what
+/// this one doesn't need. False if there is too little.
+fn begin_segment(log: &mut Log<Files>, journal: &Journal) -> Result<bool, JournalError> {
+    let (before, piece) = (log.room(), log.piece());
+    let wanted = piece.max(before);
+    if begin_segment_with(log, journal, wanted)? {
+        return Ok(true);
+    }
+    for is_shrunk in [false, true] {
+        if is_shrunk {
+            give_back(log, journal)?;
+        }
+        for room in halves_of(wanted) {
+            if begin_segment_with(log, journal, room)? {
+                // What the old one had is free by now.
+                change_room(journal, log, |log| log.reach(before));
+                return Ok(true);
+            }
+        }
+    }
+    change_room(journal, log, |log| log.reach(before));
+    Ok(false)
+}
+
+/// Has the log begin another segment with so much space, if the disk has that and all that was promised fits into it.
+fn begin_segment_with(log: &mut Log<Files>, journal: &Journal, room: u64) -> Result<bool, JournalError> {
+    let Some(lent) = lend(journal, log.room().saturating_sub(room)) else { return Ok(false) };
+    let before = log.room() as i64 - lent;
+    let shared = &journal.0;
     let mut spans = locked(&shared.spans);
-    if let Some(closed) = log.close(room as u64)? {
+    let closed = log.close(room)?;
+    let is_begun = closed.is_some();
+    if let Some(closed) = closed {
         if let Some(last) = spans.last_mut() {
             *last = closed;
         }
         spans.push(log.active().clone());
     }
     shared.bytes.store(bytes_of(&spans), Ordering::Relaxed);
-    shared.room.fetch_add(log.room() as i64 - room, Ordering::Relaxed);
+    shared.room.fetch_add(log.room() as i64 - before, Ordering::Relaxed);
+    Ok(is_begun)
+}
+
+/// Takes room from those who come, if it isn't promised. From then on all promises fit into what is left.
+fn lend(journal: &Journal, bytes: u64) -> Option<i64> {
+    let (room, bytes) = (&journal.0.room, bytes as i64);
+    if bytes == 0 {
+        return Some(0);
+    }
+    if room.fetch_sub(bytes, Ordering::Relaxed) < bytes {
+        room.fetch_add(bytes, Ordering::Relaxed);
+        return None;
+    }
+    Some(bytes)
+}
+
+/// Gives the disk the space that isn't promised.
+fn give_back(log: &mut Log<Files>, journal: &Journal) -> Result<(), JournalError> {
+    let free = journal.0.room.load(Ordering::Relaxed).max(0) as u64;
+    if let Some(lent) = lend(journal, free) {
+        log.give_back(lent as u64)?;
+    }
     Ok(())
+}
+
+/// Does something to the log, and counts the room that it has from then on.
+fn change_room<T>(journal: &Journal, log: &mut Log<Files>, change: impl FnOnce(&mut Log<Files>) -> T) -> T {
+    let before = log.room() as i64;
+    let done = change(log);
+    journal.0.room.fetch_add(log.room() as i64 - before, Ordering::Relaxed);
+    done
 }
 
 /// An empty commit, where there is space for one.
@@ -181,16 +255,17 @@ fn commit_nothing(log: &mut Log<Files>, journal: &Journal) -> Result<(), Journal
     if log.room() < super::frame::HEAD as u64 {
         return Ok(());
     }
-    commit(log, journal, &Batch::default())
+    commit(log, journal, &Batch::default()).map(drop)
 }
 
 /// Allocates space, or finds that there is none.
-fn grow(log: &mut Log<Files>, journal: &Journal) {
-    let (shared, before) = (&journal.0, log.room());
-    let is_grown = log.grow();
-    shared.room.fetch_add(log.room() as i64 - before as i64, Ordering::Relaxed);
+fn grow(log: &mut Log<Files>, journal: &Journal) -> Result<(), JournalError> {
+    let shared = &journal.0;
+    let is_grown =
+        if log.is_outdated() { begin_segment(log, journal)? } else { change_room(journal, log, |log| log.grow()) };
     shared.is_full.store(!is_grown, Ordering::Relaxed);
     shared.grown.send_replace(());
+    Ok(())
 }
 
 /// Has the closed segments written anew by a thread of its own, where names were removed since the last time: now and
@@ -207,8 +282,10 @@ fn rewrite_aside(log: &mut Log<Files>, journal: &Journal, failed: fn(&str)) -> R
     if !is_urgent && (is_early || closed_bytes(journal) < WORTH_REWRITING) {
         return Ok(());
     }
-    if is_urgent && log.active().end >= worth_closing(journal) {
-        begin_segment(log, journal)?;
+    if is_urgent && log.active().end >= worth_closing(journal) && !begin_segment(log, journal)? {
+        rewriting.has_failed = true;
+        rewriting.next = Some(Instant::now() + REST);
+        return Ok(());
     }
     rewriting.goes_on = true;
     rewriting.removed = removed;

@@ -63,11 +63,10 @@ pub enum Ask {
         receipt: Receipt,
         by_client: bool,
     },
-    /// `by_attempt`: not a client asks for it, but a repeated receive.
     Change {
         receipt: Receipt,
         visibility: u32,
-        by_attempt: bool,
+        by: Changer,
     },
 }
 
@@ -79,6 +78,16 @@ impl Ask {
             _ => None,
         }
     }
+}
+
+/// Who asks for a change of a timeout.
+#[derive(Clone, Copy, Debug, PartialEq, Eq)]
+pub enum Changer {
+    Client,
+    /// A receive that is repeated under its attempt id.
+    Attempt,
+    /// The gateway gives back what it was handed.
+    Gateway,
 }
 
 /// Why a message is sent to the store.

@@ -8,7 +8,7 @@ use proptest::sample::Index;
 use proptest::test_runner::TestCaseResult;
 use uuid::Uuid;
 
-use super::ask::{Ask, Cause, Change, Creation, Outcome, StoreName};
+use super::ask::{Ask, Cause, Change, Changer, Creation, Outcome, StoreName};
 use super::State;
 use crate::attributes::{Given, QueueAttributes};
 use crate::clock::Moment;
@@ -183,7 +183,7 @@ impl Both {
                 let message = found.and_then(|receipt| self.list.messages.get_mut(&receipt.sequence));
                 if let (Some(receipt), Some(message)) = (found, message.filter(|message| message.until > self.now)) {
                     message.until = self.now + 1000 * u64::from(*visibility);
-                    self.settle(&Ask::Change { receipt, visibility: *visibility, by_attempt: false }, Reply::Changed);
+                    self.settle(&Ask::Change { receipt, visibility: *visibility, by: Changer::Client }, Reply::Changed);
                 }
             }
             Step::Delay(seconds) => {

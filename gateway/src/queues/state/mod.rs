@@ -15,7 +15,7 @@ use std::sync::Arc;
 
 use uuid::Uuid;
 
-use super::ask::{Ask, Before, Cause, Change, Creation, Delayed, Fate, Handed, Outcome, StoreName};
+use super::ask::{Ask, Before, Cause, Change, Changer, Creation, Delayed, Fate, Handed, Outcome, StoreName};
 use super::groups::{Group, Groups};
 use crate::attributes::QueueAttributes;
 use crate::clock::Moment;
@@ -187,8 +187,8 @@ impl State {
                 self.received(given, attempt.as_ref(), &receiving)
             }
             (Ask::Delete { receipt, .. }, Reply::Deleted(removed)) => Ok(self.deleted(*receipt, removed)),
-            (Ask::Change { receipt, visibility, by_attempt }, Reply::Changed) => {
-                Ok(self.changed(*receipt, *visibility, *by_attempt, moment))
+            (Ask::Change { receipt, visibility, by }, Reply::Changed) => {
+                Ok(self.changed(*receipt, *visibility, *by, moment))
             }
             _ => Err(misfit()),
         }
@@ -331,7 +331,7 @@ impl State {
         Settled::done(true)
     }
 
-    fn changed(&mut self, receipt: Receipt, visibility: u32, by_attempt: bool, moment: Moment) -> Settled {
+    fn changed(&mut self, receipt: Receipt, visibility: u32, by: Changer, moment: Moment) -> Settled {
         let until = moment + 1000 * u64::from(visibility);
         if let Some(message) = self.messages.get_mut(&receipt.sequence) {
             message.until = until;
@@ -339,7 +339,7 @@ impl State {
                 groups.hide(message.group, until);
             }
             if let Some(last) = &mut message.last {
-                last.touched |= !by_attempt;
+                last.touched |= by != Changer::Attempt;
             }
         }
         self.note_end(until, receipt.sequence);

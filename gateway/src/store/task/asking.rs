@@ -195,9 +195,7 @@ fn answer_about_earlier(ask: &Ask, base: u64) -> Option<Answer> {
 fn with_last_receipt(ask: Ask, state: &State) -> Ask {
     match ask {
         Ask::Delete { receipt, by_client } => Ask::Delete { receipt: state.last_receipt(receipt), by_client },
-        Ask::Change { receipt, visibility, by_attempt } => {
-            Ask::Change { receipt: state.last_receipt(receipt), visibility, by_attempt }
-        }
+        Ask::Change { receipt, visibility, by } => Ask::Change { receipt: state.last_receipt(receipt), visibility, by },
         other => other,
     }
 }

@@ -4,16 +4,17 @@ use serde_json::value::RawValue;
 
 use crate::journal::Need;
 use crate::messages::Form;
-use crate::queues::ask::{Ask, Cause, Change};
+use crate::queues::ask::{Ask, Cause, Change, Changer};
 
 pub(super) fn need_of(ask: &Ask) -> Need {
     match ask {
         // A queue goes over to another name so that records can go.
         Ask::Create { creation, .. } if creation.before.is_some() => Need::Less,
         Ask::Create { .. } | Ask::Send { cause: Cause::Client, .. } => Need::More,
-        Ask::Send { .. } | Ask::Receive { own: false, .. } | Ask::Change { .. } => Need::Same,
-        // What the gateway is handed itself, it deletes or gives back.
-        Ask::Receive { .. } | Ask::Delete { .. } | Ask::Remove { .. } => Need::Less,
+        // What the gateway is handed itself it deletes or gives back, and for that there has to be space.
+        Ask::Change { by: Changer::Gateway, .. } => Need::Less,
+        Ask::Receive { own: true, visibility: 0, .. } | Ask::Delete { .. } | Ask::Remove { .. } => Need::Less,
+        Ask::Send { .. } | Ask::Receive { .. } | Ask::Change { .. } => Need::Same,
     }
 }
 
