@@ -3,6 +3,7 @@
 from __future__ import annotations
 
 import json
+import os
 import subprocess
 
 import pytest
@@ -83,6 +84,30 @@ def test_a_second_gateway_is_kept_out(journal):
     ended = start(journal)
     assert ended.returncode == 1
     assert ended.stderr == f"hobbychair: {journal} is in use by another process\n"
+    assert gateway.stop() == 0
+
+
+@pytest.mark.parametrize("name", ["its own, without the lock file", "a hard link", "a symbolic link"])
+def test_what_a_gateway_writes_is_locked_by_whichever_name(journal, tmp_path, name):
+    gateway = Started("--journal", str(journal))
+    path, segment = journal, journal.with_name("journal.1")
+    if name.startswith("its own"):
+        journal.with_name("journal.lock").unlink()
+    else:
+        path = tmp_path / "other" / "journal"
+        path.parent.mkdir()
+        (os.link if name == "a hard link" else os.symlink)(segment, path.with_name("journal.1"))
+    ended = start(path)
+    assert ended.returncode == 1 and ended.stdout == ""
+    why = "is a symbolic link" if name == "a symbolic link" else "is in use by another process"
+    assert ended.stderr == f"hobbychair: {path}.1 {why}\n"
+    call = ByBoto3(gateway.client())
+    call("SendMessage", QueueUrl="q.fifo", MessageBody="b", MessageGroupId="h", MessageDeduplicationId="h")
+    gateway.kill()
+    path.with_name("journal.1").unlink() if path != journal else None
+    gateway.start()
+    messages = ByBoto3(gateway.client())("ReceiveMessage", QueueUrl="q.fifo", MaxNumberOfMessages=10)["Messages"]
+    assert [message["Body"] for message in messages] == ["m0", "m1", "m2", "b"]
     assert gateway.stop() == 0
 
 

@@ -2,11 +2,11 @@
 
 use std::ffi::OsString;
 use std::fs::{File, OpenOptions};
-use std::io;
-use std::os::unix::fs::{FileExt, OpenOptionsExt};
+use std::io::{self, Read};
+use std::os::unix::fs::{FileExt, MetadataExt, OpenOptionsExt};
 use std::path::{Path, PathBuf};
 
-use rustix::fs::{fallocate, FallocateFlags};
+use rustix::fs::{fallocate, flock, FallocateFlags, FlockOperation, OFlags};
 
 /// The files of one journal: segments by their numbers.
 pub trait Folder: Send + Sync {
@@ -15,7 +15,7 @@ pub trait Folder: Send + Sync {
     /// The numbers of the segments that are there, in any order.
     fn list(&self) -> io::Result<Vec<u64>>;
 
-    /// Opens a segment that is there, to write to it.
+    /// Opens the last segment, to write to it. Nobody else may have it.
     fn open(&self, number: u64) -> io::Result<Self::File>;
 
     /// All bytes of a segment that is there.
@@ -26,6 +26,9 @@ pub trait Folder: Send + Sync {
 
     /// Gives the file of `create` its name, in place of a segment that has it.
     fn publish(&self, number: u64) -> io::Result<()>;
+
+    /// What `create` made and nobody published is gone after this.
+    fn clear(&self) -> io::Result<()>;
 
     fn remove(&self, number: u64) -> io::Result<()>;
 
@@ -48,6 +51,9 @@ pub trait Segment: Send {
     fn sync(&self) -> io::Result<()>;
 }
 
+/// The end of the name of a file that isn't published.
+const FRESH: &str = ".new";
+
 /// A journal in files beside the path that names it: `PATH.1`, `PATH.2` and so on.
 #[derive(Clone, Debug)]
 pub struct Files {
@@ -57,6 +63,10 @@ pub struct Files {
 impl Files {
     pub fn new(path: &Path) -> Files {
         Files { path: path.into() }
+    }
+
+    pub fn path(&self) -> &Path {
+        &self.path
     }
 
     pub fn path_of(&self, suffix: &str) -> PathBuf {
@@ -71,7 +81,22 @@ impl Files {
     }
 
     fn fresh(&self, number: u64) -> PathBuf {
-        self.path_of(&format!("{number}.new"))
+        self.path_of(&format!("{number}{FRESH}"))
+    }
+
+    /// The numbers of the files of the journal of which `number_in` makes a number of what is behind the name.
+    fn numbers(&self, number_in: impl Fn(&str) -> Option<&str>) -> io::Result<Vec<u64>> {
+        let Some(own) = self.path.file_name().and_then(|name| name.to_str()) else {
+            return Err(io::Error::new(io::ErrorKind::InvalidInput, "the journal has no name"));
+        };
+        let mut numbers = Vec::new();
+        for entry in std::fs::read_dir(self.folder())? {
+            let name = entry?.file_name();
+            let suffix = name.to_str().and_then(|name| name.strip_prefix(own)?.strip_prefix('.'));
+            let digits = suffix.and_then(&number_in).filter(|digits| !digits.starts_with(['0', '+']));
+            numbers.extend(digits.and_then(|digits| digits.parse::<u64>().ok()));
+        }
+        Ok(numbers)
     }
 
     /// The folder that the files are in.
@@ -87,32 +112,47 @@ impl Folder for Files {
     type File = File;
 
     fn list(&self) -> io::Result<Vec<u64>> {
-        let Some(own) = self.path.file_name().and_then(|name| name.to_str()) else {
-            return Err(io::Error::new(io::ErrorKind::InvalidInput, "the journal has no name"));
-        };
-        let mut numbers = Vec::new();
-        for entry in std::fs::read_dir(self.folder())? {
-            let name = entry?.file_name();
-            let suffix = name.to_str().and_then(|name| name.strip_prefix(own)?.strip_prefix('.'));
-            let number =
-                suffix.and_then(|suffix| suffix.parse::<u64>().ok().filter(|_| !suffix.starts_with(['0', '+'])));
-            numbers.extend(number);
-        }
-        Ok(numbers)
+        self.numbers(|suffix| Some(suffix))
     }
 
     fn open(&self, number: u64) -> io::Result<File> {
-        OpenOptions::new().read(true).write(true).open(self.segment(number))
+        let path = self.segment(number);
+        let file = open_plainly(&path, OpenOptions::new().read(true).write(true))?;
+        lock(&file, &path)?;
+        if file.metadata()?.nlink() > 1 {
+            return Err(refusal(&path, "has another name as well (a hard link), by which others may write to it"));
+        }
+        // Whoever had it may just have begun another one, or put this one's successor in its place.
+        let is_last = self.list()?.iter().all(|other| *other <= number);
+        let is_same = std::fs::symlink_metadata(&path)?.ino() == file.metadata()?.ino();
+        if !is_last || !is_same {
+            return Err(in_use(&path));
+        }
+        Ok(file)
     }
 
     fn read(&self, number: u64) -> io::Result<Vec<u8>> {
-        std::fs::read(self.segment(number))
+        let mut bytes = Vec::new();
+        open_regular(&self.segment(number), OpenOptions::new().read(true))?.read_to_end(&mut bytes)?;
+        Ok(bytes)
     }
 
     fn create(&self, number: u64) -> io::Result<File> {
-        let mut options = OpenOptions::new();
-        options.read(true).write(true).create(true).truncate(true).mode(0o600);
-        options.open(self.fresh(number))
+        let path = self.fresh(number);
+        match std::fs::remove_file(&path) {
+            Err(error) if error.kind() != io::ErrorKind::NotFound => return Err(error),
+            _ => {}
+        }
+        let file = open_plainly(&path, OpenOptions::new().read(true).write(true).create_new(true).mode(0o600))?;
+        lock(&file, &path)?;
+        Ok(file)
+    }
+
+    fn clear(&self) -> io::Result<()> {
+        for number in self.numbers(|suffix| suffix.strip_suffix(FRESH))? {
+            std::fs::remove_file(self.fresh(number))?;
+        }
+        Ok(())
     }
 
     fn publish(&self, number: u64) -> io::Result<()> {
@@ -126,6 +166,45 @@ impl Folder for Files {
     fn sync(&self) -> io::Result<()> {
         File::open(self.folder())?.sync_all()
     }
+}
+
+/// Opens a file that is one, and nothing that would keep who opens it waiting.
+fn open_regular(path: &Path, options: &mut OpenOptions) -> io::Result<File> {
+    open_with(path, options, OFlags::NONBLOCK)
+}
+
+/// The same, but not by a symbolic link: none of the journal's own files is one.
+fn open_plainly(path: &Path, options: &mut OpenOptions) -> io::Result<File> {
+    match open_with(path, options, OFlags::NONBLOCK | OFlags::NOFOLLOW) {
+        Err(error) if error.raw_os_error() == Some(rustix::io::Errno::LOOP.raw_os_error()) => {
+            Err(refusal(path, "is a symbolic link"))
+        }
+        opened => opened,
+    }
+}
+
+fn open_with(path: &Path, options: &mut OpenOptions, flags: OFlags) -> io::Result<File> {
+    let file = options.custom_flags(flags.bits() as i32).open(path)?;
+    if !file.metadata()?.is_file() {
+        return Err(refusal(path, "is no file"));
+    }
+    Ok(file)
+}
+
+/// Keeps others from a file for as long as it is open, by whichever name they reach it.
+fn lock(file: &File, path: &Path) -> io::Result<()> {
+    match flock(file, FlockOperation::NonBlockingLockExclusive) {
+        Err(rustix::io::Errno::WOULDBLOCK) => Err(in_use(path)),
+        locked => Ok(locked?),
+    }
+}
+
+fn in_use(path: &Path) -> io::Error {
+    refusal(path, "is in use by another process")
+}
+
+fn refusal(path: &Path, why: &str) -> io::Error {
+    io::Error::new(io::ErrorKind::Other, format!("{} {why}", path.display()))
 }
 
 impl Segment for File {
@@ -160,4 +239,77 @@ fn write_zeros(file: &File, length: u64) -> io::Result<()> {
         place += count;
     }
     Ok(())
+}
+
+#[cfg(test)]
+mod tests {
+    use std::os::unix::fs::symlink;
+    use std::sync::Arc;
+
+    use super::super::log::{Log, Sizes};
+    use super::super::Taken;
+    use super::*;
+    use crate::queues::shards::Shards;
+
+    /// A folder that goes with this.
+    struct Room(PathBuf);
+
+    impl Room {
+        fn new(name: &str) -> Room {
+            let path = std::env::temp_dir().join(format!("hobbychair-{name}-{}", std::process::id()));
+            std::fs::create_dir_all(&path).unwrap();
+            Room(path)
+        }
+    }
+
+    impl Drop for Room {
+        fn drop(&mut self) {
+            let _ = std::fs::remove_dir_all(&self.0);
+        }
+    }
+
+    fn refusal_of(path: &Path) -> String {
+        match Taken::new(path).and_then(|taken| taken.open(Shards::ONE)) {
+            Ok(_) => panic!("{} has two writers", path.display()),
+            Err(error) => error.to_string(),
+        }
+    }
+
+    #[test]
+    fn what_is_written_has_one_writer_by_whichever_name() {
+        let room = Room::new("writers");
+        let path = room.0.join("journal");
+        let first = Taken::new(&path).unwrap().open(Shards::ONE).unwrap();
+        std::fs::remove_file(path.with_file_name("journal.lock")).unwrap();
+        let segment = path.with_file_name("journal.1");
+        assert_eq!(refusal_of(&path), format!("{} is in use by another process", segment.display()));
+        let other = room.0.join("other");
+        std::fs::create_dir(&other).unwrap();
+        std::fs::hard_link(&segment, other.join("journal.1")).unwrap();
+        assert!(refusal_of(&other.join("journal")).ends_with("other/journal.1 is in use by another process"));
+        drop(first);
+        assert!(refusal_of(&other.join("journal")).contains("has another name as well"));
+        std::fs::remove_file(other.join("journal.1")).unwrap();
+        symlink(&segment, other.join("journal.1")).unwrap();
+        assert!(refusal_of(&other.join("journal")).ends_with("journal.1 is a symbolic link"));
+        Taken::new(&path).unwrap().open(Shards::ONE).unwrap();
+    }
+
+    #[test]
+    fn a_segment_that_was_just_closed_is_not_opened() {
+        let room = Room::new("closed");
+        let files = Files::new(&room.0.join("journal"));
+        let (mut log, _) = Log::open(Arc::new(files.clone()), Sizes::default(), Shards::ONE).unwrap();
+        log.close(1024).unwrap().unwrap();
+        assert!(files.open(1).unwrap_err().to_string().ends_with("journal.1 is in use by another process"));
+    }
+
+    #[test]
+    fn a_segment_that_is_no_file_keeps_nobody_waiting() {
+        let room = Room::new("pipe");
+        let path = room.0.join("journal.1");
+        rustix::fs::mknodat(rustix::fs::cwd(), &path, rustix::fs::FileType::Fifo, rustix::fs::Mode::RUSR, 0).unwrap();
+        let files = Files::new(&room.0.join("journal"));
+        assert!(files.read(1).unwrap_err().to_string().ends_with("journal.1 is no file"));
+    }
 }

@@ -49,6 +49,7 @@ impl<F: Folder> Log<F> {
         if let Some(other) = scanned.spans.iter().find(|span| span.head.shards != shards.count()) {
             return Err(JournalError::OtherShards { found: other.head.shards, given: shards.count() });
         }
+        folder.clear()?;
         // The segment that stands for others may have its name in the cache alone.
         folder.sync()?;
         for number in std::mem::take(&mut scanned.replaced) {

@@ -197,6 +197,11 @@ impl Folder for Disk {
         Ok(())
     }
 
+    fn clear(&self) -> io::Result<()> {
+        self.state().fresh.clear();
+        Ok(())
+    }
+
     fn remove(&self, number: u64) -> io::Result<()> {
         let mut state = self.state();
         state.step()?;
