@@ -37,6 +37,13 @@ enum Command {
         /// The journal, as serve is given it
         file: PathBuf,
     },
+    /// Copy a journal, also one of a gateway that runs
+    Backup {
+        /// The journal, as serve is given it
+        file: PathBuf,
+        /// The copy, named in the same way
+        target: PathBuf,
+    },
     /// Write the completions of this command line for a shell
     Completions {
         /// The shell
@@ -70,6 +77,7 @@ fn run(command: Command) -> Result<()> {
         Command::Serve(options) => serve_by(*options)?,
         Command::Dump { file } => inspect::dump(&file, &mut out)?,
         Command::Verify { file } => inspect::verify(&file, &mut out)?,
+        Command::Backup { file, target } => inspect::back_up(&file, &target, &mut out)?,
         Command::Completions { shell } => {
             clap_complete::generate(shell, &mut CommandLine::command(), "hobbychair", &mut out);
         }

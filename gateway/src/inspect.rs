@@ -1,11 +1,12 @@
 //! Looking at a journal that nobody opens to write, or at a copy of one.
 
+use std::collections::HashSet;
 use std::io::Write;
 use std::path::Path;
 
 use anyhow::{bail, Result};
 
-use crate::journal::{self, Record, Records};
+use crate::journal::{self, Found, Record, Records};
 use crate::lines;
 
 /// Writes the journal as a script: two lines for each request of a queue that lives.
@@ -35,6 +36,22 @@ pub fn dump(path: &Path, out: &mut impl Write) -> Result<()> {
     failed.map_or(Ok(()), Err)
 }
 
+/// Copies a journal, and says what the copy holds.
+pub fn back_up(path: &Path, target: &Path, out: &mut impl Write) -> Result<()> {
+    if journal::is_version1(path) {
+        bail!("{} is a journal of version 1, which is one file: copy that", path.display());
+    }
+    write_segments(&journal::back_up(path, target)?, out)
+}
+
+fn write_segments(found: &[Found], out: &mut impl Write) -> Result<()> {
+    for segment in found {
+        let (number, bytes, last) = (segment.segment, segment.bytes, segment.last_commit);
+        writeln!(out, "segment {number}: {bytes} bytes, commits up to {last}")?;
+    }
+    Ok(())
+}
+
 /// Says what a journal holds. Damage is an error that says where it is.
 pub fn verify(path: &Path, out: &mut impl Write) -> Result<()> {
     if journal::is_version1(path) {
@@ -44,6 +61,7 @@ pub fn verify(path: &Path, out: &mut impl Write) -> Result<()> {
     let (records, found) = Records::of_files(path)?;
     let removed = records.removed().clone();
     let (mut requests, mut notes, mut passed, mut starts, mut bad) = (0u64, 0u64, 0u64, 0u64, 0u64);
+    let (mut created, mut strangers) = (HashSet::new(), 0u64);
     let mut last_clock = 0;
     let count = records.read(|payload| {
         for line in payload.split(|byte| *byte == b'\n').filter(|line| !line.is_empty()) {
@@ -52,6 +70,11 @@ pub fn verify(path: &Path, out: &mut impl Write) -> Result<()> {
                 continue;
             };
             last_clock = record.clock.max(last_clock);
+            let name = record.store_name().filter(|name| !removed.contains(name));
+            if record.creation.is_some() {
+                created.extend(name);
+            }
+            strangers += u64::from(name.is_some_and(|name| !created.contains(&name)));
             match (record.store_name().map(|name| removed.contains(&name)), record.ask.is_some()) {
                 (Some(true), _) => passed += 1,
                 (Some(false), true) => requests += 1,
@@ -62,10 +85,7 @@ pub fn verify(path: &Path, out: &mut impl Write) -> Result<()> {
         }
         true
     })?;
-    for segment in &found {
-        let (number, bytes, last) = (segment.segment, segment.bytes, segment.last_commit);
-        writeln!(out, "segment {number}: {bytes} bytes, commits up to {last}")?;
-    }
+    write_segments(&found, out)?;
     writeln!(out, "{count} records: {requests} requests and {notes} notes of queues that are there, {passed} of queues that were removed")?;
     if starts > 0 {
         writeln!(out, "{starts} starts found the clock more than a day ahead")?;
@@ -76,6 +96,9 @@ pub fn verify(path: &Path, out: &mut impl Write) -> Result<()> {
     }
     if bad > 0 {
         bail!("{bad} records can't be read");
+    }
+    if strangers > 0 {
+        bail!("{strangers} records are of queues whose creation is missing");
     }
     writeln!(out, "undamaged")?;
     Ok(())

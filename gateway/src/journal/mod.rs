@@ -1,5 +1,6 @@
 //! The journal: a record for each request that changed something, on disk before anybody is answered.
 
+mod backup;
 mod disk;
 mod frame;
 mod log;
@@ -25,6 +26,7 @@ use crate::limits::Bound;
 use crate::queues::ask::StoreName;
 use crate::queues::shards::Shards;
 use crate::store::{Answer, JournalFigures};
+pub use backup::back_up;
 pub use disk::Files;
 use disk::Folder;
 use log::{Log, Sizes};
@@ -202,8 +204,12 @@ fn lock(files: &Files, path: &Path) -> Result<File, JournalError> {
     let mut options = File::options();
     let opened = options.create(true).write(true).truncate(false).open(&name);
     let file = opened.map_err(|error| JournalError::Io(format!("{} can't be opened: {error}", name.display())))?;
-    if let Some(kind) = fstatfs(&file).ok().and_then(|found| network(found.f_type as u64)) {
+    let kind = fstatfs(&file).map_or(0, |found| found.f_type as u64 & 0xffff_ffff);
+    if let Some(kind) = network(kind) {
         return Err(JournalError::Network(format!("{} is on {kind}", path.display())));
+    }
+    if kind == FUSE {
+        tracing::warn!("{} is on FUSE: what stands behind that has to be a disk of this machine", path.display());
     }
     match flock(&file, FlockOperation::NonBlockingLockExclusive) {
         Ok(()) => Ok(file),
@@ -212,14 +218,20 @@ fn lock(files: &Files, path: &Path) -> Result<File, JournalError> {
     }
 }
 
-/// The name of a file system of the network, by its type (statfs(2)).
+/// A program of its own is behind such a file system (statfs(2)): one of the network, or one of this machine.
+const FUSE: u64 = 0x6573_5546;
+
+/// The name of a file system of the network or one that several machines share, by its type (statfs(2)).
 fn network(kind: u64) -> Option<&'static str> {
-    Some(match kind & 0xffff_ffff {
+    Some(match kind {
         0x6969 => "NFS",
         0x517b | 0xfe53_4d42 | 0xff53_4d42 => "SMB",
         0x0102_1997 => "9P",
         0x00c3_6400 => "Ceph",
         0x5346_414f | 0x6b41_4653 => "AFS",
+        0x0bd0_0bd0 => "Lustre",
+        0x0116_1970 => "GFS2",
+        0x7461_636f => "OCFS2",
         _ => return None,
     })
 }

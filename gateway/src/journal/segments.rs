@@ -36,6 +36,13 @@ pub enum JournalError {
          another journal"
     )]
     OtherShards { found: u32, given: u32 },
+    #[error(
+        "segment {segment} of the journal was written anew when commit {needed} was there, and the last one is {last}: \
+         this is a copy that lacks something"
+    )]
+    Lacking { segment: u64, needed: u64, last: u64 },
+    #[error("{0} is there: a copy needs a name that nothing has")]
+    IsThere(String),
     #[error("the journal has {found} records, and {written} were written")]
     OtherCount { found: u64, written: u64 },
     #[error("{0}: a journal must be on a disk of this machine")]
@@ -78,11 +85,19 @@ pub struct Head {
     pub from: u64,
     /// The number of the last commit before the segment.
     pub previous: u64,
+    /// Of a segment that was written anew: the last commit that there was then. Records went since later ones say so.
+    #[serde(default, skip_serializing_if = "is_zero")]
+    pub rests_on: u64,
+}
+
+fn is_zero(number: &u64) -> bool {
+    *number == 0
 }
 
 impl Head {
     pub fn new(shards: Shards, segment: u64, from: u64, previous: u64) -> Head {
-        Head { version: VERSION, rules: RULES, shards: shards.count(), hash: HASH.into(), segment, from, previous }
+        let (shards, hash) = (shards.count(), HASH.into());
+        Head { version: VERSION, rules: RULES, shards, hash, segment, from, previous, rests_on: 0 }
     }
 
     fn is_readable(&self) -> bool {
@@ -119,6 +134,15 @@ pub struct Span {
 
 /// Reads the head of a segment and finds its last good commit. Takes time in proportion to its bytes.
 pub fn scan(segment: u64, bytes: &[u8]) -> Result<Span, JournalError> {
+    let span = scan_front(segment, bytes)?;
+    match frame::find_higher(bytes, span.end, span.last) {
+        Some(_) => Err(JournalError::Damaged { segment, place: span.end }),
+        None => Ok(span),
+    }
+}
+
+/// The same up to the first commit that isn't good, whatever is behind it.
+pub fn scan_front(segment: u64, bytes: &[u8]) -> Result<Span, JournalError> {
     let version = version_of(segment, bytes.get(..MAGIC.len()).unwrap_or(bytes))?;
     let place = MAGIC.len() as u64;
     let damaged = JournalError::Damaged { segment, place };
@@ -141,10 +165,7 @@ pub fn scan(segment: u64, bytes: &[u8]) -> Result<Span, JournalError> {
         span.last_place = next.place;
         span.end = next.end();
     }
-    match frame::find_higher(bytes, span.end, span.last) {
-        Some(_) => Err(JournalError::Damaged { segment, place: span.end }),
-        None => Ok(span),
-    }
+    Ok(span)
 }
 
 fn version_of(segment: u64, magic: &[u8]) -> Result<u32, JournalError> {
@@ -219,7 +240,11 @@ pub fn scan_all<F: Folder>(folder: &F) -> Result<Scanned, JournalError> {
             return Err(JournalError::Damaged { segment: pair[0].segment, place: pair[0].end });
         }
     }
-    Ok(Scanned { spans: kept, replaced, removed })
+    let last = kept.last().map_or(0, |span| span.last);
+    match kept.iter().find(|span| span.head.rests_on > last) {
+        Some(span) => Err(JournalError::Lacking { segment: span.segment, needed: span.head.rests_on, last }),
+        None => Ok(Scanned { spans: kept, replaced, removed }),
+    }
 }
 
 /// The record of a removal has these bytes, and others may have them too: clients choose the keys and values of tags.
@@ -257,12 +282,13 @@ pub struct Rewritten {
 }
 
 /// Writes the first segments of these spans anew, as one, without the records of removed names: as many as make one of
-/// `length` bytes. Nothing may be written to them any more, each removal must be on disk, and segments before them must
-/// have been written anew. None if there are no spans.
+/// `length` bytes. Nothing may be written to them any more, each removal must be on disk by commit `rests_on`, and
+/// segments before them must have been written anew. None if there are no spans.
 pub fn rewrite<F: Folder>(
     folder: &F,
     spans: &[Span],
     removed: &HashSet<StoreName>,
+    rests_on: u64,
     length: u64,
 ) -> Result<Option<Rewritten>, JournalError> {
     let Some(first) = spans.first() else { return Ok(None) };
@@ -284,7 +310,8 @@ pub fn rewrite<F: Folder>(
         }
     }
     let last = &spans[consumed - 1];
-    let mut bytes = Head { version: VERSION, segment: last.segment, ..first.head.clone() }.encode()?;
+    let rests_on = spans[..consumed].iter().map(|span| span.head.rests_on).fold(rests_on, u64::max);
+    let mut bytes = Head { version: VERSION, segment: last.segment, rests_on, ..first.head.clone() }.encode()?;
     for (number, payload) in kept {
         let again = frame::encode(number, bytes.len() as u64, &payload);
         bytes.extend(again.map_err(|error| JournalError::Io(error.to_string()))?);

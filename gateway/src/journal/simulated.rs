@@ -488,11 +488,11 @@ impl Run {
     }
 
     fn rewrite(&mut self) {
-        let (_, scanned) = self.log.as_mut().unwrap();
-        let mut done = 0;
+        let (log, scanned) = self.log.as_mut().unwrap();
+        let (mut done, last) = (0, log.active().last);
         while done < scanned.spans.len() - 1 {
             let closed = &scanned.spans[done..scanned.spans.len() - 1];
-            let Ok(Some(rewritten)) = rewrite(&self.disk, closed, &scanned.removed, 3000) else { return };
+            let Ok(Some(rewritten)) = rewrite(&self.disk, closed, &scanned.removed, last, 3000) else { return };
             let consumed = rewritten.consumed;
             let Ok(span) = rewritten.publish(&self.disk) else { return self.end() };
             scanned.spans.splice(done..done + consumed, [span]);

@@ -1,5 +1,6 @@
 //! The thread that writes: all records that wait go to the disk by one commit, and then their answers leave.
 
+use std::collections::HashSet;
 use std::sync::atomic::Ordering;
 use std::sync::PoisonError;
 use std::time::{Duration, Instant};
@@ -290,11 +291,13 @@ fn rewrite_aside(log: &mut Log<Files>, journal: &Journal, failed: fn(&str)) -> R
     rewriting.goes_on = true;
     rewriting.removed = removed;
     drop(rewriting);
+    // All of these are on disk by the last commit.
+    let (removed, rests_on) = (locked(&shared.removed).clone(), log.active().last);
     let journal = journal.clone();
     let thread = std::thread::Builder::new().name("rewriting".into());
     thread.spawn(move || {
         let since = Instant::now();
-        let is_done = rewrite_closed(&journal).unwrap_or_else(|error| {
+        let is_done = rewrite_closed(&journal, &removed, rests_on).unwrap_or_else(|error| {
             failed(&format!("the journal can't be written anew: {error}"));
             false
         });
@@ -324,16 +327,15 @@ fn closed_bytes(journal: &Journal) -> u64 {
 }
 
 /// Tells whether it was done, or must be tried again later. An error leaves it open which segments there are.
-fn rewrite_closed(journal: &Journal) -> Result<bool, JournalError> {
+fn rewrite_closed(journal: &Journal, removed: &HashSet<StoreName>, rests_on: u64) -> Result<bool, JournalError> {
     let shared = &journal.0;
-    let removed = locked(&shared.removed).clone();
     let mut closed = {
         let spans = locked(&shared.spans);
         spans[..spans.len().saturating_sub(1)].to_vec()
     };
     let mut done = 0;
     loop {
-        let rewritten = match rewrite(&shared.files, &closed, &removed, REWRITTEN) {
+        let rewritten = match rewrite(&shared.files, &closed, removed, rests_on, REWRITTEN) {
             Ok(Some(rewritten)) => rewritten,
             Ok(None) => return Ok(true),
             Err(error) => {
