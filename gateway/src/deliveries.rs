@@ -46,7 +46,7 @@ fn gone() -> SqsError {
 /// Asks for messages until some are for the client, or nothing is there.
 pub async fn receive(store: &Store, queue: &Arc<Queue>, ask: Ask) -> Result<Delivered, SqsError> {
     let may_set_aside = {
-        let mut state = queue.state();
+        let state = queue.state();
         state.has_delay() || state.redrive().is_some() || state.has_old(store.queues().jumps(), store.clock().now())
     };
     let receiving = receive_on(store.clone(), queue.clone(), ask);
@@ -108,7 +108,7 @@ async fn ask_for_due(store: &Store, queue: &Arc<Queue>, ask: Ask) -> Answer {
     let Ask::Receive { size, visibility, attempt, most, own } = ask else { return Err(no_messages()) };
     let wanted = usize::from(size);
     let count_due = |already: usize| {
-        let state = queue.state();
+        let mut state = queue.state();
         if state.removed {
             return Err(SqsError::QueueDoesNotExist);
         }

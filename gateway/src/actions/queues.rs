@@ -6,6 +6,7 @@ use super::{Actions, Caller, Pauses, Performed, LONGEST_PAGE};
 use crate::attributes::{Given, QueueAttributes, Wanted, COUNTS};
 use crate::delays::bring_up_to_date;
 use crate::errors::SqsError;
+use crate::handles::Receipt;
 use crate::queues::ask::{Ask, Change, Creation, Outcome};
 use crate::queues::Queue;
 use crate::store::{Answer, Held};
@@ -16,8 +17,9 @@ use crate::wire::Response;
 /// So long a queue can't be purged again, in milliseconds (API Reference, PurgeQueue, `PurgeQueueInProgress`).
 const PURGE_PAUSE: u64 = 60_000;
 
-/// How many deletes of a purge are asked for at once.
+/// How many deletes of a purge are asked for at once, and how many messages it looks at while others wait.
 const PURGED_AT_ONCE: usize = 32;
+const LOOKED_AT_AT_ONCE: usize = 1024;
 
 impl Actions {
     pub(super) async fn create(
@@ -157,22 +159,32 @@ impl Actions {
     }
 }
 
+/// Deletes what was handed out before, and then hands all else to itself and deletes it.
 async fn delete_all(queue: &Queue, held: &Held) -> Result<(), SqsError> {
+    let mut next = 0;
     loop {
-        let receipts = queue.state().receipts_up_to(u64::MAX);
+        let found = queue.state().receipts_from(next, LOOKED_AT_AT_ONCE);
+        let Some((receipts, behind)) = found else { break };
+        next = behind;
         for some in receipts.chunks(PURGED_AT_ONCE) {
-            let asks = some.iter().map(|receipt| Ask::Delete { receipt: *receipt, by_client: false }).collect();
-            for answer in held.ask_all(asks).await {
-                answer?;
-            }
+            delete_each(held, some.iter().copied()).await?;
         }
-        if !queue.state().has_messages_up_to(u64::MAX) {
-            return Ok(());
-        }
+    }
+    while queue.state().count() > 0 {
         let ask = Ask::Receive { size: 10, visibility: 0, attempt: None, most: None, own: true };
         let Outcome::Received { handed, .. } = held.ask(ask).await? else { return Ok(()) };
         if handed.is_empty() {
             return Ok(());
         }
+        delete_each(held, handed.iter().map(|handed| handed.receipt)).await?;
     }
+    Ok(())
+}
+
+async fn delete_each(held: &Held, receipts: impl Iterator<Item = Receipt>) -> Result<(), SqsError> {
+    let asks = receipts.map(|receipt| Ask::Delete { receipt, by_client: false }).collect();
+    for answer in held.ask_all(asks).await {
+        answer?;
+    }
+    Ok(())
 }

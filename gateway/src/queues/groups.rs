@@ -7,7 +7,7 @@ use std::hash::{Hash, Hasher};
 use crate::clock::Moment;
 
 /// What stands for a group's id in the tables.
-#[derive(Clone, Copy, Debug, PartialEq, Eq, Hash)]
+#[derive(Clone, Copy, Debug, PartialEq, Eq, Hash, PartialOrd, Ord)]
 pub struct Group(u64);
 
 impl Group {
@@ -19,81 +19,97 @@ impl Group {
 }
 
 #[derive(Debug, Default)]
-struct Messages {
+struct Members {
     sequences: BTreeSet<u64>,
+    /// Until when messages are hidden. While the group is among the open ones, none is.
+    hidden: BTreeSet<(Moment, u64)>,
+}
+
+impl Members {
     /// None of them is hidden from this moment on.
-    hidden_until: Moment,
+    fn end(&self) -> Option<Moment> {
+        self.hidden.last().map(|(until, _)| *until)
+    }
 }
 
-/// What has to be known of a message.
-#[derive(Clone, Copy, Debug)]
-pub struct Standing {
-    pub sent: Moment,
-    /// It is hidden until then.
-    pub until: Moment,
-}
-
-/// The groups that have messages, by their oldest one. The store hands out all of the first open one, then all of the
+/// The groups that have messages. The store hands out all of the first open one, by its oldest message, then all of the
 /// next, each in order (`docs/QUEUES.md`, Receive).
 #[derive(Debug, Default)]
 pub struct Groups {
-    messages: HashMap<Group, Messages>,
-    by_oldest: BTreeMap<u64, Group>,
+    members: HashMap<Group, Members>,
+    /// By their oldest message.
+    open: BTreeMap<u64, Group>,
+    /// Those of which a message is hidden, by the last end of a timeout.
+    closed: BTreeSet<(Moment, Group)>,
 }
 
 impl Groups {
-    /// Adds a message. Its sequence number is above all others.
+    /// Adds a message that is hidden until then.
     pub fn add(&mut self, group: Group, sequence: u64, until: Moment) {
-        let messages = self.messages.entry(group).or_default();
-        if messages.sequences.is_empty() {
-            self.by_oldest.insert(sequence, group);
-        }
-        messages.sequences.insert(sequence);
-        messages.hidden_until = messages.hidden_until.max(until);
+        self.change(group, |members| {
+            members.sequences.insert(sequence);
+            if until > 0 {
+                members.hidden.insert((until, sequence));
+            }
+        });
     }
 
-    pub fn remove(&mut self, group: Group, sequence: u64) {
-        let Some(messages) = self.messages.get_mut(&group) else { return };
-        messages.sequences.remove(&sequence);
-        let oldest = messages.sequences.first().copied();
-        if oldest.is_none() {
-            self.messages.remove(&group);
+    /// Takes out a message that was hidden until then.
+    pub fn remove(&mut self, group: Group, sequence: u64, until: Moment) {
+        self.change(group, |members| {
+            members.sequences.remove(&sequence);
+            members.hidden.remove(&(until, sequence));
+        });
+    }
+
+    /// A message is hidden until then; `before` says until when it was before.
+    pub fn hide(&mut self, group: Group, sequence: u64, before: Moment, until: Moment) {
+        self.change(group, |members| {
+            members.hidden.remove(&(before, sequence));
+            members.hidden.insert((until, sequence));
+        });
+    }
+
+    /// Changes a group, and finds its place anew.
+    fn change(&mut self, group: Group, change: impl FnOnce(&mut Members)) {
+        let members = self.members.entry(group).or_default();
+        match (members.end(), members.sequences.first()) {
+            (Some(end), _) => drop(self.closed.remove(&(end, group))),
+            (None, Some(oldest)) => drop(self.open.remove(oldest)),
+            (None, None) => {}
         }
-        if self.by_oldest.remove(&sequence).is_some() {
-            self.by_oldest.extend(oldest.map(|oldest| (oldest, group)));
+        change(members);
+        match (members.end(), members.sequences.first()) {
+            (Some(end), Some(_)) => drop(self.closed.insert((end, group))),
+            (None, Some(oldest)) => drop(self.open.insert(*oldest, group)),
+            (_, None) => drop(self.members.remove(&group)),
         }
     }
 
-    /// A message of the group is hidden until then.
-    pub fn hide(&mut self, group: Group, until: Moment) {
-        if let Some(messages) = self.messages.get_mut(&group) {
-            messages.hidden_until = messages.hidden_until.max(until);
+    /// Takes up which groups are open by now. Each is found once after each handing.
+    fn look(&mut self, now: Moment) {
+        while let Some((_, group)) = self.closed.first().copied().filter(|(end, _)| *end <= now) {
+            self.change(group, |members| members.hidden.clear());
         }
     }
 
     /// How many messages, up to `most`, the store would hand out at `now` before it comes to one that was sent after
     /// `horizon`.
     pub fn count_next(
-        &self,
+        &mut self,
         most: usize,
         horizon: Moment,
         now: Moment,
-        standing: impl Fn(u64) -> Option<Standing>,
+        sent: impl Fn(u64) -> Option<Moment>,
     ) -> usize {
+        self.look(now);
+        let is_due = |sequence: &u64| sent(*sequence).is_some_and(|sent| sent <= horizon);
         let mut count = 0;
-        for (oldest, group) in &self.by_oldest {
-            if !standing(*oldest).is_some_and(|oldest| oldest.sent <= horizon) {
-                break;
-            }
-            let Some(messages) = self.messages.get(group) else { break };
-            let is_hidden = |sequence: &u64| standing(*sequence).is_some_and(|message| message.until > now);
-            if messages.hidden_until > now && messages.sequences.iter().any(is_hidden) {
-                continue;
-            }
-            let is_due = |sequence: &&u64| standing(**sequence).is_some_and(|message| message.sent <= horizon);
-            let due = messages.sequences.iter().take(most - count).take_while(is_due).count();
+        for group in self.open.values() {
+            let Some(members) = self.members.get(group) else { break };
+            let due = members.sequences.iter().take(most - count).take_while(|sequence| is_due(sequence)).count();
             count += due;
-            if count == most || due < messages.sequences.len() {
+            if count == most || due < members.sequences.len() {
                 break;
             }
         }

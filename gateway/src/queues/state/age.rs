@@ -12,30 +12,24 @@ impl State {
     /// Whether the message is there and older than the queue keeps messages.
     pub fn is_old(&self, sequence: u64, jumps: &Jumps, now: Moment) -> bool {
         let Some(horizon) = self.horizon(jumps, now) else { return false };
-        self.messages.get(&sequence).is_some_and(|message| message.sent <= horizon)
+        self.messages.get(sequence).is_some_and(|message| message.sent <= horizon)
     }
 
-    /// Whether any message is older than the queue keeps messages.
-    pub fn has_old(&mut self, jumps: &Jumps, now: Moment) -> bool {
+    /// Whether the first message is older than the queue keeps messages.
+    pub fn has_old(&self, jumps: &Jumps, now: Moment) -> bool {
         let Some(horizon) = self.horizon(jumps, now) else { return false };
-        self.oldest = self.oldest.max(self.base);
-        while self.oldest < self.last_sequence && !self.messages.contains_key(&self.oldest) {
-            self.oldest += 1;
-        }
-        self.messages.get(&self.oldest).is_some_and(|oldest| oldest.sent <= horizon)
+        self.messages.first().is_some_and(|oldest| oldest.sent <= horizon)
     }
 
-    /// Whether a message that is too old isn't in flight, and something happened since a sweep found none.
+    /// Whether the first message that isn't in flight is too old, and something happened since a sweep found none.
     pub fn is_worth_sweeping(&mut self, jumps: &Jumps, now: Moment) -> bool {
         let openings = self.openings;
         let is_vain = |(seen, end): (u64, Option<Moment>)| seen == openings && end.map_or(true, |end| now < end);
-        if self.removed || self.vain_sweep.is_some_and(is_vain) || !self.has_old(jumps, now) {
+        if self.removed || self.vain_sweep.is_some_and(is_vain) {
             return false;
         }
-        let horizon = self.horizon(jumps, now);
-        let from_oldest = (self.oldest..=self.last_sequence).filter_map(|sequence| self.messages.get(&sequence));
-        let mut old = from_oldest.take_while(|message| horizon.is_some_and(|horizon| message.sent <= horizon));
-        old.any(|message| message.until <= now)
+        let Some(horizon) = self.horizon(jumps, now) else { return false };
+        self.messages.first_visible(now).is_some_and(|first| first.sent <= horizon)
     }
 
     /// A sweep found nothing to delete: what is too old waits behind what is in flight.

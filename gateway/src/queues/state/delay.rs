@@ -8,7 +8,7 @@ use super::message::Message;
 use super::State;
 use crate::clock::Moment;
 use crate::queues::ask::Delayed;
-use crate::queues::groups::{Groups, Standing};
+use crate::queues::groups::Groups;
 use crate::texts::QueueKind;
 
 impl State {
@@ -17,13 +17,11 @@ impl State {
             return;
         }
         self.delay = delay;
-        self.due = 0;
+        self.messages.forget_due();
         self.groups = (delay > 0).then(Groups::default);
         if let Some(groups) = &mut self.groups {
-            let mut messages: Vec<_> = self.messages.iter().collect();
-            messages.sort_unstable_by_key(|(sequence, _)| **sequence);
-            for (sequence, message) in messages {
-                groups.add(message.group, *sequence, message.until);
+            for (sequence, message) in self.messages.from(0) {
+                groups.add(message.group, sequence, message.until());
             }
         }
         // What was delayed may be due now.
@@ -36,25 +34,19 @@ impl State {
     }
 
     /// How many messages, up to `most`, a receive can ask for without being handed one that isn't due.
-    pub fn count_due(&self, most: usize, now: Moment) -> usize {
-        let Some(groups) = &self.groups else { return most };
+    pub fn count_due(&mut self, most: usize, now: Moment) -> usize {
+        let (Some(groups), messages) = (&mut self.groups, &self.messages) else { return most };
         let Some(horizon) = now.checked_sub(self.delay) else { return 0 };
-        let standing = |sequence: u64| {
-            let message = self.messages.get(&sequence)?;
-            Some(Standing { sent: message.sent, until: message.until })
-        };
-        groups.count_next(most, horizon, now, standing)
+        groups.count_next(most, horizon, now, |sequence| messages.get(sequence).map(|message| message.sent))
     }
 
-    /// The first message that isn't due. Messages are due in their order.
-    fn first_delayed(&mut self, now: Moment) -> u64 {
-        self.due = self.due.max(self.base);
+    /// The first message that isn't due, of a queue that delays all. Messages are due in their order.
+    fn first_delayed(&mut self, now: Moment) -> Option<&Message> {
         let delay = self.delay;
-        let is_delayed = |message: &Message| message.sent + delay > now;
-        while self.due < self.last_sequence && !self.messages.get(&(self.due + 1)).is_some_and(is_delayed) {
-            self.due += 1;
+        if delay == 0 {
+            return None;
         }
-        self.due + 1
+        self.messages.look_for_due(|message| message.sent + delay <= now)
     }
 
     /// The first messages of a standard queue whose delay is over and that the store doesn't have, at most so many.
@@ -77,8 +69,7 @@ impl State {
         self.delayed.has(id)
     }
 
-    /// How many messages are visible, in flight and delayed, by the counts of the store. Takes time in proportion to
-    /// those that aren't due.
+    /// How many messages are visible, in flight and delayed, by the counts of the store.
     pub fn counts(&mut self, visible: u64, in_flight: u64, now: Moment) -> [u64; 3] {
         match self.kind {
             QueueKind::Fifo => {
@@ -89,16 +80,17 @@ impl State {
         }
     }
 
-    /// How many messages of the store are neither due nor in flight. Takes time in proportion to those that aren't due.
+    /// How many messages of the store are neither due nor in flight.
     pub fn count_delayed(&mut self, now: Moment) -> u64 {
-        let first = self.first_delayed(now);
-        let delayed = (first..=self.last_sequence).filter_map(|sequence| self.messages.get(&sequence));
-        delayed.filter(|message| message.until <= now).count() as u64
+        match self.first_delayed(now) {
+            Some(_) => self.messages.count_not_due(now),
+            None => 0,
+        }
     }
 
     /// When the next message is due, if one is delayed.
     pub fn next_due(&mut self, now: Moment) -> Option<Moment> {
-        let first = self.first_delayed(now);
-        self.messages.get(&first).map(|message| message.sent + self.delay)
+        let sent = self.first_delayed(now)?.sent;
+        Some(sent + self.delay)
     }
 }

@@ -1,5 +1,8 @@
-//! A message as the tables have it.
+//! The messages of a queue as the tables have them, and which of them are in flight.
+//!
+//! What is counted or looked for is kept in order as it changes, so that nothing walks over all of a queue.
 
+use std::collections::{BTreeMap, BTreeSet};
 use std::sync::Arc;
 
 use crate::clock::Moment;
@@ -18,7 +21,7 @@ pub(super) struct Message {
     /// The gateway has it by the last handing, and no client.
     pub(super) is_own: bool,
     /// It is hidden until then.
-    pub(super) until: Moment,
+    until: Moment,
     /// Its whole form, where the store has a stub in its place.
     pub(super) form: Option<Arc<str>>,
     /// What its form takes, here and in the store.
@@ -26,6 +29,15 @@ pub(super) struct Message {
 }
 
 impl Message {
+    /// A message that nobody was handed yet.
+    pub(super) fn new(sent: Moment, group: Group, form: Option<Arc<str>>, bytes: u64) -> Message {
+        Message { sent, group, last: None, own: 0, own_since: 0, is_own: false, until: 0, form, bytes }
+    }
+
+    pub(super) fn until(&self) -> Moment {
+        self.until
+    }
+
     /// Which of the store's handings was the last one, from 1; 0 if there was none.
     pub(super) fn last_ordinal(&self) -> u64 {
         self.last.map_or(0, |last| last.ordinal) + u64::from(self.own_since)
@@ -45,4 +57,136 @@ pub(super) struct Handing {
     pub(super) first: Moment,
     /// A client has changed the timeout since.
     pub(super) touched: bool,
+}
+
+/// The messages of a queue that aren't deleted, by their sequence numbers.
+#[derive(Debug, Default)]
+pub(super) struct Messages {
+    by_sequence: BTreeMap<u64, Message>,
+    /// The ends of timeouts that weren't found to be over.
+    ends: BTreeSet<(Moment, u64)>,
+    /// All messages that have no such end.
+    visible: BTreeSet<u64>,
+    /// All messages up to this one were found to be due.
+    due: u64,
+    /// How many visible ones are behind it.
+    visible_behind: u64,
+}
+
+impl Messages {
+    pub(super) fn len(&self) -> usize {
+        self.by_sequence.len()
+    }
+
+    pub(super) fn is_empty(&self) -> bool {
+        self.by_sequence.is_empty()
+    }
+
+    pub(super) fn has(&self, sequence: u64) -> bool {
+        self.by_sequence.contains_key(&sequence)
+    }
+
+    pub(super) fn get(&self, sequence: u64) -> Option<&Message> {
+        self.by_sequence.get(&sequence)
+    }
+
+    pub(super) fn get_mut(&mut self, sequence: u64) -> Option<&mut Message> {
+        self.by_sequence.get_mut(&sequence)
+    }
+
+    pub(super) fn first(&self) -> Option<&Message> {
+        self.by_sequence.values().next()
+    }
+
+    /// Messages from this number on, in order.
+    pub(super) fn from(&self, sequence: u64) -> impl Iterator<Item = (u64, &Message)> {
+        self.by_sequence.range(sequence..).map(|(sequence, message)| (*sequence, message))
+    }
+
+    /// Adds a message that isn't hidden.
+    pub(super) fn add(&mut self, sequence: u64, message: Message) {
+        self.by_sequence.insert(sequence, message);
+        self.show(sequence);
+    }
+
+    pub(super) fn remove(&mut self, sequence: u64) -> Option<Message> {
+        let message = self.by_sequence.remove(&sequence)?;
+        self.take_out(sequence, message.until);
+        Some(message)
+    }
+
+    /// Hides a message until then, and tells until when it was hidden before.
+    pub(super) fn hide(&mut self, sequence: u64, until: Moment) -> Option<Moment> {
+        let message = self.by_sequence.get_mut(&sequence)?;
+        let before = std::mem::replace(&mut message.until, until);
+        self.take_out(sequence, before);
+        self.ends.insert((until, sequence));
+        Some(before)
+    }
+
+    fn show(&mut self, sequence: u64) {
+        self.visible.insert(sequence);
+        self.visible_behind += u64::from(sequence > self.due);
+    }
+
+    fn take_out(&mut self, sequence: u64, until: Moment) {
+        if !self.ends.remove(&(until, sequence)) && self.visible.remove(&sequence) {
+            self.visible_behind -= u64::from(sequence > self.due);
+        }
+    }
+
+    /// Takes up which timeouts are over by now. Each is found once.
+    fn look(&mut self, now: Moment) {
+        while let Some((until, sequence)) = self.ends.first().copied().filter(|(until, _)| *until <= now) {
+            self.ends.remove(&(until, sequence));
+            self.show(sequence);
+        }
+    }
+
+    /// How many messages are in flight.
+    pub(super) fn count_in_flight(&mut self, now: Moment) -> usize {
+        self.look(now);
+        self.ends.len()
+    }
+
+    /// Those whose timeout wasn't found to be over.
+    pub(super) fn in_flight(&self) -> impl Iterator<Item = (u64, &Message)> {
+        self.ends.iter().filter_map(|(_, sequence)| Some((*sequence, self.get(*sequence)?)))
+    }
+
+    /// The first end of a timeout that is still to come.
+    pub(super) fn next_end(&mut self, now: Moment) -> Option<Moment> {
+        self.look(now);
+        self.ends.first().map(|(until, _)| *until)
+    }
+
+    /// The first message that isn't in flight.
+    pub(super) fn first_visible(&mut self, now: Moment) -> Option<&Message> {
+        self.look(now);
+        self.by_sequence.get(self.visible.first()?)
+    }
+
+    /// None counts as due any more.
+    pub(super) fn forget_due(&mut self) {
+        self.due = 0;
+        self.visible_behind = self.visible.len() as u64;
+    }
+
+    /// Finds those that are due, which are the first ones, and tells the first one that isn't. Each is found once.
+    pub(super) fn look_for_due(&mut self, is_due: impl Fn(&Message) -> bool) -> Option<&Message> {
+        for (sequence, message) in self.by_sequence.range(self.due + 1..) {
+            if !is_due(message) {
+                return Some(message);
+            }
+            self.due = *sequence;
+            self.visible_behind -= u64::from(self.visible.contains(sequence));
+        }
+        None
+    }
+
+    /// How many messages are neither found to be due nor in flight.
+    pub(super) fn count_not_due(&mut self, now: Moment) -> u64 {
+        self.look(now);
+        self.visible_behind
+    }
 }

@@ -9,8 +9,7 @@ mod receipts;
 #[cfg(test)]
 mod tests;
 
-use std::cmp::Reverse;
-use std::collections::{BTreeMap, BinaryHeap, HashMap, HashSet, VecDeque};
+use std::collections::{BTreeMap, VecDeque};
 use std::sync::Arc;
 
 use uuid::Uuid;
@@ -30,7 +29,7 @@ use crate::retention::Jumps;
 use crate::texts::{AttemptId, GroupId, QueueKind};
 use attempts::{Attempt, Attempts};
 use delayed::DelayedMessages;
-use message::{Handing, Message};
+use message::{Handing, Message, Messages};
 
 /// So long a deduplication id counts, in milliseconds. A repeated attempt id is given the same messages as long.
 pub const WINDOW: u64 = 300_000;
@@ -68,7 +67,7 @@ pub struct State {
     pub last_send: Moment,
     /// How often something happened that can open a group.
     pub openings: u64,
-    messages: HashMap<u64, Message>,
+    messages: Messages,
     /// The ids of the messages that were sent within the window, in order; the last is `last_sequence`'s.
     recent: VecDeque<(Moment, Uuid)>,
     /// How many of them were found to count no more. They stay for requests that are still on their way.
@@ -78,9 +77,6 @@ pub struct State {
     /// What the forms of the messages take.
     form_bytes: u64,
     attempts: Attempts,
-    ends: BinaryHeap<Reverse<(Moment, u64)>>,
-    /// No message before this one is there.
-    oldest: u64,
     /// What the attributes say of dead letters.
     redrive: Option<RedrivePolicy>,
     /// So long all messages of a FIFO queue are delayed, in milliseconds.
@@ -89,8 +85,6 @@ pub struct State {
     groups: Option<Groups>,
     /// Of a standard queue.
     delayed: DelayedMessages,
-    /// All messages up to this one are due.
-    due: u64,
     /// How many openings there were at a sweep that found nothing to delete, and when the next timeout ended.
     vain_sweep: Option<(u64, Option<Moment>)>,
 }
@@ -142,19 +136,16 @@ impl State {
             last_sequence: before.base,
             last_send: 0,
             openings: 0,
-            messages: HashMap::new(),
+            messages: Messages::default(),
             recent: VecDeque::new(),
             old: 0,
             left_ids: 0,
             form_bytes: 0,
             attempts: Attempts::default(),
-            ends: BinaryHeap::new(),
-            oldest: 0,
             redrive: creation.attributes.redrive(),
             delay,
             groups: (delay > 0).then(Groups::default),
             delayed: DelayedMessages::default(),
-            due: 0,
             vain_sweep: None,
         }
     }
@@ -226,8 +217,7 @@ impl State {
         if let Some(groups) = &mut self.groups {
             groups.add(group, sequence, 0);
         }
-        let message = Message { sent, group, last: None, own: 0, own_since: 0, is_own: false, until: 0, form, bytes };
-        self.messages.insert(sequence, message);
+        self.messages.add(sequence, Message::new(sent, group, form, bytes));
         self.open();
         Ok(Settled { outcome: Outcome::Sent { sequence, id }, changed: true, opened: true })
     }
@@ -243,7 +233,7 @@ impl State {
     fn count_old(&mut self, now: Moment) {
         while self.recent.get(self.old).is_some_and(|(sent, _)| sent + WINDOW <= now) {
             let sequence = self.last_sequence + 1 + self.old as u64 - self.recent.len() as u64;
-            if !self.messages.contains_key(&sequence) {
+            if !self.messages.has(sequence) {
                 self.left_ids = self.left_ids.saturating_sub(1);
             }
             self.old += 1;
@@ -287,7 +277,8 @@ impl State {
     fn hand(&mut self, given: Given, receiving: &Receiving) -> Result<(Handed, Option<Fate>), SqsError> {
         let moment = receiving.moment;
         let receipt = read_receipt(&given.receipt, self.base).ok_or_else(misfit)?;
-        let message = self.messages.get_mut(&receipt.sequence).ok_or_else(misfit)?;
+        self.hide(receipt.sequence, receiving.until);
+        let message = self.messages.get_mut(receipt.sequence).ok_or_else(misfit)?;
         let first = message.last.map_or(moment, |last| last.first);
         let count = receipt.ordinal.saturating_sub(u64::from(message.own));
         let is_old = receiving.horizon.is_some_and(|horizon| message.sent <= horizon);
@@ -295,10 +286,6 @@ impl State {
         let is_due = receiving.due.is_some_and(|due| message.sent <= due);
         let fates = [(Fate::Old, is_old), (Fate::Early, !is_due), (Fate::Dead, is_dead)];
         let fate = fates.into_iter().find(|(_, applies)| *applies && !receiving.own).map(|(fate, _)| fate);
-        message.until = receiving.until;
-        if let Some(groups) = &mut self.groups {
-            groups.hide(message.group, receiving.until);
-        }
         let is_own = receiving.own || fate.is_some();
         message.own += u32::from(is_own);
         message.is_own = is_own;
@@ -310,7 +297,6 @@ impl State {
             message.own_since = 0;
         }
         let form = message.form.clone().unwrap_or_else(|| given.body.into());
-        self.note_end(receiving.until, receipt.sequence);
         Ok((Handed { receipt, count, moment, first, group: given.group, form }, fate))
     }
 
@@ -318,9 +304,9 @@ impl State {
         if !removed {
             return Settled::unchanged(Outcome::Done);
         }
-        if let Some(message) = self.messages.remove(&receipt.sequence) {
+        if let Some(message) = self.messages.remove(receipt.sequence) {
             if let Some(groups) = &mut self.groups {
-                groups.remove(message.group, receipt.sequence);
+                groups.remove(message.group, receipt.sequence, message.until());
             }
             self.form_bytes -= message.bytes;
             if self.place_of(receipt.sequence).is_some_and(|place| place >= self.old) {
@@ -333,16 +319,10 @@ impl State {
 
     fn changed(&mut self, receipt: Receipt, visibility: u32, by: Changer, moment: Moment) -> Settled {
         let until = moment + 1000 * u64::from(visibility);
-        if let Some(message) = self.messages.get_mut(&receipt.sequence) {
-            message.until = until;
-            if let Some(groups) = &mut self.groups {
-                groups.hide(message.group, until);
-            }
-            if let Some(last) = &mut message.last {
-                last.touched |= by != Changer::Attempt;
-            }
+        self.hide(receipt.sequence, until);
+        if let Some(last) = self.messages.get_mut(receipt.sequence).and_then(|message| message.last.as_mut()) {
+            last.touched |= by != Changer::Attempt;
         }
-        self.note_end(until, receipt.sequence);
         self.open();
         Settled::done(true)
     }
@@ -379,39 +359,23 @@ impl State {
         }
     }
 
-    fn note_end(&mut self, until: Moment, sequence: u64) {
-        self.ends.push(Reverse((until, sequence)));
-        if self.ends.len() > 1024 + 2 * self.messages.len() {
-            let messages = &self.messages;
-            let current = self.ends.drain().filter(|Reverse((until, sequence))| is_end(messages, *until, *sequence));
-            self.ends = current.collect();
+    /// Hides a message, if it is there.
+    fn hide(&mut self, sequence: u64, until: Moment) {
+        let Some(before) = self.messages.hide(sequence, until) else { return };
+        if let (Some(groups), Some(message)) = (&mut self.groups, self.messages.get(sequence)) {
+            groups.hide(message.group, sequence, before, until);
         }
     }
 
     /// Whether so many messages are in flight that none may be added (Developer Guide, "Amazon SQS message quotas"). Of
     /// a FIFO queue nobody is told so.
     pub fn has_most_in_flight(&mut self, now: Moment) -> bool {
-        if self.kind == QueueKind::Fifo || self.ends.len() < MOST_IN_FLIGHT {
-            return false;
-        }
-        let messages = &self.messages;
-        let is_current =
-            |Reverse((until, sequence)): &Reverse<(Moment, u64)>| *until > now && is_end(messages, *until, *sequence);
-        // A timeout that is changed to the same end again has another entry.
-        let current: HashSet<_> = self.ends.drain().filter(is_current).collect();
-        self.ends = current.into_iter().collect();
-        self.ends.len() >= MOST_IN_FLIGHT
+        self.kind == QueueKind::Standard && self.messages.count_in_flight(now) >= MOST_IN_FLIGHT
     }
 
     /// The first end of a timeout that is still to come.
     pub fn next_end(&mut self, now: Moment) -> Option<Moment> {
-        while let Some(Reverse((until, sequence))) = self.ends.peek() {
-            if *until > now && is_end(&self.messages, *until, *sequence) {
-                return Some(*until);
-            }
-            self.ends.pop();
-        }
-        None
+        self.messages.next_end(now)
     }
 
     /// Finds what counts no more at this moment: ids, and what attempts were given.
@@ -435,7 +399,7 @@ impl State {
     pub fn attempt(&self, id: &AttemptId, now: Moment) -> Option<Vec<Handed>> {
         let found = self.attempts.find(id, now)?;
         let is_held = |handed: &Handed| {
-            let message = self.messages.get(&handed.receipt.sequence);
+            let message = self.messages.get(handed.receipt.sequence);
             let is_with = message.is_some_and(|message| message.is_with(handed.receipt.ordinal));
             is_with && message.and_then(|message| message.last).is_some_and(|last| !last.touched)
         };
@@ -473,10 +437,9 @@ impl State {
         self.recent = VecDeque::new();
         self.old = 0;
         self.left_ids = 0;
-        self.messages = HashMap::new();
+        self.messages = Messages::default();
         self.groups = (self.delay > 0).then(Groups::default);
         self.form_bytes = 0;
-        self.ends = BinaryHeap::new();
     }
 }
 
@@ -487,8 +450,4 @@ fn delay_of_all(kind: QueueKind, attributes: &QueueAttributes) -> u64 {
         QueueKind::Fifo => attributes.delay(),
         QueueKind::Standard => 0,
     }
-}
-
-fn is_end(messages: &HashMap<u64, Message>, until: Moment, sequence: u64) -> bool {
-    messages.get(&sequence).is_some_and(|message| message.until == until)
 }

@@ -171,3 +171,67 @@ fn a_standard_queue_has_120_000_messages_in_flight_and_a_fifo_queue_more() {
         assert_eq!((state.next_end(5999), state.next_end(6000)), (Some(6000), Some(7000)));
     }
 }
+
+/// Standard queues and FIFO queues with so many messages, of which all but the last are in flight until `end`.
+fn in_flight(name: &str, count: u64, end: Moment) -> State {
+    let mut state = state_of(name);
+    for place in 1..=count {
+        let (group, dedup) = (GroupId::of_message(Uuid::from_u128(place.into())), DedupId::parse("d").unwrap());
+        let ask = Ask::Send { group, dedup, form: form(place.into(), 0), cause: Cause::Client };
+        state.settle(&ask, Reply::Sent(place), 0, &Jumps::default()).unwrap();
+    }
+    let visibility = (end / 1000) as u32;
+    let ask = Ask::Receive { size: 10, visibility, attempt: None, most: None, own: false };
+    state.settle(&ask, given(1..=count - 1), 0, &Jumps::default()).unwrap();
+    state
+}
+
+fn set(state: &mut State, name: &str, value: &str) -> bool {
+    let given = Given::read(state.kind, &[(name.into(), value.into())]).unwrap();
+    state.apply(&Change::Attributes(given), 0).changed
+}
+
+/// How long 300 calls take behind a first one. Walks of a whole queue would take seconds.
+fn time_of_many(mut call: impl FnMut()) -> std::time::Duration {
+    call();
+    let began = std::time::Instant::now();
+    (0..300).for_each(|_| call());
+    began.elapsed()
+}
+
+const SHORT: std::time::Duration = std::time::Duration::from_millis(100);
+
+#[test]
+fn what_is_in_flight_is_counted_without_a_walk() {
+    let mut state = in_flight("standard", 120_001, 1_000_000);
+    let took = time_of_many(|| assert!(state.has_most_in_flight(1000)));
+    assert!(took < SHORT, "{took:?}");
+}
+
+#[test]
+fn what_is_due_next_is_found_without_a_walk_of_what_is_in_flight() {
+    let mut state = in_flight("q.fifo", 20_001, 1_000_000);
+    assert!(set(&mut state, "DelaySeconds", "10"));
+    let took = time_of_many(|| assert_eq!(state.count_due(10, 20_000), 1));
+    assert!(took < SHORT, "{took:?}");
+}
+
+#[test]
+fn what_is_delayed_is_counted_without_a_walk() {
+    let mut state = in_flight("q.fifo", 200_000, 1000);
+    assert!(set(&mut state, "DelaySeconds", "10"));
+    let took = time_of_many(|| assert_eq!(state.count_delayed(1000), 200_000));
+    assert!(took < SHORT, "{took:?}");
+    assert_eq!(state.count_delayed(10_000), 0);
+}
+
+#[test]
+fn a_sweep_is_found_worth_it_without_a_walk_of_what_was_deleted() {
+    let mut state = in_flight("q.fifo", 400_000, 1_000_000_000);
+    (2..400_000).for_each(|sequence| delete(&mut state, sequence, 0));
+    let jumps = Jumps::default();
+    let took = time_of_many(|| assert!(!state.is_worth_sweeping(&jumps, 1000)));
+    assert!(took < SHORT, "{took:?}");
+    let took = time_of_many(|| assert!(state.is_worth_sweeping(&jumps, 400_000_000)));
+    assert!(took < SHORT, "{took:?}");
+}
