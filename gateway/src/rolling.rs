@@ -6,7 +6,7 @@ use std::time::{Duration, Instant};
 use crate::errors::SqsError;
 use crate::queues::ask::{Ask, Before, Creation};
 use crate::queues::{Queue, State};
-use crate::store::Store;
+use crate::store::{Held, Store};
 
 /// So often queues are looked at.
 const PAUSE: Duration = Duration::from_secs(10);
@@ -14,7 +14,7 @@ const PAUSE: Duration = Duration::from_secs(10);
 /// So often while space of the journal is wanted back.
 const SHORT_PAUSE: Duration = Duration::from_millis(250);
 
-/// A queue that was sent fewer messages since it has its name keeps it.
+/// A queue that has fewer records since it has its name keeps it.
 const WORTH_ROLLING: u64 = 1000;
 
 /// Rolls queues for as long as the gateway serves.
@@ -38,25 +38,44 @@ pub async fn keep_rolling(store: Store) {
     }
 }
 
-/// Empty, no deduplication id that counts, and at least so many messages to gain.
+/// Empty, no deduplication id that counts, and at least so many records to gain; or a name is left that should be gone.
 fn is_due(state: &State, least: u64, now: u64) -> bool {
-    !state.removed && state.is_at_rest(now) && state.last_sequence - state.base >= least
+    !state.removed && (!state.earlier.is_empty() || is_worth_rolling(state, least, now))
 }
 
-/// Gives a queue a fresh name, while nobody else has it, and removes the old one. If this ends half way, the next start
-/// removes it.
+fn is_worth_rolling(state: &State, least: u64, now: u64) -> bool {
+    state.is_at_rest(now) && state.records() >= least
+}
+
+/// Gives a queue a fresh name, while nobody else has it, and removes the old one. If this ends half way, the old one is
+/// removed at the next time, before the queue itself is removed, or by the next start.
 async fn roll(store: &Store, queue: &Arc<Queue>, least: u64) -> Result<(), SqsError> {
     let held = store.hold(queue).await?;
-    let (old, visibility, creation) = {
+    remove_earlier(queue, &held).await?;
+    let (visibility, creation) = {
         let state = queue.state();
-        if !is_due(&state, least, store.clock().now()) {
+        if state.removed || !is_worth_rolling(&state, least, store.clock().now()) {
             return Ok(());
         }
-        (state.store, state.attributes.visibility_timeout(), creation_of(queue, &state))
+        (state.attributes.visibility_timeout(), creation_of(queue, &state))
     };
     let fresh = store.queues().next_store_name();
     held.ask(Ask::Create { store: fresh, visibility, creation: Arc::new(creation) }).await?;
-    held.ask(Ask::Remove { store: old, name: None }).await?;
+    remove_earlier(queue, &held).await
+}
+
+/// Removes the names from the store that the queue had before. A queue that is removed while one of them is there would
+/// be back after the next start.
+pub async fn remove_earlier(queue: &Arc<Queue>, held: &Held) -> Result<(), SqsError> {
+    let earlier = queue.state().earlier.clone();
+    for name in earlier {
+        match held.ask(Ask::Remove { store: name, name: None }).await {
+            Ok(_) => {}
+            // The store hasn't got it.
+            Err(SqsError::QueueDoesNotExist) => queue.state().earlier.retain(|other| *other != name),
+            Err(error) => return Err(error),
+        }
+    }
     Ok(())
 }
 

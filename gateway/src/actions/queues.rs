@@ -9,6 +9,7 @@ use crate::errors::SqsError;
 use crate::handles::Receipt;
 use crate::queues::ask::{Ask, Change, Creation, Outcome};
 use crate::queues::Queue;
+use crate::rolling::remove_earlier;
 use crate::store::{Answer, Held};
 use crate::texts::QueueName;
 use crate::wire::requests::{test_count_of_tags, Tags};
@@ -53,6 +54,7 @@ impl Actions {
         let _turn = self.turn_of(name).lock().await;
         let queue = self.queue(name)?;
         let held = self.store.hold(&queue).await?;
+        remove_earlier(&queue, &held).await?;
         let store = queue.state().store;
         held.ask(Ask::Remove { store, name: Some(name.clone()) }).await?;
         Ok(Response::Nothing.into())

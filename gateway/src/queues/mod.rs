@@ -218,6 +218,15 @@ impl Queues {
         self.note_removal(name, moment);
     }
 
+    /// This queue isn't there, whatever has the name by now.
+    pub fn forget(&self, queue: &Arc<Queue>) {
+        self.counted(queue, |state| state.removed = true);
+        let mut queues = self.by_name.write().unwrap_or_else(PoisonError::into_inner);
+        if queues.get(&queue.name).is_some_and(|found| Arc::ptr_eq(found, queue)) {
+            queues.remove(&queue.name);
+        }
+    }
+
     /// A queue of this name was removed at this moment.
     pub fn note_removal(&self, name: &QueueName, moment: Moment) {
         let mut removed = self.removed.lock().unwrap_or_else(PoisonError::into_inner);

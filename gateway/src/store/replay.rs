@@ -6,7 +6,7 @@
 //! and the tables of a queue follow the records of that queue alone. So each program is fed its own records in their
 //! order, by a replay of its own that passes the others over.
 
-use std::collections::{BTreeSet, HashMap, HashSet, VecDeque};
+use std::collections::{HashMap, HashSet, VecDeque};
 use std::sync::atomic::{AtomicU64, Ordering};
 use std::sync::Arc;
 
@@ -82,6 +82,9 @@ struct Replay {
     /// Whether the shard has the queue of a name of the store.
     own: HashMap<StoreName, bool>,
     queues: HashMap<StoreName, Arc<Queue>>,
+    /// The marks of the queues that went by names that are passed over, and of those of them that were removed.
+    passed: HashMap<StoreName, u64>,
+    gone: HashSet<u64>,
     bases: HashMap<StoreName, u64>,
     waiting: VecDeque<Waiting>,
     out: BytesMut,
@@ -138,6 +141,8 @@ pub async fn replay(
         skipped: records.removed().clone(),
         own: HashMap::new(),
         queues: HashMap::new(),
+        passed: HashMap::new(),
+        gone: HashSet::new(),
         bases: HashMap::new(),
         waiting: VecDeque::new(),
         out: BytesMut::new(),
@@ -218,6 +223,7 @@ impl Replay {
             tables.queues.saw_store_name(store);
         }
         if self.skipped.contains(&store) {
+            self.note_passed(&record, store);
             if let (Some(tables), Some(name)) = (&self.tables, &record.removed) {
                 if self.shard.has(name) {
                     tables.queues.note_removal(name, record.clock);
@@ -255,6 +261,16 @@ impl Replay {
             _ => return None,
         }
         Some(())
+    }
+
+    /// Finds out which queues are gone by records that are passed over.
+    fn note_passed(&mut self, record: &Record<'_>, store: StoreName) {
+        if let Some(creation) = &record.creation {
+            self.passed.insert(store, creation.mark);
+        }
+        if record.removed.is_some() {
+            self.gone.extend(self.passed.get(&store));
+        }
     }
 
     /// Whether the record is of a queue of this shard. None if nobody can know, which is damage.
@@ -326,9 +342,18 @@ impl Replay {
         }
     }
 
+    /// Names of the store that go: earlier ones of the queues, and all of a queue that was removed by a later one.
     fn left_over(&self) -> Vec<(StoreName, Arc<Queue>)> {
-        let current: BTreeSet<_> = self.queues.values().map(|queue| queue.state().store).collect();
-        let left = self.queues.iter().filter(|(name, _)| !current.contains(name));
-        left.map(|(name, queue)| (*name, queue.clone())).collect()
+        let mut left = Vec::new();
+        for (name, queue) in &self.queues {
+            let is_gone = self.gone.contains(&queue.mark.0);
+            if let (true, Some(tables)) = (is_gone, &self.tables) {
+                tables.queues.forget(queue);
+            }
+            if is_gone || queue.state().earlier.contains(name) {
+                left.push((*name, queue.clone()));
+            }
+        }
+        left
     }
 }

@@ -54,6 +54,8 @@ struct Receiving {
 pub struct State {
     kind: QueueKind,
     pub store: StoreName,
+    /// Names that it had in the store before, and that the store has still.
+    pub earlier: Vec<StoreName>,
     /// The store counts from the message behind this one.
     pub base: u64,
     pub attributes: QueueAttributes,
@@ -64,6 +66,8 @@ pub struct State {
     tasks: Vec<MoveTask>,
     pub removed: bool,
     pub last_sequence: u64,
+    /// How many changes were noted since the queue has its name in the store.
+    notes: u64,
     pub last_send: Moment,
     /// How often something happened that can open a group.
     pub openings: u64,
@@ -125,6 +129,7 @@ impl State {
         State {
             kind,
             store,
+            earlier: Vec::new(),
             base: before.base,
             attributes: creation.attributes.clone(),
             tags: creation.tags.clone(),
@@ -134,6 +139,7 @@ impl State {
             tasks: before.tasks,
             removed: false,
             last_sequence: before.base,
+            notes: 0,
             last_send: 0,
             openings: 0,
             messages: Messages::default(),
@@ -163,7 +169,10 @@ impl State {
                 }
                 Ok(Settled::done(false))
             }
-            (Ask::Remove { .. }, Reply::Removed) => Ok(Settled::done(true)),
+            (Ask::Remove { store, .. }, Reply::Removed) => {
+                self.earlier.retain(|name| name != store);
+                Ok(Settled::done(true))
+            }
             (Ask::Send { group, form, cause, .. }, Reply::Sent(place)) => {
                 let settled = self.sent(group, form, place, moment)?;
                 if let Cause::Due(id) = cause {
@@ -430,10 +439,17 @@ impl State {
         self.messages.is_empty() && self.delayed.count() == 0 && self.last_send + WINDOW <= now
     }
 
+    /// How many records the queue has since it has its name in the store, at least.
+    pub fn records(&self) -> u64 {
+        self.last_sequence - self.base + self.notes
+    }
+
     /// Goes over to another name of the store, which counts from 1 again.
     fn go_over(&mut self, store: StoreName) {
+        self.earlier.push(self.store);
         self.store = store;
         self.base = self.last_sequence;
+        self.notes = 0;
         self.recent = VecDeque::new();
         self.old = 0;
         self.left_ids = 0;

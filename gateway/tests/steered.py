@@ -1,0 +1,43 @@
+"""A `cq` that does to lines what a test tells it: it keeps them waiting, ends at them, or takes its time."""
+
+from __future__ import annotations
+
+import json
+import sys
+from pathlib import Path
+
+from started import program
+
+SOURCE = """#!{python}
+import json, os, subprocess, sys, time
+if sys.argv[1] != 'session': sys.exit(subprocess.run([{program!r}, *sys.argv[1:]]).returncode)
+
+def told():
+    try:
+        with open({orders!r}) as file: return json.load(file)
+    except (OSError, ValueError): return {{}}
+
+cq = subprocess.Popen([{program!r}, 'session'], stdin=subprocess.PIPE)
+for line in sys.stdin.buffer:
+    text = line.decode()
+    while (word := told().get('hold')) is not None and word in text: time.sleep(0.005)
+    if (word := told().get('end')) is not None and word in text: sys.exit(cq.kill())
+    if (word := told().get('slow')) is not None and word in text: time.sleep(0.003)
+    cq.stdin.write(line); cq.stdin.flush()
+"""
+
+
+class SteeredCq:
+    def __init__(self, room: Path) -> None:
+        self.program, self.orders = room / "steered-cq", room / "orders"
+        self.program.write_text(SOURCE.format(python=sys.executable, program=program(), orders=str(self.orders)))
+        self.program.chmod(0o755)
+
+    def words(self) -> list[str]:
+        return ["--cq", str(self.program)]
+
+    def tell(self, **orders: str) -> None:
+        """`hold`, `end` and `slow`: what happens to lines that have this text. What was told before counts no more."""
+        new = self.orders.with_suffix(".new")
+        new.write_text(json.dumps(orders))
+        new.replace(self.orders)
