@@ -172,9 +172,17 @@ pub async fn see_to(
     let (store, queue) = (store.clone(), queue.clone());
     let seen = tokio::spawn(async move {
         match see_to_all(&store, &queue, set_aside).await {
-            Ok(_) if !handed.is_empty() => Ok(Seen::Handed(handed)),
-            Ok(Moved::Done) => Ok(Seen::Gone),
-            Ok(Moved::ByOthers) => Ok(Seen::ByOthers),
+            Ok(Moved { is_by_others, staying }) => {
+                // What is behind a message that stays must not go out before it.
+                let is_behind = |handed: &Handed| staying.contains(&handed.group);
+                let (behind, handed): (Vec<_>, Vec<_>) = handed.into_iter().partition(is_behind);
+                give_back(&store, &queue, &behind).await;
+                Ok(match (handed.is_empty(), is_by_others) {
+                    (false, _) => Seen::Handed(handed),
+                    (true, true) => Seen::ByOthers,
+                    (true, false) => Seen::Gone,
+                })
+            }
             Err(error) => {
                 give_back(&store, &queue, &handed).await;
                 Err(error)
@@ -195,10 +203,12 @@ async fn see_to_all(store: &Store, queue: &Arc<Queue>, set_aside: Vec<(Handed, F
     }
     give_back(store, queue, &early).await;
     let is_all = old.is_empty() && early.is_empty();
-    let moved = if dead.is_empty() { Moved::Done } else { move_to_target(store, queue, dead).await? };
+    let mut moved = if dead.is_empty() { Moved::default() } else { move_to_target(store, queue, dead).await? };
+    moved.is_by_others &= is_all;
+    moved.staying.extend(early.into_iter().map(|handed| handed.group));
     let deleted = if old.is_empty() { Vec::new() } else { store.ask_all(queue, old).await };
     for answer in deleted {
         answer?;
     }
-    Ok(if is_all { moved } else { Moved::Done })
+    Ok(moved)
 }

@@ -4,7 +4,7 @@
 //! record of the copy names what it copies, so that a start deletes each message that has one. While a message that
 //! has a copy is there, nobody copies it again.
 
-use std::collections::HashMap;
+use std::collections::{HashMap, HashSet};
 use std::sync::{Arc, Mutex, MutexGuard, PoisonError};
 use std::time::Duration;
 
@@ -70,12 +70,12 @@ impl Copies {
 const PAUSE: Duration = Duration::from_secs(1);
 
 /// What came of a move.
-#[derive(Clone, Copy, Debug, PartialEq, Eq)]
-pub enum Moved {
-    /// The messages are gone, or can be handed out again.
-    Done,
-    /// Others are about to move them.
-    ByOthers,
+#[derive(Debug, Default)]
+pub struct Moved {
+    /// Nothing was done: others are about to move the messages.
+    pub is_by_others: bool,
+    /// The groups of those that are in the queue still: they were given back, or others have them.
+    pub staying: HashSet<String>,
 }
 
 /// Why messages are moved.
@@ -93,7 +93,7 @@ pub async fn move_to_target(store: &Store, queue: &Arc<Queue>, dead: Vec<Handed>
     let policy = queue.state().redrive().cloned();
     let Some(target) = policy.and_then(|policy| store.queues().find(&policy.target.name)) else {
         give_back(store, queue, &dead).await;
-        return Ok(Moved::Done);
+        return Ok(Moved { is_by_others: false, staying: groups_of(&dead) });
     };
     move_all(store, queue, &target, dead, Kind::DeadLetter).await
 }
@@ -108,6 +108,7 @@ pub async fn move_all(
 ) -> Result<Moved, SqsError> {
     let copies = store.queues().copies();
     let (mut to_copy, mut copied, mut is_done) = (Vec::new(), Vec::new(), false);
+    let mut staying = HashSet::new();
     for handed in messages {
         let origin = origin_of(queue, &handed);
         match copies.begin(origin) {
@@ -115,7 +116,10 @@ pub async fn move_all(
             None if queue.state().last_receipt_of(origin.sequence).is_none() => copies.forget(origin),
             None => to_copy.push(handed),
             Some(Progress::Copied) => copied.push(handed.receipt.sequence),
-            Some(Progress::Begun) => continue,
+            Some(Progress::Begun) => {
+                staying.insert(handed.group);
+                continue;
+            }
         }
         is_done = true;
     }
@@ -123,15 +127,19 @@ pub async fn move_all(
     for sequence in copied {
         delete(store, queue, sequence).await;
     }
-    sent?;
-    Ok(if is_done { Moved::Done } else { Moved::ByOthers })
+    staying.extend(sent?);
+    Ok(Moved { is_by_others: !is_done, staying })
+}
+
+fn groups_of(messages: &[Handed]) -> HashSet<String> {
+    messages.iter().map(|handed| handed.group.clone()).collect()
 }
 
 fn origin_of(queue: &Queue, handed: &Handed) -> Origin {
     Origin { mark: queue.mark.0, sequence: handed.receipt.sequence }
 }
 
-/// Sends the copies, one behind the other. What can't be sent is given back.
+/// Sends the copies, one behind the other. What can't be sent is given back, and its groups are told.
 async fn copy_all(
     store: &Store,
     queue: &Arc<Queue>,
@@ -139,7 +147,7 @@ async fn copy_all(
     to_copy: Vec<Handed>,
     kind: Kind,
     copied: &mut Vec<u64>,
-) -> Result<(), SqsError> {
+) -> Result<HashSet<String>, SqsError> {
     let (mut asks, mut asked, mut failed, mut result) = (Vec::new(), Vec::new(), Vec::new(), Ok(()));
     for handed in to_copy {
         match copy_of(store, queue, &handed, kind) {
@@ -170,7 +178,7 @@ async fn copy_all(
         store.queues().copies().forget(origin_of(queue, handed));
     }
     give_back(store, queue, &failed).await;
-    result
+    result.map(|()| groups_of(&failed))
 }
 
 /// The send of a copy. Clients see the message as it was, but for the moment of its send and what it says of its

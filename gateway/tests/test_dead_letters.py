@@ -371,6 +371,45 @@ def test_a_move_that_was_cut_off_keeps_nobody_waiting(tmp_path):
     assert gateway.stop() == 0
 
 
+def test_a_group_stays_in_order_while_its_target_goes_and_comes():
+    """What was to be moved stays where the target has gone meanwhile, and what is behind it stays behind it."""
+    gateway = Started("--no-pauses")
+    call = ByJson(gateway.url)
+    call("CreateQueue", QueueName="dead.fifo", Attributes={"FifoQueue": "true"})
+    call("CreateQueue", QueueName="q.fifo", Attributes={"FifoQueue": "true", "RedrivePolicy": policy("dead.fifo", 1)})
+    is_over = threading.Event()
+
+    def come_and_go() -> None:
+        own = ByJson(gateway.url)
+        while not is_over.is_set():
+            own("DeleteQueue", QueueUrl="dead.fifo")
+            own("CreateQueue", QueueName="dead.fifo", Attributes={"FifoQueue": "true"})
+
+    def receive(**more) -> list[str]:
+        messages = call("ReceiveMessage", QueueUrl="q.fifo", MaxNumberOfMessages=10, **more).get("Messages", [])
+        for message in messages:
+            if not more:
+                call("DeleteMessage", QueueUrl="q.fifo", ReceiptHandle=message["ReceiptHandle"])
+        return [message["Body"] for message in messages]
+
+    comes_and_goes = threading.Thread(target=come_and_go)
+    comes_and_goes.start()
+    try:
+        for group in range(150):
+            send = {"QueueUrl": "q.fifo", "MessageGroupId": str(group)}
+            call("SendMessage", **send, MessageBody="1", MessageDeduplicationId=f"{group}-1")
+            assert receive(VisibilityTimeout=0) == ["1"]
+            call("SendMessage", **send, MessageBody="2", MessageDeduplicationId=f"{group}-2")
+            found: list[str] = []
+            while some := receive():
+                found += some
+            assert found in (["2"], ["1", "2"], ["1"], []), f"group {group}: {found}"
+    finally:
+        is_over.set()
+        comes_and_goes.join()
+    assert gateway.stop() == 0
+
+
 @pytest.mark.parametrize("shards", [1, 2])
 def test_each_message_moves_once_whatever_is_killed(tmp_path, shards):
     load = Load(*names_of_two_programs(), seed=shards)
