@@ -222,6 +222,12 @@ impl QueueAttributes {
         }
     }
 
+    /// What of these changes anything.
+    pub fn news_of(&self, given: &Given) -> Given {
+        let is_new = |(name, value): &(&String, &String)| self.value(name) != value.as_str();
+        Given(given.0.iter().filter(is_new).map(|(name, value)| (name.clone(), value.clone())).collect())
+    }
+
     /// The throughput can be a group's only where deduplication is
     /// (API Reference, SetQueueAttributes, `FifoThroughputLimit`).
     fn test_together(&self) -> Result<(), SqsError> {

@@ -9,7 +9,7 @@ mod receipts;
 #[cfg(test)]
 mod tests;
 
-use std::collections::{BTreeMap, VecDeque};
+use std::collections::{BTreeMap, BTreeSet, VecDeque};
 use std::sync::Arc;
 
 use uuid::Uuid;
@@ -336,26 +336,61 @@ impl State {
         Settled::done(true)
     }
 
+    /// What of a change changes anything; none if nothing does.
+    pub fn effect_of(&self, change: Change) -> Option<Change> {
+        match change {
+            Change::Attributes(given) => {
+                let given = self.attributes.news_of(&given);
+                (!given.is_empty()).then_some(Change::Attributes(given))
+            }
+            Change::Tag(mut tags) => {
+                tags.retain(|key, value| self.tags.get(key) != Some(value));
+                (!tags.is_empty()).then_some(Change::Tag(tags))
+            }
+            Change::Untag(keys) => {
+                let there: BTreeSet<_> = keys.into_iter().filter(|key| self.tags.contains_key(key)).collect();
+                (!there.is_empty()).then(|| Change::Untag(there.into_iter().collect()))
+            }
+            other => Some(other),
+        }
+    }
+
     /// Takes up a change of which the store knows nothing.
     pub fn apply(&mut self, change: &Change, moment: Moment) -> Settled {
-        match change {
-            Change::Delayed(message) => return self.delay_message(message, moment),
-            Change::Attributes(given) => {
+        let settled = match change {
+            Change::Delayed(message) => self.delay_message(message, moment),
+            Change::Attributes(given) if !self.attributes.news_of(given).is_empty() => {
                 self.attributes.set(given);
                 self.redrive = self.attributes.redrive();
                 self.set_delay(delay_of_all(self.kind, &self.attributes));
                 self.modified = moment;
+                // What was delayed may be due by other attributes.
+                Settled::done(true)
             }
-            Change::Tag(tags) => self.tags.extend(tags.clone()),
-            Change::Untag(keys) => self.tags.retain(|key, _| !keys.contains(key)),
+            Change::Attributes(_) => Settled::unchanged(Outcome::Done),
+            Change::Tag(tags) => {
+                let new = tags.iter().filter(|(key, value)| {
+                    self.tags.insert(key.to_string(), value.to_string()).as_ref() != Some(value)
+                });
+                let count = new.count();
+                Settled { changed: count > 0, ..Settled::done(false) }
+            }
+            Change::Untag(keys) => {
+                let count = keys.iter().filter(|key| self.tags.remove(*key).is_some()).count();
+                Settled { changed: count > 0, ..Settled::done(false) }
+            }
             Change::Purged => {
                 self.purged = Some(moment);
                 self.delayed.clear();
+                Settled::done(false)
             }
-            Change::Task(task) => move_tasks::note(&mut self.tasks, task),
-        }
-        // What was delayed may be due by other attributes.
-        Settled::done(matches!(change, Change::Attributes(_)))
+            Change::Task(task) => {
+                move_tasks::note(&mut self.tasks, task);
+                Settled::done(false)
+            }
+        };
+        self.notes += u64::from(settled.changed);
+        settled
     }
 
     fn delay_message(&mut self, message: &Arc<Delayed>, moment: Moment) -> Settled {

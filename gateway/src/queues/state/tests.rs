@@ -235,3 +235,16 @@ fn a_sweep_is_found_worth_it_without_a_walk_of_what_was_deleted() {
     let took = time_of_many(|| assert!(state.is_worth_sweeping(&jumps, 400_000_000)));
     assert!(took < SHORT, "{took:?}");
 }
+
+#[test]
+fn what_changes_nothing_is_no_change() {
+    let mut state = state();
+    let tags = |value: &str| Change::Tag(BTreeMap::from([("a".to_string(), value.to_string())]));
+    let changes = [tags("1"), tags("1"), tags("2"), tags("2")].map(|change| state.apply(&change, 5).changed);
+    assert_eq!(changes, [true, false, true, false]);
+    let untag = |key: &str| Change::Untag(vec![key.into()]);
+    let changes = [untag("b"), untag("a"), untag("a")].map(|change| state.apply(&change, 5).changed);
+    assert_eq!(changes, [false, true, false]);
+    let values = ["30", "31", "31"].map(|value| set(&mut state, "VisibilityTimeout", value));
+    assert_eq!(values, [false, true, false]);
+}

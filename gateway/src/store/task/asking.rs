@@ -47,6 +47,7 @@ impl Task {
                         break;
                     }
                     Err(Unnoted::Refused(error)) => Entry::Ready(Some(Err(error))),
+                    Err(Unnoted::Nothing) => Entry::Ready(Some(Ok(Outcome::Done))),
                 },
                 (Some(_), Some(What::Hold | What::LetGo)) => Entry::Ready(Some(Ok(Outcome::Done))),
                 (_, Some(What::Moment)) => self.moment()?,
@@ -169,6 +170,15 @@ impl Task {
 
     /// Sets space of the journal and memory aside for a change.
     fn note_with_room(&self, queue: Arc<Queue>, change: Change) -> Result<Noted, Unnoted> {
+        let (effect, removed) = {
+            let state = queue.state();
+            (state.effect_of(change), state.removed)
+        };
+        let change = match effect {
+            _ if removed => return Err(Unnoted::Refused(SqsError::QueueDoesNotExist)),
+            Some(change) => change,
+            None => return Err(Unnoted::Nothing),
+        };
         let weight = self.admission.admit_change(&change, self.clock.now()).map_err(Unnoted::Refused)?;
         let room = match &self.journal {
             None => Ok(Some(0)),

@@ -68,6 +68,8 @@ pub(super) enum Unnoted {
     /// The journal has to find space first.
     LacksRoom(Arc<Queue>, Change),
     Refused(SqsError),
+    /// It changes nothing.
+    Nothing,
 }
 
 /// What waits until there is a free client.

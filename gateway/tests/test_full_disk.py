@@ -1,0 +1,187 @@
+"""A disk that is full: a start is always possible, and space comes back when messages are deleted."""
+
+from __future__ import annotations
+
+import json
+import os
+import subprocess
+import threading
+import time
+from collections.abc import Iterator
+from pathlib import Path
+
+import pytest
+
+from frames import end
+from started import ByJson, Refused, Started
+from steered import SteeredCq
+from test_full import WINDOW, Filled
+
+FIFO = {"FifoQueue": "true"}
+
+
+@pytest.fixture
+def disk(tmp_path) -> Iterator[Path]:
+    """A disk of 24 MiB."""
+    room = tmp_path / "small"
+    room.mkdir()
+    mounted = subprocess.run(["mount", "-t", "tmpfs", "-o", "size=24m", "tmpfs", str(room)], capture_output=True)
+    if mounted.returncode != 0:
+        pytest.skip("no tmpfs can be mounted here")
+    yield room
+    subprocess.run(["umount", str(room)], check=True)
+
+
+def fill(disk: Path) -> Path:
+    """Takes all that is free of the disk."""
+    filler = disk / "filler"
+    with open(filler, "wb", buffering=0) as file:
+        for size in (1 << 16, 1 << 12):
+            try:
+                while True:
+                    file.write(b"\0" * size)
+            except OSError:
+                pass
+    assert os.statvfs(disk).f_bavail == 0
+    return filler
+
+
+def policy(target: str) -> str:
+    return json.dumps({"deadLetterTargetArn": f"arn:aws:sqs:us-east-1:000000000000:{target}", "maxReceiveCount": 1})
+
+
+def test_a_disk_with_one_segment_comes_free_when_all_is_deleted(tmp_path, disk):
+    full = Filled(tmp_path, "--journal", str(disk / "journal"))
+    assert full.delete_all() == full.count
+    assert not full.sends(), "the ids still count"
+    full.gateway.set_clock(full.gateway.moment + WINDOW)
+    assert full.sends_again(20)
+    # It holds for what comes then, too.
+    while full.sends():
+        pass
+    full.delete_all()
+    full.gateway.kill()
+    full.gateway.set_clock(full.gateway.moment + WINDOW)
+    full.gateway.start()
+    full.call = ByJson(full.gateway.url)
+    assert full.sends_again(20)
+    assert full.gateway.stop() == 0
+
+
+def test_a_start_is_possible_where_nothing_can_be_written(tmp_path, disk):
+    """A message was about to be moved when the gateway was killed, and its journal has no space at all."""
+    cq, journal = SteeredCq(tmp_path), disk / "journal"
+    gateway = Started("--journal", str(journal), *cq.words(), room=tmp_path)
+    call = ByJson(gateway.url)
+    call("CreateQueue", QueueName="dead.fifo", Attributes=FIFO)
+    call("CreateQueue", QueueName="q.fifo", Attributes={
+        **FIFO, "RedrivePolicy": policy("dead.fifo"), "VisibilityTimeout": "600"})
+    call("SendMessage", QueueUrl="q.fifo", MessageBody="b", MessageGroupId="g", MessageDeduplicationId="d")
+    call("ReceiveMessage", QueueUrl="q.fifo", VisibilityTimeout=0)
+    cq.tell(hold='"kind":"send"')
+    threading.Timer(2, gateway.kill).start()
+    with pytest.raises(OSError):
+        # It is handed to the gateway itself, which can't send its copy.
+        call("ReceiveMessage", QueueUrl="q.fifo")
+    cq.tell()
+    segment = journal.with_name("journal.1")
+    os.truncate(segment, end(segment))
+    filler = fill(disk)
+    for _ in range(3):
+        gateway.start()
+        call = ByJson(gateway.url)
+        told = call("GetQueueAttributes", QueueUrl="q.fifo", AttributeNames=["All"])["Attributes"]
+        assert told["ApproximateNumberOfMessagesNotVisible"] == "1"
+        with pytest.raises(Refused, match="OverLimit|ServiceUnavailable"):
+            call("SendMessage", QueueUrl="q.fifo", MessageBody="c", MessageGroupId="h", MessageDeduplicationId="e")
+        gateway.kill()
+    gateway.start()
+    call = ByJson(gateway.url)
+    filler.unlink()
+    latest = time.monotonic() + 20
+    moved: list[str] = []
+    while moved != ["b"]:
+        assert time.monotonic() < latest, "it wasn't given back"
+        try:
+            assert "Messages" not in call("ReceiveMessage", QueueUrl="q.fifo")
+            moved += [one["Body"] for one in call("ReceiveMessage", QueueUrl="dead.fifo").get("Messages", [])]
+        except Refused as refused:
+            assert refused.code in ("ServiceUnavailable", "OverLimit")
+        time.sleep(0.05)
+    assert gateway.stop() == 0
+
+
+def test_a_task_that_moves_messages_leaves_nothing_hidden_on_a_full_disk(tmp_path, disk):
+    gateway = Started("--journal", str(disk / "journal"), room=tmp_path)
+    call = ByJson(gateway.url)
+    call("CreateQueue", QueueName="dead.fifo", Attributes=FIFO)
+    call("CreateQueue", QueueName="q.fifo", Attributes={
+        **FIFO, "RedrivePolicy": policy("dead.fifo"), "VisibilityTimeout": "0"})
+    for number in range(50):
+        call("SendMessage", QueueUrl="q.fifo", MessageBody=str(number), MessageGroupId=str(number),
+             MessageDeduplicationId=str(number))
+    while "Messages" in call("ReceiveMessage", QueueUrl="q.fifo", MaxNumberOfMessages=10):
+        pass
+    call("StartMessageMoveTask", SourceArn="arn:aws:sqs:us-east-1:000000000000:dead.fifo",
+         MaxNumberOfMessagesPerSecond=1)
+    tags = [{f"{place}" + "é" * 100: value * 256 for place in range(50)} for value in "éü"]
+    with pytest.raises(Refused, match="ServiceUnavailable 503"):
+        for turn in range(1000):
+            call("TagQueue", QueueUrl="q.fifo", Tags=tags[turn % 2])
+    time.sleep(2.5)
+    for _ in range(3):
+        gateway.kill()
+        gateway.start()
+        call = ByJson(gateway.url)
+        told = call("GetQueueAttributes", QueueUrl="dead.fifo", AttributeNames=["All"])["Attributes"]
+        assert told["ApproximateNumberOfMessagesNotVisible"] == "0"
+    assert gateway.stop() == 0
+
+
+def test_notes_go_as_other_records_do(tmp_path):
+    """A queue that is never sent to has its tags changed until the journal is full."""
+    gateway = Started("--journal", str(tmp_path / "journal"), "--journal-size", "2MiB", room=tmp_path)
+    call = ByJson(gateway.url)
+    for name in ("tagged.fifo", "q.fifo"):
+        call("CreateQueue", QueueName=name, Attributes=FIFO)
+    tags = [{f"{place}" + "é" * 100: value * 256 for place in range(50)} for value in "éü"]
+    for turn in range(200):
+        call("TagQueue", QueueUrl="tagged.fifo", Tags=tags[turn % 2])
+    latest = time.monotonic() + 20
+    while True:
+        try:
+            call("SendMessage", QueueUrl="q.fifo", MessageBody="b", MessageGroupId="g", MessageDeduplicationId="d")
+            break
+        except Refused as refused:
+            assert refused.status == 403 and time.monotonic() < latest
+            time.sleep(0.05)
+    assert call("ListQueueTags", QueueUrl="tagged.fifo")["Tags"] == tags[1]
+    gateway.kill()
+    gateway.start()
+    assert ByJson(gateway.url)("ListQueueTags", QueueUrl="tagged.fifo")["Tags"] == tags[1]
+    assert gateway.stop() == 0
+
+
+def test_what_changes_nothing_is_no_record(tmp_path):
+    journal = tmp_path / "journal"
+    gateway = Started("--journal", str(journal), room=tmp_path)
+    call = ByJson(gateway.url)
+    call("CreateQueue", QueueName="q.fifo", Attributes=FIFO)
+    call("TagQueue", QueueUrl="q.fifo", Tags={"a": "1", "b": "2"})
+    call("SetQueueAttributes", QueueUrl="q.fifo", Attributes={"VisibilityTimeout": "7"})
+    segment = journal.with_name("journal.1")
+    before = end(segment)
+    for _ in range(100):
+        call("TagQueue", QueueUrl="q.fifo", Tags={"a": "1", "b": "2"})
+        call("UntagQueue", QueueUrl="q.fifo", TagKeys=["c"])
+        call("SetQueueAttributes", QueueUrl="q.fifo", Attributes={"VisibilityTimeout": "7"})
+    call("UntagQueue", QueueUrl="q.fifo", TagKeys=[f"key-{number}" for number in range(50_000)])
+    # An empty frame may have come.
+    assert end(segment) < before + 500
+    call("UntagQueue", QueueUrl="q.fifo", TagKeys=["a", *(f"key-{number}" for number in range(1000))])
+    assert end(segment) < before + 1000
+    gateway.kill()
+    gateway.start()
+    call = ByJson(gateway.url)
+    assert call("ListQueueTags", QueueUrl="q.fifo")["Tags"] == {"b": "2"}
+    assert gateway.stop() == 0
