@@ -134,10 +134,10 @@ async fn try_to_send(store: Store, queue: Arc<Queue>) {
     }
 }
 
-/// Sends the messages of a queue whose delay is over, before somebody looks for them. What can't be sent is tried again
-/// later.
+/// Sends the first messages of a queue whose delay is over, before somebody looks for them: more than one receive takes.
+/// The others follow, and what can't be sent is tried again.
 pub async fn bring_up_to_date(store: &Store, queue: &Arc<Queue>) {
-    if let Err(error) = send_due(store, queue).await {
+    if let Err(error) = send_some(store, queue).await {
         tracing::debug!("delayed messages of {} wait longer: {error}", queue.name);
     }
 }
@@ -145,15 +145,34 @@ pub async fn bring_up_to_date(store: &Store, queue: &Arc<Queue>) {
 /// Sends the messages of a queue whose delay is over, in the order in which they are due. Where others send the same ones
 /// meanwhile, the store has each once.
 async fn send_due(store: &Store, queue: &Arc<Queue>) -> Result<(), SqsError> {
-    loop {
-        let due = queue.state().delayed_and_due(store.clock().now(), AT_ONCE);
-        if due.is_empty() {
-            return Ok(());
+    while send_some(store, queue).await? {}
+    Ok(())
+}
+
+/// Sends the first of them, and tells whether there were any.
+async fn send_some(store: &Store, queue: &Arc<Queue>) -> Result<bool, SqsError> {
+    let due = queue.state().delayed_and_due(store.clock().now(), AT_ONCE);
+    if due.is_empty() {
+        return Ok(false);
+    }
+    let asks = due.iter().map(|message| send_of(message)).collect::<Result<_, _>>()?;
+    let mut sent = Ok(true);
+    for (message, answer) in due.iter().zip(store.ask_all(queue, asks).await) {
+        match answer {
+            Ok(_) => {}
+            Err(error @ (SqsError::QueueDoesNotExist | SqsError::ServiceUnavailable(_) | SqsError::OverLimit(_))) => {
+                sent = Err(error);
+            }
+            Err(error) => put_behind(store, queue, message, &error),
         }
-        let asks = due.iter().map(|message| send_of(message)).collect::<Result<_, _>>()?;
-        for answer in store.ask_all(queue, asks).await {
-            answer?;
-        }
+    }
+    sent
+}
+
+/// What the store refuses holds nothing up: it is tried again later, and after some tries not any more.
+fn put_behind(store: &Store, queue: &Queue, message: &Delayed, error: &SqsError) {
+    if queue.state().refused_delayed(message.id, store.clock().now() + PAUSE) {
+        tracing::error!("the delayed message {} of {} is set aside: {error}", message.id, queue.name);
     }
 }
 

@@ -16,8 +16,9 @@ pub const MESSAGE_BYTES: u64 = 1_700;
 /// 50,000 of them both processes grew by 3,405 bytes each, and with 4,000 by 3,535: the store's maps don't shrink.
 pub const ID_BYTES: u64 = 3_500;
 
-/// What is left of the call of a send with a delay for five minutes, in bytes: its digest in hex, kept twice.
-pub const CALL_BYTES: u64 = 300;
+/// What is left of the call of a send to a standard queue for five minutes, in bytes: a part of its digest, kept twice,
+/// and the message's id.
+pub const CALL_BYTES: u64 = 120;
 
 /// How much may be in use; none where nobody asks.
 #[derive(Clone, Copy, Debug, Default, PartialEq, Eq)]

@@ -61,9 +61,10 @@ impl AttributeValue {
         if data_type.is_empty() {
             return wrong(format!("The message attribute '{name}' must contain non-empty message attribute type."));
         }
-        let (kind, label) = data_type.split_once('.').unwrap_or((data_type, ""));
+        let kind = data_type.split_once('.').map_or(data_type, |(kind, _)| kind);
         let is_known = matches!(kind, "String" | "Number" | "Binary");
-        if !is_known || data_type.len() > 256 || label.chars().any(|character| character < ' ') {
+        let is_text = test_characters(data_type).is_ok() && data_type.chars().all(|character| character >= ' ');
+        if !is_known || data_type.len() > 256 || !is_text {
             return wrong(format!(
                 "The type of message attribute '{name}' is invalid. You must use only the following supported type \
                  prefixes: Binary, Number, String."
@@ -367,6 +368,9 @@ mod tests {
             ("Binary", None, Some("?")),
             ("String", None, None),
             ("String", Some("\0"), None),
+            ("String.\u{fffe}", Some("x"), None),
+            ("Number.a\u{ffff}", Some("1"), None),
+            ("Binary.\n", None, Some("AAE=")),
         ] {
             assert!(AttributeValue::new("a", kind, text, binary).is_err(), "{kind} {text:?} {binary:?}");
         }

@@ -150,6 +150,12 @@ impl DedupId {
         DedupId(hex(&digest.finalize()))
     }
 
+    /// The call that it stands for, if it does for one.
+    pub fn call_key(&self) -> Option<CallKey> {
+        let front = self.0.get(..32).filter(|_| self.0.len() == 64)?;
+        u128::from_str_radix(front, 16).ok().map(CallKey)
+    }
+
     /// The id that stands for this one in its group alone, where a queue's ids count by group.
     pub fn within(&self, group: &GroupId) -> DedupId {
         let mut digest = Sha256::new();
@@ -163,6 +169,10 @@ impl DedupId {
         &self.0
     }
 }
+
+/// A part of a call's digest, by which it is known among others.
+#[derive(Clone, Copy, Debug, PartialEq, Eq, Hash)]
+pub struct CallKey(u128);
 
 /// A receive request attempt id: 1 to 128 ASCII letters, digits and punctuation marks
 /// (API Reference, ReceiveMessage, `ReceiveRequestAttemptId`).

@@ -9,7 +9,7 @@ use super::State;
 use crate::clock::Moment;
 use crate::queues::ask::Delayed;
 use crate::queues::groups::Groups;
-use crate::texts::QueueKind;
+use crate::texts::{DedupId, QueueKind};
 
 impl State {
     pub(super) fn set_delay(&mut self, delay: u64) {
@@ -54,6 +54,21 @@ impl State {
         self.delayed.due(now, most)
     }
 
+    /// The store has refused a delayed message. It is tried again at `next`, or not any more: then this is true.
+    pub fn refused_delayed(&mut self, id: Uuid, next: Moment) -> bool {
+        self.delayed.refused(id, next)
+    }
+
+    /// How many delayed messages the store refuses, so that they aren't tried before the next start.
+    pub fn count_set_aside(&self) -> u64 {
+        self.delayed.count_set_aside() as u64
+    }
+
+    /// The delayed message of the last five minutes that this call sent.
+    pub fn delayed_by(&mut self, call: &DedupId, now: Moment) -> Option<Uuid> {
+        self.delayed.first_of(call, now)
+    }
+
     /// When somebody has to look for messages that are due, if nobody does by then.
     pub fn next_alarm(&mut self) -> Option<Moment> {
         self.delayed.next_alarm()
@@ -76,7 +91,10 @@ impl State {
                 let delayed = self.count_delayed(now).min(visible);
                 [visible - delayed, in_flight, delayed]
             }
-            QueueKind::Standard => [visible, in_flight, self.delayed.count() as u64],
+            QueueKind::Standard => {
+                let [all, due] = self.delayed.count(now).map(|count| count as u64);
+                [visible + due, in_flight, all - due]
+            }
         }
     }
 

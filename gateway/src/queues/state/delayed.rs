@@ -9,16 +9,23 @@ use super::WINDOW;
 use crate::clock::Moment;
 use crate::limits::{CALL_BYTES, MESSAGE_BYTES};
 use crate::queues::ask::Delayed;
-use crate::texts::DedupId;
+use crate::texts::{CallKey, DedupId};
 
 /// When a message is due, and which one it was of those that were added.
 type Place = (Moment, u64);
+
+/// So often a message is tried that the store refuses.
+const MOST_TRIES: u32 = 3;
 
 /// Delayed messages in the order in which they are due, and of those that are due together in the order of their sends.
 #[derive(Debug, Default)]
 pub(super) struct DelayedMessages {
     in_order: BTreeMap<Place, Arc<Delayed>>,
     places: HashMap<Uuid, Place>,
+    /// How often messages were tried that the store refused.
+    tries: HashMap<Uuid, u32>,
+    /// Those that aren't tried any more.
+    set_aside: Vec<Arc<Delayed>>,
     added: u64,
     /// What their forms take.
     form_bytes: u64,
@@ -33,9 +40,9 @@ impl DelayedMessages {
     pub(super) fn add(&mut self, message: &Arc<Delayed>, moment: Moment) -> Option<Uuid> {
         if let Some(call) = &message.call {
             if let Some(first) = self.calls.find(call, moment) {
-                return Some(first);
+                return Some(first.id);
             }
-            self.calls.keep(call, message.id, moment);
+            self.calls.keep(call, First { id: message.id, is_delayed: true }, moment);
         }
         self.added += 1;
         let place = (message.due, self.added);
@@ -47,8 +54,46 @@ impl DelayedMessages {
 
     /// The store has the message of this id.
     pub(super) fn remove(&mut self, id: Uuid) {
-        let removed = self.places.remove(&id).and_then(|place| self.in_order.remove(&place));
-        self.form_bytes -= removed.map_or(0, |message| message.form.len() as u64);
+        self.tries.remove(&id);
+        self.form_bytes -= self.take(id).map_or(0, |message| message.form.len() as u64);
+    }
+
+    fn take(&mut self, id: Uuid) -> Option<Arc<Delayed>> {
+        self.places.remove(&id).and_then(|place| self.in_order.remove(&place))
+    }
+
+    /// The store has refused the message of this id. It is tried again at `next`, or not any more: then this is true.
+    pub(super) fn refused(&mut self, id: Uuid, next: Moment) -> bool {
+        let Some(message) = self.take(id) else { return false };
+        let tries = self.tries.entry(id).or_default();
+        *tries += 1;
+        if *tries == MOST_TRIES {
+            self.tries.remove(&id);
+            self.set_aside.push(message);
+            return true;
+        }
+        self.added += 1;
+        let place = (next, self.added);
+        self.places.insert(id, place);
+        self.in_order.insert(place, message);
+        false
+    }
+
+    /// How many messages aren't tried any more.
+    pub(super) fn count_set_aside(&self) -> usize {
+        self.set_aside.len()
+    }
+
+    /// A message of this call went to the store without a delay.
+    pub(super) fn note_call(&mut self, call: &DedupId, id: Uuid, moment: Moment) {
+        if self.calls.find(call, moment).is_none() {
+            self.calls.keep(call, First { id, is_delayed: false }, moment);
+        }
+    }
+
+    /// The delayed message of the last five minutes that this call sent.
+    pub(super) fn first_of(&mut self, call: &DedupId, now: Moment) -> Option<Uuid> {
+        self.calls.find(call, now).filter(|first| first.is_delayed).map(|first| first.id)
     }
 
     pub(super) fn has(&self, id: Uuid) -> bool {
@@ -75,14 +120,22 @@ impl DelayedMessages {
         self.alarm = None;
     }
 
-    pub(super) fn count(&self) -> usize {
-        self.in_order.len()
+    /// How many there are, and how many of these are due.
+    pub(super) fn count(&self, now: Moment) -> [usize; 2] {
+        let due = self.in_order.range(..=(now, u64::MAX)).count();
+        [self.in_order.len() + self.set_aside.len(), due]
+    }
+
+    pub(super) fn is_empty(&self) -> bool {
+        self.in_order.is_empty() && self.set_aside.is_empty()
     }
 
     /// Takes all messages out. Repeats of their sends are told as before.
     pub(super) fn clear(&mut self) {
         self.in_order.clear();
         self.places.clear();
+        self.tries.clear();
+        self.set_aside.clear();
         self.form_bytes = 0;
     }
 
@@ -92,32 +145,40 @@ impl DelayedMessages {
 
     /// What all of it takes of memory, in bytes.
     pub(super) fn bytes(&self) -> u64 {
-        let messages = MESSAGE_BYTES * self.in_order.len() as u64;
+        let messages = MESSAGE_BYTES * (self.in_order.len() + self.set_aside.len()) as u64;
         self.form_bytes + messages + CALL_BYTES * self.calls.by_age.len() as u64
     }
 }
 
-/// The calls of the last five minutes by which messages were sent with a delay.
+/// What a call sent.
+#[derive(Clone, Copy, Debug)]
+struct First {
+    id: Uuid,
+    is_delayed: bool,
+}
+
+/// The calls of the last five minutes that can be told from others, and what they sent.
 #[derive(Debug, Default)]
 struct Calls {
-    ids: HashMap<DedupId, Uuid>,
-    by_age: VecDeque<(Moment, DedupId)>,
+    firsts: HashMap<CallKey, First>,
+    by_age: VecDeque<(Moment, CallKey)>,
 }
 
 impl Calls {
-    fn keep(&mut self, call: &DedupId, id: Uuid, moment: Moment) {
-        self.by_age.push_back((moment, call.clone()));
-        self.ids.insert(call.clone(), id);
+    fn keep(&mut self, call: &DedupId, first: First, moment: Moment) {
+        let Some(key) = call.call_key() else { return };
+        self.by_age.push_back((moment, key));
+        self.firsts.insert(key, first);
     }
 
-    fn find(&mut self, call: &DedupId, now: Moment) -> Option<Uuid> {
+    fn find(&mut self, call: &DedupId, now: Moment) -> Option<First> {
         self.forget_old(now);
-        self.ids.get(call).copied()
+        self.firsts.get(&call.call_key()?).copied()
     }
 
     fn forget_old(&mut self, now: Moment) {
         while let Some((_, call)) = self.by_age.front().filter(|(moment, _)| moment + WINDOW <= now) {
-            self.ids.remove(call);
+            self.firsts.remove(call);
             self.by_age.pop_front();
         }
     }
@@ -127,8 +188,12 @@ impl Calls {
 mod tests {
     use super::*;
 
+    fn call(name: &str) -> DedupId {
+        DedupId::of_call(&[0; 32], Some(name))
+    }
+
     fn message(id: u128, due: Moment, call: Option<&str>) -> Arc<Delayed> {
-        let call = call.map(|call| DedupId::parse(call).unwrap());
+        let call = call.map(self::call);
         Arc::new(Delayed { id: Uuid::from_u128(id), due, call, form: "{}\nbody".into() })
     }
 
@@ -151,7 +216,7 @@ mod tests {
         assert!(delayed.has(Uuid::from_u128(3)) && !delayed.has(Uuid::from_u128(1)));
         assert_eq!((ids(&delayed.due(50, 9)), delayed.bytes()), (vec![2, 3], bytes / 4 * 3));
         delayed.clear();
-        assert_eq!((delayed.count(), delayed.bytes()), (0, 0));
+        assert_eq!((delayed.count(50), delayed.bytes()), ([0, 0], 0));
     }
 
     #[test]
@@ -181,5 +246,33 @@ mod tests {
         assert_eq!(delayed.add(&message(5, 70, Some("b")), 19 + WINDOW), Some(Uuid::from_u128(2)));
         delayed.forget_old_calls(10 + 2 * WINDOW);
         assert_eq!(delayed.bytes(), MESSAGE_BYTES + "{}\nbody".len() as u64);
+    }
+
+    #[test]
+    fn a_message_that_is_refused_holds_nobody_up() {
+        let mut delayed = DelayedMessages::default();
+        for id in 1..=3 {
+            delayed.add(&message(id, 50, None), 0);
+        }
+        let bytes = delayed.bytes();
+        let refused = |delayed: &mut DelayedMessages, next| delayed.refused(Uuid::from_u128(1), next);
+        assert!(!refused(&mut delayed, 60));
+        assert_eq!((ids(&delayed.due(50, 1)), ids(&delayed.due(60, 9))), (vec![2], vec![2, 3, 1]));
+        assert!(!refused(&mut delayed, 70) && refused(&mut delayed, 80) && !refused(&mut delayed, 90));
+        assert_eq!((ids(&delayed.due(99, 9)), delayed.count(99)), (vec![2, 3], [3, 2]));
+        assert_eq!((delayed.count_set_aside(), delayed.bytes(), delayed.is_empty()), (1, bytes, false));
+        delayed.clear();
+        assert!(delayed.is_empty() && delayed.bytes() == 0);
+    }
+
+    #[test]
+    fn a_call_is_known_also_where_it_sent_its_message_without_a_delay() {
+        let mut delayed = DelayedMessages::default();
+        delayed.note_call(&call("a"), Uuid::from_u128(1), 10);
+        assert_eq!(delayed.add(&message(2, 50, Some("a")), 20), Some(Uuid::from_u128(1)));
+        assert_eq!(delayed.add(&message(3, 50, Some("b")), 20), None);
+        let firsts = ["a", "b", "c"].map(|name| delayed.first_of(&call(name), 30));
+        assert_eq!(firsts, [None, Some(Uuid::from_u128(3)), None], "of the first one the store knows");
+        assert_eq!(delayed.first_of(&call("b"), 20 + WINDOW), None);
     }
 }

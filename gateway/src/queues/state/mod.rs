@@ -173,10 +173,14 @@ impl State {
                 self.earlier.retain(|name| name != store);
                 Ok(Settled::done(true))
             }
-            (Ask::Send { group, form, cause, .. }, Reply::Sent(place)) => {
+            (Ask::Send { group, dedup, form, cause }, Reply::Sent(place)) => {
                 let settled = self.sent(group, form, place, moment)?;
-                if let Cause::Due(id) = cause {
-                    self.delayed.remove(*id);
+                match (cause, &settled.outcome) {
+                    (Cause::Due(id), _) => self.delayed.remove(*id),
+                    (Cause::Client, Outcome::Sent { id, .. }) if self.kind == QueueKind::Standard => {
+                        self.delayed.note_call(dedup, *id, moment);
+                    }
+                    _ => {}
                 }
                 Ok(settled)
             }
@@ -471,7 +475,7 @@ impl State {
 
     /// Whether the queue is empty and remembers no deduplication id.
     pub fn is_at_rest(&self, now: Moment) -> bool {
-        self.messages.is_empty() && self.delayed.count() == 0 && self.last_send + WINDOW <= now
+        self.messages.is_empty() && self.delayed.is_empty() && self.last_send + WINDOW <= now
     }
 
     /// How many records the queue has since it has its name in the store, at least.

@@ -3,6 +3,7 @@
 use std::sync::Arc;
 
 use serde_json::value::RawValue;
+use uuid::Uuid;
 
 use super::entries::{Asked, Asking, Entry, Noted, Open, Pending, Unnoted};
 use super::room::{bytes_of, bytes_of_note, need_of, need_of_note};
@@ -11,7 +12,7 @@ use crate::clock::Moment;
 use crate::errors::SqsError;
 use crate::handles::Receipt;
 use crate::lines::{self, Fields};
-use crate::queues::ask::{Ask, Change, Outcome};
+use crate::queues::ask::{Ask, Cause, Change, Outcome};
 use crate::queues::{Queue, State};
 use crate::store::{Answer, What};
 use crate::texts::QueueKind;
@@ -71,6 +72,9 @@ impl Task {
             return ready(Ok(Outcome::Done));
         }
         let moment = self.clock.now();
+        if let Some(id) = repeats_delayed(&ask, &queue, moment) {
+            return ready(Ok(Outcome::Delayed { id }));
+        }
         if let (Ask::Delete { receipt, by_client: true }, QueueKind::Fifo) = (&ask, queue.name.kind()) {
             let receipt = *receipt;
             let has_expired = queue.state().has_expired(receipt, moment);
@@ -189,6 +193,16 @@ impl Task {
         }
         self.admission.answered(weight);
         Err(room.err().map_or(Unnoted::LacksRoom(queue, change), Unnoted::Refused))
+    }
+}
+
+/// The message that was sent with a delay by the call that this repeats. Meanwhile the queue may have got another delay.
+fn repeats_delayed(ask: &Ask, queue: &Queue, now: Moment) -> Option<Uuid> {
+    match ask {
+        Ask::Send { dedup, cause: Cause::Client, .. } if queue.name.kind() == QueueKind::Standard => {
+            queue.state().delayed_by(dedup, now)
+        }
+        _ => None,
     }
 }
 
