@@ -47,6 +47,9 @@ pub struct Counts {
     pub queue: String,
     pub visible: u64,
     pub in_flight: u64,
+    pub delayed: u64,
+    /// Of the delayed ones: those that the store refuses.
+    pub set_aside: u64,
 }
 
 /// Counts one more of something for as long as it is kept.
@@ -82,7 +85,10 @@ impl Metrics {
             labels(&["action"]),
         )?;
         let messages = IntGaugeVec::new(
-            Opts::new("hobbychair_messages", "Messages of a queue that are visible, or in flight."),
+            Opts::new(
+                "hobbychair_messages",
+                "Messages of a queue that are visible, in flight or delayed, and how many of the delayed ones can't be sent.",
+            ),
             labels(&["queue", "state"]),
         )?;
         registry.register(Box::new(requests.clone()))?;
@@ -157,9 +163,12 @@ impl Metrics {
     fn take_in_messages(&self, messages: &[Counts]) {
         // Queues that are gone leave no row behind.
         self.messages.reset();
-        for Counts { queue, visible, in_flight } in messages {
-            self.messages.with_label_values(&[queue, "visible"]).set(*visible as i64);
-            self.messages.with_label_values(&[queue, "in flight"]).set(*in_flight as i64);
+        for Counts { queue, visible, in_flight, delayed, set_aside } in messages {
+            let counts =
+                [("visible", visible), ("in flight", in_flight), ("delayed", delayed), ("set aside", set_aside)];
+            for (state, count) in counts {
+                self.messages.with_label_values(&[queue, state]).set(*count as i64);
+            }
         }
     }
 
@@ -209,7 +218,7 @@ mod tests {
         metrics.answered(Some(Action::SendMessage), 400, Duration::from_millis(2));
         metrics.answered(None, 403, Duration::from_millis(2));
         let poll = metrics.poll();
-        let messages = [Counts { queue: "a.fifo".into(), visible: 3, in_flight: 1 }];
+        let messages = [Counts { queue: "a.fifo".into(), visible: 3, in_flight: 1, delayed: 2, set_aside: 1 }];
         let journal = JournalFigures { bytes: 5, bound: Some(6), commits: 7, records: 8, is_disk_full: true };
         let figures =
             Figures { queues: 1, memory_bytes: 2, memory_bound: None, journal: Some(journal), restarts: 4, open: 9 };
@@ -222,6 +231,8 @@ mod tests {
             "hobbychair_request_duration_seconds_bucket{action=\"SendMessage\",le=\"0.0025\"} 2",
             "hobbychair_request_duration_seconds_bucket{action=\"SendMessage\",le=\"0.001\"} 0",
             "hobbychair_messages{queue=\"a.fifo\",state=\"in flight\"} 1",
+            "hobbychair_messages{queue=\"a.fifo\",state=\"delayed\"} 2",
+            "hobbychair_messages{queue=\"a.fifo\",state=\"set aside\"} 1",
             "hobbychair_long_polls 1",
             "hobbychair_queues 1",
             "hobbychair_memory_used_bytes 2",
