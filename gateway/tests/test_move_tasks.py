@@ -4,6 +4,8 @@ from __future__ import annotations
 
 import json
 import random
+import socket
+import threading
 import time
 from collections.abc import Callable
 from typing import Any
@@ -15,6 +17,7 @@ from botocore.credentials import Credentials
 
 from conftest import Rules
 from started import ByJson, ByQuery, Refused, Started, post
+from steered import SteeredCq
 
 
 def arn(url: str) -> str:
@@ -212,4 +215,29 @@ def test_a_destination_is_within_what_a_key_allows(tmp_path):
         assert (status, error["__type"].split("#")[1]) == (403, "AccessDeniedException")
     status, started = call("B", "StartMessageMoveTask", SourceArn=arn("b-1.fifo"), DestinationArn=arn("b-2.fifo"))
     assert status == 200 and started["TaskHandle"]
+    assert gateway.stop() == 0
+
+
+def test_a_task_whose_client_has_gone_moves_messages(tmp_path):
+    cq = SteeredCq(tmp_path)
+    gateway = Started(*cq.words(), room=tmp_path)
+    rules = Rules(ByJson(gateway.url), lambda step: None)
+    queue, dead = dead_pair(rules)
+    fill(rules, queue, 3)
+    other = rules.queue()
+    cq.tell(hold="held up")
+    sender = threading.Thread(target=lambda: rules.send(other, "d", body="held up"))
+    sender.start()
+    time.sleep(0.3)
+    body = json.dumps({"SourceArn": arn(dead)}).encode()
+    with socket.create_connection(("127.0.0.1", int(gateway.url.rsplit(":", 1)[-1]))) as client:
+        client.sendall(b"POST / HTTP/1.1\r\nHost: 127.0.0.1\r\nX-Amz-Target: AmazonSQS.StartMessageMoveTask\r\n"
+                       b"Content-Type: application/x-amz-json-1.0\r\n"
+                       + f"Content-Length: {len(body)}\r\n\r\n".encode() + body)
+        time.sleep(0.3)
+    time.sleep(0.3)
+    cq.tell()
+    sender.join()
+    task = ended(rules, dead)
+    assert (task["Status"], int(task["ApproximateNumberOfMessagesMoved"])) == ("COMPLETED", 3)
     assert gateway.stop() == 0

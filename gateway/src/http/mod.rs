@@ -260,11 +260,10 @@ impl Call {
     async fn answer_once(self: Box<Call>) -> Reply {
         let presence = Presence::default();
         let _present = presence.enter();
-        if !self.action.takes_a_turn() {
+        if !self.action.outlives_its_client() {
             return self.perform(presence).await.reply;
         }
         let (protocol, request_id) = (self.protocol, self.request_id);
-        // What takes several asks is brought to its end, also if the client goes.
         match tokio::spawn(self.perform(presence)).await {
             Ok(made) => made.reply,
             Err(_) => protocol.refuse(&SqsError::InternalFailure("The gateway failed.".into()), request_id.to_string()),

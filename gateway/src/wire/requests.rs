@@ -129,17 +129,19 @@ impl Action {
         )
     }
 
-    /// Whether it reads and writes what the gateway keeps, or takes several asks, so that others of the same queue wait
-    /// for it and it is brought to its end also where its client goes.
-    pub fn takes_a_turn(self) -> bool {
+    /// Whether it writes several times, or does something after it has written, so that it is brought to its end also
+    /// where its client goes.
+    pub fn outlives_its_client(self) -> bool {
         matches!(
             self,
             Action::AddPermission
+                | Action::CancelMessageMoveTask
                 | Action::CreateQueue
                 | Action::DeleteQueue
                 | Action::PurgeQueue
                 | Action::RemovePermission
                 | Action::SetQueueAttributes
+                | Action::StartMessageMoveTask
                 | Action::TagQueue
         )
     }
