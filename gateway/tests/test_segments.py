@@ -17,11 +17,8 @@ from pathlib import Path
 import pytest
 
 from conftest import new_queue
+from frames import HEAD, MARK, places
 from started import START, ByBoto3, ByJson, Refused, Started, command, environment, program
-
-MARK = b"\xffHC\xfe"
-HEAD = 28
-
 
 def begun(path: Path, room: Path, messages: int = 3) -> Started:
     """A gateway with a journal of a queue with messages."""
@@ -53,17 +50,8 @@ def first_segment(path: Path) -> Path:
     return path.with_name(path.name + ".1")
 
 
-def frames(data: bytes) -> list[int]:
-    """The places of the frames of a segment."""
-    places, place = [], data.index(MARK)
-    while data[place : place + 4] == MARK:
-        places.append(place)
-        place += HEAD + int.from_bytes(data[place + 20 : place + 24], "big")
-    return places
-
-
 def last_with_records(data: bytes) -> int:
-    return [place for place in frames(data) if int.from_bytes(data[place + 20 : place + 24], "big")][-1]
+    return [place for place in places(data) if int.from_bytes(data[place + 20 : place + 24], "big")][-1]
 
 
 @pytest.mark.parametrize("part", [1, 5, 13, 21, 25, 60])

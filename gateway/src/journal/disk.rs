@@ -122,10 +122,8 @@ impl Folder for Files {
         if file.metadata()?.nlink() > 1 {
             return Err(refusal(&path, "has another name as well (a hard link), by which others may write to it"));
         }
-        // Whoever had it may just have begun another one, or put this one's successor in its place.
-        let is_last = self.list()?.iter().all(|other| *other <= number);
-        let is_same = std::fs::symlink_metadata(&path)?.ino() == file.metadata()?.ino();
-        if !is_last || !is_same {
+        // Whoever had it may just have begun another one.
+        if self.list()?.iter().any(|other| *other > number) {
             return Err(in_use(&path));
         }
         Ok(file)
