@@ -218,17 +218,17 @@ fn what_is_due_next_is_found_without_a_walk_of_what_is_in_flight() {
 
 #[test]
 fn what_is_delayed_is_counted_without_a_walk() {
-    let mut state = in_flight("q.fifo", 200_000, 1000);
+    let mut state = in_flight("q.fifo", 100_000, 1000);
     assert!(set(&mut state, "DelaySeconds", "10"));
-    let took = time_of_many(|| assert_eq!(state.count_delayed(1000), 200_000));
+    let took = time_of_many(|| assert_eq!(state.count_delayed(1000), 100_000));
     assert!(took < SHORT, "{took:?}");
     assert_eq!(state.count_delayed(10_000), 0);
 }
 
 #[test]
 fn a_sweep_is_found_worth_it_without_a_walk_of_what_was_deleted() {
-    let mut state = in_flight("q.fifo", 400_000, 1_000_000_000);
-    (2..400_000).for_each(|sequence| delete(&mut state, sequence, 0));
+    let mut state = in_flight("q.fifo", 100_000, 1_000_000_000);
+    (2..100_000).for_each(|sequence| delete(&mut state, sequence, 0));
     let jumps = Jumps::default();
     let took = time_of_many(|| assert!(!state.is_worth_sweeping(&jumps, 1000)));
     assert!(took < SHORT, "{took:?}");
