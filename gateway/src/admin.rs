@@ -11,7 +11,7 @@ use hyper::service::service_fn;
 use hyper::{Body, Method, Request, Response, StatusCode};
 use tokio::net::TcpListener;
 
-use crate::http::{Progress, Watched};
+use crate::http::{is_of_this_machine, Hosts, Progress, Watched};
 use crate::metrics::{Counts, Metrics};
 use crate::queues::ask::Outcome;
 use crate::store::Store;
@@ -60,6 +60,8 @@ impl Health {
 pub struct Admin {
     pub health: Arc<Health>,
     pub metrics: Arc<Metrics>,
+    /// The names by which operators of this machine reach it.
+    pub hosts: Hosts,
     /// There once the journal is replayed.
     pub store: OnceLock<Store>,
 }
@@ -67,6 +69,8 @@ pub struct Admin {
 impl Admin {
     /// Serves for as long as the process lives.
     pub async fn serve(self: Arc<Admin>, listener: TcpListener) {
+        // What other machines reach is read by them without a browser's help.
+        let is_near = listener.local_addr().map_or(true, |address| is_of_this_machine(address.ip()));
         loop {
             let Ok((stream, _)) = listener.accept().await else {
                 tokio::time::sleep(PAUSE).await;
@@ -75,7 +79,12 @@ impl Admin {
             let admin = self.clone();
             let handle = service_fn(move |request| {
                 let admin = admin.clone();
-                async move { Ok::<_, Infallible>(admin.answer(&request).await) }
+                async move {
+                    Ok::<_, Infallible>(match admin.hosts.test(request.uri(), request.headers()) {
+                        Err(error) if is_near => text(StatusCode::FORBIDDEN, format!("{error}\n")),
+                        _ => admin.answer(&request).await,
+                    })
+                }
             });
             let mut http = Http::new();
             http.http1_only(true);

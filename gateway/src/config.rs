@@ -66,6 +66,9 @@ pub struct Options {
     /// Under which address clients know the gateway, for the URLs of queues
     #[arg(long, env = "HOBBYCHAIR_URL")]
     url: Option<BaseUrl>,
+    /// By which names clients without keys reach the gateway, beside addresses, localhost and that of --url; * for any
+    #[arg(long, value_name = "NAME,..", value_delimiter = ',', env = "HOBBYCHAIR_ALLOWED_HOSTS")]
+    allowed_hosts: Option<Vec<HostName>>,
     /// The account in URLs, 12 digits [default: 000000000000]
     #[arg(long, env = "HOBBYCHAIR_ACCOUNT")]
     account: Option<Account>,
@@ -253,6 +256,30 @@ impl TryFrom<String> for BaseUrl {
     }
 }
 
+/// The name of a host without a port, or `*`.
+#[derive(Clone, Debug, PartialEq, Eq, Deserialize)]
+#[serde(try_from = "String")]
+struct HostName(String);
+
+impl FromStr for HostName {
+    type Err = String;
+
+    fn from_str(text: &str) -> Result<HostName, String> {
+        let is_good = |byte: u8| byte.is_ascii_alphanumeric() || b".-_".contains(&byte);
+        let is_name = !text.is_empty() && text.len() <= 253 && text.bytes().all(is_good);
+        let named = (text == "*" || is_name).then(|| HostName(text.into()));
+        named.ok_or_else(|| format!("{text} is no name of a host, without a port, and not *"))
+    }
+}
+
+impl TryFrom<String> for HostName {
+    type Error = String;
+
+    fn try_from(text: String) -> Result<HostName, String> {
+        text.parse()
+    }
+}
+
 const LOOPBACK: &str = "127.0.0.1";
 const PORT: u16 = 9324;
 const ACCOUNT: &str = "000000000000";
@@ -284,6 +311,7 @@ impl Options {
             certificate: self.certificate.or(file.certificate),
             key: self.key.or(file.key),
             url: self.url.or(file.url),
+            allowed_hosts: self.allowed_hosts.or(file.allowed_hosts),
             account: self.account.or(file.account),
             region: self.region.or(file.region),
             connections: self.connections.or(file.connections),
@@ -338,6 +366,7 @@ impl Options {
             open: self.open.unwrap_or(false),
             certificate,
             url: self.url.map(|url| url.0),
+            allowed_hosts: self.allowed_hosts.unwrap_or_default().into_iter().map(|name| name.0).collect(),
             owner: Owner {
                 account: self.account.map_or_else(|| ACCOUNT.into(), |account| account.0),
                 region: self.region.unwrap_or_else(|| REGION.into()),

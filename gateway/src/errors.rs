@@ -84,6 +84,15 @@ pub enum SqsError {
          because no identity-based policy allows the sqs:{action} action"
     )]
     AccessDenied { user: String, action: String, resource: String },
+    /// A page in a browser sent it, and nobody asks for keys.
+    #[error("Requests of pages in browsers aren't served without --credentials, and this one comes from {0}.")]
+    OtherSite(String),
+    /// It names a host that isn't the gateway's, and nobody asks for keys.
+    #[error(
+        "The gateway isn't known as {0}. Without --credentials it is reached by an address, as localhost, under --url, \
+         or by the names of --allowed-hosts."
+    )]
+    UnknownHost(String),
 }
 
 /// Why a handle isn't good any more.
@@ -193,7 +202,9 @@ impl SqsError {
                 ("com.amazon.coral.service#InvalidSignatureException", "SignatureDoesNotMatch", 403)
             }
             SqsError::RequestExpired => ("com.amazon.coral.service#RequestExpired", "RequestExpired", 403),
-            SqsError::AccessDenied { .. } => ("com.amazon.coral.service#AccessDeniedException", "AccessDenied", 403),
+            SqsError::AccessDenied { .. } | SqsError::OtherSite(_) | SqsError::UnknownHost(_) => {
+                ("com.amazon.coral.service#AccessDeniedException", "AccessDenied", 403)
+            }
         };
         Coded { type_name, code, status }
     }

@@ -19,7 +19,7 @@ use crate::config::{Address, DeclaredQueue, Misuse};
 use crate::cq::{test_built, test_version, Cq};
 use crate::delays;
 use crate::ending::End;
-use crate::http::{is_of_this_machine, listen, Addresses, Door, Service};
+use crate::http::{is_of_this_machine, listen, Addresses, Door, Hosts, Service};
 use crate::journal::{self, Batch, Journal, Record, Taken};
 use crate::limits::Bounds;
 use crate::metrics::Metrics;
@@ -51,6 +51,8 @@ pub struct Settings {
     pub certificate: Option<(PathBuf, PathBuf)>,
     /// The URL under which clients know the gateway.
     pub url: Option<String>,
+    /// By which further names clients without keys reach it.
+    pub allowed_hosts: Vec<String>,
     pub owner: Owner,
     pub connections: u32,
     pub polls: u32,
@@ -59,6 +61,12 @@ pub struct Settings {
     pub queues: Vec<DeclaredQueue>,
     /// A file whose number is the clock, for tests.
     pub clock_file: Option<PathBuf>,
+}
+
+impl Settings {
+    fn hosts(&self) -> Hosts {
+        Hosts::new(&self.allowed_hosts, self.url.as_deref())
+    }
 }
 
 /// So long a signal waits for open requests and for the journal.
@@ -73,6 +81,7 @@ pub async fn serve(settings: Settings) -> Result<()> {
     let admin = Arc::new(Admin {
         health: Arc::new(Health::default()),
         metrics: Arc::new(Metrics::new()?),
+        hosts: settings.hosts(),
         store: OnceLock::new(),
     });
     if let Some(address) = &settings.admin {
@@ -255,7 +264,7 @@ async fn answer(
     let local = listener.local_addr()?;
     let addresses = Addresses { url: settings.url.clone(), local, has_tls: certificate.is_some() };
     let url = format!("{}://{local}", addresses.scheme());
-    let service = Arc::new(Service::new(actions, keys.clone(), addresses, admin.metrics.clone()));
+    let service = Arc::new(Service::new(actions, keys.clone(), settings.hosts(), addresses, admin.metrics.clone()));
     let door = Door { service, certificate: certificate.clone(), most: settings.connections };
     let mut served = tokio::spawn(door.serve(listener, ending));
     admin.health.serves();

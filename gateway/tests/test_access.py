@@ -185,6 +185,58 @@ def test_a_file_of_keys_that_never_ends_keeps_nobody_waiting(tmp_path):
         assert started.stop() == 0
 
 
+# ---- pages in browsers, which reach a gateway on their own machine
+
+FORM = {"Content-Type": "application/x-www-form-urlencoded"}
+
+
+def status_of(url: str, headers: dict[str, str], form: bytes | None = None) -> tuple[int, bytes]:
+    try:
+        with urllib.request.urlopen(urllib.request.Request(url, form, headers), timeout=20) as response:
+            return response.status, response.read()
+    except urllib.error.HTTPError as error:
+        return error.code, error.read()
+
+
+@pytest.mark.parametrize("headers", [
+    {"Origin": "http://evil.example"}, {"Origin": "null"}, {"Sec-Fetch-Site": "cross-site"}, {"Sec-Fetch-Site": "same-site"},
+    {"Host": "evil.example"}, {"Host": "evil.example:9324"}, {"Host": "evil.example", "Origin": "http://evil.example"},
+])
+def test_no_page_commands_a_gateway_without_keys(headers):
+    gateway = Started("--no-pauses", "--admin", "0")
+    try:
+        call = ByJson(gateway.url)
+        call("CreateQueue", QueueName="q")
+        call("SendMessage", QueueUrl="q", MessageBody="b")
+        for form in (b"Action=ReceiveMessage", b"Action=PurgeQueue", b"Action=DeleteQueue"):
+            url = f"{gateway.url}/000000000000/q"
+            for target, body in ((url, form), (f"{url}?{form.decode()}", None)):
+                status, answer = status_of(target, {**FORM, **headers}, body)
+                assert status == 403 and b"<Code>AccessDenied</Code>" in answer
+        assert call("ReceiveMessage", QueueUrl="q")["Messages"][0]["Body"] == "b"
+        admin = next(line.split()[-1] for line in gateway.said if line.startswith("health and metrics on "))
+        assert status_of(admin + "/metrics", headers)[0] == 403 and status_of(admin + "/metrics", {})[0] == 200
+    finally:
+        assert gateway.stop() == 0
+
+
+def test_names_and_pages_that_are_let_in():
+    gateway = Started("--allowed-hosts", "queues,other.example", "--url", "http://known.example")
+    try:
+        port = gateway.url.rsplit(":", 1)[-1]
+        for host in (f"127.0.0.1:{port}", f"localhost:{port}", "queues:9324", "other.example", "known.example"):
+            for more in ({}, {"Origin": f"http://{host}", "Sec-Fetch-Site": "same-origin"}, {"Sec-Fetch-Site": "none"}):
+                assert status_of(gateway.url, {**FORM, "Host": host, **more}, b"Action=ListQueues")[0] == 200, (host, more)
+    finally:
+        assert gateway.stop() == 0
+
+
+def test_signed_requests_come_by_any_name(gateway):
+    request = AWSRequest("POST", gateway.url + "/", {**FORM, "Host": "any.example"}, "Action=ListQueues")
+    SigV4Auth(Credentials("ADMIN", SECRETS["ADMIN"]), "sqs", "eu-north-1").add_auth(request)
+    assert status_of(gateway.url + "/", {**dict(request.headers), "Origin": "http://page.example"}, b"Action=ListQueues")[0] == 200
+
+
 # ---- TLS
 
 
@@ -219,7 +271,7 @@ def test_clients_speak_tls_and_a_new_certificate_counts_at_sighup(tmp_path):
         assert peer_certificate(started.url) != first
         address = urlsplit(started.url)
         with socket.create_connection((address.hostname, address.port), timeout=20) as plain:
-            plain.sendall(b"GET / HTTP/1.1\r\nHost: here\r\n\r\n")
+            plain.sendall(b"GET / HTTP/1.1\r\nHost: localhost\r\n\r\n")
             assert not plain.recv(1 << 16).startswith(b"HTTP/1.1 200")
     finally:
         assert started.stop() == 0

@@ -36,7 +36,7 @@ def connect(gateway: Started) -> socket.socket:
 
 def head(action: bytes, length: int | None, more: bytes = b"") -> bytes:
     sized = b"Transfer-Encoding: chunked\r\n" if length is None else b"Content-Length: %d\r\n" % length
-    return b"POST / HTTP/1.1\r\nHost: here\r\n" + JSON % action + sized + more + b"\r\n"
+    return b"POST / HTTP/1.1\r\nHost: localhost\r\n" + JSON % action + sized + more + b"\r\n"
 
 
 def read_all(connection: socket.socket) -> bytes:
@@ -84,7 +84,7 @@ def test_a_body_that_is_too_long_gets_413_in_the_form_of_its_protocol(gateway):
     connection.sendall(b"x" * (LONGEST_BODY + 1))
     is_refused_in_json(read_response(connection), 413, "RequestEntityTooLarge")
     connection = connect(gateway)
-    connection.sendall(b"POST / HTTP/1.1\r\nHost: here\r\nTransfer-Encoding: chunked\r\n\r\n")
+    connection.sendall(b"POST / HTTP/1.1\r\nHost: localhost\r\nTransfer-Encoding: chunked\r\n\r\n")
     for _ in range(100):
         connection.sendall(b"10000\r\n" + b"x" * 65_536 + b"\r\n")
     connection.sendall(b"0\r\n\r\n")
@@ -108,12 +108,12 @@ def test_the_longest_message_gets_in_however_its_json_is_written(gateway):
 @pytest.mark.parametrize("sent", [
     b"GET",
     b"\x16\x03\x01\x02\x00\x01\x00\x01\xfc\x03\x03",
-    b"POST / HTTP/1.1\r\nHost: here\r\nContent-Length: 1\r\nContent-Length: 2\r\n\r\nab",
-    b"POST / HTTP/1.1\r\nHost: here\r\nContent-Length: -1\r\n\r\n",
-    b"POST / HTTP/1.1\r\nHost: here\r\nContent-Length: 99999999999999999999999\r\n\r\n",
-    b"POST / HTTP/1.1\r\nHost: here\r\nTransfer-Encoding: chunked\r\n\r\nzz\r\nab\r\n0\r\n\r\n",
-    b"POST / HTTP/1.1\r\nHost: here\r\nTransfer-Encoding: chunked\r\n\r\nffffffffffffffffff\r\n",
-    b"POST / HTTP/1.1\r\nHost: here\r\nTransfer-Encoding: chunked\r\n\r\n2\r\nabX",
+    b"POST / HTTP/1.1\r\nHost: localhost\r\nContent-Length: 1\r\nContent-Length: 2\r\n\r\nab",
+    b"POST / HTTP/1.1\r\nHost: localhost\r\nContent-Length: -1\r\n\r\n",
+    b"POST / HTTP/1.1\r\nHost: localhost\r\nContent-Length: 99999999999999999999999\r\n\r\n",
+    b"POST / HTTP/1.1\r\nHost: localhost\r\nTransfer-Encoding: chunked\r\n\r\nzz\r\nab\r\n0\r\n\r\n",
+    b"POST / HTTP/1.1\r\nHost: localhost\r\nTransfer-Encoding: chunked\r\n\r\nffffffffffffffffff\r\n",
+    b"POST / HTTP/1.1\r\nHost: localhost\r\nTransfer-Encoding: chunked\r\n\r\n2\r\nabX",
     b"POST / HTTP/9.9\r\n\r\n",
     b"POST /\x00 HTTP/1.1\r\n\r\n",
     b"\r\n" * 1000,
@@ -200,7 +200,7 @@ def test_connections_above_the_bound_are_told_503_and_others_go_on():
             assert read_response(connection)[0] == 200
         for protocol in (JSON % b"ListQueues", b""):
             above = connect(gateway)
-            above.sendall(b"POST / HTTP/1.1\r\nHost: here\r\n" + protocol + b"Content-Length: 2\r\n\r\n{}")
+            above.sendall(b"POST / HTTP/1.1\r\nHost: localhost\r\n" + protocol + b"Content-Length: 2\r\n\r\n{}")
             response = read_response(above)
             assert response[1]["connection"] == "close"
             if protocol:

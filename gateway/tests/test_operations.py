@@ -121,7 +121,8 @@ def test_a_host_that_is_none_is_told(host):
     assert ended.returncode == 1 and f"can't listen on {host}:0" in ended.stderr
 
 
-def test_urls_say_where_the_gateway_is_known(gateway):
+def test_urls_say_where_the_gateway_is_known():
+    gateway = Started("--allowed-hosts", "queues.example")
     call = ByJson(gateway.url)
     call("CreateQueue", QueueName="url.fifo", Attributes=FIFO)
     body = b'{"QueueName":"url.fifo"}'
@@ -132,6 +133,7 @@ def test_urls_say_where_the_gateway_is_known(gateway):
     ]:
         request = urllib.request.Request(gateway.url, data=body, headers={**headers, **more})
         assert json.load(urllib.request.urlopen(request, timeout=20))["QueueUrl"] == expected
+    assert gateway.stop() == 0
     started = Started("--url", "https://known.example/sqs/", "--account", "123456789012")
     try:
         url = ByJson(started.url)("CreateQueue", QueueName="q.fifo", Attributes=FIFO)["QueueUrl"]

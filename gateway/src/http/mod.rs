@@ -3,6 +3,7 @@
 mod address;
 mod bodies;
 mod connections;
+mod visitor;
 mod watched;
 
 use std::net::SocketAddr;
@@ -30,6 +31,7 @@ use crate::wire::{self, Incoming, Protocol, Reply};
 pub use address::{is_of_this_machine, Addresses};
 use bodies::Budget;
 pub use connections::{listen, Door};
+pub use visitor::Hosts;
 pub use watched::{Progress, Watched};
 
 /// The longest head of a request, in bytes.
@@ -42,6 +44,7 @@ pub struct Service {
     budget: Budget,
     /// The keys of those who may come in. Where there are none, everybody may.
     keys: Option<Arc<Keys>>,
+    hosts: Hosts,
     addresses: Addresses,
     metrics: Arc<Metrics>,
 }
@@ -96,8 +99,15 @@ enum Next {
 }
 
 impl Service {
-    pub fn new(actions: Actions, keys: Option<Arc<Keys>>, addresses: Addresses, metrics: Arc<Metrics>) -> Service {
-        Service { actions, repeats: Repeats::default(), budget: Budget::default(), keys, addresses, metrics }
+    /// `hosts` says by which names clients may reach the gateway where there are no keys.
+    pub fn new(
+        actions: Actions,
+        keys: Option<Arc<Keys>>,
+        hosts: Hosts,
+        addresses: Addresses,
+        metrics: Arc<Metrics>,
+    ) -> Service {
+        Service { actions, repeats: Repeats::default(), budget: Budget::default(), keys, hosts, addresses, metrics }
     }
 
     /// Takes in a request: its body is read, and what it asks for. Whatever comes in, there is an answer, in the protocol
@@ -158,7 +168,10 @@ impl Service {
     }
 
     fn identify(&self, head: &Parts, body: &Bytes, service: wire::Service) -> Result<Option<Arc<Identity>>, SqsError> {
-        let Some(keys) = &self.keys else { return Ok(None) };
+        let Some(keys) = &self.keys else {
+            self.hosts.test(&head.uri, &head.headers)?;
+            return Ok(None);
+        };
         let signable = Signable {
             method: head.method.as_str(),
             path: head.uri.path(),

@@ -1,0 +1,130 @@
+//! Where no keys are asked for, whoever reaches the gateway may command it, and so may a page in a browser that runs on
+//! the same machine. Browsers say from which page a request comes, and by which name they reached the gateway.
+
+use hyper::header::{HeaderMap, HOST, ORIGIN};
+use hyper::Uri;
+
+use crate::errors::SqsError;
+
+/// The names by which the gateway is reached, beside addresses and `localhost`.
+#[derive(Clone, Debug, Default)]
+pub struct Hosts {
+    /// In lower case, without ports.
+    names: Vec<String>,
+    /// Whatever name a client says is taken.
+    any: bool,
+}
+
+/// Stands for all names.
+const ANY: &str = "*";
+
+impl Hosts {
+    /// `allowed` are names without ports, or `*`; `url` is the one under which clients know the gateway.
+    pub fn new(allowed: &[String], url: Option<&str>) -> Hosts {
+        let of_url = url.and_then(|url| url.parse::<Uri>().ok()).and_then(|uri| uri.host().map(String::from));
+        let names = allowed.iter().cloned().chain(of_url).map(|name| name.to_ascii_lowercase());
+        Hosts { any: allowed.iter().any(|name| name == ANY), names: names.collect() }
+    }
+
+    /// Refuses what a page of another site sends, and what names a host that isn't the gateway's: a name that somebody
+    /// else has bound to the gateway's address makes a page of theirs one of the same origin.
+    pub fn test(&self, uri: &Uri, headers: &HeaderMap) -> Result<(), SqsError> {
+        let named = headers.get_all(HOST).iter().map(|host| host.to_str().unwrap_or_default());
+        let in_uri = uri.authority().map(|authority| authority.as_str());
+        if let Some(unknown) = named.chain(in_uri).map(host_of).find(|host| !self.knows(host)) {
+            return Err(SqsError::UnknownHost(unknown.into()));
+        }
+        if is_of_another_site(headers) {
+            let origin = headers.get(ORIGIN).and_then(|origin| origin.to_str().ok()).unwrap_or("another site");
+            return Err(SqsError::OtherSite(origin.into()));
+        }
+        Ok(())
+    }
+
+    fn knows(&self, host: &str) -> bool {
+        let is_address = host.trim_matches(['[', ']']).parse::<std::net::IpAddr>().is_ok();
+        let is_named = || self.names.iter().any(|name| name.eq_ignore_ascii_case(host));
+        self.any || is_address || host.eq_ignore_ascii_case("localhost") || is_named()
+    }
+}
+
+/// The host of an authority, without its port.
+fn host_of(authority: &str) -> &str {
+    let end = authority.rfind(']').map_or(0, |bracket| bracket + 1);
+    authority[end..].find(':').map_or(authority, |colon| &authority[..end + colon])
+}
+
+/// Whether a browser says that a page of another site sent it (Fetch, "The `Origin` header"; Fetch Metadata Request
+/// Headers). Programs say nothing of the kind. A page of the same site, on another port, say, tells its origin.
+fn is_of_another_site(headers: &HeaderMap) -> bool {
+    let own = headers.get(HOST).and_then(|host| host.to_str().ok()).map(host_of).unwrap_or_default();
+    let is_own = |origin: &str| {
+        let authority = origin.split_once("://").map(|(_, authority)| authority);
+        authority.is_some_and(|authority| !own.is_empty() && host_of(authority).eq_ignore_ascii_case(own))
+    };
+    let mut origins = headers.get_all(ORIGIN).iter().peekable();
+    let has_origin = origins.peek().is_some();
+    if !origins.all(|origin| origin.to_str().is_ok_and(is_own)) {
+        return true;
+    }
+    headers.get_all("sec-fetch-site").iter().any(|site| match site.as_bytes() {
+        b"same-origin" | b"none" => false,
+        b"same-site" => !has_origin,
+        _ => true,
+    })
+}
+
+#[cfg(test)]
+mod tests {
+    use super::*;
+
+    fn tested(hosts: &Hosts, uri: &str, headers: &[(&'static str, &str)]) -> Result<(), SqsError> {
+        let headers = headers.iter().map(|(name, value)| (name.parse().unwrap(), value.parse().unwrap())).collect();
+        hosts.test(&uri.parse().unwrap(), &headers)
+    }
+
+    #[test]
+    fn hosts_that_are_the_gateways() {
+        let hosts = Hosts::new(&["Queues".into()], Some("https://known.example:8443/sqs"));
+        for good in ["127.0.0.1:9324", "127.0.0.1", "[::1]:9324", "[::1]", "10.1.2.3:1", "localhost", "LOCALHOST:9324"] {
+            assert_eq!(tested(&hosts, "/", &[("host", good)]), Ok(()), "{good}");
+        }
+        for good in ["queues:9324", "known.example", "Known.Example:443"] {
+            assert_eq!(tested(&hosts, "/", &[("host", good)]), Ok(()), "{good}");
+        }
+        for bad in ["evil.example", "evil.example:9324", "localhost.evil.example", "127.0.0.1.evil.example", "", "a:b:c"] {
+            assert!(matches!(tested(&hosts, "/", &[("host", bad)]), Err(SqsError::UnknownHost(_))), "{bad}");
+        }
+        let two = [("host", "localhost"), ("host", "evil.example")];
+        assert_eq!(tested(&hosts, "/", &two), Err(SqsError::UnknownHost("evil.example".into())));
+        let whole = tested(&hosts, "http://evil.example/", &[("host", "localhost")]);
+        assert_eq!(whole, Err(SqsError::UnknownHost("evil.example".into())));
+        assert_eq!(tested(&hosts, "/", &[]), Ok(()), "a program of HTTP/1.0");
+        assert_eq!(tested(&Hosts::new(&["*".into()], None), "/", &[("host", "any.example")]), Ok(()));
+    }
+
+    #[test]
+    fn pages_of_other_sites_are_told_by_what_browsers_say() {
+        let hosts = Hosts::default();
+        let local = ("host", "localhost:9324");
+        for good in [
+            &[local][..],
+            &[local, ("origin", "http://localhost:9324"), ("sec-fetch-site", "same-origin")],
+            &[local, ("origin", "http://localhost:3000"), ("sec-fetch-site", "same-site")],
+            &[local, ("sec-fetch-site", "none")],
+        ] {
+            assert_eq!(tested(&hosts, "/", good), Ok(()), "{good:?}");
+        }
+        for bad in [
+            &[local, ("origin", "http://evil.example")][..],
+            &[local, ("origin", "null")],
+            &[local, ("origin", "http://93.184.216.34")],
+            &[local, ("sec-fetch-site", "cross-site")],
+            &[local, ("sec-fetch-site", "same-site")],
+            &[local, ("origin", "http://localhost:9324"), ("sec-fetch-site", "cross-site")],
+            &[("origin", "http://localhost")],
+        ] {
+            assert!(matches!(tested(&hosts, "/", bad), Err(SqsError::OtherSite(_))), "{bad:?}");
+        }
+    }
+}
