@@ -7,7 +7,7 @@ use serde::{Deserialize, Serialize};
 use crate::errors::SqsError;
 use crate::policy::Policy;
 use crate::redrive::{RedriveAllowPolicy, RedrivePolicy, REDRIVE_ALLOW_POLICY, REDRIVE_POLICY};
-use crate::texts::QueueKind;
+use crate::texts::{is_of_xml, QueueKind};
 
 /// The largest `MaximumMessageSize`, which is its default as well, in bytes. A batch has at most as many in all.
 pub const LONGEST_MESSAGE: usize = 1_048_576;
@@ -22,7 +22,8 @@ enum Rule {
     Flag,
     OneOf(&'static [&'static str]),
     Whole(u64, u64),
-    AnyText,
+    /// The id, the ARN or the alias of a key of KMS (API Reference of KMS, `KeyId`).
+    Key,
     /// A policy that is read so. The empty text removes it.
     Policy(fn(&str) -> Result<(), SqsError>),
 }
@@ -63,7 +64,7 @@ static ATTRIBUTES: [Attribute; 15] = [
     of_fifo("FifoQueue", Rule::Flag, "true"),
     of_fifo("FifoThroughputLimit", Rule::OneOf(&["perQueue", "perMessageGroupId"]), "perQueue"),
     attribute("KmsDataKeyReusePeriodSeconds", Rule::Whole(60, 86_400), None),
-    attribute(KEY, Rule::AnyText, None),
+    attribute(KEY, Rule::Key, None),
     attribute("MaximumMessageSize", Rule::Whole(1_024, LONGEST_MESSAGE as u64), Some("1048576")),
     attribute("MessageRetentionPeriod", Rule::Whole(60, 1_209_600), Some("345600")),
     attribute("Policy", Rule::Policy(test_policy), None),
@@ -86,7 +87,8 @@ impl Attribute {
             Rule::Whole(least, most) => {
                 whole(value).filter(|number| (least..=most).contains(number)).map(|number| number.to_string())
             }
-            Rule::AnyText => Some(value.to_string()),
+            Rule::Key => Some(value.to_string()).filter(|key| key.bytes().all(is_of_key)),
+            Rule::Policy(_) if !is_of_xml(value) => None,
             Rule::Policy(read) => {
                 if !value.is_empty() {
                     read(value)?;
@@ -109,6 +111,10 @@ fn find(kind: QueueKind, name: &str) -> Option<&'static Attribute> {
 /// A policy of who may do what: a JSON object with a statement.
 fn test_policy(text: &str) -> Result<(), SqsError> {
     Policy::is_one(text).then_some(()).ok_or_else(|| SqsError::attribute_value("Policy", ""))
+}
+
+fn is_of_key(byte: u8) -> bool {
+    byte.is_ascii_alphanumeric() || b":/_-".contains(&byte)
 }
 
 /// A number written in digits alone.
@@ -373,6 +379,8 @@ mod tests {
             ("FifoQueue", "perhaps"),
             ("Policy", "{}"),
             ("DelaySeconds", "901"),
+            ("KmsMasterKeyId", "a\u{1}"),
+            ("Policy", "{\"Id\":\"\u{fffe}\",\"Statement\":{}}"),
         ] {
             assert!(matches!(given(&[(name, value)]), Err(SqsError::InvalidAttributeValue { .. })), "{name}");
         }

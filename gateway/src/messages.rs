@@ -7,7 +7,7 @@ use uuid::Uuid;
 
 use crate::clock::Moment;
 use crate::errors::SqsError;
-use crate::texts::{test_characters, Body, DedupId, GroupId, QueueName, STORE_LIMIT};
+use crate::texts::{is_xml_character, test_characters, Body, DedupId, GroupId, QueueName, STORE_LIMIT};
 
 /// The one message system attribute that a send may carry (API Reference, SendMessage, `MessageSystemAttributes`).
 pub const TRACE_HEADER: &str = "AWSTraceHeader";
@@ -63,7 +63,7 @@ impl AttributeValue {
         }
         let kind = data_type.split_once('.').map_or(data_type, |(kind, _)| kind);
         let is_known = matches!(kind, "String" | "Number" | "Binary");
-        let is_text = test_characters(data_type).is_ok() && data_type.chars().all(|character| character >= ' ');
+        let is_text = data_type.chars().all(|character| character >= ' ' && is_xml_character(character));
         if !is_known || data_type.len() > 256 || !is_text {
             return wrong(format!(
                 "The type of message attribute '{name}' is invalid. You must use only the following supported type \
@@ -371,6 +371,8 @@ mod tests {
             ("String.\u{fffe}", Some("x"), None),
             ("Number.a\u{ffff}", Some("1"), None),
             ("Binary.\n", None, Some("AAE=")),
+            ("Binary.\u{ffff}", None, Some("AAE=")),
+            ("String.\t", Some("x"), None),
         ] {
             assert!(AttributeValue::new("a", kind, text, binary).is_err(), "{kind} {text:?} {binary:?}");
         }

@@ -209,15 +209,16 @@ impl Body {
 
 /// Refuses a text with a character that no message may have. Takes time in proportion to the text.
 pub fn test_characters(text: &str) -> Result<(), SqsError> {
-    if text.bytes().all(|byte| (0x20..0x80).contains(&byte)) {
-        return Ok(());
-    }
-    let is_good = |character| match character {
-        '\t' | '\n' | '\r' => true,
-        '\u{fffe}' | '\u{ffff}' => false,
-        character => character >= ' ',
-    };
-    text.chars().all(is_good).then_some(()).ok_or(SqsError::InvalidMessageContents)
+    is_of_xml(text).then_some(()).ok_or(SqsError::InvalidMessageContents)
+}
+
+/// Whether XML can say this text (Extensible Markup Language 1.0, `Char`). Takes time in proportion to it.
+pub fn is_of_xml(text: &str) -> bool {
+    text.bytes().all(|byte| (0x20..0x80).contains(&byte)) || text.chars().all(is_xml_character)
+}
+
+pub fn is_xml_character(character: char) -> bool {
+    matches!(character, '\t' | '\n' | '\r' | ' '..='\u{fffd}' | '\u{10000}'..)
 }
 
 /// Bytes as lower-case hex digits.

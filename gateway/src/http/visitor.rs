@@ -86,13 +86,16 @@ mod tests {
     #[test]
     fn hosts_that_are_the_gateways() {
         let hosts = Hosts::new(&["Queues".into()], Some("https://known.example:8443/sqs"));
-        for good in ["127.0.0.1:9324", "127.0.0.1", "[::1]:9324", "[::1]", "10.1.2.3:1", "localhost", "LOCALHOST:9324"] {
+        for good in ["127.0.0.1:9324", "127.0.0.1", "[::1]:9324", "[::1]", "10.1.2.3:1", "localhost", "LOCALHOST:9324"]
+        {
             assert_eq!(tested(&hosts, "/", &[("host", good)]), Ok(()), "{good}");
         }
         for good in ["queues:9324", "known.example", "Known.Example:443"] {
             assert_eq!(tested(&hosts, "/", &[("host", good)]), Ok(()), "{good}");
         }
-        for bad in ["evil.example", "evil.example:9324", "localhost.evil.example", "127.0.0.1.evil.example", "", "a:b:c"] {
+        for bad in
+            ["evil.example", "evil.example:9324", "localhost.evil.example", "127.0.0.1.evil.example", "", "a:b:c"]
+        {
             assert!(matches!(tested(&hosts, "/", &[("host", bad)]), Err(SqsError::UnknownHost(_))), "{bad}");
         }
         let two = [("host", "localhost"), ("host", "evil.example")];

@@ -12,6 +12,7 @@ use super::value::{Map, Value};
 use super::{fault, Incoming, Reply, Service};
 use crate::errors::SqsError;
 use crate::messages::AttributeValue;
+use crate::texts::{is_of_xml, is_xml_character};
 
 const CONTENT_TYPE: &str = "text/xml";
 
@@ -294,9 +295,12 @@ impl Xml {
         self.event(Event::End(BytesEnd::new(name)));
     }
 
+    /// An element with a text. All text of answers is written here, so that whatever it comes from, a parser can read
+    /// the answer: U+FFFD stands for what XML has no form for.
     fn leaf(&mut self, name: &str, text: &str) {
+        let readable = if is_of_xml(text) { Cow::Borrowed(text) } else { text.chars().map(readable).collect() };
         self.element(name, |xml| {
-            let escaped = quick_xml::escape::escape(text);
+            let escaped = quick_xml::escape::escape(&*readable);
             // A carriage return as it is would be read as a line feed.
             let escaped = if escaped.contains('\r') { Cow::Owned(escaped.replace('\r', "&#xD;")) } else { escaped };
             xml.event(Event::Text(BytesText::from_escaped(escaped)));
@@ -340,9 +344,7 @@ pub fn refuse(error: &SqsError, request_id: String) -> Reply {
         xml.element("Error", |xml| {
             xml.leaf("Type", fault(error));
             xml.leaf("Code", coded.code);
-            // A message may name what a client sent, and XML has no form for most control characters.
-            let message: String = error.to_string().chars().map(visible).collect();
-            xml.leaf("Message", &message);
+            xml.leaf("Message", &error.to_string());
             xml.event(Event::Empty(BytesStart::new("Detail")));
         });
         xml.leaf("RequestId", &request_id);
@@ -350,9 +352,8 @@ pub fn refuse(error: &SqsError, request_id: String) -> Reply {
     reply(coded.status, xml, request_id)
 }
 
-fn visible(character: char) -> char {
-    let is_in_xml = matches!(character, '\t' | '\n' | '\r' | ' '..='\u{fffd}' | '\u{10000}'..);
-    if is_in_xml {
+fn readable(character: char) -> char {
+    if is_xml_character(character) {
         character
     } else {
         '\u{fffd}'
@@ -544,5 +545,74 @@ mod tests {
         let text = String::from_utf8(refused.body).unwrap();
         assert!(text.contains("<Type>Sender</Type><Code>InvalidAction</Code>") && text.contains("<Detail/>"));
         assert!(!text.contains('\u{1}'));
+    }
+
+    /// Whether a parser finds all elements, and no character that XML has not.
+    fn is_read(reply: &Reply) -> bool {
+        let text = std::str::from_utf8(&reply.body).unwrap();
+        let mut reader = quick_xml::Reader::from_str(text);
+        while !matches!(reader.read_event().unwrap(), Event::Eof) {}
+        is_of_xml(text)
+    }
+
+    #[test]
+    fn whatever_an_answer_says_a_parser_reads_it() {
+        let hostile: String = ('\0'..='\u{2ff}').chain('\u{fff0}'..='\u{ffff}').chain(['\u{10ffff}']).collect();
+        let text = || hostile.clone();
+        let error = SqsError::InvalidParameterValue(text());
+        let sent = Sent {
+            message_id: text(),
+            md5_of_body: text(),
+            md5_of_attributes: Some(text()),
+            md5_of_system_attributes: Some(text()),
+            sequence_number: Some(text()),
+        };
+        let message = ReceivedMessage {
+            message_id: text(),
+            receipt_handle: text(),
+            md5_of_body: text(),
+            body: text(),
+            attributes: vec![("SenderId", text())],
+            md5_of_attributes: Some(text()),
+            message_attributes: [(
+                text(),
+                serde_json::from_value(serde_json::json!({"DataType": text(), "StringValue": text()})).unwrap(),
+            )]
+            .into(),
+        };
+        let task = ListedTask {
+            task_handle: Some(text()),
+            status: "RUNNING",
+            source_arn: text(),
+            destination_arn: Some(text()),
+            rate: None,
+            moved: 0,
+            to_move: 0,
+            failure_reason: Some(text()),
+            started: 0,
+        };
+        let urls = vec![text()];
+        for (action, response) in [
+            (Action::GetQueueUrl, Response::QueueUrl(text())),
+            (Action::ListQueues, Response::Queues { urls: urls.clone(), next: Some(text()) }),
+            (Action::ListDeadLetterSourceQueues, Response::SourceQueues { urls, next: Some(text()) }),
+            (Action::GetQueueAttributes, Response::Attributes(vec![(text(), text())])),
+            (Action::ListQueueTags, Response::Tags(vec![(text(), text())])),
+            (Action::GetCallerIdentity, Response::Caller { account: text(), arn: text(), user: text() }),
+            (Action::SendMessage, Response::Sent(sent.clone())),
+            (Action::ReceiveMessage, Response::Messages(vec![message])),
+            (
+                Action::SendMessageBatch,
+                Response::Batch {
+                    successful: vec![Done { id: text(), sent: Some(sent) }],
+                    failed: vec![Failed::new(text(), &error)],
+                },
+            ),
+            (Action::StartMessageMoveTask, Response::TaskHandle(text())),
+            (Action::ListMessageMoveTasks, Response::MoveTasks(vec![task])),
+        ] {
+            assert!(is_read(&answer(action, &response, text())), "{response:?}");
+        }
+        assert!(is_read(&refuse(&error, text())));
     }
 }

@@ -32,7 +32,8 @@ impl Task {
         self.close(&asked);
         self.give_room_back(&asked);
         let start: String = asked.raw.get().chars().take(200).collect();
-        tracing::error!("cq refused a line ({code}): {start}");
+        // A client may have said what stands in it.
+        tracing::warn!("cq refused a line ({code}): {start:?}");
         self.finish(Err(SqsError::of_refusal(code)), done);
         Ok(())
     }
