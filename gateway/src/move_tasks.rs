@@ -7,6 +7,7 @@ use std::time::Duration;
 use serde::{Deserialize, Serialize};
 use uuid::Uuid;
 
+use crate::access::Keys;
 use crate::clock::Moment;
 use crate::errors::SqsError;
 use crate::messages::read_form;
@@ -15,6 +16,7 @@ use crate::queues::ask::{Ask, Change, Handed, Outcome};
 use crate::queues::Queue;
 use crate::store::Store;
 use crate::texts::QueueName;
+use crate::wire::requests::Action;
 
 /// How a task stands (API Reference, ListMessageMoveTasks, `Status`).
 #[derive(Clone, Copy, Debug, PartialEq, Eq, Serialize, Deserialize)]
@@ -55,7 +57,13 @@ pub struct MoveTask {
     pub status: Status,
     #[serde(default, skip_serializing_if = "Option::is_none")]
     pub failure: Option<String>,
+    /// The access key that started it, where there are keys.
+    #[serde(default, skip_serializing_if = "Option::is_none")]
+    pub starter: Option<String>,
 }
+
+/// The keys that say where a task may move messages to; none where everybody may do everything.
+pub type Rights = Option<Arc<Keys>>;
 
 /// So many tasks of a queue are remembered (API Reference, ListMessageMoveTasks).
 const MOST: usize = 10;
@@ -91,22 +99,22 @@ enum Failure {
 }
 
 /// Goes on with all tasks that were running when the gateway ended.
-pub fn resume(store: &Store) {
+pub fn resume(store: &Store, rights: &Rights) {
     for queue in store.queues().all() {
         let running = queue.state().running_task().map(|task| task.id);
         if let Some(id) = running {
-            tokio::spawn(run(store.clone(), queue, id));
+            tokio::spawn(run(store.clone(), rights.clone(), queue, id));
         }
     }
 }
 
 /// Moves messages until there are none left that were there at its start and that nobody has.
-pub async fn run(store: Store, queue: Arc<Queue>, id: Uuid) {
+pub async fn run(store: Store, rights: Rights, queue: Arc<Queue>, id: Uuid) {
     loop {
         let task = queue.state().running_task().filter(|task| task.id == id).cloned();
         let Some(mut task) = task else { return };
         let size = task.rate.unwrap_or(AT_ONCE).min(AT_ONCE);
-        let moved = match move_some(&store, &queue, &task, size as u8).await {
+        let moved = match move_some(&store, &rights, &queue, &task, size as u8).await {
             Ok(moved) => moved,
             Err(Failure::Ends(reason)) => {
                 (task.status, task.failure) = (Status::Failed, Some(reason.into()));
@@ -136,13 +144,19 @@ pub async fn run(store: Store, queue: Arc<Queue>, id: Uuid) {
 }
 
 /// Moves some messages, and tells how many. What isn't to be moved is given back.
-async fn move_some(store: &Store, queue: &Arc<Queue>, task: &MoveTask, size: u8) -> Result<u64, Failure> {
+async fn move_some(
+    store: &Store,
+    rights: &Rights,
+    queue: &Arc<Queue>,
+    task: &MoveTask,
+    size: u8,
+) -> Result<u64, Failure> {
     let ask = Ask::Receive { size, visibility: HIDDEN, attempt: None, most: None, own: true };
     let outcome = store.ask(queue, ask).await.map_err(Failure::ForNow)?;
     let Outcome::Received { handed, .. } = outcome else { return Ok(0) };
     let (due, later): (Vec<_>, Vec<_>) = handed.into_iter().partition(|handed| handed.receipt.sequence <= task.up_to);
     give_back(store, queue, &later).await;
-    let by_target = match by_target(store, task, &due) {
+    let by_target = match by_target(store, rights, task, &due) {
         Ok(by_target) => by_target,
         Err(failure) => {
             give_back(store, queue, &due).await;
@@ -163,18 +177,34 @@ async fn move_some(store: &Store, queue: &Arc<Queue>, task: &MoveTask, size: u8)
 }
 
 /// The messages by the queues to which they go, in their order.
-fn by_target(store: &Store, task: &MoveTask, due: &[Handed]) -> Result<BTreeMap<QueueName, Vec<Handed>>, Failure> {
+fn by_target(
+    store: &Store,
+    rights: &Rights,
+    task: &MoveTask,
+    due: &[Handed],
+) -> Result<BTreeMap<QueueName, Vec<Handed>>, Failure> {
     let mut by_target: BTreeMap<QueueName, Vec<Handed>> = BTreeMap::new();
     for handed in due {
         let source = || read_form(&handed.form).and_then(|(kept, _)| kept.source);
         let target = task.destination.clone().or_else(source);
         let target = target.ok_or(Failure::Ends("CouldNotDetermineMessageSource"))?;
+        if !may_move_to(rights, task, &target) {
+            return Err(Failure::Ends("AccessDenied"));
+        }
         if store.queues().find(&target).is_none() {
             return Err(Failure::Ends("AWS.SimpleQueueService.NonExistentQueue"));
         }
         by_target.entry(target).or_default().push(handed.clone());
     }
     Ok(by_target)
+}
+
+/// Whether the key that started a task allows this target, as its file says now.
+fn may_move_to(rights: &Rights, task: &MoveTask, target: &QueueName) -> bool {
+    match (rights, &task.starter) {
+        (Some(keys), Some(starter)) => keys.allow(starter, Action::StartMessageMoveTask, target),
+        _ => true,
+    }
 }
 
 #[cfg(test)]
@@ -193,6 +223,7 @@ mod tests {
             started: 0,
             status,
             failure: None,
+            starter: None,
         };
         let mut tasks = Vec::new();
         note(&mut tasks, &task(0, 1, Status::Running));

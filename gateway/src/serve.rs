@@ -255,9 +255,9 @@ async fn answer(
         bail!(why(ended).await);
     }
     let (end, ending) = End::new();
-    move_tasks::resume(&store);
+    move_tasks::resume(&store, &keys);
     let (owner, metrics) = (settings.owner.clone(), admin.metrics.clone());
-    let actions = Actions::new(store, owner, settings.polls, settings.pauses, metrics, ending.clone());
+    let actions = Actions::new(store, owner, settings.polls, settings.pauses, metrics, ending.clone(), keys.clone());
     actions.declare(&settings.queues).await;
     // Until here a signal ends the process at once, also where the program hangs.
     let mut signals = Signals::new()?;

@@ -241,3 +241,59 @@ def test_a_task_whose_client_has_gone_moves_messages(tmp_path):
     task = ended(rules, dead)
     assert (task["Status"], int(task["ApproximateNumberOfMessagesMoved"])) == ("COMPLETED", 3)
     assert gateway.stop() == 0
+
+
+def test_a_task_moves_nothing_to_queues_that_its_key_does_not_allow(tmp_path):
+    keys = tmp_path / "keys.toml"
+    of = '[[key]]\naccess_key = "{0}"\nsecret = "the secret of {0}"\n{1}\n'
+    keys.write_text(of.format("A", "") + of.format("B", 'queues = ["b-"]'))
+    gateway = Started("--credentials", str(keys), "--journal", str(tmp_path / "journal"))
+
+    def call(key: str, action: str, **members) -> tuple[int, dict[str, Any]]:
+        headers = {"X-Amz-Target": f"AmazonSQS.{action}", "Content-Type": "application/x-amz-json-1.0"}
+        request = AWSRequest("POST", gateway.url + "/", headers, json.dumps(members).encode())
+        SigV4Auth(Credentials(key, f"the secret of {key}"), "sqs", "us-east-1").add_auth(request)
+        status, _, body = post(request.url, request.data, dict(request.headers))
+        return status, json.loads(body)
+
+    def good(key: str, action: str, **members) -> dict[str, Any]:
+        status, answer = call(key, action, **members)
+        assert status == 200, answer
+        return answer
+
+    def die(queue: str, body: str) -> None:
+        """Sends a message that goes to the dead-letter queue at the second receive."""
+        good("A", "SendMessage", QueueUrl=queue, MessageBody=body)
+        assert good("A", "ReceiveMessage", QueueUrl=queue)["Messages"]
+        assert good("A", "ReceiveMessage", QueueUrl=queue) == {}
+
+    def task() -> dict[str, Any]:
+        return good("A", "ListMessageMoveTasks", SourceArn=arn("b-dead"))["Results"][0]
+
+    def start() -> tuple[int, dict[str, Any]]:
+        return call("B", "StartMessageMoveTask", SourceArn=arn("b-dead"), MaxNumberOfMessagesPerSecond=1)
+
+    dying = {"VisibilityTimeout": "0", "RedrivePolicy": policy("b-dead")}
+    good("A", "CreateQueue", QueueName="b-dead")
+    for name in ("a-1", "b-1"):
+        good("A", "CreateQueue", QueueName=name, Attributes=dying)
+    die("a-1", "of a")
+    status, error = start()
+    assert (status, error["__type"].split("#")[1]) == (403, "AccessDeniedException") and "a-1" not in error["message"]
+    # The message still says where it came from when that queue names no dead-letter queue any more.
+    good("A", "SetQueueAttributes", QueueUrl="a-1", Attributes={"RedrivePolicy": ""})
+    assert start()[0] == 200
+    assert wait_for(lambda: task()["Status"] == "FAILED") and task()["FailureReason"] == "AccessDenied"
+    assert good("A", "ReceiveMessage", QueueUrl="a-1") == {}
+    good("A", "PurgeQueue", QueueUrl="b-dead")
+    # A key that allows less meanwhile moves no more, also after a start.
+    for body in ("1", "2", "3"):
+        die("b-1", body)
+    assert start()[0] == 200
+    wait_for(lambda: task()["ApproximateNumberOfMessagesMoved"] >= 1)
+    gateway.kill()
+    keys.write_text(of.format("A", "") + of.format("B", 'queues = ["none-"]'))
+    gateway.start()
+    assert wait_for(lambda: task()["Status"] == "FAILED") and task()["FailureReason"] == "AccessDenied"
+    assert task()["ApproximateNumberOfMessagesMoved"] < 3
+    assert gateway.stop() == 0

@@ -18,6 +18,8 @@ use super::signature::{string_to_sign, SigningKey};
 use super::timestamp::Timestamp;
 use super::Signable;
 use crate::errors::SqsError;
+use crate::texts::QueueName;
+use crate::wire::requests::Action;
 
 /// The keys of a file, which can be read again while requests come in.
 pub struct Keys {
@@ -67,6 +69,15 @@ impl Keys {
             return Err(SqsError::wrong_signature());
         }
         Ok(key.identity.clone())
+    }
+}
+
+impl Keys {
+    /// Whether the key of this name may do something to a queue at this moment. One that isn't in the file any more may
+    /// do nothing.
+    pub fn allow(&self, access_key: &str, action: Action, queue: &QueueName) -> bool {
+        let table = self.table.read().unwrap_or_else(PoisonError::into_inner).clone();
+        table.get(access_key).is_some_and(|key| key.identity.may(action, Some(queue)))
     }
 }
 

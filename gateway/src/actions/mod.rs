@@ -19,6 +19,7 @@ use crate::ending::Ending;
 use crate::errors::SqsError;
 use crate::handles::Receipt;
 use crate::metrics::Metrics;
+use crate::move_tasks::Rights;
 use crate::presence::Presence;
 use crate::queues::Queue;
 use crate::store::Store;
@@ -103,6 +104,7 @@ pub struct Actions {
     pauses: Pauses,
     metrics: Arc<Metrics>,
     ending: Ending,
+    rights: Rights,
 }
 
 impl Actions {
@@ -114,9 +116,10 @@ impl Actions {
         pauses: Pauses,
         metrics: Arc<Metrics>,
         ending: Ending,
+        rights: Rights,
     ) -> Actions {
         let turns = (0..TURNS).map(|_| Mutex::new(())).collect();
-        Actions { store, owner, turns, polls: Semaphore::new(polls as usize), pauses, metrics, ending }
+        Actions { store, owner, turns, polls: Semaphore::new(polls as usize), pauses, metrics, ending, rights }
     }
 
     pub fn store(&self) -> &Store {

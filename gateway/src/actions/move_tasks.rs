@@ -31,12 +31,16 @@ impl Actions {
         let _turn = self.turn_of(&queue.name).lock().await;
         let names_it =
             |other: &Arc<Queue>| other.state().redrive().is_some_and(|policy| policy.target.name == queue.name);
-        if !self.store.queues().all().iter().any(names_it) {
+        let sources: Vec<_> = self.store.queues().all().into_iter().filter(names_it).collect();
+        if sources.is_empty() {
             let message = "Source queue must be configured as a Dead Letter Queue.";
             return Err(SqsError::InvalidParameterValue(message.into()));
         }
         let destination = match &start.destination {
-            None => None,
+            None => {
+                self.test_sources(&sources, caller)?;
+                None
+            }
             Some(arn) => Some(self.destination(arn.as_ref(), &queue.name, caller)?),
         };
         let task = {
@@ -56,13 +60,25 @@ impl Actions {
                 started: self.store.clock().now(),
                 status: Status::Running,
                 failure: None,
+                starter: caller.identity.as_ref().map(|identity| identity.name().to_string()),
             }
         };
         let id = task.id;
         self.store.note(&queue, Change::Task(task)).await?;
         let handle = TaskHandle { id, queue: queue.name.clone() }.outward();
-        tokio::spawn(run(self.store.clone(), queue, id));
+        tokio::spawn(run(self.store.clone(), self.rights.clone(), queue, id));
         Ok(Response::TaskHandle(handle).into())
+    }
+
+    /// Messages go back to where they came from: to none of these, unless the caller's key allows all. The refusal names
+    /// no queue that the key doesn't show.
+    fn test_sources(&self, sources: &[Arc<Queue>], caller: &Caller) -> Result<(), SqsError> {
+        match &caller.identity {
+            Some(identity) if !sources.iter().all(|source| identity.sees(&source.name)) => {
+                Err(self.denied(identity, Action::StartMessageMoveTask, None))
+            }
+            _ => Ok(()),
+        }
     }
 
     fn destination(&self, arn: Option<&QueueArn>, source: &QueueName, caller: &Caller) -> Result<QueueName, SqsError> {
