@@ -12,6 +12,12 @@ use crate::texts::{is_of_xml, QueueKind};
 /// The largest `MaximumMessageSize`, which is its default as well, in bytes. A batch has at most as many in all.
 pub const LONGEST_MESSAGE: usize = 1_048_576;
 
+/// The longest text of a policy, in bytes (API Reference, SetQueueAttributes, `Policy`).
+const LONGEST_POLICY: usize = 8_192;
+
+/// The longest name of a key (API Reference of KMS, `KeyId`).
+const LONGEST_KEY: usize = 2_048;
+
 /// The counts of messages, which are the store's.
 pub const COUNTS: [&str; 3] =
     ["ApproximateNumberOfMessages", "ApproximateNumberOfMessagesNotVisible", "ApproximateNumberOfMessagesDelayed"];
@@ -87,8 +93,8 @@ impl Attribute {
             Rule::Whole(least, most) => {
                 whole(value).filter(|number| (least..=most).contains(number)).map(|number| number.to_string())
             }
-            Rule::Key => Some(value.to_string()).filter(|key| key.bytes().all(is_of_key)),
-            Rule::Policy(_) if !is_of_xml(value) => None,
+            Rule::Key => Some(value.to_string()).filter(|key| key.len() <= LONGEST_KEY && key.bytes().all(is_of_key)),
+            Rule::Policy(_) if value.len() > LONGEST_POLICY || !is_of_xml(value) => None,
             Rule::Policy(read) => {
                 if !value.is_empty() {
                     read(value)?;
@@ -164,6 +170,10 @@ impl Given {
             self.0.insert(KEY.into(), String::new());
         }
         self
+    }
+
+    pub fn iter(&self) -> impl Iterator<Item = (&str, &str)> {
+        self.0.iter().map(|(name, value)| (name.as_str(), value.as_str()))
     }
 
     pub fn is_empty(&self) -> bool {
@@ -380,6 +390,8 @@ mod tests {
             ("Policy", "{}"),
             ("DelaySeconds", "901"),
             ("KmsMasterKeyId", "a\u{1}"),
+            ("KmsMasterKeyId", &"k".repeat(LONGEST_KEY + 1)),
+            ("Policy", &format!("{{\"Statement\":{{}}{}}}", " ".repeat(LONGEST_POLICY))),
             ("Policy", "{\"Id\":\"\u{fffe}\",\"Statement\":{}}"),
         ] {
             assert!(matches!(given(&[(name, value)]), Err(SqsError::InvalidAttributeValue { .. })), "{name}");

@@ -48,6 +48,9 @@ pub struct Options {
     /// Refuse sends when messages use so many bytes, as 512MiB
     #[arg(long, value_name = "SIZE", env = "HOBBYCHAIR_MEMORY")]
     memory: Option<Size>,
+    /// Refuse requests when those that are being served keep so many bytes [default: 256MiB]
+    #[arg(long, value_name = "SIZE", env = "HOBBYCHAIR_REQUEST_MEMORY")]
+    request_memory: Option<Size>,
     /// Refuse sends when the journal has so many bytes
     #[arg(long, value_name = "SIZE", env = "HOBBYCHAIR_JOURNAL_SIZE")]
     journal_size: Option<Size>,
@@ -285,6 +288,8 @@ const PORT: u16 = 9324;
 const ACCOUNT: &str = "000000000000";
 const REGION: &str = "us-east-1";
 const CONNECTIONS: u32 = 10_000;
+const REQUEST_MEMORY: u64 = 256 << 20;
+const LEAST_REQUEST_MEMORY: usize = 64 << 20;
 
 impl Options {
     /// These options, and those of the file that they name, where there are none of these.
@@ -305,6 +310,7 @@ impl Options {
             shards: self.shards.or(file.shards),
             journal: self.journal.or(file.journal),
             memory: self.memory.or(file.memory),
+            request_memory: self.request_memory.or(file.request_memory),
             journal_size: self.journal_size.or(file.journal_size),
             credentials: self.credentials.or(file.credentials),
             open: self.open.or(file.open),
@@ -362,6 +368,7 @@ impl Options {
             shards,
             journal: self.journal,
             bounds: Bounds { memory: self.memory.map(|size| size.0), journal: self.journal_size.map(|size| size.0) },
+            request_memory: request_memory(self.request_memory)?,
             credentials: self.credentials,
             open: self.open.unwrap_or(false),
             certificate,
@@ -378,6 +385,15 @@ impl Options {
             queues: self.queue,
             clock_file: self.clock_file,
         })
+    }
+}
+
+/// The longest request and the answer to it have to find room.
+fn request_memory(given: Option<Size>) -> Result<usize> {
+    let bytes = given.map_or(REQUEST_MEMORY, |size| size.0);
+    match usize::try_from(bytes) {
+        Ok(bytes) if bytes >= LEAST_REQUEST_MEMORY => Ok(bytes),
+        _ => Err(Misuse("request-memory must be 64MiB or more".into()).into()),
     }
 }
 
@@ -471,7 +487,8 @@ mod tests {
         let none = Options { connections: Some(0), ..Options::default() };
         let size = Options { journal_size: Some(Size(1)), ..Options::default() };
         let many = Options { shards: Some(17), ..Options::default() };
-        for bad in [alone, none, size, many] {
+        let little = Options { request_memory: Some(Size(1 << 20)), ..Options::default() };
+        for bad in [alone, none, size, many, little] {
             assert!(settings(bad).unwrap_err().is::<Misuse>());
         }
         let no_threads = Options { threads: Some(0), ..Options::default() };

@@ -106,6 +106,9 @@ pub enum Stale {
     NoMessage,
 }
 
+/// The most characters of a refusal.
+const MOST_TOLD: usize = 1_024;
+
 /// How both protocols name an error.
 #[derive(Clone, Copy, Debug, PartialEq, Eq)]
 pub struct Coded {
@@ -209,6 +212,16 @@ impl SqsError {
         Coded { type_name, code, status }
     }
 
+    /// The text as clients are told it: what they sent may stand in it, and a refusal isn't as long as what it refuses.
+    pub fn told(&self) -> String {
+        let mut text = self.to_string();
+        if let Some((end, _)) = text.char_indices().nth(MOST_TOLD) {
+            text.truncate(end);
+            text.push('…');
+        }
+        text
+    }
+
     /// Whether the fault is the client's: every error below 500.
     pub fn is_sender_fault(&self) -> bool {
         self.coded().status < 500
@@ -304,6 +317,8 @@ mod tests {
         );
         assert_eq!(SqsError::of_refusal(99).coded().status, 500);
         assert!(!SqsError::of_refusal(99).is_sender_fault());
+        let long = SqsError::InvalidParameterValue("é".repeat(5_000)).told();
+        assert_eq!(long.chars().count(), 1_025);
         let error = SqsError::attribute_value("DelaySeconds", "It must be 0.");
         assert_eq!(error.to_string(), "Invalid value for the parameter DelaySeconds. It must be 0.");
     }

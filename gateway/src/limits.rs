@@ -12,6 +12,9 @@ const FREE: u64 = 90;
 /// 50,000 messages in as many groups both processes grew by 1,899 bytes each, and their forms had 214.
 pub const MESSAGE_BYTES: u64 = 1_700;
 
+/// What a queue takes in the tables and in the store beside the texts of its attributes and tags, in bytes.
+pub const QUEUE_BYTES: u64 = 4_096;
+
 /// What is left of a message that was received and deleted, as long as its deduplication id counts, in bytes. With
 /// 50,000 of them both processes grew by 3,405 bytes each, and with 4,000 by 3,535: the store's maps don't shrink.
 pub const ID_BYTES: u64 = 3_500;

@@ -125,7 +125,8 @@ impl AttributeValue {
         }
     }
 
-    fn size(&self) -> usize {
+    /// What it counts, in bytes: its type and its value.
+    pub fn size(&self) -> usize {
         self.data_type.len() + self.data().len()
     }
 }

@@ -21,33 +21,30 @@ const KEPT: Duration = Duration::from_secs(60);
 const MOST_BYTES: usize = 64 << 20;
 
 /// What makes two requests the same call.
-#[derive(Clone, Debug, PartialEq, Eq, Hash)]
-pub struct Key {
+#[derive(Clone, Debug)]
+pub struct Sameness<'a> {
     pub action: Action,
     /// `amz-sdk-invocation-id`.
-    pub invocation: String,
+    pub invocation: &'a str,
     /// Who asks, by the access key that the request names.
-    pub access_key: String,
-    pub path: String,
-    /// The SHA-256 of the request's body.
-    pub body: [u8; 32],
+    pub access_key: &'a str,
+    pub path: &'a str,
+    pub body: &'a [u8],
 }
 
-impl Key {
-    /// About how many bytes its texts take, which are kept twice.
-    fn size(&self) -> usize {
-        2 * (self.invocation.len() + self.access_key.len() + self.path.len())
-    }
+/// The digest of what makes two requests the same call. Whatever a client says, it takes as many bytes.
+#[derive(Clone, Copy, Debug, PartialEq, Eq, Hash)]
+pub struct Key(pub [u8; 32]);
 
-    /// What stands for the call and its repeats.
-    pub fn digest(&self) -> [u8; 32] {
+impl Key {
+    pub fn of(same: &Sameness<'_>) -> Key {
         let mut digest = Sha256::new();
-        for text in [self.action.name(), &self.invocation, &self.access_key, &self.path] {
+        for text in [same.action.name(), same.invocation, same.access_key, same.path] {
             digest.update((text.len() as u64).to_be_bytes());
             digest.update(text.as_bytes());
         }
-        digest.update(self.body);
-        digest.finalize().into()
+        digest.update(Sha256::digest(same.body));
+        Key(digest.finalize().into())
     }
 
     /// Whether a lost answer of this action does harm, so that it is kept.
@@ -145,7 +142,7 @@ impl Repeats {
         let presence = Presence::default();
         let present = presence.enter();
         let call = Call { presence: presence.clone(), answer: watched, answered: None, bytes: 0, number };
-        if let Some(earlier) = kept.calls.insert(key.clone(), call) {
+        if let Some(earlier) = kept.calls.insert(key, call) {
             kept.bytes -= earlier.bytes;
         }
         Found::First(presence, present, Begun { key, number, answer })
@@ -159,7 +156,7 @@ impl Repeats {
     /// Keeps the answer of a call, if it is worth it, and gives it to all who wait.
     pub fn end(&self, begun: Begun, made: Made) {
         let mut kept = self.kept();
-        let (now, size) = (Instant::now(), made.reply.body.len() + begun.key.size() + 512);
+        let (now, size) = (Instant::now(), made.reply.body.len() + 768);
         let own = kept.calls.get_mut(&begun.key).filter(|call| call.number == begun.number);
         if let Some(call) = own {
             if made.is_worth_keeping {
@@ -212,13 +209,7 @@ mod tests {
     use super::*;
 
     fn key(invocation: &str) -> Key {
-        Key {
-            action: Action::PurgeQueue,
-            invocation: invocation.into(),
-            access_key: "a".into(),
-            path: "/".into(),
-            body: [0; 32],
-        }
+        Key::of(&Sameness { action: Action::PurgeQueue, invocation, access_key: "a", path: "/", body: b"" })
     }
 
     fn made(is_worth_keeping: bool) -> Made {

@@ -14,6 +14,7 @@ use tokio::sync::oneshot;
 use crate::access::Keys;
 use crate::actions::{Actions, Owner, Pauses};
 use crate::admin::{Admin, Health};
+use crate::budget::Budget;
 use crate::clock::Clock;
 use crate::config::{Address, DeclaredQueue, Misuse};
 use crate::cq::{test_built, test_version, Cq};
@@ -43,6 +44,8 @@ pub struct Settings {
     pub shards: Shards,
     pub journal: Option<PathBuf>,
     pub bounds: Bounds,
+    /// So many bytes may be kept by all requests that are being served.
+    pub request_memory: usize,
     /// The file of keys; none where everybody is served.
     pub credentials: Option<PathBuf>,
     /// Everybody is served also from other machines.
@@ -264,7 +267,9 @@ async fn answer(
     let local = listener.local_addr()?;
     let addresses = Addresses { url: settings.url.clone(), local, has_tls: certificate.is_some() };
     let url = format!("{}://{local}", addresses.scheme());
-    let service = Arc::new(Service::new(actions, keys.clone(), settings.hosts(), addresses, admin.metrics.clone()));
+    let budget = Budget::new(settings.request_memory);
+    let (hosts, metrics) = (settings.hosts(), admin.metrics.clone());
+    let service = Arc::new(Service::new(actions, keys.clone(), hosts, addresses, metrics, budget));
     let door = Door { service, certificate: certificate.clone(), most: settings.connections };
     let mut served = tokio::spawn(door.serve(listener, ending));
     admin.health.serves();

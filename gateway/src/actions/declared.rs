@@ -1,6 +1,9 @@
 //! Queues that the configuration declares.
 
+use std::sync::Arc;
+
 use super::{Actions, Caller};
+use crate::budget::Budget;
 use crate::config::DeclaredQueue;
 use crate::errors::SqsError;
 use crate::presence::Presence;
@@ -25,7 +28,9 @@ impl Actions {
         let target = Some("AmazonSQS.CreateQueue");
         let incoming = Incoming { target, path_queue: None, query: "", body: body.as_bytes() };
         let request = Protocol::Json.read(&incoming)?;
-        let caller = Caller { base_url: String::new(), presence: Presence::default(), identity: None, call: None };
+        let share = Arc::new(Budget::new(usize::MAX).share());
+        let caller =
+            Caller { base_url: String::new(), presence: Presence::default(), identity: None, call: None, share };
         self.perform(Box::new(request), &caller).await.map(drop)
     }
 }

@@ -26,7 +26,7 @@ impl Actions {
     ) -> Result<Performed, SqsError> {
         let queue = self.queue(name)?;
         let command = self.sending(&queue, None, &message, caller)?;
-        let outcome = self.store.command(&queue, command).await?;
+        let outcome = self.store.command(&queue, command, &caller.share).await?;
         Ok(Response::Sent(sent(&queue, &message, &outcome)?).into())
     }
 
@@ -43,7 +43,8 @@ impl Actions {
             return Err(SqsError::BatchRequestTooLong { limit: LONGEST_MESSAGE, sent: size });
         }
         let command_of = |id: &str, message: &Message| self.sending(&queue, Some(id), message, caller);
-        self.answer_each(&queue, batch, command_of, |message, answer| sent(&queue, message, &answer?).map(Some)).await
+        let result_of = |message: &Message, answer: Answer| sent(&queue, message, &answer?).map(Some);
+        self.answer_each(&queue, batch, command_of, result_of, caller).await
     }
 
     /// What sends a message. `entry` is its id in a batch.
@@ -116,13 +117,19 @@ impl Actions {
         Ok(Response::Nothing.into())
     }
 
-    pub(super) async fn delete_batch(&self, name: &QueueName, batch: Batch<String>) -> Result<Performed, SqsError> {
+    pub(super) async fn delete_batch(
+        &self,
+        name: &QueueName,
+        batch: Batch<String>,
+        caller: &Caller,
+    ) -> Result<Performed, SqsError> {
         let queue = self.queue(name)?;
         self.answer_each(
             &queue,
             batch,
             |_, handle| delete_ask(&queue, handle).map(Command::Ask),
             |handle, answer| nothing_of(handle, answer),
+            caller,
         )
         .await
     }
@@ -134,11 +141,16 @@ impl Actions {
         Ok(Response::Nothing.into())
     }
 
-    pub(super) async fn change_batch(&self, name: &QueueName, batch: Batch<Change>) -> Result<Performed, SqsError> {
+    pub(super) async fn change_batch(
+        &self,
+        name: &QueueName,
+        batch: Batch<Change>,
+        caller: &Caller,
+    ) -> Result<Performed, SqsError> {
         let queue = self.queue(name)?;
         let result_of = |change: &Change, answer| nothing_of(&change.handle, answer);
         let command_of = |_: &str, change: &Change| change_ask(&queue, change).map(Command::Ask);
-        self.answer_each(&queue, batch, command_of, result_of).await
+        self.answer_each(&queue, batch, command_of, result_of, caller).await
     }
 
     /// Performs all good entries at once, and tells what came of each. The commands are made of their ids and of them.
@@ -148,6 +160,7 @@ impl Actions {
         batch: Batch<T>,
         command_of: impl Fn(&str, &T) -> Result<Command, SqsError>,
         result_of: impl Fn(&T, Answer) -> Result<Option<Sent>, SqsError>,
+        caller: &Caller,
     ) -> Result<Performed, SqsError> {
         let mut commands = Vec::with_capacity(batch.len());
         let mut entries = Vec::with_capacity(batch.len());
@@ -162,7 +175,8 @@ impl Actions {
             ));
         }
         let is_asked = !commands.is_empty();
-        let answers = if is_asked { self.store.command_all(queue, commands).await } else { Vec::new() };
+        let answers =
+            if is_asked { self.store.command_all(queue, commands, &caller.share).await } else { Vec::new() };
         let mut answers = answers.into_iter();
         let (mut successful, mut failed) = (Vec::new(), Vec::new());
         for (id, entry) in entries {

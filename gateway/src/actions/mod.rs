@@ -15,6 +15,7 @@ use std::sync::Arc;
 use tokio::sync::{Mutex, Semaphore};
 
 use crate::access::Identity;
+use crate::budget::Share;
 use crate::ending::Ending;
 use crate::errors::SqsError;
 use crate::handles::Receipt;
@@ -38,6 +39,8 @@ pub struct Caller {
     pub identity: Option<Arc<Identity>>,
     /// What stands for the client's call and its repeats, where that is asked for and can be told.
     pub call: Option<[u8; 32]>,
+    /// What it counts for the budget of requests.
+    pub share: Arc<Share>,
 }
 
 /// What an action came to.
@@ -174,9 +177,9 @@ impl Actions {
             Request::SendMessageBatch { queue, batch } => self.send_batch(&queue, batch, caller).await,
             Request::ReceiveMessage { queue, receive } => self.receive(&queue, receive, caller).await,
             Request::DeleteMessage { queue, handle } => self.delete(&queue, &handle).await,
-            Request::DeleteMessageBatch { queue, batch } => self.delete_batch(&queue, batch).await,
+            Request::DeleteMessageBatch { queue, batch } => self.delete_batch(&queue, batch, caller).await,
             Request::ChangeMessageVisibility { queue, change } => self.change(&queue, &change).await,
-            Request::ChangeMessageVisibilityBatch { queue, batch } => self.change_batch(&queue, batch).await,
+            Request::ChangeMessageVisibilityBatch { queue, batch } => self.change_batch(&queue, batch, caller).await,
             Request::CreateQueue { queue, attributes, tags } => self.create(queue, attributes, tags, caller).await,
             Request::DeleteQueue { queue } => self.remove(&queue).await,
             Request::GetCallerIdentity => Ok(self.identify(caller)),

@@ -35,6 +35,10 @@ impl Actions {
         };
         let visibility = receive.visibility.unwrap_or(own_visibility);
         let wait = u64::from(receive.wait.unwrap_or(own_wait));
+        let kept = receive.shown.bytes_kept();
+        if !caller.share.try_set(kept + queue.state().most_handed(receive.size)) {
+            return Err(SqsError::ServiceUnavailable("Too many requests are being served.".into()));
+        }
         if let Some(handed) = self.receive_again(&queue, &receive, visibility).await? {
             return self.received(&queue, handed, &receive.shown);
         }
@@ -47,6 +51,7 @@ impl Actions {
         if handed.is_empty() && wait > 0 {
             let _permit = self.polls.try_acquire().map_err(|_| too_many_polls())?;
             let _counted = self.metrics.poll();
+            caller.share.set(kept);
             let (presence, time) = (caller.presence.clone(), Duration::from_secs(wait));
             let waiting = Waiting { presence, time, ending: self.ending.clone() };
             // Receives that wait for nothing don't pay for its size.

@@ -1,8 +1,6 @@
 //! Reading the bodies of requests, within bounds of bytes and of time.
 
 use std::pin::Pin;
-use std::sync::atomic::{AtomicUsize, Ordering};
-use std::sync::Arc;
 use std::task::Poll;
 
 use bytes::{Bytes, BytesMut};
@@ -11,6 +9,7 @@ use hyper::Body;
 use tokio::time::{timeout_at, Instant};
 
 use crate::attributes::LONGEST_MESSAGE;
+use crate::budget::{Budget, Share};
 use crate::errors::SqsError;
 
 /// The longest body of a request, in bytes: JSON writes one byte of a message as six at most, and 64 KiB are for the
@@ -20,66 +19,11 @@ pub const LONGEST_BODY: usize = 6 * LONGEST_MESSAGE + (64 << 10);
 /// So many bytes of a body that is too long are read and thrown away, so that its client comes to read the refusal.
 const MOST_THROWN_AWAY: usize = 16 << 20;
 
-/// How many bytes of bodies are held at most by requests that are being read, beside [`FREE`] bytes of each.
-const MOST_AT_ONCE: usize = 256 << 20;
-
-/// So many bytes of a body count nothing: whoever sends large bodies and never ends them keeps no ordinary request out.
-const FREE: usize = 16 << 10;
-
-/// Counts the bytes of all bodies that are being read.
-#[derive(Clone)]
-pub struct Budget {
-    used: Arc<AtomicUsize>,
-    most: usize,
-    /// So many bytes of each body count nothing.
-    free: usize,
-}
-
-impl Default for Budget {
-    fn default() -> Budget {
-        Budget::of(MOST_AT_ONCE, FREE)
-    }
-}
-
-impl Budget {
-    pub fn of(most: usize, free: usize) -> Budget {
-        Budget { used: Arc::default(), most, free }
-    }
-
-    fn share(&self) -> Share {
-        Share { budget: self.clone(), bytes: 0 }
-    }
-}
-
-/// What one request has of the budget. It goes back when this is dropped.
-struct Share {
-    budget: Budget,
-    bytes: usize,
-}
-
-impl Share {
-    /// Takes what a body of so many bytes needs. False if that isn't there.
-    fn grow_to(&mut self, length: usize) -> bool {
-        let more = length.saturating_sub(self.budget.free).saturating_sub(self.bytes);
-        if more == 0 {
-            return true;
-        }
-        let used = self.budget.used.fetch_add(more, Ordering::Relaxed);
-        self.bytes += more;
-        used.saturating_add(more) <= self.budget.most
-    }
-}
-
-impl Drop for Share {
-    fn drop(&mut self) {
-        self.budget.used.fetch_sub(self.bytes, Ordering::Relaxed);
-    }
-}
-
 /// A whole body, and its share of the budget.
+#[derive(Debug)]
 pub struct Whole {
     pub bytes: Bytes,
-    _share: Share,
+    pub share: Share,
 }
 
 /// Reads a body to its end. It is refused where it is longer than [`LONGEST_BODY`], isn't whole at `deadline`, or finds
@@ -100,18 +44,18 @@ async fn read_whole(body: &mut Body, budget: &Budget, deadline: Instant) -> Resu
     if body.size_hint().lower() > LONGEST_BODY as u64 {
         return Err(too_long());
     }
-    let mut share = budget.share();
+    let share = budget.share();
     let mut pieces = Pieces::default();
     while let Some(piece) = next_piece(body, deadline).await? {
         if pieces.len() + piece.len() > LONGEST_BODY {
             return Err(too_long());
         }
-        if !share.grow_to(pieces.len() + piece.len()) {
-            return Err(SqsError::ServiceUnavailable("Too many requests are being read.".into()));
+        if !share.try_set(pieces.len() + piece.len()) {
+            return Err(SqsError::ServiceUnavailable("Too many requests are being served.".into()));
         }
         pieces.add(piece);
     }
-    Ok(Whole { bytes: pieces.into_bytes(), _share: share })
+    Ok(Whole { bytes: pieces.into_bytes(), share })
 }
 
 async fn next_piece(body: &mut Body, deadline: Instant) -> Result<Option<Bytes>, SqsError> {
@@ -203,7 +147,7 @@ mod tests {
 
     #[tokio::test]
     async fn pieces_are_put_together() {
-        let budget = Budget::default();
+        let budget = Budget::new(256 << 20);
         for (pieces, whole) in [(&[][..], ""), (&["ab"], "ab"), (&["a", "b", "cd"], "abcd")] {
             let read = read(body_of(pieces), &budget, soon()).await.unwrap();
             assert_eq!(read.bytes, whole);
@@ -212,7 +156,7 @@ mod tests {
 
     #[tokio::test]
     async fn a_body_that_is_too_long_is_refused_with_and_without_a_length() {
-        let budget = Budget::default();
+        let budget = Budget::new(256 << 20);
         let long = vec![b'x'; LONGEST_BODY + 1];
         let sized = read(Body::from(long.clone()), &budget, soon()).await;
         assert!(matches!(sized, Err(SqsError::RequestTooLong { .. })));
@@ -221,7 +165,7 @@ mod tests {
         let chunked = read(body, &budget, soon()).await;
         assert!(matches!(chunked, Err(SqsError::RequestTooLong { .. })));
         assert!(read(Body::from(long[1..].to_vec()), &budget, soon()).await.is_ok());
-        assert_eq!(budget.used.load(Ordering::Relaxed), 0);
+        assert_eq!(budget.used(), 0);
     }
 
     #[tokio::test]
@@ -234,13 +178,13 @@ mod tests {
         assert!(read(Body::from("123"), &budget, soon()).await.is_ok());
         drop(first);
         assert!(read(Body::from("1234567890123"), &budget, soon()).await.is_ok());
-        assert_eq!(budget.used.load(Ordering::Relaxed), 0);
+        assert_eq!(budget.used(), 0);
     }
 
     #[tokio::test]
     async fn a_body_that_does_not_come_is_a_timeout() {
         let (_sender, body) = Body::channel();
-        let read = read(body, &Budget::default(), Instant::now() + Duration::from_millis(20)).await;
+        let read = read(body, &Budget::new(256 << 20), Instant::now() + Duration::from_millis(20)).await;
         assert!(matches!(read, Err(SqsError::RequestTimeout)));
     }
 }

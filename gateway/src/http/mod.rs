@@ -1,6 +1,7 @@
 //! The HTTP server: reads a request by its protocol, has its action performed, and answers.
 
 mod address;
+mod answers;
 mod bodies;
 mod connections;
 mod visitor;
@@ -14,22 +15,22 @@ use bytes::Bytes;
 use hyper::header::{HeaderMap, HeaderValue, AUTHORIZATION, CONNECTION, CONTENT_TYPE};
 use hyper::http::request::Parts;
 use hyper::{Body, Request, Response, StatusCode};
-use sha2::{Digest, Sha256};
 use tokio::time::Instant;
 use uuid::Uuid;
 
 use crate::access::{Identity, Keys, Signable};
 use crate::actions::{Actions, Caller};
+use crate::budget::{Budget, Share};
 use crate::errors::SqsError;
 use crate::metrics::Metrics;
 use crate::presence::Presence;
-use crate::repeats::{is_repeat, Begun, Found, Key, Made, Repeats};
+use crate::repeats::{is_repeat, Begun, Found, Key, Made, Repeats, Sameness};
 use crate::texts::QueueName;
 use crate::wire::requests::Action;
 use crate::wire::{self, Incoming, Protocol, Reply};
 
 pub use address::{is_of_this_machine, Addresses};
-use bodies::Budget;
+use answers::Answer;
 pub use connections::{listen, Door};
 pub use visitor::Hosts;
 pub use watched::{Progress, Watched};
@@ -67,6 +68,7 @@ struct Call {
     base_url: String,
     /// Where repeats are told by nothing else.
     digest: Option<[u8; 32]>,
+    share: Arc<Share>,
 }
 
 /// A call of which there may be repeats, and whether it says that it is one.
@@ -90,12 +92,13 @@ struct Taken {
     service: Arc<Service>,
     told: Told,
     next: Next,
+    share: Arc<Share>,
 }
 
 /// What comes of a request that was taken in.
 enum Next {
     Perform(Box<Call>, Option<Box<Tried>>),
-    Answered(Box<Response<Body>>),
+    Answered(Box<Response<Answer>>),
 }
 
 impl Service {
@@ -106,21 +109,25 @@ impl Service {
         hosts: Hosts,
         addresses: Addresses,
         metrics: Arc<Metrics>,
+        budget: Budget,
     ) -> Service {
-        Service { actions, repeats: Repeats::default(), budget: Budget::default(), keys, hosts, addresses, metrics }
+        Service { actions, repeats: Repeats::default(), budget, keys, hosts, addresses, metrics }
     }
 
     /// Takes in a request: its body is read, and what it asks for. Whatever comes in, there is an answer, in the protocol
     /// that the request speaks.
     async fn take_in(self: Arc<Service>, arrival: Arrival, progress: Progress, request: Request<Body>) -> Taken {
         let (head, body) = request.into_parts();
-        let body = bodies::read(body, &self.budget, arrival.deadline).await;
+        let (body, share) = match bodies::read(body, &self.budget, arrival.deadline).await {
+            Ok(bodies::Whole { bytes, share }) => (Ok(bytes), Arc::new(share)),
+            Err(error) => (Err(error), Arc::new(self.budget.share())),
+        };
         progress.is_read();
         let mut told = Told { arrival, request_id: Uuid::new_v4(), action: None, queue: None, identity: None };
         let protocol = protocol_of(&head.headers);
         let read = match &body {
             _ if length_of_head(&head) > LONGEST_HEAD => Err(Unread::LongHead),
-            Ok(whole) => self.clone().read(&head, &whole.bytes, &mut told),
+            Ok(bytes) => self.clone().read(&head, bytes, &share, &mut told),
             Err(error) => Err(Unread::Refused { error: error.clone(), closes: true }),
         };
         let next = read.unwrap_or_else(|unread| {
@@ -131,11 +138,17 @@ impl Service {
             };
             Next::Answered(Box::new(response))
         });
-        Taken { service: self, told, next }
+        Taken { service: self, told, next, share }
     }
 
     /// Finds out who asks, reads what is asked for, and whether that one may.
-    fn read(self: Arc<Service>, head: &Parts, body: &Bytes, told: &mut Told) -> Result<Next, Unread> {
+    fn read(
+        self: Arc<Service>,
+        head: &Parts,
+        body: &Bytes,
+        share: &Arc<Share>,
+        told: &mut Told,
+    ) -> Result<Next, Unread> {
         let protocol = protocol_of(&head.headers);
         let path_queue = address::queue_of_path(head.uri.path()).map_err(|_| Unread::NotFound)?;
         let incoming = Incoming {
@@ -157,10 +170,12 @@ impl Service {
         }
         let base_url =
             if action.tells_urls() { self.addresses.base_url(&head.headers, told.arrival.peer) } else { String::new() };
-        let (request, request_id) = (Box::new(request), told.request_id);
-        let mut call = Call { service: self, protocol, action, request, request_id, identity, base_url, digest: None };
+        share.set(request.bytes_kept(body.len()));
+        let (request, request_id, share) = (Box::new(request), told.request_id, share.clone());
+        let mut call =
+            Call { service: self, protocol, action, request, request_id, identity, base_url, digest: None, share };
         if call.request.is_told_by_its_call() {
-            call.digest = call.key(head, body).map(|key| key.digest());
+            call.digest = call.key(head, body).map(|key| key.0);
         }
         let key = if Key::is_of(action) { call.key(head, body) } else { None };
         let is_again = text_of(&head.headers, "amz-sdk-request").is_some_and(is_repeat);
@@ -183,7 +198,7 @@ impl Service {
     }
 
     /// Refuses a request of a connection that is one too many.
-    async fn turn_away(&self, arrival: Arrival, request: Request<Body>) -> Response<Body> {
+    async fn turn_away(&self, arrival: Arrival, request: Request<Body>) -> Response<Answer> {
         let (head, body) = request.into_parts();
         // What is left unread would have the connection reset before its client has read the answer.
         let _ = bodies::read(body, &self.budget, arrival.deadline).await;
@@ -209,11 +224,12 @@ impl Service {
 }
 
 impl Taken {
-    async fn answer(self) -> Response<Body> {
-        let response = match self.next {
+    async fn answer(self) -> Response<Answer> {
+        let mut response = match self.next {
             Next::Perform(call, tried) => response(call.answer(tried).await),
             Next::Answered(response) => *response,
         };
+        response.body_mut().count_by(self.share);
         self.service.tell(&self.told, response.status());
         response
     }
@@ -253,20 +269,20 @@ impl Call {
             }
         };
         match answer.wait().await {
-            Some(made) => made.reply.clone(),
+            Some(made) => Arc::try_unwrap(made).map_or_else(|made| made.reply.clone(), |made| made.reply),
             None => protocol.refuse(&SqsError::InternalFailure("The gateway failed.".into()), request_id.to_string()),
         }
     }
 
     /// What makes a repeat of this call one.
     fn key(&self, head: &Parts, body: &[u8]) -> Option<Key> {
-        let invocation = text_of(&head.headers, "amz-sdk-invocation-id")?.to_string();
+        let invocation = text_of(&head.headers, "amz-sdk-invocation-id")?;
         let access_key = match &self.identity {
-            Some(identity) => identity.name().to_string(),
-            None => claimed_key(&head.headers).to_string(),
+            Some(identity) => identity.name(),
+            None => claimed_key(&head.headers),
         };
-        let path = head.uri.to_string();
-        Some(Key { action: self.action, invocation, access_key, path, body: Sha256::digest(body).into() })
+        let path = &head.uri.to_string();
+        Some(Key::of(&Sameness { action: self.action, invocation, access_key, path, body }))
     }
 
     /// Performs a call of which there are no repeats.
@@ -290,8 +306,8 @@ impl Call {
     }
 
     async fn perform(self: Box<Call>, presence: Presence) -> Made {
-        let Call { service, protocol, action, request, request_id, identity, base_url, digest } = *self;
-        let caller = Caller { base_url, presence, identity, call: digest };
+        let Call { service, protocol, action, request, request_id, identity, base_url, digest, share } = *self;
+        let caller = Caller { base_url, presence, identity, call: digest, share };
         match service.actions.perform(request, &caller).await {
             Ok(performed) => {
                 let is_worth_keeping = !performed.response.is_empty_receive();
@@ -331,8 +347,8 @@ fn claimed_key(headers: &HeaderMap) -> &str {
     credential.split('/').next().unwrap_or_default()
 }
 
-fn response(reply: Reply) -> Response<Body> {
-    let mut response = Response::new(Body::from(reply.body));
+fn response(reply: Reply) -> Response<Answer> {
+    let mut response = Response::new(Answer::new(reply.body));
     *response.status_mut() = StatusCode::from_u16(reply.status).unwrap_or(StatusCode::INTERNAL_SERVER_ERROR);
     let headers = response.headers_mut();
     headers.insert(CONTENT_TYPE, HeaderValue::from_static(reply.content_type));
@@ -346,7 +362,7 @@ fn response(reply: Reply) -> Response<Body> {
 }
 
 /// A refusal. `closes`: the connection ends behind it.
-fn refused(protocol: Protocol, error: &SqsError, request_id: Uuid, closes: bool) -> Response<Body> {
+fn refused(protocol: Protocol, error: &SqsError, request_id: Uuid, closes: bool) -> Response<Answer> {
     let mut response = response(protocol.refuse(error, request_id.to_string()));
     if closes {
         response.headers_mut().insert(CONNECTION, HeaderValue::from_static("close"));
@@ -354,15 +370,15 @@ fn refused(protocol: Protocol, error: &SqsError, request_id: Uuid, closes: bool)
     response
 }
 
-fn too_long_a_head() -> Response<Body> {
-    let mut response = Response::new(Body::from("The head of a request has at most 32 KiB.\n"));
+fn too_long_a_head() -> Response<Answer> {
+    let mut response = Response::new(Answer::new("The head of a request has at most 32 KiB.\n"));
     *response.status_mut() = StatusCode::REQUEST_HEADER_FIELDS_TOO_LARGE;
     response.headers_mut().insert(CONNECTION, HeaderValue::from_static("close"));
     response
 }
 
-fn not_found() -> Response<Body> {
-    let mut response = Response::new(Body::from("There is nothing at this path.\n"));
+fn not_found() -> Response<Answer> {
+    let mut response = Response::new(Answer::new("There is nothing at this path.\n"));
     *response.status_mut() = StatusCode::NOT_FOUND;
     response
 }

@@ -25,7 +25,7 @@ use crate::errors::SqsError;
 use crate::limits::Bound;
 use crate::queues::ask::StoreName;
 use crate::queues::shards::Shards;
-use crate::store::{Answer, JournalFigures};
+use crate::store::{Answers, Done, JournalFigures};
 pub use backup::back_up;
 pub use disk::Files;
 use disk::Folder;
@@ -41,15 +41,14 @@ pub struct Batch {
     /// Lines.
     pub records: Vec<u8>,
     pub count: u64,
-    pub finished: Vec<(oneshot::Sender<Vec<Answer>>, Vec<Answer>)>,
+    pub finished: Vec<(Done, Answers)>,
 }
 
 impl Batch {
     /// Gives the answers.
     pub fn tell(&mut self) {
         for (done, answers) in self.finished.drain(..) {
-            // A client that has gone hears nothing.
-            let _ = done.send(answers);
+            done.tell(answers);
         }
     }
 
@@ -326,7 +325,7 @@ impl Journal {
     /// Waits until all that was handed over is on disk.
     pub async fn settled(&self) {
         let (done, answers) = oneshot::channel();
-        let mut batch = Batch { finished: vec![(done, Vec::new())], ..Batch::default() };
+        let mut batch = Batch { finished: vec![(done.into(), Vec::new())], ..Batch::default() };
         self.hand_over(&mut batch);
         let _ = answers.await;
     }

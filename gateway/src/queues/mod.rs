@@ -23,7 +23,7 @@ use crate::polling::Polls;
 use crate::retention::Jumps;
 use crate::texts::QueueName;
 use ask::{Ask, Cause, Change, Creation, Outcome, StoreName};
-pub use state::{State, WINDOW};
+pub use state::{bytes_of_queue, State, WINDOW};
 
 /// So long a name isn't free after its queue was removed, in milliseconds
 /// (API Reference, CreateQueue, `QueueDeletedRecently`).
@@ -181,10 +181,10 @@ impl Queues {
     /// Does something to a queue, and counts what it takes of memory from then on.
     fn counted<T>(&self, queue: &Queue, act: impl FnOnce(&mut State) -> T) -> T {
         let mut state = queue.state();
-        let before = state.bytes_in_use();
+        let before = state.bytes_of_all();
         let done = act(&mut state);
         // The difference may be below zero: it wraps, and the sum wraps back.
-        self.bytes_in_use.fetch_add(state.bytes_in_use().wrapping_sub(before), Ordering::Relaxed);
+        self.bytes_in_use.fetch_add(state.bytes_of_all().wrapping_sub(before), Ordering::Relaxed);
         done
     }
 
@@ -207,7 +207,11 @@ impl Queues {
 
     fn insert(&self, queue: &Arc<Queue>) {
         let mut queues = self.by_name.write().unwrap_or_else(PoisonError::into_inner);
-        queues.insert(queue.name.clone(), queue.clone());
+        let earlier = queues.insert(queue.name.clone(), queue.clone());
+        // One that goes over to another name in the store is counted already.
+        if !earlier.is_some_and(|earlier| Arc::ptr_eq(&earlier, queue)) {
+            self.bytes_in_use.fetch_add(queue.state().bytes_of_all(), Ordering::Relaxed);
+        }
     }
 
     fn remove(&self, queue: &Arc<Queue>, name: &QueueName, moment: Moment) {

@@ -5,9 +5,12 @@ use std::sync::Arc;
 
 use crate::clock::Moment;
 use crate::errors::SqsError;
-use crate::limits::{Bound, MESSAGE_BYTES};
+use crate::limits::{Bound, MESSAGE_BYTES, QUEUE_BYTES};
 use crate::queues::ask::{Ask, Cause, Change};
-use crate::queues::Queues;
+use crate::queues::{bytes_of_queue, Queue, Queues};
+
+/// A queue that takes no more without its messages gets attributes and tags also where the bound is full.
+const ORDINARY: u64 = QUEUE_BYTES + 4_096;
 
 /// Where the bound is full, ages are looked at again after so many milliseconds.
 const LOOK_AGAIN: u64 = 1000;
@@ -41,16 +44,24 @@ impl Admission {
             Ask::Send { form, cause: Cause::Client, .. } => form.bytes() + MESSAGE_BYTES,
             // What is moved goes from where it was, and what is due was counted before.
             Ask::Send { .. } => return Ok(0),
-            Ask::Create { creation, .. } if creation.before.is_none() => 0,
+            Ask::Create { creation, .. } if creation.before.is_none() => {
+                bytes_of_queue(&creation.attributes, &creation.tags)
+            }
             _ => return Ok(0),
         };
         self.admit_bytes(bytes, now)
     }
 
     /// Lets a change pass that the gateway alone keeps, as `admit` does an ask.
-    pub fn admit_change(&self, change: &Change, now: Moment) -> Result<u64, SqsError> {
+    pub fn admit_change(&self, queue: &Queue, change: &Change, now: Moment) -> Result<u64, SqsError> {
         match change {
             Change::Delayed(message) => self.admit_bytes(message.form.len() as u64 + MESSAGE_BYTES, now),
+            // A queue of ordinary size stays what operators can change, so that memory comes free by other attributes.
+            Change::Tag(_) | Change::Attributes(_) => match queue.state().growth(change) {
+                (_, whole) if whole <= ORDINARY => Ok(0),
+                (0, _) => Ok(0),
+                (more, _) => self.admit_bytes(more, now),
+            },
             _ => Ok(0),
         }
     }

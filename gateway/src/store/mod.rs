@@ -9,6 +9,7 @@ use std::sync::Arc;
 
 use tokio::sync::{mpsc, oneshot};
 
+use crate::budget::Share;
 use crate::clock::Clock;
 use crate::errors::SqsError;
 use crate::handles::Mark;
@@ -30,7 +31,26 @@ struct Job {
     whats: Vec<What>,
     /// It may pass where its queue is held.
     passes: bool,
-    done: oneshot::Sender<Answers>,
+    done: Done,
+}
+
+/// Where the answers to a job go, and what its request counts until they are there, also where its client has gone.
+pub struct Done {
+    answers: oneshot::Sender<Answers>,
+    _share: Option<Arc<Share>>,
+}
+
+impl Done {
+    pub fn tell(self, answers: Answers) {
+        // A client that has gone hears nothing.
+        let _ = self.answers.send(answers);
+    }
+}
+
+impl From<oneshot::Sender<Answers>> for Done {
+    fn from(answers: oneshot::Sender<Answers>) -> Done {
+        Done { answers, _share: None }
+    }
 }
 
 /// What is told to a queue.
@@ -62,7 +82,7 @@ impl From<Command> for What {
 }
 
 pub type Answer = Result<Outcome, SqsError>;
-type Answers = Vec<Answer>;
+pub type Answers = Vec<Answer>;
 
 /// Hands asks to the tasks that own the programs: each queue's to the one that has it. Copies go to the same tasks.
 #[derive(Clone)]
@@ -99,9 +119,16 @@ impl Store {
         &self.jobs[self.shards.place_of(name)]
     }
 
-    async fn perform(&self, queue: &Arc<Queue>, whats: Vec<What>, passes: bool) -> Answers {
+    async fn perform(
+        &self,
+        queue: &Arc<Queue>,
+        whats: Vec<What>,
+        passes: bool,
+        share: Option<&Arc<Share>>,
+    ) -> Answers {
         let count = whats.len();
         let (done, answers) = oneshot::channel();
+        let done = Done { answers: done, _share: share.cloned() };
         let job = Job { queue: Some(queue.clone()), whats, passes, done };
         let answered = match self.jobs_of(&queue.name).send(job) {
             Ok(()) => answers.await.ok(),
@@ -111,7 +138,7 @@ impl Store {
     }
 
     async fn perform_one(&self, queue: &Arc<Queue>, what: What) -> Answer {
-        self.perform(queue, vec![what], false).await.pop().unwrap_or_else(|| Err(gone()))
+        self.perform(queue, vec![what], false, None).await.pop().unwrap_or_else(|| Err(gone()))
     }
 
     /// The answer to one ask, when all that it rests on is on disk.
@@ -121,17 +148,22 @@ impl Store {
 
     /// The answers to asks that are written one after the other, in their order.
     pub async fn ask_all(&self, queue: &Arc<Queue>, asks: Vec<Ask>) -> Vec<Answer> {
-        self.perform(queue, asks.into_iter().map(What::Ask).collect(), false).await
+        self.perform(queue, asks.into_iter().map(What::Ask).collect(), false, None).await
     }
 
-    /// The answer to one command, as that of `ask`.
-    pub async fn command(&self, queue: &Arc<Queue>, command: Command) -> Answer {
-        self.perform_one(queue, command.into()).await
+    /// The answer to one command, as that of `ask`. Its request counts by `share` until it is there.
+    pub async fn command(&self, queue: &Arc<Queue>, command: Command, share: &Arc<Share>) -> Answer {
+        self.command_all(queue, vec![command], share).await.pop().unwrap_or_else(|| Err(gone()))
     }
 
     /// The answers to commands that are performed one after the other, in their order.
-    pub async fn command_all(&self, queue: &Arc<Queue>, commands: Vec<Command>) -> Vec<Answer> {
-        self.perform(queue, commands.into_iter().map(What::from).collect(), false).await
+    pub async fn command_all(
+        &self,
+        queue: &Arc<Queue>,
+        commands: Vec<Command>,
+        share: &Arc<Share>,
+    ) -> Vec<Answer> {
+        self.perform(queue, commands.into_iter().map(What::from).collect(), false, Some(share)).await
     }
 
     /// How many messages of the queue are visible and how many in flight, at this moment.
@@ -183,7 +215,7 @@ impl Store {
 fn perform_beside(jobs: &mpsc::UnboundedSender<Job>, whats: Vec<What>) -> oneshot::Receiver<Answers> {
     let (done, answers) = oneshot::channel();
     // Where the task is gone, no answer comes.
-    let _ = jobs.send(Job { queue: None, whats, passes: true, done });
+    let _ = jobs.send(Job { queue: None, whats, passes: true, done: done.into() });
     answers
 }
 
@@ -195,7 +227,7 @@ pub struct Held {
 
 impl Held {
     pub async fn ask_all(&self, asks: Vec<Ask>) -> Vec<Answer> {
-        self.store.perform(&self.queue, asks.into_iter().map(What::Ask).collect(), true).await
+        self.store.perform(&self.queue, asks.into_iter().map(What::Ask).collect(), true, None).await
     }
 
     pub async fn ask(&self, ask: Ask) -> Answer {
@@ -203,7 +235,7 @@ impl Held {
     }
 
     pub async fn note(&self, change: Change) -> Answer {
-        let answers = self.store.perform(&self.queue, vec![What::Note(change)], true);
+        let answers = self.store.perform(&self.queue, vec![What::Note(change)], true, None);
         answers.await.pop().unwrap_or_else(|| Err(gone()))
     }
 }
@@ -214,7 +246,7 @@ impl Drop for Held {
         let queue = Some(self.queue.clone());
         // Where the task is gone, nothing waits any more.
         let jobs = self.store.jobs_of(&self.queue.name);
-        let _ = jobs.send(Job { queue, whats: vec![What::LetGo], passes: true, done });
+        let _ = jobs.send(Job { queue, whats: vec![What::LetGo], passes: true, done: done.into() });
     }
 }
 

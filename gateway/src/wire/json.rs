@@ -4,7 +4,7 @@ use serde::Serialize;
 
 use super::requests::{self, Action, Request};
 use super::responses::{as_map, Done, Failed, ListedTask, Pairs, ReceivedMessage, Response};
-use super::value::{Map, Value};
+use super::value::{Map, Value, MOST_VALUES};
 use super::{fault, Incoming, Reply};
 use crate::errors::SqsError;
 
@@ -29,6 +29,11 @@ fn members(body: &[u8]) -> Result<Map<'_>, SqsError> {
     match serde_json::from_slice(body) {
         Ok(Value::Map(map)) => Ok(map),
         Ok(_) => Err(SqsError::Serialization("The request's body is no JSON object.".into())),
+        // Other reasons could show what the client sent.
+        Err(error) if error.is_data() => {
+            let message = format!("A request has at most {MOST_VALUES} values, and names that are strings.");
+            Err(SqsError::Serialization(message))
+        }
         Err(_) => Err(SqsError::Serialization("The request's body is no JSON.".into())),
     }
 }
@@ -157,7 +162,7 @@ pub fn refuse(error: &SqsError, request_id: String) -> Reply {
         content_type: CONTENT_TYPE,
         query_error: Some(format!("{};{}", coded.code, fault(error))),
         request_id,
-        body: to_bytes(&Refusal { type_name: coded.type_name, message: error.to_string() }),
+        body: to_bytes(&Refusal { type_name: coded.type_name, message: error.told() }),
     }
 }
 

@@ -12,6 +12,10 @@ use crate::messages::{test_attribute_name, AttributeValue, MessageAttributes, MO
 #[derive(Clone, Copy)]
 pub struct Members<'m, 'a>(pub &'m Map<'a>);
 
+/// The longest text in a list: the key of a tag has 128 characters of up to four bytes each, and the name of a message
+/// attribute 256 bytes, with a star behind it.
+const LONGEST_NAME: usize = 512;
+
 fn wrong(message: String) -> SqsError {
     SqsError::InvalidParameterValue(message)
 }
@@ -62,14 +66,20 @@ impl<'m, 'a> Members<'m, 'a> {
         good.map(Some).ok_or_else(|| SqsError::out_of_range(&shown, name, least, most))
     }
 
-    /// A list of texts; none where it is missing.
-    pub fn texts(&self, name: &str) -> Result<Vec<String>, SqsError> {
+    /// A list of texts, `most` at most and each with at most [`LONGEST_NAME`] bytes; none where it is missing.
+    pub fn texts(&self, name: &str, most: usize) -> Result<Vec<String>, SqsError> {
         let not_texts = || wrong_kind(format!("{name} must be a list of strings."));
         match self.0.get(name) {
             None => Ok(Vec::new()),
+            Some(Value::List(list)) if list.len() > most => {
+                Err(wrong(format!("{name} has at most {most} parts. You have sent {}.", list.len())))
+            }
             Some(Value::List(list)) => list
                 .iter()
                 .map(|value| match value {
+                    Value::Text(text) if text.len() > LONGEST_NAME => {
+                        Err(wrong(format!("A part of {name} has at most {LONGEST_NAME} bytes.")))
+                    }
                     Value::Text(text) => Ok(text.to_string()),
                     _ => Err(not_texts()),
                 })
@@ -122,15 +132,16 @@ impl<'m, 'a> Members<'m, 'a> {
     /// `MessageAttributes`, each tested.
     pub fn message_attributes(&self) -> Result<MessageAttributes, SqsError> {
         let mut found = MessageAttributes::new();
-        for (name, members) in self.structures("MessageAttributes")? {
-            test_attribute_name(name)?;
-            found.insert(name.into(), members.attribute_value(name)?);
-        }
-        if found.len() > MOST_ATTRIBUTES {
+        let structures = self.structures("MessageAttributes")?;
+        if structures.len() > MOST_ATTRIBUTES {
             return Err(wrong(format!(
                 "Number of message attributes [{}] exceeds the allowed maximum [{MOST_ATTRIBUTES}].",
-                found.len()
+                structures.len()
             )));
+        }
+        for (name, members) in structures {
+            test_attribute_name(name)?;
+            found.insert(name.into(), members.attribute_value(name)?);
         }
         Ok(found)
     }

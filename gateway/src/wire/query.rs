@@ -344,7 +344,7 @@ pub fn refuse(error: &SqsError, request_id: String) -> Reply {
         xml.element("Error", |xml| {
             xml.leaf("Type", fault(error));
             xml.leaf("Code", coded.code);
-            xml.leaf("Message", &error.to_string());
+            xml.leaf("Message", &error.told());
             xml.event(Event::Empty(BytesStart::new("Detail")));
         });
         xml.leaf("RequestId", &request_id);

@@ -217,6 +217,20 @@ impl Request {
         }
     }
 
+    /// About how many bytes it keeps in memory until it is answered, if it came as so many. A message is kept as it came
+    /// and as it is stored.
+    pub fn bytes_kept(&self, came: usize) -> usize {
+        let of_message = |message: &Message| 2 * message.size();
+        match self {
+            Request::SendMessage { message, .. } => of_message(message),
+            Request::SendMessageBatch { batch, .. } => {
+                batch.iter().filter_map(|(_, entry)| entry.as_ref().ok()).map(of_message).sum()
+            }
+            Request::ReceiveMessage { receive, .. } => receive.shown.bytes_kept(),
+            _ => came,
+        }
+    }
+
     /// Whether it sends to a standard queue, where nothing but the call itself tells its repeats.
     pub fn is_told_by_its_call(&self) -> bool {
         match self {
@@ -294,7 +308,8 @@ pub enum Sending {
 impl Message {
     /// What it counts against `MaximumMessageSize`, in bytes.
     pub fn size(&self) -> usize {
-        self.body.as_str().len() + crate::messages::size_of_attributes(&self.attributes)
+        let of_trace = self.trace.as_ref().map_or(0, AttributeValue::size);
+        self.body.as_str().len() + crate::messages::size_of_attributes(&self.attributes) + of_trace
     }
 }
 
@@ -385,6 +400,9 @@ impl SystemAttribute {
     }
 }
 
+/// The most names that a client can ask for: ten messages with ten attributes each have no more.
+const MOST_NAMES: usize = 100;
+
 /// Which attributes of messages a client wants to see.
 #[derive(Clone, Debug, Default, PartialEq, Eq)]
 pub struct Shown {
@@ -394,8 +412,8 @@ pub struct Shown {
 
 impl Shown {
     fn read(members: Members<'_, '_>) -> Result<Shown, SqsError> {
-        let mut asked = members.texts("AttributeNames")?;
-        asked.extend(members.texts("MessageSystemAttributeNames")?);
+        let mut asked = members.texts("AttributeNames", MOST_NAMES)?;
+        asked.extend(members.texts("MessageSystemAttributeNames", MOST_NAMES)?);
         let mut system = Vec::new();
         for name in &asked {
             let found = SystemAttribute::ALL.into_iter().find(|known| known.name() == name);
@@ -410,7 +428,11 @@ impl Shown {
         if asked.iter().any(|name| name == "All") {
             system = SystemAttribute::ALL.to_vec();
         }
-        Ok(Shown { system, names: members.texts("MessageAttributeNames")? })
+        Ok(Shown { system, names: members.texts("MessageAttributeNames", MOST_NAMES)? })
+    }
+
+    pub fn bytes_kept(&self) -> usize {
+        self.names.iter().map(|name| std::mem::size_of::<String>() + name.len()).sum()
     }
 
     pub fn system(&self) -> &[SystemAttribute] {
@@ -496,7 +518,7 @@ pub fn read(action: Action, members: &Map<'_>) -> Result<Request, SqsError> {
         Action::GetCallerIdentity => Request::GetCallerIdentity,
         Action::GetQueueAttributes => {
             let queue = queue()?;
-            let wanted = Wanted::read(queue.kind(), &members.texts("AttributeNames")?)?;
+            let wanted = Wanted::read(queue.kind(), &members.texts("AttributeNames", MOST_NAMES)?)?;
             Request::GetQueueAttributes { queue, wanted }
         }
         Action::GetQueueUrl => Request::GetQueueUrl { queue: QueueName::parse(members.required_text("QueueName")?) },
@@ -561,7 +583,7 @@ pub fn read(action: Action, members: &Map<'_>) -> Result<Request, SqsError> {
             if !members.has("TagKeys") {
                 return Err(SqsError::MissingParameter("TagKeys".into()));
             }
-            Request::UntagQueue { queue, keys: members.texts("TagKeys")? }
+            Request::UntagQueue { queue, keys: members.texts("TagKeys", MOST_TAGS)? }
         }
     })
 }
@@ -629,7 +651,7 @@ fn change_entry(members: Members<'_, '_>) -> Result<Change, SqsError> {
 }
 
 fn permission(members: Members<'_, '_>) -> Result<Permission, SqsError> {
-    let texts = |name: &str| match members.texts(name)? {
+    let texts = |name: &str| match members.texts(name, MOST_NAMES)? {
         texts if texts.is_empty() => Err(SqsError::MissingParameter(name.into())),
         texts => Ok(texts),
     };

@@ -1,9 +1,10 @@
 //! The values that requests are made of, in either protocol.
 
 use std::borrow::Cow;
+use std::cell::Cell;
 use std::fmt;
 
-use serde::de::{Deserialize, Deserializer, MapAccess, SeqAccess, Visitor};
+use serde::de::{Deserialize, DeserializeSeed, Deserializer, MapAccess, SeqAccess, Visitor};
 
 /// A value of a request. Texts are borrowed from it where they stand in it as they are.
 #[derive(Clone, Debug, PartialEq)]
@@ -30,15 +31,37 @@ impl<'a> Map<'a> {
     }
 }
 
+/// The most values of a request. A full batch of messages with ten attributes each has fewer than 900, names of members
+/// among them.
+pub const MOST_VALUES: usize = 2_000;
+
 impl<'de> Deserialize<'de> for Value<'de> {
+    /// Reads a value with all that is in it, [`MOST_VALUES`] at most: each takes many times the bytes that it may have
+    /// in the request.
     fn deserialize<D: Deserializer<'de>>(deserializer: D) -> Result<Value<'de>, D::Error> {
-        deserializer.deserialize_any(Values)
+        Values { left: &Cell::new(MOST_VALUES) }.deserialize(deserializer)
     }
 }
 
-struct Values;
+/// Reads values as long as some are left.
+#[derive(Clone, Copy)]
+struct Values<'c> {
+    left: &'c Cell<usize>,
+}
 
-impl<'de> Visitor<'de> for Values {
+impl<'de> DeserializeSeed<'de> for Values<'_> {
+    type Value = Value<'de>;
+
+    fn deserialize<D: Deserializer<'de>>(self, deserializer: D) -> Result<Value<'de>, D::Error> {
+        match self.left.get().checked_sub(1) {
+            Some(left) => self.left.set(left),
+            None => return Err(serde::de::Error::custom(format!("it has more than {MOST_VALUES} values"))),
+        }
+        deserializer.deserialize_any(self)
+    }
+}
+
+impl<'de> Visitor<'de> for Values<'_> {
     type Value = Value<'de>;
 
     fn expecting(&self, formatter: &mut fmt::Formatter<'_>) -> fmt::Result {
@@ -75,7 +98,7 @@ impl<'de> Visitor<'de> for Values {
 
     fn visit_seq<A: SeqAccess<'de>>(self, mut values: A) -> Result<Value<'de>, A::Error> {
         let mut list = Vec::new();
-        while let Some(value) = values.next_element()? {
+        while let Some(value) = values.next_element_seed(self)? {
             list.push(value);
         }
         Ok(Value::List(list))
@@ -83,20 +106,22 @@ impl<'de> Visitor<'de> for Values {
 
     fn visit_map<A: MapAccess<'de>>(self, mut pairs: A) -> Result<Value<'de>, A::Error> {
         let mut map = Vec::new();
-        while let Some((Name(name), value)) = pairs.next_entry()? {
+        while let Some((name, value)) = pairs.next_entry_seed(Names(self), self)? {
             map.push((name, value));
         }
         Ok(Value::Map(Map(map)))
     }
 }
 
-/// A name in a map, borrowed where it can be.
-struct Name<'a>(Cow<'a, str>);
+/// Reads names in maps, borrowed where they can be.
+struct Names<'c>(Values<'c>);
 
-impl<'de> Deserialize<'de> for Name<'de> {
-    fn deserialize<D: Deserializer<'de>>(deserializer: D) -> Result<Name<'de>, D::Error> {
-        match Value::deserialize(deserializer)? {
-            Value::Text(text) => Ok(Name(text)),
+impl<'de> DeserializeSeed<'de> for Names<'_> {
+    type Value = Cow<'de, str>;
+
+    fn deserialize<D: Deserializer<'de>>(self, deserializer: D) -> Result<Cow<'de, str>, D::Error> {
+        match self.0.deserialize(deserializer)? {
+            Value::Text(text) => Ok(text),
             _ => Err(serde::de::Error::custom("a name is a text")),
         }
     }
@@ -121,5 +146,16 @@ mod tests {
             Value::Text("x\n".into()),
         ];
         assert_eq!(map.0[0].1, Value::List(expected));
+    }
+
+    #[test]
+    fn values_have_a_bound_that_names_and_lists_in_lists_count_for() {
+        let is_read = |text: &str| serde_json::from_str::<Value>(text).is_ok();
+        let list = |count: usize| format!("[{}1]", "1,".repeat(count - 1));
+        assert!(is_read(&list(MOST_VALUES - 1)) && !is_read(&list(MOST_VALUES)));
+        let lists = |count: usize| format!("[{}[]]", "[],".repeat(count - 1));
+        assert!(is_read(&lists(MOST_VALUES - 1)) && !is_read(&lists(MOST_VALUES)));
+        let map = |count: usize| format!("{{{}\"a\":1}}", "\"a\":1,".repeat(count - 1));
+        assert!(is_read(&map(MOST_VALUES / 2 - 1)) && !is_read(&map(MOST_VALUES / 2)));
     }
 }

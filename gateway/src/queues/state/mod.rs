@@ -20,7 +20,7 @@ use crate::attributes::QueueAttributes;
 use crate::clock::Moment;
 use crate::errors::SqsError;
 use crate::handles::Receipt;
-use crate::limits::{ID_BYTES, MESSAGE_BYTES};
+use crate::limits::{ID_BYTES, MESSAGE_BYTES, QUEUE_BYTES};
 use crate::lines::{read_receipt, Given, Reply};
 use crate::messages::{Form, Head};
 use crate::move_tasks::{self, MoveTask, Status};
@@ -63,6 +63,8 @@ pub struct State {
     pub created: Moment,
     pub modified: Moment,
     pub purged: Option<Moment>,
+    /// What the queue takes without its messages.
+    own_bytes: u64,
     tasks: Vec<MoveTask>,
     pub removed: bool,
     pub last_sequence: u64,
@@ -80,6 +82,8 @@ pub struct State {
     left_ids: u64,
     /// What the forms of the messages take.
     form_bytes: u64,
+    /// The longest form since the queue was empty.
+    longest_form: u64,
     attempts: Attempts,
     /// What the attributes say of dead letters.
     redrive: Option<RedrivePolicy>,
@@ -136,6 +140,7 @@ impl State {
             created: before.created,
             modified: before.modified,
             purged: before.purged,
+            own_bytes: bytes_of_queue(&creation.attributes, &creation.tags),
             tasks: before.tasks,
             removed: false,
             last_sequence: before.base,
@@ -147,6 +152,7 @@ impl State {
             old: 0,
             left_ids: 0,
             form_bytes: 0,
+            longest_form: 0,
             attempts: Attempts::default(),
             redrive: creation.attributes.redrive(),
             delay,
@@ -226,6 +232,7 @@ impl State {
             Form::Split { whole, .. } => Some(whole.as_str().into()),
         };
         self.form_bytes += bytes;
+        self.longest_form = self.longest_form.max(bytes);
         let group = Group::of(group.as_str());
         if let Some(groups) = &mut self.groups {
             groups.add(group, sequence, 0);
@@ -322,6 +329,9 @@ impl State {
                 groups.remove(message.group, receipt.sequence, message.until());
             }
             self.form_bytes -= message.bytes;
+            if self.messages.is_empty() {
+                self.longest_form = 0;
+            }
             if self.place_of(receipt.sequence).is_some_and(|place| place >= self.old) {
                 self.left_ids += 1;
             }
@@ -393,6 +403,7 @@ impl State {
                 Settled::done(false)
             }
         };
+        self.own_bytes = bytes_of_queue(&self.attributes, &self.tags);
         self.notes += u64::from(settled.changed);
         settled
     }
@@ -433,13 +444,47 @@ impl State {
         self.delayed.forget_old_calls(now);
     }
 
-    /// What the queue takes of memory, in bytes: forms, and estimates for messages and ids that outlive theirs.
+    /// What the queue and its messages take of memory, in bytes; nothing once it is removed.
+    pub fn bytes_of_all(&self) -> u64 {
+        if self.removed {
+            return 0;
+        }
+        self.own_bytes + self.bytes_in_use()
+    }
+
+    /// By how many bytes a change of attributes or tags makes the queue larger without its messages, and how large it is
+    /// then.
+    pub fn growth(&self, change: &Change) -> (u64, u64) {
+        let more = |earlier: Option<&str>, name: &str, value: &str| match earlier {
+            Some(earlier) => value.len().saturating_sub(earlier.len()),
+            None => name.len() + value.len(),
+        };
+        let more: usize = match change {
+            Change::Attributes(given) => {
+                given.iter().map(|(name, value)| more(self.attributes.text(name), name, value)).sum()
+            }
+            Change::Tag(tags) => {
+                tags.iter().map(|(key, value)| more(self.tags.get(key).map(String::as_str), key, value)).sum()
+            }
+            _ => 0,
+        };
+        (more as u64, self.own_bytes + more as u64)
+    }
+
+    /// What its messages take of memory, in bytes: forms, and estimates for messages and ids that outlive theirs.
     pub fn bytes_in_use(&self) -> u64 {
         if self.removed {
             return 0;
         }
         let messages = MESSAGE_BYTES * self.messages.len() as u64;
         self.form_bytes + self.attempts.bytes() + self.delayed.bytes() + messages + ID_BYTES * self.left_ids
+    }
+
+    /// How many bytes a receive of `size` messages takes at most until it is answered: their forms, what is shown of
+    /// them, and the answer.
+    pub fn most_handed(&self, size: u8) -> usize {
+        let forms = self.form_bytes.min(self.longest_form * u64::from(size));
+        usize::try_from(3 * forms).unwrap_or(usize::MAX)
     }
 
     /// What the attempt was given, if that is still all in the hands of who asked
@@ -505,4 +550,11 @@ fn delay_of_all(kind: QueueKind, attributes: &QueueAttributes) -> u64 {
         QueueKind::Fifo => attributes.delay(),
         QueueKind::Standard => 0,
     }
+}
+
+/// What a queue takes of memory without its messages, in bytes.
+pub fn bytes_of_queue(attributes: &QueueAttributes, tags: &BTreeMap<String, String>) -> u64 {
+    let of_attributes = attributes.iter().map(|(name, value)| name.len() + value.len());
+    let of_tags = tags.iter().map(|(key, value)| key.len() + value.len());
+    QUEUE_BYTES + of_attributes.chain(of_tags).sum::<usize>() as u64
 }

@@ -1,14 +1,12 @@
 //! Answers: what the program said, what the journal keeps of it, and who is told.
 
-use tokio::sync::oneshot;
-
 use super::entries::{Asked, Entry, Noted, Open};
 use super::{Ended, Task};
 use crate::errors::SqsError;
 use crate::journal::Record;
 use crate::lines::{self, Output, Reply};
 use crate::queues::ask::{Ask, Outcome};
-use crate::store::{Answer, Answers};
+use crate::store::{Answer, Done};
 
 impl Task {
     pub(super) fn read_answers(&mut self) -> Result<(), Ended> {
@@ -155,14 +153,14 @@ impl Task {
         Ok(Ok(outcome))
     }
 
-    fn finish(&mut self, answer: Answer, done: Option<oneshot::Sender<Answers>>) {
+    fn finish(&mut self, answer: Answer, done: Option<Done>) {
         self.answers.push(answer);
         if done.is_some() {
             self.release(done);
         }
     }
 
-    fn release(&mut self, done: Option<oneshot::Sender<Answers>>) {
+    fn release(&mut self, done: Option<Done>) {
         if let Some(done) = done {
             self.batch.finished.push((done, std::mem::take(&mut self.answers)));
         }

@@ -183,7 +183,7 @@ impl Task {
             Some(change) => change,
             None => return Err(Unnoted::Nothing),
         };
-        let weight = self.admission.admit_change(&change, self.clock.now()).map_err(Unnoted::Refused)?;
+        let weight = self.admission.admit_change(&queue, &change, self.clock.now()).map_err(Unnoted::Refused)?;
         let room = match &self.journal {
             None => Ok(Some(0)),
             Some(journal) => journal.set_aside(need_of_note(&change), bytes_of_note(&change)),

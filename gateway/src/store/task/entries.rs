@@ -3,19 +3,18 @@
 use std::sync::Arc;
 
 use serde_json::value::RawValue;
-use tokio::sync::oneshot;
 
 use crate::clock::Moment;
 use crate::errors::SqsError;
 use crate::queues::ask::{Ask, Change};
 use crate::queues::Queue;
-use crate::store::{Answer, Answers, What};
+use crate::store::{Answer, Done, What};
 
 /// Something whose answer is due. Answers are given in the order of the requests.
 pub(super) struct Open {
     pub(super) entry: Entry,
     /// In the last entry of a job.
-    pub(super) done: Option<oneshot::Sender<Answers>>,
+    pub(super) done: Option<Done>,
 }
 
 pub(super) enum Entry {
@@ -77,5 +76,5 @@ pub(super) struct Pending {
     pub(super) queue: Option<Arc<Queue>>,
     /// Nothing, where only what was asked before is waited for.
     pub(super) what: Option<What>,
-    pub(super) done: Option<oneshot::Sender<Answers>>,
+    pub(super) done: Option<Done>,
 }

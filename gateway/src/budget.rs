@@ -1,0 +1,98 @@
+//! One count of bytes for all that requests keep in memory, from the first byte that is read to the last one of the
+//! answer that is written.
+
+use std::sync::atomic::{AtomicUsize, Ordering};
+use std::sync::Arc;
+
+/// So many bytes of a request count nothing: whoever sends large ones and never ends them keeps no ordinary one out.
+const FREE: usize = 16 << 10;
+
+/// The bound of what all requests keep in memory, and what they keep.
+#[derive(Clone, Debug)]
+pub struct Budget {
+    used: Arc<AtomicUsize>,
+    most: usize,
+    /// So many bytes of each request count nothing.
+    free: usize,
+}
+
+impl Budget {
+    pub fn new(most: usize) -> Budget {
+        Budget::of(most, FREE)
+    }
+
+    pub fn of(most: usize, free: usize) -> Budget {
+        Budget { used: Arc::default(), most, free }
+    }
+
+    /// What one request has of the budget: nothing yet.
+    pub fn share(&self) -> Share {
+        Share { budget: self.clone(), bytes: AtomicUsize::new(0) }
+    }
+
+    /// The bytes that count.
+    pub fn used(&self) -> usize {
+        self.used.load(Ordering::Relaxed)
+    }
+
+    /// How many bytes may be used.
+    pub fn most(&self) -> usize {
+        self.most
+    }
+}
+
+/// What one request has of the budget. It goes back when this is dropped.
+#[derive(Debug)]
+pub struct Share {
+    budget: Budget,
+    bytes: AtomicUsize,
+}
+
+impl Share {
+    /// Counts so many bytes from now on, and no others. False if that isn't there: what was counted before stays.
+    pub fn try_set(&self, length: usize) -> bool {
+        let before = self.bytes.load(Ordering::Relaxed);
+        let wanted = length.saturating_sub(self.budget.free);
+        if wanted > before && self.budget.used().saturating_add(wanted - before) > self.budget.most {
+            return false;
+        }
+        self.set(length);
+        true
+    }
+
+    /// Counts so many bytes from now on, whether they are there or not: they are in memory already.
+    pub fn set(&self, length: usize) {
+        let wanted = length.saturating_sub(self.budget.free);
+        let before = self.bytes.swap(wanted, Ordering::Relaxed);
+        // The difference may be below zero: it wraps, and the sum wraps back.
+        self.budget.used.fetch_add(wanted.wrapping_sub(before), Ordering::Relaxed);
+    }
+}
+
+impl Drop for Share {
+    fn drop(&mut self) {
+        self.budget.used.fetch_sub(*self.bytes.get_mut(), Ordering::Relaxed);
+    }
+}
+
+#[cfg(test)]
+mod tests {
+    use super::*;
+
+    #[test]
+    fn shares_have_a_bound_in_all_and_go_back() {
+        let budget = Budget::of(10, 3);
+        let (first, second) = (budget.share(), budget.share());
+        assert!(first.try_set(11) && budget.used() == 8);
+        assert!(!second.try_set(6) && second.try_set(5) && budget.used() == 10);
+        assert!(second.try_set(3), "what is free is there at all times");
+        assert!(!first.try_set(14) && first.try_set(11), "what it had stays");
+        second.set(100);
+        assert_eq!(budget.used(), 8 + 97);
+        assert!(first.try_set(10) && !first.try_set(11), "less is always granted");
+        drop(second);
+        assert_eq!(budget.used(), 7);
+        drop(first);
+        assert_eq!(budget.used(), 0);
+    }
+}

@@ -1,0 +1,256 @@
+"""What is in memory has bounds: each row of the table in docs/GATEWAY.md is tried."""
+
+from __future__ import annotations
+
+import json
+import os
+import re
+import signal
+import socket
+import threading
+from collections.abc import Callable
+from pathlib import Path
+from typing import Any
+
+import pytest
+
+from started import TOP, ByJson, Refused, Started, children, post
+from test_operations import admin_url, get, metric
+
+MEBIBYTE = 1 << 20
+FIFO = {"FifoQueue": "true"}
+JSON = {"Content-Type": "application/x-amz-json-1.0"}
+
+
+def rows() -> list[str]:
+    text = (TOP / "docs" / "GATEWAY.md").read_text()
+    table = text.split("**In memory**", 1)[1].split("|---|---|---|\n", 1)[1].split("\n\n", 1)[0]
+    return [line.split("|")[1].strip() for line in table.splitlines()]
+
+
+@pytest.fixture
+def gateway():
+    started = Started("--request-memory", "64MiB", "--memory", "64MiB", "--admin", "0", "--polls", "40", "--no-pauses")
+    yield started
+    assert started.stop() == 0
+
+
+def peak(gateway: Started) -> float:
+    """The most that was resident of the gateway, in MiB."""
+    status = Path(f"/proc/{gateway.process.pid}/status").read_text()
+    return int(re.search(r"VmHWM:\s+(\d+) kB", status)[1]) / 1024
+
+
+def used(gateway: Started) -> float:
+    return metric(get(admin_url(gateway) + "/metrics")[1], "hobbychair_memory_used_bytes")
+
+
+def begin(gateway: Started, action: str, body: bytes, *more: str) -> socket.socket:
+    """Sends a request and reads nothing."""
+    address, port = gateway.url.removeprefix("http://").rsplit(":", 1)
+    connection = socket.create_connection((address, int(port)), timeout=60)
+    lines = ["POST / HTTP/1.1", "Host: localhost", f"X-Amz-Target: AmazonSQS.{action}", f"Content-Length: {len(body)}", *more]
+    connection.sendall("\r\n".join(lines).encode() + b"\r\n\r\n" + body)
+    return connection
+
+
+def status_of(connection: socket.socket) -> int:
+    with connection, connection.makefile("rb") as file:
+        return int(file.readline().split()[1])
+
+
+def at_once(works: list[Callable[[], Any]]) -> list[Any]:
+    results: list[Any] = [None] * len(works)
+
+    def work(place: int) -> None:
+        results[place] = works[place]()
+
+    threads = [threading.Thread(target=work, args=[place]) for place in range(len(works))]
+    for thread in threads:
+        thread.start()
+    for thread in threads:
+        thread.join()
+    return results
+
+
+def refused(gateway: Started, action: str, **members: Any) -> tuple[str, int, bytes]:
+    status, headers, answer = post(gateway.url, json.dumps(members).encode(), {"X-Amz-Target": f"AmazonSQS.{action}", **JSON})
+    assert status != 200
+    return headers["x-amzn-query-error"].split(";")[0], status, answer
+
+
+def try_requests(gateway: Started) -> None:
+    """Sends that wait for cq, whose clients wait or have gone, and answers that nobody reads."""
+    call = ByJson(gateway.url)
+    call("CreateQueue", QueueName="q", Attributes={"VisibilityTimeout": "0"})
+    (cq,) = children(gateway)
+    send = json.dumps({"QueueUrl": "q", "MessageBody": "x" * MEBIBYTE}).encode()
+    os.kill(cq, signal.SIGSTOP)
+    try:
+        first = at_once([lambda: begin(gateway, "SendMessage", send)] * 30)
+        for connection in first[15:]:
+            connection.close()
+        later = [connection for _ in range(6) for connection in at_once([lambda: begin(gateway, "SendMessage", send)] * 50)]
+    finally:
+        os.kill(cq, signal.SIGCONT)
+    answered = [status_of(connection) for connection in first[:15] + later]
+    assert set(answered) == {200, 503} and answered.count(503) > 200
+    unread = at_once([lambda: begin(gateway, "ReceiveMessage", b'{"QueueUrl":"q","MaxNumberOfMessages":10}')] * 100)
+    # Small ones are served meanwhile.
+    call("CreateQueue", QueueName="small.fifo", Attributes=FIFO)
+    call("SendMessage", QueueUrl="small.fifo", MessageBody="b", MessageGroupId="g", MessageDeduplicationId="d")
+    assert call("ReceiveMessage", QueueUrl="small.fifo")["Messages"]
+    statuses = [status_of(connection) for connection in unread]
+    assert set(statuses) == {200, 503}
+    assert call("ReceiveMessage", QueueUrl="q", MaxNumberOfMessages=10)["Messages"], "what they kept is free again"
+
+
+def try_head(gateway: Started) -> None:
+    connections = [begin(gateway, "ListQueues", b"{}", f"X-Long: {'x' * 40_000}") for _ in range(100)]
+    assert {status_of(connection) for connection in connections} == {431}
+
+
+def try_body(gateway: Started) -> None:
+    statuses = at_once([lambda: status_of(begin(gateway, "ListQueues", b"x" * 6_356_993))] * 20)
+    assert set(statuses) == {413}
+
+
+def try_values(gateway: Started) -> None:
+    for body in ("[" + "1," * 3_000_000 + "1]", "{" + '"a":[],' * 700_000 + '"b":1}'):
+        whole = f'{{"QueueUrl":"q","Any":{body}}}'.encode()
+        statuses = at_once([lambda: status_of(begin(gateway, "ListQueues", whole))] * 6)
+        assert set(statuses) <= {400, 503} and 400 in statuses
+
+
+def try_lists(gateway: Started) -> None:
+    ByJson(gateway.url)("CreateQueue", QueueName="q.fifo", Attributes=FIFO)
+    for member in ("MessageAttributeNames", "AttributeNames", "MessageSystemAttributeNames"):
+        for names in (["All"] * 101, ["x" * 6_000_000]):
+            told = refused(gateway, "ReceiveMessage", QueueUrl="q.fifo", WaitTimeSeconds=20, **{member: names})
+            assert told[:2] == ("InvalidParameterValue", 400)
+    assert ByJson(gateway.url)("ReceiveMessage", QueueUrl="q.fifo", MessageAttributeNames=["a" * 256 + ".*"] * 100) == {}
+    assert refused(gateway, "UntagQueue", QueueUrl="q.fifo", TagKeys=["a"] * 51)[:2] == ("InvalidParameterValue", 400)
+
+
+def try_message(gateway: Started) -> None:
+    call = ByJson(gateway.url)
+    call("CreateQueue", QueueName="q.fifo", Attributes=FIFO)
+    message = {"QueueUrl": "q.fifo", "MessageBody": "b", "MessageGroupId": "g", "MessageDeduplicationId": "d"}
+    trace = lambda size: {"AWSTraceHeader": {"DataType": "String", "StringValue": "x" * size}}
+    for size in (MEBIBYTE, 6_000_000):
+        told = refused(gateway, "SendMessage", **message, MessageSystemAttributes=trace(size))
+        assert told[:2] == ("InvalidParameterValue", 400)
+    call("SendMessage", **message, MessageSystemAttributes=trace(MEBIBYTE - 7))
+
+
+def try_queue(gateway: Started) -> None:
+    call = ByJson(gateway.url)
+    call("CreateQueue", QueueName="q.fifo", Attributes=FIFO)
+    blanks = " " * 9_000
+    for name, value in [("Policy", f'{{"Statement":{{}}{blanks}}}'), ("KmsMasterKeyId", "k" * 2_049),
+                        ("RedriveAllowPolicy", f'{{"redrivePermission":"allowAll"{blanks}}}'),
+                        ("RedrivePolicy", f'{{"deadLetterTargetArn":"arn:aws:sqs:r:000000000000:d.fifo"{blanks}}}')]:
+        told = refused(gateway, "SetQueueAttributes", QueueUrl="q.fifo", Attributes={name: value})
+        assert told[:2] == ("InvalidAttributeValue", 400), name
+    accounts = [f"{number:012}" for number in range(90)]
+    codes = {refused(gateway, "AddPermission", QueueUrl="q.fifo", Label="x" * 80, AWSAccountIds=accounts * 2, Actions=["*"])[0]}
+    for label in range(4):
+        try:
+            call("AddPermission", QueueUrl="q.fifo", Label=f"l{label}", AWSAccountIds=accounts, Actions=["*"])
+        except Refused as refusal:
+            codes.add(refusal.code)
+    assert codes == {"InvalidParameterValue", "InvalidAttributeValue"}
+    assert len(json.dumps(call("GetQueueAttributes", QueueUrl="q.fifo", AttributeNames=["All"]))) < 20_000
+    assert refused(gateway, "TagQueue", QueueUrl="q.fifo", Tags={str(key): "v" for key in range(51)})[1] == 400
+
+
+def try_tables(gateway: Started) -> None:
+    call = ByJson(gateway.url)
+    call("CreateQueue", QueueName="q.fifo", Attributes=FIFO)
+    # Attempts: the same message again and again, and others that are deleted.
+    body = {"QueueUrl": "q.fifo", "MessageBody": "x" * 200_000, "MessageGroupId": "g"}
+    call("SendMessage", **body, MessageDeduplicationId="first")
+    before = used(gateway)
+    for attempt in range(400):
+        receive = {"QueueUrl": "q.fifo", "VisibilityTimeout": 0, "ReceiveRequestAttemptId": f"again-{attempt}"}
+        assert call("ReceiveMessage", **receive)["Messages"]
+    assert used(gateway) - before < 500_000
+    for attempt in range(400):
+        call("SendMessage", **body, MessageDeduplicationId=f"d{attempt}")
+        (message,) = call("ReceiveMessage", QueueUrl="q.fifo", ReceiveRequestAttemptId=f"a{attempt}")["Messages"]
+        call("DeleteMessage", QueueUrl="q.fifo", ReceiptHandle=message["ReceiptHandle"])
+    assert used(gateway) - before < 3_000_000, "400 ids, and no body"
+    # Queues with their tags.
+    tags = {f"{key:02}" + "k" * 126: "ü" * 256 for key in range(49)}
+    made = 0
+    with pytest.raises(Refused, match="OverLimit 403"):
+        for made in range(5_000):
+            call("CreateQueue", QueueName=f"tagged-{made}", tags=tags)
+    assert 1_000 < made < 2_500
+    with pytest.raises(Refused, match="OverLimit 403"):
+        for place in range(made):
+            call("TagQueue", QueueUrl=f"tagged-{place}", Tags={"new": "v" * 256})
+
+
+def try_refusals(gateway: Started) -> None:
+    ByJson(gateway.url)("CreateQueue", QueueName="q.fifo", Attributes=FIFO)
+    for action, members in [("DeleteMessage", {"QueueUrl": "x" * 3_000_000, "ReceiptHandle": "h"}),
+                            ("AddPermission", {"QueueUrl": "q.fifo", "Label": "x" * 3_000_000}),
+                            ("SetQueueAttributes", {"QueueUrl": "q.fifo", "Attributes": {"x" * 3_000_000: ""}})]:
+        assert len(refused(gateway, action, **members)[2]) < 8_192
+
+
+def try_repeats(gateway: Started) -> None:
+    call = ByJson(gateway.url)
+    call("CreateQueue", QueueName="q", Attributes={"VisibilityTimeout": "600"})
+    body = b'{"QueueUrl":"q"}'
+    for place in range(100):
+        call("SendMessage", QueueUrl="q", MessageBody="x" * MEBIBYTE)
+        connection = begin(gateway, "ReceiveMessage", body, f"amz-sdk-invocation-id: {'x' * 30_000}{place}")
+        assert status_of(connection) == 200
+        if place % 20 == 19:
+            call("PurgeQueue", QueueUrl="q")
+
+
+def try_connections(gateway: Started) -> None:
+    few = Started("--connections", "20")
+    try:
+        head = b"POST / HTTP/1.1\r\nHost: localhost\r\nX: " + b"x" * 30_000
+        address, port = few.url.removeprefix("http://").rsplit(":", 1)
+        open_ones = [socket.create_connection((address, int(port)), timeout=60) for _ in range(20)]
+        for connection in open_ones:
+            connection.sendall(head)
+        above = begin(few, "ListQueues", b"{}")
+        assert status_of(above) == 503
+        for connection in open_ones:
+            connection.close()
+    finally:
+        assert few.stop() == 0
+
+
+def try_polls(gateway: Started) -> None:
+    ByJson(gateway.url)("CreateQueue", QueueName="q.fifo", Attributes=FIFO)
+    names = json.dumps(["n" * 256] * 100)
+    body = f'{{"QueueUrl":"q.fifo","WaitTimeSeconds":1,"MessageAttributeNames":{names}}}'.encode()
+    polls = at_once([lambda: begin(gateway, "ReceiveMessage", body, f"amz-sdk-invocation-id: {'x' * 30_000}")] * 100)
+    statuses = [status_of(poll) for poll in polls]
+    assert statuses.count(200) == 40 and statuses.count(503) == 60
+
+
+TRIES = [try_requests, try_head, try_body, try_values, try_lists, try_message, try_queue, try_tables, try_refusals,
+         try_repeats, try_connections, try_polls]
+
+
+def test_each_row_has_its_try():
+    assert len(rows()) == len(TRIES)
+    assert all(any(word in row for word in words.split("_")[1:]) for row, words in zip(rows(), (
+        "_all requests", "_head", "_body", "_values", "_list", "_message with", "_Policy", "_attempts", "_refusal", "_repeats",
+        "_connections", "_long polls")))
+
+
+@pytest.mark.parametrize("attack", TRIES, ids=lambda one: one.__name__.removeprefix("try_"))
+def test_what_is_in_memory_has_its_bound(gateway, attack):
+    attack(gateway)
+    # Twice the bound of requests, since what is read grows by copies, and the bound of messages, beside the program.
+    assert peak(gateway) < 64 + 2 * 64 + 64
+    assert ByJson(gateway.url)("ListQueues") is not None
