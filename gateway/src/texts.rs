@@ -176,9 +176,9 @@ pub struct CallKey(u128);
 
 /// A receive request attempt id: 1 to 128 ASCII letters, digits and punctuation marks
 /// (API Reference, ReceiveMessage, `ReceiveRequestAttemptId`).
-#[derive(Clone, Debug, PartialEq, Eq, Hash, Serialize, Deserialize)]
+#[derive(Clone, Debug, PartialEq, Eq, Hash, PartialOrd, Ord, Serialize, Deserialize)]
 #[serde(transparent)]
-pub struct AttemptId(String);
+pub struct AttemptId(std::sync::Arc<str>);
 
 impl AttemptId {
     pub fn parse(text: &str) -> Result<AttemptId, SqsError> {

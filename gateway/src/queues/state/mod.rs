@@ -285,7 +285,10 @@ impl State {
             }
         }
         if let (Some(attempt), false) = (attempt, handed.is_empty()) {
-            self.attempts.keep(attempt, Attempt { moment, handed: handed.clone() });
+            // What the store has no room for is kept with its message.
+            let is_copy = |one: &&Handed| self.messages.get(&one.receipt.sequence).is_some_and(|own| own.form.is_none());
+            let bytes = handed.iter().filter(is_copy).map(|one| one.form.len() as u64).sum();
+            self.attempts.keep(attempt, Attempt { moment, until, handed: handed.clone(), bytes });
         }
         if opened {
             self.open();
@@ -307,6 +310,7 @@ impl State {
         let fates = [(Fate::Old, is_old), (Fate::Early, !is_due), (Fate::Dead, is_dead)];
         let fate = fates.into_iter().find(|(_, applies)| *applies && !receiving.own).map(|(fate, _)| fate);
         let is_own = receiving.own || fate.is_some();
+        self.attempts.forget_with(receipt.sequence);
         message.own += u32::from(is_own);
         message.is_own = is_own;
         if is_own && fate != Some(Fate::Dead) {
@@ -328,6 +332,7 @@ impl State {
             if let Some(groups) = &mut self.groups {
                 groups.remove(message.group, receipt.sequence, message.until());
             }
+            self.attempts.forget_with(receipt.sequence);
             self.form_bytes -= message.bytes;
             if self.messages.is_empty() {
                 self.longest_form = 0;
@@ -345,6 +350,12 @@ impl State {
         self.hide(receipt.sequence, until);
         if let Some(last) = self.messages.get_mut(receipt.sequence).and_then(|message| message.last.as_mut()) {
             last.touched |= by != Changer::Attempt;
+        }
+        if by == Changer::Attempt {
+            self.attempts.put_off(receipt.sequence, until);
+        } else {
+            self.attempts.forget_with(receipt.sequence);
+        }
         }
         self.open();
         Settled::done(true)
@@ -540,6 +551,8 @@ impl State {
         self.messages = Messages::default();
         self.groups = (self.delay > 0).then(Groups::default);
         self.form_bytes = 0;
+        self.longest_form = 0;
+        self.attempts.clear();
     }
 }
 
