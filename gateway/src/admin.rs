@@ -16,6 +16,9 @@ use crate::metrics::{Counts, Metrics};
 use crate::queues::ask::Outcome;
 use crate::store::Store;
 
+/// So long a look waits for the programs that keep the queues.
+const LONGEST_LOOK: Duration = Duration::from_secs(2);
+
 /// How far the gateway is.
 #[derive(Default)]
 pub struct Health {
@@ -103,18 +106,30 @@ impl Admin {
             return text(StatusCode::METHOD_NOT_ALLOWED, "There is only GET here.\n".into());
         }
         match request.uri().path() {
-            "/health" => {
-                let (status, told) = self.health.told();
-                text(status, told)
-            }
+            "/health" => match self.health.told() {
+                (StatusCode::OK, _) if !self.is_answering().await => {
+                    text(StatusCode::SERVICE_UNAVAILABLE, "waiting: cq doesn't answer\n".into())
+                }
+                (status, told) => text(status, told),
+            },
             "/metrics" => self.answer_metrics().await,
             _ => text(StatusCode::NOT_FOUND, "There are /health and /metrics here.\n".into()),
         }
     }
 
+    /// Whether all programs answer.
+    async fn is_answering(&self) -> bool {
+        let Some(store) = self.store.get() else { return false };
+        tokio::time::timeout(LONGEST_LOOK, store.is_answering()).await.unwrap_or(false)
+    }
+
     async fn answer_metrics(&self) -> Response<Body> {
         let told = match self.store.get() {
-            Some(store) => self.metrics.text(&counts(store).await, Some(&store.figures())),
+            Some(store) => {
+                let counts = tokio::time::timeout(LONGEST_LOOK, counts(store)).await;
+                self.metrics.set_answering(counts.is_ok());
+                self.metrics.text(&counts.unwrap_or_default(), Some(&store.figures()))
+            }
             None => self.metrics.text(&[], None),
         };
         match told {

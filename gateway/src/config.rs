@@ -3,6 +3,7 @@
 use std::collections::BTreeMap;
 use std::path::{Path, PathBuf};
 use std::str::FromStr;
+use std::time::Duration;
 
 use anyhow::{Context, Result};
 use clap::ValueEnum;
@@ -36,6 +37,9 @@ pub struct Options {
     /// The program cq [default: cq of the path]
     #[arg(long, value_name = "PROGRAM", env = "HOBBYCHAIR_CQ")]
     cq: Option<String>,
+    /// After how many seconds without an answer cq is ended and started again [default: 30]
+    #[arg(long, value_name = "SECONDS", env = "HOBBYCHAIR_CQ_TIMEOUT")]
+    cq_timeout: Option<u32>,
     /// On how many threads requests are served [default: half as many as there are processors]
     #[arg(long, value_name = "N", env = "HOBBYCHAIR_THREADS")]
     threads: Option<u32>,
@@ -288,6 +292,7 @@ const PORT: u16 = 9324;
 const ACCOUNT: &str = "000000000000";
 const REGION: &str = "us-east-1";
 const CONNECTIONS: u32 = 10_000;
+const CQ_TIMEOUT: u32 = 30;
 const REQUEST_MEMORY: u64 = 256 << 20;
 const LEAST_REQUEST_MEMORY: usize = 64 << 20;
 
@@ -306,6 +311,7 @@ impl Options {
             host: self.host.or(file.host),
             port: self.port.or(file.port),
             cq: self.cq.or(file.cq),
+            cq_timeout: self.cq_timeout.or(file.cq_timeout),
             threads: self.threads.or(file.threads),
             shards: self.shards.or(file.shards),
             journal: self.journal.or(file.journal),
@@ -357,6 +363,7 @@ impl Options {
         }
         let connections = at_least_one("connections", self.connections.unwrap_or(CONNECTIONS))?;
         let polls = at_least_one("polls", self.polls.unwrap_or(connections - connections / 10))?;
+        let cq_timeout = self.cq_timeout.unwrap_or(CQ_TIMEOUT);
         let shards = match self.shards {
             None => Shards::ONE,
             Some(count) => Shards::new(count).ok_or_else(|| Misuse("shards must be 1 to 16".into()))?,
@@ -365,6 +372,7 @@ impl Options {
             host: self.host.unwrap_or_else(|| LOOPBACK.into()),
             port: self.port.unwrap_or(PORT),
             program: program(self.cq)?,
+            cq_timeout: Duration::from_secs(u64::from(between("cq-timeout", cq_timeout, 1, 3_600)?)),
             shards,
             journal: self.journal,
             bounds: Bounds { memory: self.memory.map(|size| size.0), journal: self.journal_size.map(|size| size.0) },
@@ -395,6 +403,13 @@ fn request_memory(given: Option<Size>) -> Result<usize> {
         Ok(bytes) if bytes >= LEAST_REQUEST_MEMORY => Ok(bytes),
         _ => Err(Misuse("request-memory must be 64MiB or more".into()).into()),
     }
+}
+
+fn between(name: &str, number: u32, least: u32, most: u32) -> Result<u32> {
+    if !(least..=most).contains(&number) {
+        return Err(Misuse(format!("{name} must be {least} to {most}")).into());
+    }
+    Ok(number)
 }
 
 fn at_least_one(name: &str, number: u32) -> Result<u32> {

@@ -1,5 +1,6 @@
 //! The process `cq session`.
 
+use std::io;
 use std::os::unix::process::CommandExt;
 use std::process::Stdio;
 use std::time::Duration;
@@ -33,6 +34,9 @@ pub struct Cq {
 }
 
 const VERSION: &str = env!("CARGO_PKG_VERSION");
+/// So long a program that has closed its output has to end by itself.
+const LAST_MOMENTS: Duration = Duration::from_secs(1);
+
 const VERSION_TIME: Duration = Duration::from_secs(10);
 
 /// The status of a checkout's script `cq` where it would have to prove and build the program first.
@@ -44,6 +48,7 @@ impl Cq {
         let not_started = |why: String| CqError::NotStarted { program: program.into(), why };
         let mut command = std::process::Command::new(program);
         command.arg("session").stdin(Stdio::piped()).stdout(Stdio::piped()).process_group(0);
+        end_with_the_gateway(&mut command);
         let mut process =
             Command::from(command).kill_on_drop(true).spawn().map_err(|error| not_started(error.to_string()))?;
         let pipes = process.stdin.take().zip(process.stdout.take());
@@ -51,24 +56,66 @@ impl Cq {
         Ok(Cq { process, input: Input::new(input), output: Output::new(output) })
     }
 
-    /// Starts so many programs.
-    pub fn start_all(program: &str, count: u32) -> Result<Vec<Cq>, CqError> {
-        (0..count).map(|_| Cq::start(program)).collect()
+    /// Starts so many programs, each of which has `patience` for an answer.
+    pub fn start_all(program: &str, count: u32, patience: Duration) -> Result<Vec<Cq>, CqError> {
+        (0..count).map(|_| Ok(Cq::start(program)?.with_patience(patience))).collect()
     }
 
-    /// Waits for the end of a program that has closed its output, and says how it ended.
+    /// From now on what is awaited of it comes within this time, or it counts as gone.
+    pub fn with_patience(mut self, patience: Duration) -> Cq {
+        self.output.patience = patience;
+        self
+    }
+
+    /// Waits for the end of a program that has closed its output, and says how it ended. One that goes on is ended.
     pub async fn end(&mut self) -> CqError {
-        match self.process.wait().await {
-            Ok(status) => CqError::Gone(format!("it ended with {}", said(status))),
-            Err(error) => CqError::Gone(error.to_string()),
+        match tokio::time::timeout(LAST_MOMENTS, self.process.wait()).await {
+            Ok(Ok(status)) => CqError::Gone(format!("it ended with {}", said(status))),
+            Ok(Err(error)) => CqError::Gone(error.to_string()),
+            Err(_) => {
+                self.stop().await;
+                CqError::Gone("it closed its output and went on".into())
+            }
         }
     }
 
-    /// Ends the program and waits for its end.
+    /// Ends the program, and all that it started, and waits for its end.
     pub async fn stop(&mut self) {
+        self.end_group();
         // Where it has ended already, there is nothing to end.
         let _ = self.process.kill().await;
     }
+
+    /// The program has a process group of its own, as long as it isn't waited for.
+    fn end_group(&self) {
+        if let Some(id) = self.process.id().and_then(|id| i32::try_from(id).ok()) {
+            // SAFETY: the call touches no memory of this process.
+            unsafe { libc::killpg(id, libc::SIGKILL) };
+        }
+    }
+}
+
+impl Drop for Cq {
+    fn drop(&mut self) {
+        self.end_group();
+    }
+}
+
+/// The program is ended when the gateway ends, in whatever way. The system does that when the thread ends that starts
+/// the program: such threads are there until the gateway ends.
+fn end_with_the_gateway(command: &mut std::process::Command) {
+    let gateway = std::process::id();
+    let set = move || {
+        // SAFETY: neither call touches memory of this process.
+        let (is_set, parent) = unsafe { (libc::prctl(libc::PR_SET_PDEATHSIG, libc::SIGKILL), libc::getppid()) };
+        match is_set {
+            0 if u32::try_from(parent) == Ok(gateway) => Ok(()),
+            0 => Err(io::ErrorKind::BrokenPipe.into()),
+            _ => Err(io::Error::last_os_error()),
+        }
+    };
+    // SAFETY: what runs between fork and exec takes no locks and no memory.
+    unsafe { command.pre_exec(set) };
 }
 
 fn said(status: std::process::ExitStatus) -> String {
@@ -126,6 +173,25 @@ fn is_version(program: &str, said: &str) -> Result<(), CqError> {
 #[cfg(test)]
 mod tests {
     use super::*;
+
+    fn script(text: &str) -> std::path::PathBuf {
+        use std::os::unix::fs::PermissionsExt;
+        let path = std::env::temp_dir().join(format!("hobbychair-{}", uuid::Uuid::new_v4()));
+        std::fs::write(&path, format!("#!/bin/sh\n{text}\n")).unwrap();
+        std::fs::set_permissions(&path, std::fs::Permissions::from_mode(0o700)).unwrap();
+        path
+    }
+
+    #[tokio::test]
+    async fn a_program_that_closes_its_output_and_goes_on_is_ended() {
+        let path = script("exec >&-; sleep 60");
+        let mut cq = Cq::start(path.to_str().unwrap()).unwrap();
+        assert_eq!(cq.output.read_u8().await.unwrap_err().kind(), io::ErrorKind::UnexpectedEof);
+        let begun = std::time::Instant::now();
+        assert_eq!(cq.end().await.to_string(), "cq is gone: it closed its output and went on");
+        assert!(begun.elapsed() < 10 * LAST_MOMENTS);
+        std::fs::remove_file(path).unwrap();
+    }
 
     #[test]
     fn another_version_is_refused() {

@@ -32,6 +32,7 @@ pub struct Metrics {
     disk_full: IntGauge,
     commits: IntCounter,
     restarts: IntCounter,
+    answering: IntGauge,
 }
 
 /// What most requests need, so that it is looked up once.
@@ -125,6 +126,7 @@ impl Metrics {
             records: gauge("hobbychair_journal_records", "Records of the journal.")?,
             disk_full: gauge("hobbychair_journal_disk_full", "1 while the journal's disk has no space left.")?,
             commits: counter("hobbychair_journal_commits_total", "Commits to the journal.")?,
+            answering: gauge("hobbychair_cq_answering", "1 where cq answers, and 0 where the counts of messages are missing.")?,
             restarts: counter("hobbychair_cq_restarts_total", "How often the program cq was started again.")?,
             registry,
         })
@@ -143,6 +145,11 @@ impl Metrics {
 
     pub fn connection(&self) -> Counted {
         Counted::one_more(&self.connections)
+    }
+
+    /// Notes whether the programs told how many messages there are.
+    pub fn set_answering(&self, is_answering: bool) {
+        self.answering.set(i64::from(is_answering));
     }
 
     pub fn poll(&self) -> Counted {

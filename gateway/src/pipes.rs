@@ -21,6 +21,9 @@ use tokio::time::{sleep_until, Instant, Sleep};
 /// So often a pipe is looked at that somebody waits for.
 const LOOK: Duration = Duration::from_millis(100);
 
+/// Whoever waits for longer waits in vain, unless another time is said.
+const PATIENCE: Duration = Duration::from_secs(30);
+
 /// No more is read at such a look.
 const PIECE: usize = 64 * 1024;
 
@@ -63,6 +66,9 @@ pub struct Output {
     looks: Looks,
     /// Something is to come, so the pipe is looked at. An idle gateway looks at nothing.
     pub is_awaited: bool,
+    /// What is awaited comes within this time, or reading ends with `TimedOut`.
+    pub patience: Duration,
+    silent_since: Option<Instant>,
 }
 
 impl Input {
@@ -73,7 +79,11 @@ impl Input {
 
 impl Output {
     pub fn new(pipe: ChildStdout) -> Output {
-        Output { pipe, looks: Looks::default(), is_awaited: true }
+        Output { pipe, looks: Looks::default(), is_awaited: true, patience: PATIENCE, silent_since: None }
+    }
+
+    fn is_silent_for_too_long(&mut self) -> bool {
+        self.silent_since.get_or_insert_with(Instant::now).elapsed() >= self.patience
     }
 }
 
@@ -112,16 +122,23 @@ impl AsyncRead for Output {
         let read = Pin::new(&mut self.pipe).poll_read(context, buffer);
         if read.is_ready() || !self.is_awaited {
             self.looks.end();
+            self.silent_since = None;
             return read;
         }
+        let is_silent = self.is_silent_for_too_long();
         if !self.looks.are_due(context) {
             return Poll::Pending;
         }
         let mut piece = vec![0; PIECE.min(buffer.remaining())];
         match rustix::io::read(borrowed(self.pipe.as_raw_fd()), &mut piece) {
             Ok(count) => {
+                self.silent_since = None;
                 buffer.put_slice(&piece[..count]);
                 Poll::Ready(Ok(()))
+            }
+            Err(_) if is_silent => {
+                let said = format!("it didn't answer for {} s", self.patience.as_secs());
+                Poll::Ready(Err(io::Error::new(io::ErrorKind::TimedOut, said)))
             }
             Err(_) => Poll::Pending,
         }
@@ -152,6 +169,25 @@ mod tests {
         output.read_to_end(&mut got).await.unwrap();
         writing.await.unwrap().unwrap();
         assert!(got == sent);
+    }
+
+    #[tokio::test]
+    async fn what_is_awaited_comes_in_time_or_is_an_error() {
+        let mut cat = Command::new("cat").stdin(Stdio::piped()).stdout(Stdio::piped()).spawn().unwrap();
+        let mut input = Input::new(cat.stdin.take().unwrap());
+        let mut output = Output::new(cat.stdout.take().unwrap());
+        output.patience = Duration::from_millis(300);
+        output.is_awaited = false;
+        assert!(tokio::time::timeout(Duration::from_millis(600), output.read_u8()).await.is_err(), "nothing is awaited");
+        output.is_awaited = true;
+        for _ in 0..4 {
+            tokio::time::sleep(Duration::from_millis(100)).await;
+            input.write_all(b"a").await.unwrap();
+            assert_eq!(output.read_u8().await.unwrap(), b'a');
+        }
+        let begun = Instant::now();
+        assert_eq!(output.read_u8().await.unwrap_err().kind(), io::ErrorKind::TimedOut);
+        assert!(begun.elapsed() >= output.patience);
     }
 
     /// The timer alone: that a pipe comes to be ready without news can't be brought about here.

@@ -40,6 +40,8 @@ pub struct Settings {
     pub port: u16,
     /// The program `cq`.
     pub program: String,
+    /// So long an answer of it may take.
+    pub cq_timeout: Duration,
     /// How many of it share the queues.
     pub shards: Shards,
     pub journal: Option<PathBuf>,
@@ -189,7 +191,7 @@ async fn begin(settings: &Settings, health: &Health) -> Result<Begun> {
     let queues = Arc::new(Queues::default());
     let taken = take_journal(settings).await?;
     let shards = settings.shards;
-    let mut cqs = Cq::start_all(&settings.program, shards.count())?;
+    let mut cqs = Cq::start_all(&settings.program, shards.count(), settings.cq_timeout)?;
     let (journal, replayed) = match taken {
         Some(taken) => {
             let opened = taken.open(shards)?;
@@ -208,8 +210,10 @@ async fn begin(settings: &Settings, health: &Health) -> Result<Begun> {
     if replayed.records > 0 {
         say(&format!("replayed {} records of the journal", replayed.records));
     }
-    let (program, bounds) = (settings.program.clone(), settings.bounds);
-    let (store, ended) = store::start(Start { program, shards, cqs, queues, clock, journal: journal.clone(), bounds });
+    let (program, patience, bounds) = (settings.program.clone(), settings.cq_timeout, settings.bounds);
+    let journals = journal.clone();
+    let (store, ended) =
+        store::start(Start { program, patience, shards, cqs, queues, clock, journal: journals, bounds });
     remove_left_over(&store, &replayed).await;
     moves::finish(&store).await;
     Ok(Begun { store, ended, journal })

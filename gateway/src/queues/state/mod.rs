@@ -356,7 +356,6 @@ impl State {
         } else {
             self.attempts.forget_with(receipt.sequence);
         }
-        }
         self.open();
         Settled::done(true)
     }

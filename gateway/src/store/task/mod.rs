@@ -29,6 +29,7 @@ use crate::limits::Bounds;
 use crate::lines::BadOutput;
 use crate::queues::shards::{Shard, Shards};
 use crate::queues::{Queue, Queues};
+use crate::texts::STORE_LIMIT;
 use entries::{Entry, Open, Pending};
 use outgoing::Outgoing;
 
@@ -55,12 +56,19 @@ const CLIENTS: u32 = 256;
 /// No more is read from the pipe, or gathered for it, at once.
 const PIECE: usize = 256 * 1024;
 
+/// A program that ends so often and answers nothing in between isn't started again.
+const MOST_ENDS_IN_A_ROW: u32 = 8;
+
+/// The longest line of the program: ten bodies, of which each byte may be written as six.
+const LONGEST_LINE: usize = 10 * 6 * STORE_LIMIT + PIECE;
+
 /// An ask may be with the program at this many ends of it, and no more.
 const MOST_ENDS: u32 = 2;
 
 struct Task {
     shard: Shard,
     program: String,
+    patience: Duration,
     cq: Cq,
     queues: Arc<Queues>,
     clock: Arc<Clock>,
@@ -94,6 +102,8 @@ struct Task {
 /// What a store is started with.
 pub struct Start {
     pub program: String,
+    /// So long an answer of a program may take.
+    pub patience: Duration,
     pub shards: Shards,
     /// One for each shard.
     pub cqs: Vec<Cq>,
@@ -118,6 +128,7 @@ pub fn start(start: Start) -> (Store, oneshot::Receiver<Ended>) {
         let mut task = Task {
             shard,
             program: start.program.clone(),
+            patience: start.patience,
             cq,
             queues: start.queues.clone(),
             clock: start.clock.clone(),
@@ -173,7 +184,7 @@ impl Task {
                 Ok(()) => {}
                 Err(ended) => {
                     let gone = matches!(ended, Ended::Cq(_) | Ended::BadOutput(_) | Ended::NotNext { .. });
-                    if !gone || self.journal.is_none() {
+                    if !gone || self.journal.is_none() || self.ends >= MOST_ENDS_IN_A_ROW {
                         return ended;
                     }
                     tracing::error!("{ended}");
@@ -196,6 +207,9 @@ impl Task {
             biased;
             read = self.cq.output.read_buf(&mut self.incoming) => match read {
                 Ok(0) => return Err(self.cq.end().await.into()),
+                Ok(_) if self.incoming.len() > LONGEST_LINE => {
+                    return Err(CqError::Gone("its line doesn't end".into()).into());
+                }
                 Ok(_) => self.read_answers()?,
                 Err(error) => return Err(CqError::Gone(error.to_string()).into()),
             },
@@ -284,7 +298,7 @@ impl Task {
         self.hand_over();
         self.cq.stop().await;
         journal.settled().await;
-        self.cq = Cq::start(&self.program)?;
+        self.cq = Cq::start(&self.program)?.with_patience(self.patience);
         replay(&mut self.cq, journal.records()?, self.shard, None).await?;
         self.incoming.clear();
         self.out.clear();

@@ -1,0 +1,142 @@
+"""A program cq that hangs, closes its output, or answers garbage. A stand-in passes on what the real one says, until it is
+told otherwise."""
+
+from __future__ import annotations
+
+import os
+import signal
+import subprocess
+import threading
+import time
+from pathlib import Path
+
+import pytest
+
+from started import ByJson, Refused, Started, children, command, environment, program
+from test_operations import admin_url, get, metric
+
+FIFO = {"FifoQueue": "true"}
+STAND_IN = """#!/usr/bin/python3
+import os, subprocess, sys, time
+real, told = {real!r}, {told!r}
+if sys.argv[1:] != ["session"]:
+    os.execv(real, [real, *sys.argv[1:]])
+lines = subprocess.Popen([real, "session"], stdout=subprocess.PIPE).stdout
+for number, line in enumerate(iter(lines.readline, b"")):
+    what, _, after = (open(told).read() if os.path.exists(told) else "").partition(" ")
+    if what and number >= int(after or 0):
+        if what.startswith("once-"):
+            os.unlink(told)
+        what = what.removeprefix("once-")
+        if what == "close":
+            os.close(1)
+        if what in ("close", "hang"):
+            time.sleep(1000)
+        line = {{"garbage": b"garbage\\n", "endless": b"x" * 100_000_000}}[what]
+    sys.stdout.buffer.write(line)
+    sys.stdout.buffer.flush()
+"""
+
+
+class StandIn:
+    def __init__(self, room: Path) -> None:
+        self.told = room / "told"
+        self.path = room / "stand-in"
+        self.path.write_text(STAND_IN.format(real=os.path.abspath(program()), told=str(self.told)))
+        self.path.chmod(0o755)
+
+    def tell(self, what: str) -> None:
+        new = self.told.with_suffix(".new")
+        new.write_text(what)
+        new.replace(self.told)
+
+
+@pytest.fixture
+def stand_in(tmp_path) -> StandIn:
+    return StandIn(tmp_path)
+
+
+def send(call: ByJson, number: int) -> None:
+    call("SendMessage", QueueUrl="q.fifo", MessageBody=str(number), MessageGroupId="g", MessageDeduplicationId=str(number))
+
+
+def is_alive(process: int) -> bool:
+    try:
+        return Path(f"/proc/{process}/stat").read_text().split(")")[1].split()[0] != "Z"
+    except OSError:
+        return False
+
+
+def is_gone_soon(process: int) -> bool:
+    for _ in range(100):
+        if not is_alive(process):
+            return True
+        time.sleep(0.05)
+    return False
+
+
+@pytest.mark.parametrize("what", ["hang", "close", "garbage", "endless"])
+def test_a_program_that_answers_no_more_is_started_anew(tmp_path, stand_in, what):
+    gateway = Started("--cq", str(stand_in.path), "--cq-timeout", "4", "--journal", str(tmp_path / "journal"), "--admin", "0")
+    try:
+        call = ByJson(gateway.url)
+        call("CreateQueue", QueueName="q.fifo", Attributes=FIFO)
+        send(call, 1)
+        assert get(admin_url(gateway) + "/health") == (200, "serving\n")
+        (first,) = children(gateway)
+        stand_in.tell(f"once-{what}")
+        sending = threading.Thread(target=send, args=(call, 2))
+        sending.start()
+        if what == "hang":
+            time.sleep(0.3)
+            assert get(admin_url(gateway) + "/health") == (503, "waiting: cq doesn't answer\n")
+            assert metric(get(admin_url(gateway) + "/metrics")[1], "hobbychair_cq_answering") in (0, 1)
+        sending.join(20)
+        assert not sending.is_alive() and is_gone_soon(first)
+        assert get(admin_url(gateway) + "/health") == (200, "serving\n")
+        text = get(admin_url(gateway) + "/metrics")[1]
+        assert metric(text, "hobbychair_cq_restarts_total") == 1 and metric(text, "hobbychair_cq_answering") == 1
+        messages = call("ReceiveMessage", QueueUrl="q.fifo", MaxNumberOfMessages=10)["Messages"]
+        assert [message["Body"] for message in messages] == ["1", "2"]
+    finally:
+        assert gateway.stop() == 0
+
+
+def test_without_a_journal_a_program_that_hangs_ends_the_gateway(stand_in):
+    gateway = Started("--cq", str(stand_in.path), "--cq-timeout", "1")
+    stand_in.tell("hang")
+    with pytest.raises((OSError, Refused)):
+        ByJson(gateway.url)("CreateQueue", QueueName="q.fifo", Attributes=FIFO)
+    assert gateway.process.wait(20) == 1
+
+
+@pytest.mark.parametrize("what, said", [("garbage 3", "can't be read"), ("hang 1", "it didn't answer for 1 s"),
+                                        ("hang 3", "it didn't answer for 1 s"), ("close 1", "went on")])
+def test_a_start_with_such_a_program_ends_and_says_why(tmp_path, stand_in, what, said):
+    """The journal has two records, so the third answer is the one behind them."""
+    journal = ["--journal", str(tmp_path / "journal")]
+    gateway = Started("--cq", str(stand_in.path), *journal)
+    call = ByJson(gateway.url)
+    call("CreateQueue", QueueName="q.fifo", Attributes=FIFO)
+    send(call, 1)
+    assert gateway.stop() == 0
+    stand_in.tell(what)
+    words = command("serve", "--port", "0", "--cq", str(stand_in.path), "--cq-timeout", "1", *journal)
+    ended = subprocess.run(words, env=environment(), capture_output=True, text=True, timeout=60)
+    assert ended.returncode == 1 and said in ended.stderr.splitlines()[-1]
+
+
+@pytest.mark.parametrize("number", [signal.SIGTERM, signal.SIGKILL])
+@pytest.mark.parametrize("what", ["hang", "close"])
+def test_no_program_outlives_the_gateway(tmp_path, stand_in, number, what):
+    gateway = Started("--cq", str(stand_in.path), "--cq-timeout", "60", "--journal", str(tmp_path / "journal"))
+    call = ByJson(gateway.url)
+    (stood_in,) = children(gateway)
+    stand_in.tell(what)
+    sending = threading.Thread(target=lambda: pytest.raises(OSError, call, "CreateQueue", QueueName="q", Attributes={}))
+    sending.start()
+    time.sleep(0.5)
+    gateway.process.send_signal(number)
+    assert gateway.process.wait(20) == (0 if number == signal.SIGTERM else -number)
+    assert is_gone_soon(stood_in)
+    sending.join(20)
