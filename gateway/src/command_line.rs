@@ -10,6 +10,7 @@ use clap_complete::Shell;
 
 use crate::config::{Log, LogForm, LogLevel, Misuse, Options};
 use crate::inspect;
+use crate::log;
 use crate::serve::serve;
 
 /// The variable that names the program cq.
@@ -56,12 +57,14 @@ enum Command {
 pub fn main() -> i32 {
     let command_line = CommandLine::parse();
     match run(command_line.command) {
-        Ok(()) => 0,
+        Ok(()) => {
+            log::end(None);
+            0
+        }
         Err(error) => {
             let is_broken_pipe = error.downcast_ref::<io::Error>().map(io::Error::kind);
-            if is_broken_pipe != Some(io::ErrorKind::BrokenPipe) {
-                eprintln!("hobbychair: {error:#}");
-            }
+            let said = format!("hobbychair: {error:#}");
+            log::end((is_broken_pipe != Some(io::ErrorKind::BrokenPipe)).then_some(&said));
             if error.is::<Misuse>() {
                 2
             } else {
@@ -87,7 +90,7 @@ fn run(command: Command) -> Result<()> {
 
 fn serve_by(options: Options) -> Result<()> {
     let options = options.with_file()?;
-    begin_log(options.log());
+    begin_log(options.log())?;
     let threads = options.threads()?;
     let settings = options.settings(program)?;
     let runtime = tokio::runtime::Builder::new_multi_thread().worker_threads(threads).enable_all().build()?;
@@ -98,18 +101,19 @@ fn serve_by(options: Options) -> Result<()> {
 }
 
 /// The log goes to standard error.
-fn begin_log(log: Log) {
-    let level = match log.level {
+fn begin_log(how: Log) -> Result<()> {
+    let level = match how.level {
         LogLevel::Error => tracing::Level::ERROR,
         LogLevel::Warn => tracing::Level::WARN,
         LogLevel::Info => tracing::Level::INFO,
         LogLevel::Debug => tracing::Level::DEBUG,
     };
-    let lines = tracing_subscriber::fmt().with_writer(io::stderr).with_ansi(false).with_max_level(level);
-    match log.form {
+    let lines = tracing_subscriber::fmt().with_writer(log::begin()?).with_ansi(false).with_max_level(level);
+    match how.form {
         LogForm::Text => lines.with_target(false).init(),
         LogForm::Json => lines.json().flatten_event(true).with_target(false).init(),
     }
+    Ok(())
 }
 
 fn program(given: Option<String>) -> Result<String> {

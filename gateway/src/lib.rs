@@ -24,6 +24,7 @@ pub mod inspect;
 pub mod journal;
 pub mod limits;
 pub mod lines;
+pub mod log;
 pub mod messages;
 pub mod metrics;
 pub mod move_tasks;

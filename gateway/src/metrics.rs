@@ -33,6 +33,7 @@ pub struct Metrics {
     commits: IntCounter,
     restarts: IntCounter,
     answering: IntGauge,
+    lines_lost: IntCounter,
 }
 
 /// What most requests need, so that it is looked up once.
@@ -127,6 +128,7 @@ impl Metrics {
             disk_full: gauge("hobbychair_journal_disk_full", "1 while the journal's disk has no space left.")?,
             commits: counter("hobbychair_journal_commits_total", "Commits to the journal.")?,
             answering: gauge("hobbychair_cq_answering", "1 where cq answers, and 0 where the counts of messages are missing.")?,
+            lines_lost: counter("hobbychair_log_lines_lost_total", "Lines of the log that nobody read in time.")?,
             restarts: counter("hobbychair_cq_restarts_total", "How often the program cq was started again.")?,
             registry,
         })
@@ -159,6 +161,7 @@ impl Metrics {
     /// The metrics as text, with what was just looked up: nothing while the store isn't there yet.
     pub fn text(&self, messages: &[Counts], figures: Option<&Figures>) -> prometheus::Result<Vec<u8>> {
         self.take_in_messages(messages);
+        raise(&self.lines_lost, crate::log::lines_lost());
         if let Some(figures) = figures {
             self.take_in_figures(figures);
         }

@@ -342,6 +342,6 @@ fn say(line: &str) {
 
 /// Nothing goes on from memory that is ahead of the disk.
 fn end_at_once(why: &str) {
-    eprintln!("hobbychair: {why}");
+    crate::log::end(Some(&format!("hobbychair: {why}")));
     std::process::exit(1);
 }
