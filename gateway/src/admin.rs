@@ -10,6 +10,7 @@ use hyper::server::conn::Http;
 use hyper::service::service_fn;
 use hyper::{Body, Method, Request, Response, StatusCode};
 use tokio::net::TcpListener;
+use tokio::sync::Semaphore;
 
 use crate::http::{is_of_this_machine, Hosts, Progress, Watched};
 use crate::metrics::{Counts, Metrics};
@@ -70,11 +71,12 @@ pub struct Admin {
 }
 
 impl Admin {
-    /// Serves for as long as the process lives.
-    pub async fn serve(self: Arc<Admin>, listener: TcpListener) {
+    /// Serves for as long as the process lives, so many connections at once. More wait until these have ended.
+    pub async fn serve(self: Arc<Admin>, listener: TcpListener, most: u32) {
+        let places = Arc::new(Semaphore::new(most as usize));
         // What other machines reach is read by them without a browser's help.
         let is_near = listener.local_addr().map_or(true, |address| is_of_this_machine(address.ip()));
-        loop {
+        while let Ok(place) = places.clone().acquire_owned().await {
             let Ok((stream, _)) = listener.accept().await else {
                 tokio::time::sleep(PAUSE).await;
                 continue;
@@ -94,6 +96,7 @@ impl Admin {
             let stream = Watched::new(stream, Progress::new(LONGEST_REQUEST));
             let connection = http.serve_connection(stream, handle);
             tokio::spawn(async move {
+                let _place = place;
                 if let Err(error) = connection.await {
                     tracing::debug!("an operator's connection ended: {error}");
                 }

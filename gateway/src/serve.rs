@@ -6,7 +6,6 @@ use std::sync::{Arc, OnceLock};
 use std::time::Duration;
 
 use anyhow::{anyhow, bail, Context, Result};
-use rustix::process::{getrlimit, setrlimit, Resource, Rlimit};
 use tokio::net::TcpListener;
 use tokio::signal::unix::{signal, Signal, SignalKind};
 use tokio::sync::oneshot;
@@ -20,7 +19,7 @@ use crate::config::{Address, DeclaredQueue, Misuse};
 use crate::cq::{test_built, test_version, Cq};
 use crate::delays;
 use crate::ending::End;
-use crate::http::{is_of_this_machine, listen, Addresses, Door, Hosts, Service};
+use crate::http::{is_of_this_machine, listen, Addresses, Door, Hosts, Places, Service};
 use crate::journal::{self, Batch, Journal, Record, Taken};
 use crate::limits::Bounds;
 use crate::metrics::Metrics;
@@ -80,7 +79,7 @@ const LAST_ANSWERS: Duration = Duration::from_secs(8);
 /// Serves until a signal comes. An error says why it couldn't begin or go on.
 pub async fn serve(settings: Settings) -> Result<()> {
     let entrance = Entrance::of(&settings)?;
-    raise_open_files(settings.connections);
+    let places = Places::for_connections(settings.connections)?;
     test_built(&settings.program).await?;
     test_version(&settings.program).await?;
     let admin = Arc::new(Admin {
@@ -91,7 +90,7 @@ pub async fn serve(settings: Settings) -> Result<()> {
     });
     if let Some(address) = &settings.admin {
         let listener = listen_for_operators(address)?;
-        tokio::spawn(admin.clone().serve(listener));
+        tokio::spawn(admin.clone().serve(listener, places.operators));
     }
     let begun = begin(&settings, &admin.health).await?;
     // Only one store is ever set.
@@ -101,7 +100,7 @@ pub async fn serve(settings: Settings) -> Result<()> {
     if begun.journal.is_some() {
         tokio::spawn(crate::rolling::keep_rolling(begun.store.clone()));
     }
-    let served = answer(&settings, entrance, begun.store, begun.ended, &admin).await;
+    let served = answer(&settings, entrance, places, begun.store, begun.ended, &admin).await;
     if let Some(journal) = begun.journal {
         journal.close().await;
     }
@@ -150,21 +149,6 @@ fn tell_read_again(what: &str, read: Option<Result<()>>) {
         None => {}
         Some(Ok(())) => tracing::info!("the {what} were read again"),
         Some(Err(error)) => tracing::error!("the {what} stay as they were: {error:#}"),
-    }
-}
-
-/// Each connection is an open file, and some more are needed. Where the system allows fewer, connections above that wait.
-fn raise_open_files(connections: u32) {
-    let wanted = u64::from(connections) + 1024;
-    let now = getrlimit(Resource::Nofile);
-    let raised = now.maximum.map_or(wanted, |most| wanted.min(most));
-    if now.current.map_or(true, |current| current >= raised) {
-        return;
-    }
-    match setrlimit(Resource::Nofile, Rlimit { current: Some(raised), maximum: now.maximum }) {
-        Ok(()) if raised < wanted => tracing::warn!("the system allows {raised} open files, and {wanted} are wanted"),
-        Ok(()) => {}
-        Err(error) => tracing::warn!("the limit of open files stays as it is: {error}"),
     }
 }
 
@@ -252,6 +236,7 @@ async fn remove_left_over(store: &Store, replayed: &Replayed) {
 async fn answer(
     settings: &Settings,
     entrance: Entrance,
+    places: Places,
     store: Store,
     ended: oneshot::Receiver<Ended>,
     admin: &Admin,
@@ -264,7 +249,9 @@ async fn answer(
     let (end, ending) = End::new();
     move_tasks::resume(&store, &keys);
     let (owner, metrics) = (settings.owner.clone(), admin.metrics.clone());
-    let actions = Actions::new(store, owner, settings.polls, settings.pauses, metrics, ending.clone(), keys.clone());
+    let is_cut = places.served < settings.connections;
+    let polls = if is_cut { settings.polls.min(places.served - places.served / 10) } else { settings.polls };
+    let actions = Actions::new(store, owner, polls, settings.pauses, metrics, ending.clone(), keys.clone());
     actions.declare(&settings.queues).await;
     // Until here a signal ends the process at once, also where the program hangs.
     let mut signals = Signals::new()?;
@@ -274,7 +261,7 @@ async fn answer(
     let budget = Budget::new(settings.request_memory);
     let (hosts, metrics) = (settings.hosts(), admin.metrics.clone());
     let service = Arc::new(Service::new(actions, keys.clone(), hosts, addresses, metrics, budget));
-    let door = Door { service, certificate: certificate.clone(), most: settings.connections };
+    let door = Door { service, certificate: certificate.clone(), places };
     let mut served = tokio::spawn(door.serve(listener, ending));
     admin.health.serves();
     notify_supervisor(sd_notify::NotifyState::Ready);

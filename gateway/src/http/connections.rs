@@ -13,6 +13,7 @@ use tokio::net::{TcpListener, TcpSocket, TcpStream};
 use tokio::sync::{OwnedSemaphorePermit, Semaphore};
 use tokio::time::{timeout, Instant};
 
+use super::places::Places;
 use super::watched::{Progress, Watched};
 use super::{Arrival, Service, LONGEST_HEAD};
 use crate::ending::Ending;
@@ -26,9 +27,6 @@ const LONGEST_REQUEST: Duration = Duration::from_secs(30);
 
 /// So long a client may take to begin TLS.
 const LONGEST_HANDSHAKE: Duration = Duration::from_secs(10);
-
-/// So many connections above the bound are told so at once. More wait until these have ended.
-const TURNED_AWAY_AT_ONCE: usize = 256;
 
 /// A client that is turned away has so long for its request.
 const LONGEST_TURNING_AWAY: Duration = Duration::from_secs(5);
@@ -61,16 +59,16 @@ fn listen_at(address: SocketAddr) -> io::Result<TcpListener> {
 pub struct Door {
     pub service: Arc<Service>,
     pub certificate: Option<Arc<Certificate>>,
-    /// So many are served at once.
-    pub most: u32,
+    /// How many are served at once, and how many above that are told so at once. More wait until these have ended.
+    pub places: Places,
 }
 
 impl Door {
     /// Serves connections until the end comes, and then until all have ended.
     pub async fn serve(self, listener: TcpListener, mut ending: Ending) {
-        let open = Arc::new(Semaphore::new(self.most as usize));
-        let turned_away = Arc::new(Semaphore::new(TURNED_AWAY_AT_ONCE));
-        let most = self.most;
+        let most = self.places.served;
+        let open = Arc::new(Semaphore::new(most as usize));
+        let turned_away = Arc::new(Semaphore::new(self.places.turned_away as usize));
         let door = Arc::new(self);
         loop {
             let accepted = tokio::select! {

@@ -4,6 +4,7 @@ mod address;
 mod answers;
 mod bodies;
 mod connections;
+mod places;
 mod visitor;
 mod watched;
 
@@ -32,6 +33,7 @@ use crate::wire::{self, Incoming, Protocol, Reply};
 pub use address::{is_of_this_machine, Addresses};
 use answers::Answer;
 pub use connections::{listen, Door};
+pub use places::Places;
 pub use visitor::Hosts;
 pub use watched::{Progress, Watched};
 

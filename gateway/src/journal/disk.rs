@@ -5,6 +5,7 @@ use std::fs::{File, OpenOptions};
 use std::io::{self, Read};
 use std::os::unix::fs::{FileExt, MetadataExt, OpenOptionsExt};
 use std::path::{Path, PathBuf};
+use std::sync::{Arc, OnceLock};
 
 use rustix::fs::{fallocate, flock, FallocateFlags, FlockOperation, OFlags};
 
@@ -58,11 +59,13 @@ const FRESH: &str = ".new";
 #[derive(Clone, Debug)]
 pub struct Files {
     path: PathBuf,
+    /// The folder, open from its first use on: where no file can be opened any more, it can still be synced.
+    opened: Arc<OnceLock<File>>,
 }
 
 impl Files {
     pub fn new(path: &Path) -> Files {
-        Files { path: path.into() }
+        Files { path: path.into(), opened: Arc::default() }
     }
 
     pub fn path(&self) -> &Path {
@@ -108,10 +111,21 @@ impl Files {
     }
 }
 
+impl Files {
+    fn opened(&self) -> io::Result<&File> {
+        if let Some(folder) = self.opened.get() {
+            return Ok(folder);
+        }
+        let folder = File::open(self.folder())?;
+        Ok(self.opened.get_or_init(|| folder))
+    }
+}
+
 impl Folder for Files {
     type File = File;
 
     fn list(&self) -> io::Result<Vec<u64>> {
+        self.opened()?;
         self.numbers(|suffix| Some(suffix))
     }
 
@@ -162,7 +176,7 @@ impl Folder for Files {
     }
 
     fn sync(&self) -> io::Result<()> {
-        File::open(self.folder())?.sync_all()
+        self.opened()?.sync_all()
     }
 }
 

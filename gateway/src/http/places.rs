@@ -1,0 +1,87 @@
+//! How many connections are served: as many as were asked for, or as the system allows open files for.
+
+use rustix::process::{getrlimit, setrlimit, Resource, Rlimit};
+use thiserror::Error;
+
+/// So many files the gateway has open beside its connections: those of the journal, pipes of programs, sockets that
+/// listen. They are kept back, so that none is missing when it is needed.
+const OWN: u64 = 96;
+
+/// So many connections above the bound are told so at once. More wait until these have ended.
+const TURNED_AWAY: u64 = 256;
+
+/// So many connections of operators are served at once.
+const OPERATORS: u64 = 32;
+
+/// With fewer connections nothing can be served.
+const LEAST: u64 = 8;
+
+/// How many connections of each kind are served at once.
+#[derive(Clone, Copy, Debug, PartialEq, Eq)]
+pub struct Places {
+    pub served: u32,
+    pub turned_away: u32,
+    pub operators: u32,
+}
+
+#[derive(Debug, Error, PartialEq, Eq)]
+#[error("the system allows {0} open files, and the gateway needs {} at least: ulimit -n raises that", OWN + 2 * LEAST)]
+pub struct TooFewFiles(u64);
+
+impl Places {
+    /// Raises the limit of open files to what so many connections need, if the system allows it. Otherwise fewer are
+    /// served, and the log says how many.
+    pub fn for_connections(wanted: u32) -> Result<Places, TooFewFiles> {
+        let needed = OWN + TURNED_AWAY + OPERATORS + u64::from(wanted);
+        let now = getrlimit(Resource::Nofile);
+        let allowed = now.maximum.map_or(needed, |most| needed.min(most));
+        let mut limit = now.current.unwrap_or(needed);
+        if limit < allowed {
+            match setrlimit(Resource::Nofile, Rlimit { current: Some(allowed), maximum: now.maximum }) {
+                Ok(()) => limit = allowed,
+                Err(error) => tracing::warn!("the limit of open files stays as it is: {error}"),
+            }
+        }
+        let places = Places::within(limit, wanted)?;
+        if places.served < wanted {
+            tracing::warn!(
+                "the system allows {limit} open files, so {} connections are served at once, and not {wanted}: \
+                 ulimit -n raises that",
+                places.served
+            );
+        }
+        Ok(places)
+    }
+
+    fn within(limit: u64, wanted: u32) -> Result<Places, TooFewFiles> {
+        let free = limit.saturating_sub(OWN);
+        let turned_away = TURNED_AWAY.min(free / 8).max(1);
+        let operators = OPERATORS.min(free / 8).max(1);
+        let served = free.saturating_sub(turned_away + operators).min(u64::from(wanted));
+        if served < LEAST.min(u64::from(wanted)) {
+            return Err(TooFewFiles(limit));
+        }
+        Ok(Places { served: served as u32, turned_away: turned_away as u32, operators: operators as u32 })
+    }
+}
+
+#[cfg(test)]
+mod tests {
+    use super::*;
+
+    #[test]
+    fn files_of_its_own_are_kept_back() {
+        let places = |served, turned_away, operators| Ok(Places { served, turned_away, operators });
+        assert_eq!(Places::within(1 << 20, 10_000), places(10_000, 256, 32));
+        assert_eq!(Places::within(10_384, 10_000), places(10_000, 256, 32));
+        assert_eq!(Places::within(1_024, 10_000), places(780, 116, 32));
+        assert_eq!(Places::within(256, 200), places(120, 20, 20));
+        assert_eq!(Places::within(1_024, 1), places(1, 116, 32));
+        assert_eq!(Places::within(100, 10_000), Err(TooFewFiles(100)));
+        for limit in 0..5_000 {
+            if let Ok(Places { served, turned_away, operators }) = Places::within(limit, 10_000) {
+                assert!(u64::from(served + turned_away + operators) + OWN <= limit);
+            }
+        }
+    }
+}
