@@ -5,6 +5,7 @@ use std::sync::atomic::{AtomicU64, AtomicU8, Ordering};
 use std::sync::{Arc, OnceLock};
 use std::time::Duration;
 
+use hyper::body::HttpBody;
 use hyper::header::{HeaderValue, CONTENT_TYPE};
 use hyper::server::conn::Http;
 use hyper::service::service_fn;
@@ -12,7 +13,7 @@ use hyper::{Body, Method, Request, Response, StatusCode};
 use tokio::net::TcpListener;
 use tokio::sync::Semaphore;
 
-use crate::http::{is_of_this_machine, Hosts, Progress, Watched};
+use crate::http::{is_of_this_machine, Hosts, Progress, Watched, LONGEST_HEAD};
 use crate::metrics::{Counts, Metrics};
 use crate::queues::ask::Outcome;
 use crate::store::Store;
@@ -33,6 +34,9 @@ const PAUSE: Duration = Duration::from_millis(50);
 
 /// So long an operator's request may take from its first byte on.
 const LONGEST_REQUEST: Duration = Duration::from_secs(10);
+
+/// So long an operator's connection may be idle.
+const LONGEST_IDLE: Duration = Duration::from_secs(60);
 
 const STARTING: u8 = 0;
 const SERVING: u8 = 1;
@@ -82,18 +86,22 @@ impl Admin {
                 continue;
             };
             let admin = self.clone();
+            let progress = Progress::new(LONGEST_REQUEST).with_idle(LONGEST_IDLE);
+            let stream = Watched::new(stream, progress.clone());
             let handle = service_fn(move |request| {
-                let admin = admin.clone();
+                let (admin, progress) = (admin.clone(), progress.clone());
                 async move {
-                    Ok::<_, Infallible>(match admin.hosts.test(request.uri(), request.headers()) {
+                    progress.is_read();
+                    let response = match admin.hosts.test(request.uri(), request.headers()) {
                         Err(error) if is_near => text(StatusCode::FORBIDDEN, format!("{error}\n")),
                         _ => admin.answer(&request).await,
-                    })
+                    };
+                    progress.answers(response.size_hint().lower());
+                    Ok::<_, Infallible>(response)
                 }
             });
             let mut http = Http::new();
-            http.http1_only(true);
-            let stream = Watched::new(stream, Progress::new(LONGEST_REQUEST));
+            http.http1_only(true).max_buf_size(LONGEST_HEAD);
             let connection = http.serve_connection(stream, handle);
             tokio::spawn(async move {
                 let _place = place;

@@ -25,6 +25,11 @@ impl Answer {
         Answer { rest: bytes.into(), share: None }
     }
 
+    /// How many bytes are to be written.
+    pub fn length(&self) -> u64 {
+        self.rest.len() as u64
+    }
+
     /// Counts by this share from now on.
     pub fn count_by(&mut self, share: Arc<Share>) {
         share.set(self.rest.len());

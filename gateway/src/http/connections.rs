@@ -1,13 +1,15 @@
 //! Connections: how many are served, what they speak, and how they end.
 
-use std::convert::Infallible;
 use std::io;
 use std::net::{SocketAddr, ToSocketAddrs};
+use std::os::unix::io::{AsRawFd, RawFd};
 use std::sync::Arc;
 use std::time::Duration;
 
+use hyper::header::{HeaderValue, CONNECTION};
 use hyper::server::conn::Http;
 use hyper::service::service_fn;
+use hyper::Response;
 use tokio::io::{AsyncRead, AsyncWrite};
 use tokio::net::{TcpListener, TcpSocket, TcpStream};
 use tokio::sync::{OwnedSemaphorePermit, Semaphore};
@@ -15,7 +17,7 @@ use tokio::time::{timeout, Instant};
 
 use super::places::Places;
 use super::watched::{Progress, Watched};
-use super::{Arrival, Service, LONGEST_HEAD};
+use super::{Answer, Arrival, Service, Taken, LONGEST_HEAD};
 use crate::ending::Ending;
 use crate::tls::Certificate;
 
@@ -99,8 +101,9 @@ impl Door {
         let _counted = self.service.metrics.connection();
         // Where this fails, small answers wait a little longer.
         let _ = stream.set_nodelay(true);
+        let socket = stream.as_raw_fd();
         let Some(certificate) = &self.certificate else {
-            return self.converse(stream, peer, is_served, ending).await;
+            return self.converse(stream, socket, peer, is_served, ending).await;
         };
         let shaken = tokio::select! {
             shaken = timeout(LONGEST_HANDSHAKE, certificate.acceptor().accept(stream)) => shaken,
@@ -108,17 +111,23 @@ impl Door {
         };
         match shaken {
             // What TLS keeps is large, and connections without it don't pay for it.
-            Ok(Ok(stream)) => Box::pin(self.converse(stream, peer, is_served, ending)).await,
+            Ok(Ok(stream)) => Box::pin(self.converse(stream, socket, peer, is_served, ending)).await,
             Ok(Err(error)) => tracing::debug!(%peer, "no TLS came about: {error}"),
             Err(_) => tracing::debug!(%peer, "no TLS came about in time"),
         }
     }
 
-    async fn converse<S>(&self, stream: S, peer: SocketAddr, is_served: bool, mut ending: Ending)
-    where
+    async fn converse<S>(
+        &self,
+        stream: S,
+        socket: RawFd,
+        peer: SocketAddr,
+        is_served: bool,
+        mut ending: Ending,
+    ) where
         S: AsyncRead + AsyncWrite + Unpin + Send + 'static,
     {
-        let progress = Progress::new(if is_served { LONGEST_REQUEST } else { LONGEST_TURNING_AWAY });
+        let progress = Progress::new(if is_served { LONGEST_REQUEST } else { LONGEST_TURNING_AWAY }).of_socket(socket);
         let stream = Watched::new(stream, progress.clone());
         let (service, begun) = (self.service.clone(), progress.clone());
         let handle = service_fn(move |request| {
@@ -126,10 +135,15 @@ impl Door {
             async move {
                 let arrival = Arrival { peer, began: Instant::now(), deadline: progress.deadline() };
                 if !is_served {
-                    return Ok::<_, Infallible>(Box::pin(service.turn_away(arrival, request)).await);
+                    return Ok(Box::pin(service.turn_away(arrival, request)).await);
                 }
-                let taken = service.take_in(arrival, progress, request).await;
-                Ok(taken.answer().await)
+                let taken = service.take_in(arrival, &progress, request).await;
+                let mut response = answer(taken, &progress).await?;
+                progress.answers(response.body().length());
+                if progress.must_close() {
+                    response.headers_mut().insert(CONNECTION, HeaderValue::from_static("close"));
+                }
+                Ok::<_, io::Error>(response)
             }
         });
         let mut http = Http::new();
@@ -151,6 +165,18 @@ impl Door {
         if let Err(error) = ended {
             tracing::debug!(%peer, "a connection ended: {error}");
         }
+    }
+}
+
+/// The answer, unless the client goes before it is there. What it asked for is given up then.
+async fn answer(taken: Taken, progress: &Progress) -> io::Result<Response<Answer>> {
+    if !taken.may_wait() {
+        return Ok(taken.answer().await);
+    }
+    tokio::select! {
+        biased;
+        response = taken.answer() => Ok(response),
+        () = progress.leaves() => Err(io::ErrorKind::ConnectionAborted.into()),
     }
 }
 

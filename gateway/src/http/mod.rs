@@ -4,6 +4,7 @@ mod address;
 mod answers;
 mod bodies;
 mod connections;
+mod framing;
 mod places;
 mod visitor;
 mod watched;
@@ -38,7 +39,7 @@ pub use visitor::Hosts;
 pub use watched::{Progress, Watched};
 
 /// The longest head of a request, in bytes.
-const LONGEST_HEAD: usize = 32 << 10;
+pub const LONGEST_HEAD: usize = 32 << 10;
 
 /// What all connections share.
 pub struct Service {
@@ -118,13 +119,15 @@ impl Service {
 
     /// Takes in a request: its body is read, and what it asks for. Whatever comes in, there is an answer, in the protocol
     /// that the request speaks.
-    async fn take_in(self: Arc<Service>, arrival: Arrival, progress: Progress, request: Request<Body>) -> Taken {
+    async fn take_in(self: Arc<Service>, arrival: Arrival, progress: &Progress, request: Request<Body>) -> Taken {
         let (head, body) = request.into_parts();
         let (body, share) = match bodies::read(body, &self.budget, arrival.deadline).await {
             Ok(bodies::Whole { bytes, share }) => (Ok(bytes), Arc::new(share)),
             Err(error) => (Err(error), Arc::new(self.budget.share())),
         };
-        progress.is_read();
+        if body.is_ok() {
+            progress.is_read();
+        }
         let mut told = Told { arrival, request_id: Uuid::new_v4(), action: None, queue: None, identity: None };
         let protocol = protocol_of(&head.headers);
         let read = match &body {
@@ -226,6 +229,11 @@ impl Service {
 }
 
 impl Taken {
+    /// Whether it may wait for longer than the store takes.
+    fn may_wait(&self) -> bool {
+        matches!(&self.next, Next::Perform(call, _) if call.action == Action::ReceiveMessage)
+    }
+
     async fn answer(self) -> Response<Answer> {
         let mut response = match self.next {
             Next::Perform(call, tried) => response(call.answer(tried).await),

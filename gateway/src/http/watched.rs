@@ -2,57 +2,104 @@
 
 use std::future::Future;
 use std::io;
+use std::os::unix::io::RawFd;
 use std::pin::Pin;
-use std::sync::atomic::{AtomicBool, AtomicU64, Ordering};
-use std::sync::Arc;
+use std::sync::{Arc, Mutex, MutexGuard, PoisonError};
 use std::task::{Context, Poll};
 use std::time::Duration;
 
+use rustix::fd::BorrowedFd;
+use rustix::io::{poll, PollFd, PollFlags};
 use tokio::io::{AsyncRead, AsyncWrite, ReadBuf};
 use tokio::time::{sleep_until, Instant, Sleep};
+
+use super::framing::Framing;
 
 /// So long a client may leave unread what it is sent, before its connection is closed.
 const LONGEST_STALL: Duration = Duration::from_secs(60);
 
+/// A client reads so many bytes of an answer a second, beside the time that it may leave it unread.
+const SLOWEST: u64 = 256 << 10;
+
 /// A request that isn't whole in time is refused. Where nobody has come to refuse it so much later, its connection ends.
 const GRACE: Duration = Duration::from_secs(1);
 
-/// When the request that a connection is reading began.
+/// So often it is looked whether a client is still there that has sent more than the request that is being answered.
+const LOOK: Duration = Duration::from_secs(1);
+
+/// How far the client of a connection is.
 #[derive(Clone)]
 pub struct Progress {
-    opened: Instant,
     /// So long a request may take from its first byte on.
     longest: Duration,
-    /// Milliseconds from `opened` to the request's first byte, and one more. 0 while there is none.
-    first_byte: Arc<AtomicU64>,
+    /// So long a connection may be without any request; for ever if it is missing.
+    idle: Option<Duration>,
+    /// The socket, where it is one.
+    socket: Option<RawFd>,
+    state: Arc<Mutex<State>>,
+}
+
+struct State {
+    framing: Framing,
+    /// When the request began of which a part is there.
+    begun: Option<Instant>,
     /// Something has come, at any time.
-    is_begun: Arc<AtomicBool>,
+    is_begun: bool,
+    /// hyper waits for bytes, and so comes to know when the client goes.
+    is_awaited: bool,
+    /// When something was read or written last.
+    last: Instant,
+    /// When the client has to have read what it is sent.
+    end_of_answer: Option<Instant>,
 }
 
 impl Progress {
     pub fn new(longest: Duration) -> Progress {
-        Progress { opened: Instant::now(), longest, first_byte: Arc::default(), is_begun: Arc::default() }
+        let state = State {
+            framing: Framing::default(),
+            begun: None,
+            is_begun: false,
+            is_awaited: false,
+            last: Instant::now(),
+            end_of_answer: None,
+        };
+        Progress { longest, idle: None, socket: None, state: Arc::new(Mutex::new(state)) }
+    }
+
+    /// The same for a connection that may be idle for so long, and no longer.
+    pub fn with_idle(self, idle: Duration) -> Progress {
+        Progress { idle: Some(idle), ..self }
+    }
+
+    /// The same for the connection of this socket, which is open as long as anybody asks whether its client has left.
+    pub fn of_socket(self, socket: RawFd) -> Progress {
+        Progress { socket: Some(socket), ..self }
+    }
+
+    fn state(&self) -> MutexGuard<'_, State> {
+        self.state.lock().unwrap_or_else(PoisonError::into_inner)
     }
 
     /// Whether the client has ever sent anything.
     pub fn is_begun(&self) -> bool {
-        self.is_begun.load(Ordering::Relaxed)
+        self.state().is_begun
     }
 
-    fn bytes_came(&self) {
-        self.is_begun.store(true, Ordering::Relaxed);
-        if self.first_byte.load(Ordering::Relaxed) == 0 {
-            let passed = self.opened.elapsed().as_millis() as u64;
-            self.first_byte.store(passed + 1, Ordering::Relaxed);
+    fn bytes_came(&self, bytes: &[u8]) {
+        let (mut state, now) = (self.state(), Instant::now());
+        let before = state.framing.begun;
+        state.framing.take(bytes);
+        (state.is_begun, state.is_awaited, state.last) = (true, false, now);
+        if !state.framing.is_within() {
+            state.begun = None;
+        } else if state.framing.begun > before {
+            state.begun = Some(now);
         }
     }
 
-    /// When a request has to be whole of which a part is there.
+    /// When the request has to be whole of which a part is there.
     fn running_deadline(&self) -> Option<Instant> {
-        match self.first_byte.load(Ordering::Relaxed) {
-            0 => None,
-            passed => Some(self.opened + Duration::from_millis(passed - 1) + self.longest),
-        }
+        self.state().begun.map(|begun| begun + self.longest)
     }
 
     /// When the request has to be whole whose head is there.
@@ -62,46 +109,107 @@ impl Progress {
 
     /// The request is read: the next byte is another one's.
     pub fn is_read(&self) {
-        self.first_byte.store(0, Ordering::Relaxed);
+        let mut state = self.state();
+        state.framing.is_read();
+        if !state.framing.is_within() {
+            state.begun = None;
+        }
     }
+
+    /// The client is sent an answer of so many bytes. It has a time in proportion to these for it.
+    pub fn answers(&self, bytes: u64) {
+        let time = LONGEST_STALL + Duration::from_secs(bytes / SLOWEST);
+        self.state().end_of_answer = Some(Instant::now() + time);
+    }
+
+    /// Whether the connection has to end behind the answer, since nobody can tell where the next request begins.
+    pub fn must_close(&self) -> bool {
+        self.state().framing.must_close
+    }
+
+    /// When the connection ends if nothing comes: a request is late, or there is none for too long.
+    fn end_of_waiting(&self) -> Option<Instant> {
+        let state = self.state();
+        match (state.begun, self.idle) {
+            (Some(begun), _) => Some(begun + self.longest + GRACE),
+            (None, Some(idle)) => Some(state.last + idle),
+            (None, None) => None,
+        }
+    }
+
+    /// Waits until the client has gone, where hyper doesn't look: it reads no more than the bytes behind a request before
+    /// that one is answered.
+    pub async fn leaves(&self) {
+        let Some(socket) = self.socket else { return std::future::pending().await };
+        loop {
+            tokio::time::sleep(LOOK).await;
+            if !self.state().is_awaited && is_hung_up(socket) {
+                return;
+            }
+        }
+    }
+}
+
+/// Whether the other side sends no more, be there unread bytes or not.
+fn is_hung_up(socket: RawFd) -> bool {
+    // SAFETY: whoever asks is a part of the connection, which owns the socket.
+    let socket = unsafe { BorrowedFd::borrow_raw(socket) };
+    let mut asked = [PollFd::from_borrowed_fd(socket, PollFlags::RDHUP)];
+    let gone = PollFlags::RDHUP | PollFlags::HUP | PollFlags::ERR;
+    poll(&mut asked, 0).is_ok() && asked[0].revents().intersects(gone)
 }
 
 /// The stream of a connection.
 pub struct Watched<S> {
     stream: S,
     progress: Progress,
-    /// Goes off when the request that is being read is late.
+    /// Goes off when nothing has come for too long.
     late: Option<Pin<Box<Sleep>>>,
-    stalled: Option<Pin<Box<Sleep>>>,
+    /// When the client has to have read something.
+    stalled: Option<Instant>,
+    unread: Option<Pin<Box<Sleep>>>,
+}
+
+/// Whether it is time. If it isn't yet, the task is woken when it is.
+fn is_over(timer: &mut Option<Pin<Box<Sleep>>>, end: Instant, context: &mut Context<'_>) -> bool {
+    let timer = timer.get_or_insert_with(|| Box::pin(sleep_until(end)));
+    if timer.deadline() != end {
+        timer.as_mut().reset(end);
+    }
+    timer.as_mut().poll(context).is_ready()
 }
 
 impl<S> Watched<S> {
     pub fn new(stream: S, progress: Progress) -> Watched<S> {
-        Watched { stream, progress, late: None, stalled: None }
+        Watched { stream, progress, late: None, stalled: None, unread: None }
     }
 
-    /// Whether a part of a request is there, and the rest of it is late. If it isn't yet, the task is woken when it is.
+    /// Whether a part of a request is there, and the rest of it is late, or nothing has come for too long.
     fn is_late(&mut self, context: &mut Context<'_>) -> bool {
-        let Some(deadline) = self.progress.running_deadline() else { return false };
-        let end = deadline + GRACE;
-        let late = self.late.get_or_insert_with(|| Box::pin(sleep_until(end)));
-        if late.deadline() != end {
-            late.as_mut().reset(end);
-        }
-        late.as_mut().poll(context).is_ready()
+        self.progress.end_of_waiting().is_some_and(|end| is_over(&mut self.late, end, context))
     }
 
-    /// Passes on what a write came to. One that can't go on for too long is an error.
+    /// Passes on what a write came to. One that can't go on for too long is an error, and so is an answer that takes too
+    /// long as a whole.
     fn watch<T>(&mut self, context: &mut Context<'_>, written: Poll<io::Result<T>>) -> Poll<io::Result<T>> {
+        let now = Instant::now();
+        let end_of_answer = {
+            let mut state = self.progress.state();
+            if written.is_ready() {
+                state.last = now;
+            }
+            state.end_of_answer
+        };
         if written.is_ready() {
             self.stalled = None;
             return written;
         }
-        let stalled = self.stalled.get_or_insert_with(|| Box::pin(sleep_until(Instant::now() + LONGEST_STALL)));
-        match stalled.as_mut().poll(context) {
-            Poll::Ready(()) => Poll::Ready(Err(io::ErrorKind::TimedOut.into())),
-            Poll::Pending => Poll::Pending,
+        let stalled = *self.stalled.get_or_insert(now + LONGEST_STALL);
+        let end = end_of_answer.map_or(stalled, |end| end.min(stalled));
+        if is_over(&mut self.unread, end, context) {
+            return Poll::Ready(Err(io::ErrorKind::TimedOut.into()));
         }
+        Poll::Pending
     }
 }
 
@@ -114,10 +222,13 @@ impl<S: AsyncRead + Unpin> AsyncRead for Watched<S> {
         let before = buffer.filled().len();
         let read = Pin::new(&mut self.stream).poll_read(context, buffer);
         if buffer.filled().len() > before {
-            self.progress.bytes_came();
+            self.progress.bytes_came(&buffer.filled()[before..]);
         }
-        if read.is_pending() && self.is_late(context) {
-            return Poll::Ready(Err(io::ErrorKind::TimedOut.into()));
+        if read.is_pending() {
+            self.progress.state().is_awaited = true;
+            if self.is_late(context) {
+                return Poll::Ready(Err(io::ErrorKind::TimedOut.into()));
+            }
         }
         read
     }
@@ -166,16 +277,64 @@ mod tests {
         let left = |progress: &Progress| (progress.deadline() - Instant::now()).as_secs();
         let mut server = Watched::new(server, progress.clone());
         tokio::time::advance(Duration::from_secs(40)).await;
-        client.write_all(b"a").await.unwrap();
+        client.write_all(b"G").await.unwrap();
         server.read_u8().await.unwrap();
         tokio::time::advance(Duration::from_secs(5)).await;
-        client.write_all(b"b").await.unwrap();
-        server.read_u8().await.unwrap();
+        let rest = b"ET / HTTP/1.1\r\n\r";
+        client.write_all(rest).await.unwrap();
+        server.read_exact(&mut [0; 16]).await.unwrap();
         assert_eq!(left(&progress), 25);
-        progress.is_read();
-        client.write_all(b"c").await.unwrap();
+        client.write_all(b"\n").await.unwrap();
         server.read_u8().await.unwrap();
         assert_eq!(left(&progress), 30);
+        tokio::time::advance(Duration::from_secs(5)).await;
+        client.write_all(b"P").await.unwrap();
+        server.read_u8().await.unwrap();
+        assert_eq!(left(&progress), 30);
+    }
+
+    #[tokio::test(start_paused = true)]
+    async fn half_a_request_behind_another_one_is_late_too_and_line_ends_are_none() {
+        for (sent, is_late) in [(&b"GET / HTTP/1.1\r\n\r\nGET"[..], true), (b"GET / HTTP/1.1\r\n\r\n\r\n\r\n", false)] {
+            let (mut client, server) = tokio::io::duplex(64);
+            let mut server = Watched::new(server, Progress::new(Duration::from_secs(30)));
+            client.write_all(sent).await.unwrap();
+            server.read_exact(&mut vec![0; sent.len()]).await.unwrap();
+            let next = tokio::time::timeout(Duration::from_secs(100), server.read_u8()).await;
+            assert_eq!(next.is_ok(), is_late);
+        }
+    }
+
+    #[tokio::test(start_paused = true)]
+    async fn an_idle_connection_ends_where_it_may_not_stay() {
+        let (mut client, server) = tokio::io::duplex(64);
+        let progress = Progress::new(Duration::from_secs(10)).with_idle(Duration::from_secs(60));
+        let mut server = Watched::new(server, progress);
+        let begun = Instant::now();
+        tokio::time::advance(Duration::from_secs(30)).await;
+        client.write_all(b"GET / HTTP/1.1\r\n\r\n").await.unwrap();
+        server.read_exact(&mut [0; 18]).await.unwrap();
+        assert_eq!(server.read_u8().await.unwrap_err().kind(), io::ErrorKind::TimedOut);
+        assert_eq!(begun.elapsed().as_secs(), 90);
+    }
+
+    #[tokio::test(start_paused = true)]
+    async fn an_answer_that_is_read_slowly_ends_in_a_time_by_its_bytes() {
+        let (mut client, server) = tokio::io::duplex(1024);
+        let progress = Progress::new(Duration::from_secs(30));
+        let mut server = Watched::new(server, progress.clone());
+        progress.answers(10 * SLOWEST);
+        let begun = Instant::now();
+        let reading = tokio::spawn(async move {
+            while client.read_exact(&mut [0; 1024]).await.is_ok() {
+                tokio::time::sleep(Duration::from_secs(1)).await;
+            }
+        });
+        let written = server.write_all(&vec![7; 10 * SLOWEST as usize]).await;
+        assert_eq!(written.unwrap_err().kind(), io::ErrorKind::TimedOut);
+        assert_eq!(begun.elapsed(), LONGEST_STALL + Duration::from_secs(10));
+        drop(server);
+        reading.await.unwrap();
     }
 
     #[tokio::test(start_paused = true)]
