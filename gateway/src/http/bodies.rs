@@ -16,9 +16,6 @@ use crate::errors::SqsError;
 /// rest.
 pub const LONGEST_BODY: usize = 6 * LONGEST_MESSAGE + (64 << 10);
 
-/// So many bytes of a body that is too long are read and thrown away, so that its client comes to read the refusal.
-const MOST_THROWN_AWAY: usize = 16 << 20;
-
 /// A whole body, and its share of the budget.
 #[derive(Debug)]
 pub struct Whole {
@@ -27,11 +24,12 @@ pub struct Whole {
 }
 
 /// Reads a body to its end. It is refused where it is longer than [`LONGEST_BODY`], isn't whole at `deadline`, or finds
-/// no room. What is refused for its length or for want of room is read on for a while, so that its client comes to read it.
+/// no room. What is refused for its length or for want of room is read on beside the refusal and thrown away: what is left
+/// unread would have the connection reset before its client has read the answer.
 pub async fn read(mut body: Body, budget: &Budget, deadline: Instant) -> Result<Whole, SqsError> {
     let read = read_whole(&mut body, budget, deadline).await;
     if matches!(read, Err(SqsError::RequestTooLong { .. } | SqsError::ServiceUnavailable(_))) {
-        throw_away(body, deadline).await;
+        tokio::spawn(throw_away(body, deadline));
     }
     read
 }
@@ -81,13 +79,7 @@ async fn what_is_there(body: &mut Body) -> Option<Option<hyper::Result<Bytes>>> 
 }
 
 async fn throw_away(mut body: Body, deadline: Instant) {
-    let mut thrown = 0;
-    while let Ok(Some(piece)) = next_piece(&mut body, deadline).await {
-        thrown += piece.len();
-        if thrown > MOST_THROWN_AWAY {
-            return;
-        }
-    }
+    while let Ok(Some(_)) = next_piece(&mut body, deadline).await {}
 }
 
 /// The pieces of a body. A body of one piece isn't copied.
