@@ -11,7 +11,7 @@ use clap_complete::Shell;
 use crate::config::{Log, LogForm, LogLevel, Misuse, Options};
 use crate::inspect;
 use crate::log;
-use crate::serve::serve;
+use crate::serve::{self, serve};
 
 /// The variable that names the program cq.
 const PROGRAM: &str = "HOBBYCHAIR_CQ";
@@ -89,6 +89,7 @@ fn run(command: Command) -> Result<()> {
 }
 
 fn serve_by(options: Options) -> Result<()> {
+    serve::ignore_hangups();
     let options = options.with_file()?;
     begin_log(options.log())?;
     let threads = options.threads()?;

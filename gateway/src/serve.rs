@@ -1,5 +1,6 @@
 //! The gateway as a whole: `cq`, the store in front of it, the journal, the HTTP server, and what operators are told.
 
+use std::cell::Cell;
 use std::io::Write;
 use std::path::PathBuf;
 use std::sync::{Arc, OnceLock};
@@ -76,8 +77,40 @@ impl Settings {
 /// So long a signal waits for open requests and for the journal.
 const LAST_ANSWERS: Duration = Duration::from_secs(8);
 
-/// Serves until a signal comes. An error says why it couldn't begin or go on.
+/// Serves until a signal comes, be it during the start. An error says why it couldn't begin or go on.
 pub async fn serve(settings: Settings) -> Result<()> {
+    let mut signals = Signals::new()?;
+    let settings = Arc::new(settings);
+    // The start may take long without a pause.
+    let mut starting = tokio::spawn(start(settings.clone()));
+    let wants_reading = Cell::new(false);
+    let started = tokio::select! {
+        started = &mut starting => started??,
+        () = signals.wait_for_end(|| wants_reading.set(true)) => {
+            tracing::info!("ending before anybody was served");
+            return Ok(());
+        }
+    };
+    if wants_reading.get() {
+        Entrance::read_again(&started.entrance.keys, &started.entrance.certificate);
+    }
+    let journal = started.begun.journal.clone();
+    let served = answer(&settings, started, &mut signals).await;
+    if let Some(journal) = journal {
+        journal.close().await;
+    }
+    served
+}
+
+/// What is there when the journal is replayed.
+struct Started {
+    entrance: Entrance,
+    places: Places,
+    admin: Arc<Admin>,
+    begun: Begun,
+}
+
+async fn start(settings: Arc<Settings>) -> Result<Started> {
     let entrance = Entrance::of(&settings)?;
     let places = Places::for_connections(settings.connections)?;
     test_built(&settings.program).await?;
@@ -100,11 +133,7 @@ pub async fn serve(settings: Settings) -> Result<()> {
     if begun.journal.is_some() {
         tokio::spawn(crate::rolling::keep_rolling(begun.store.clone()));
     }
-    let served = answer(&settings, entrance, places, begun.store, begun.ended, &admin).await;
-    if let Some(journal) = begun.journal {
-        journal.close().await;
-    }
-    served
+    Ok(Started { entrance, places, admin, begun })
 }
 
 /// Who may come in, and by what.
@@ -233,17 +262,16 @@ async fn remove_left_over(store: &Store, replayed: &Replayed) {
     }
 }
 
-async fn answer(
-    settings: &Settings,
-    entrance: Entrance,
-    places: Places,
-    store: Store,
-    ended: oneshot::Receiver<Ended>,
-    admin: &Admin,
-) -> Result<()> {
+async fn answer(settings: &Settings, started: Started, signals: &mut Signals) -> Result<()> {
+    let Started { entrance, places, admin, begun } = started;
     let Entrance { listener, keys, certificate } = entrance;
+    let Begun { store, ended, .. } = begun;
     // The program has to answer before anybody is told that there is something to ask.
-    if !store.is_answering().await {
+    let is_answering = tokio::select! {
+        is_answering = store.is_answering() => is_answering,
+        () = signals.wait_for_end(|| Entrance::read_again(&keys, &certificate)) => return Ok(()),
+    };
+    if !is_answering {
         bail!(why(ended).await);
     }
     let (end, ending) = End::new();
@@ -253,8 +281,6 @@ async fn answer(
     let polls = if is_cut { settings.polls.min(places.served - places.served / 10) } else { settings.polls };
     let actions = Actions::new(store, owner, polls, settings.pauses, metrics, ending.clone(), keys.clone());
     actions.declare(&settings.queues).await;
-    // Until here a signal ends the process at once, also where the program hangs.
-    let mut signals = Signals::new()?;
     let local = listener.local_addr()?;
     let addresses = Addresses { url: settings.url.clone(), local, has_tls: certificate.is_some() };
     let url = format!("{}://{local}", addresses.scheme());
@@ -286,6 +312,12 @@ fn notify_supervisor(state: sd_notify::NotifyState<'_>) {
     if let Err(error) = sd_notify::notify(false, &[state]) {
         tracing::warn!("the supervisor can't be told: {error}");
     }
+}
+
+/// Lets SIGHUP, which has files read again, end nothing before it is listened to.
+pub fn ignore_hangups() {
+    // SAFETY: the call touches no memory of this process, and no other thread is there yet.
+    unsafe { libc::signal(libc::SIGHUP, libc::SIG_IGN) };
 }
 
 /// The signals that are listened to.
