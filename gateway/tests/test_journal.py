@@ -4,6 +4,7 @@ from __future__ import annotations
 
 import json
 import os
+import stat
 import subprocess
 
 import pytest
@@ -127,3 +128,41 @@ def test_a_dump_is_a_script(journal):
 def test_a_dump_of_no_journal_fails(tmp_path):
     ended = subprocess.run(command("dump", str(tmp_path / "none")), env=environment(), capture_output=True, text=True)
     assert ended.returncode == 1 and len(ended.stderr.splitlines()) == 1
+
+
+def mode(path) -> int:
+    return stat.S_IMODE(os.lstat(path).st_mode)
+
+
+def test_files_are_their_owners_alone_and_no_link_is_followed(tmp_path):
+    victim = tmp_path / "victim"
+    victim.write_text("kept")
+    victim.chmod(0o644)
+    (tmp_path / "journal.1.new").symlink_to(victim)
+    (tmp_path / "journal.lock").touch(0o644)
+    gateway = Started("--journal", str(tmp_path / "journal"))
+    try:
+        ByBoto3(gateway.client())("CreateQueue", QueueName="q", Attributes={})
+        assert victim.read_text() == "kept" and mode(victim) == 0o644
+        assert not (tmp_path / "journal.1").is_symlink()
+        assert mode(tmp_path / "journal.1") == mode(tmp_path / "journal.lock") == 0o600
+    finally:
+        assert gateway.stop() == 0
+
+
+@pytest.mark.parametrize("name", ["journal", "journal.1", "journal.lock"])
+def test_a_pipe_in_a_files_place_is_told(tmp_path, name):
+    os.mkfifo(tmp_path / name)
+    ended = start(tmp_path / "journal")
+    # A pipe that nobody reads can't even be opened to write.
+    said = "No such device" if name == "journal.lock" else "it is no file"
+    assert ended.returncode == 1 and f"{tmp_path / name}: {said}" in ended.stderr
+
+
+def test_errors_name_their_file(tmp_path, journal):
+    os.rename(f"{journal}.1", f"{journal}.1.kept")
+    os.mkdir(f"{journal}.1")
+    ended = start(journal)
+    assert ended.returncode == 1 and f"{journal}.1: " in ended.stderr
+    ended = start(tmp_path / "none" / "journal")
+    assert ended.returncode == 1 and f"{tmp_path / 'none' / 'journal'}" in ended.stderr

@@ -93,7 +93,7 @@ impl Files {
             return Err(io::Error::new(io::ErrorKind::InvalidInput, "the journal has no name"));
         };
         let mut numbers = Vec::new();
-        for entry in std::fs::read_dir(self.folder())? {
+        for entry in about(self.folder(), std::fs::read_dir(self.folder()))? {
             let name = entry?.file_name();
             let suffix = name.to_str().and_then(|name| name.strip_prefix(own)?.strip_prefix('.'));
             let digits = suffix.and_then(&number_in).filter(|digits| !digits.starts_with(['0', '+']));
@@ -109,27 +109,30 @@ impl Files {
             _ => Path::new("."),
         }
     }
-}
 
-impl Files {
     fn opened(&self) -> io::Result<&File> {
         if let Some(folder) = self.opened.get() {
             return Ok(folder);
         }
-        let folder = File::open(self.folder())?;
+        let folder = about(self.folder(), File::open(self.folder()))?;
         Ok(self.opened.get_or_init(|| folder))
     }
 }
 
+/// An error names the file that it is about.
+fn about<T>(path: &Path, result: io::Result<T>) -> io::Result<T> {
+    result.map_err(|error| io::Error::new(error.kind(), format!("{}: {error}", path.display())))
+}
+
 impl Folder for Files {
-    type File = File;
+    type File = OpenSegment;
 
     fn list(&self) -> io::Result<Vec<u64>> {
         self.opened()?;
         self.numbers(|suffix| Some(suffix))
     }
 
-    fn open(&self, number: u64) -> io::Result<File> {
+    fn open(&self, number: u64) -> io::Result<OpenSegment> {
         let path = self.segment(number);
         let file = open_plainly(&path, OpenOptions::new().read(true).write(true))?;
         lock(&file, &path)?;
@@ -140,67 +143,75 @@ impl Folder for Files {
         if self.list()?.iter().any(|other| *other > number) {
             return Err(in_use(&path));
         }
-        Ok(file)
+        Ok(OpenSegment { file, path })
     }
 
     fn read(&self, number: u64) -> io::Result<Vec<u8>> {
-        let mut bytes = Vec::new();
-        open_regular(&self.segment(number), OpenOptions::new().read(true))?.read_to_end(&mut bytes)?;
-        Ok(bytes)
+        read_file(&self.segment(number))
     }
 
-    fn create(&self, number: u64) -> io::Result<File> {
+    /// Whatever goes by its name goes: a link is removed and not followed, and the file is its owner's alone.
+    fn create(&self, number: u64) -> io::Result<OpenSegment> {
         let path = self.fresh(number);
         match std::fs::remove_file(&path) {
-            Err(error) if error.kind() != io::ErrorKind::NotFound => return Err(error),
+            Err(error) if error.kind() != io::ErrorKind::NotFound => return about(&path, Err(error)),
             _ => {}
         }
         let file = open_plainly(&path, OpenOptions::new().read(true).write(true).create_new(true).mode(0o600))?;
         lock(&file, &path)?;
-        Ok(file)
+        Ok(OpenSegment { file, path: self.segment(number) })
     }
 
     fn clear(&self) -> io::Result<()> {
         for number in self.numbers(|suffix| suffix.strip_suffix(FRESH))? {
-            std::fs::remove_file(self.fresh(number))?;
+            about(&self.fresh(number), std::fs::remove_file(self.fresh(number)))?;
         }
         Ok(())
     }
 
     fn publish(&self, number: u64) -> io::Result<()> {
-        std::fs::rename(self.fresh(number), self.segment(number))
+        about(&self.fresh(number), std::fs::rename(self.fresh(number), self.segment(number)))
     }
 
     fn remove(&self, number: u64) -> io::Result<()> {
-        std::fs::remove_file(self.segment(number))
+        about(&self.segment(number), std::fs::remove_file(self.segment(number)))
     }
 
     fn sync(&self) -> io::Result<()> {
-        self.opened()?.sync_all()
+        about(self.folder(), self.opened()?.sync_all())
     }
 }
 
-/// Opens a file that is one, and nothing that would keep who opens it waiting.
-fn open_regular(path: &Path, options: &mut OpenOptions) -> io::Result<File> {
-    open_with(path, options, OFlags::NONBLOCK)
+/// Opens what has to be a file. A pipe would be waited for.
+pub fn open_file(path: &Path, options: &mut OpenOptions) -> io::Result<File> {
+    about(path, open_with(path, options, OFlags::empty()))
 }
 
-/// The same, but not by a symbolic link: none of the journal's own files is one.
+/// The same, but not by a symbolic link: none of the journal's segments is one.
 fn open_plainly(path: &Path, options: &mut OpenOptions) -> io::Result<File> {
-    match open_with(path, options, OFlags::NONBLOCK | OFlags::NOFOLLOW) {
+    match open_with(path, options, OFlags::NOFOLLOW) {
         Err(error) if error.raw_os_error() == Some(rustix::io::Errno::LOOP.raw_os_error()) => {
             Err(refusal(path, "is a symbolic link"))
         }
-        opened => opened,
+        opened => about(path, opened),
     }
 }
 
 fn open_with(path: &Path, options: &mut OpenOptions, flags: OFlags) -> io::Result<File> {
+    let flags = flags | OFlags::NONBLOCK | OFlags::NOCTTY;
     let file = options.custom_flags(flags.bits() as i32).open(path)?;
     if !file.metadata()?.is_file() {
-        return Err(refusal(path, "is no file"));
+        return Err(io::Error::new(io::ErrorKind::InvalidInput, "it is no file"));
     }
     Ok(file)
+}
+
+/// All bytes of what has to be a file.
+pub fn read_file(path: &Path) -> io::Result<Vec<u8>> {
+    let mut bytes = Vec::new();
+    let mut file = open_file(path, OpenOptions::new().read(true))?;
+    about(path, file.read_to_end(&mut bytes))?;
+    Ok(bytes)
 }
 
 /// Keeps others from a file for as long as it is open, by whichever name they reach it.
@@ -219,26 +230,35 @@ fn refusal(path: &Path, why: &str) -> io::Error {
     io::Error::new(io::ErrorKind::Other, format!("{} {why}", path.display()))
 }
 
-impl Segment for File {
+/// A segment that is open.
+pub struct OpenSegment {
+    file: File,
+    path: PathBuf,
+}
+
+impl Segment for OpenSegment {
     fn write_at(&self, place: u64, bytes: &[u8]) -> io::Result<()> {
-        self.write_all_at(bytes, place)
+        about(&self.path, self.file.write_all_at(bytes, place))
     }
 
     fn set_length(&self, length: u64) -> io::Result<()> {
-        self.set_len(length)
+        about(&self.path, self.file.set_len(length))
     }
 
     fn allocate(&self, length: u64) -> io::Result<()> {
-        match fallocate(self, FallocateFlags::empty(), 0, length) {
-            Ok(()) => Ok(()),
-            // A file system that can't do it gets zeros.
-            Err(rustix::io::Errno::OPNOTSUPP) => write_zeros(self, length),
-            Err(error) => Err(error.into()),
-        }
+        about(
+            &self.path,
+            match fallocate(&self.file, FallocateFlags::empty(), 0, length) {
+                Ok(()) => Ok(()),
+                // A file system that can't do it gets zeros.
+                Err(rustix::io::Errno::OPNOTSUPP) => write_zeros(&self.file, length),
+                Err(error) => Err(error.into()),
+            },
+        )
     }
 
     fn sync(&self) -> io::Result<()> {
-        self.sync_data()
+        about(&self.path, self.file.sync_data())
     }
 }
 

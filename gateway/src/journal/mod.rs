@@ -12,7 +12,8 @@ mod version1;
 mod writer;
 
 use std::collections::HashSet;
-use std::fs::File;
+use std::fs::{File, Permissions};
+use std::os::unix::fs::{OpenOptionsExt, PermissionsExt};
 use std::path::{Path, PathBuf};
 use std::sync::atomic::{AtomicBool, AtomicI64, AtomicU64, Ordering};
 use std::sync::{Arc, Condvar, Mutex, MutexGuard, PoisonError, RwLock};
@@ -28,7 +29,7 @@ use crate::queues::shards::Shards;
 use crate::store::{Answers, Done, JournalFigures};
 pub use backup::back_up;
 pub use disk::Files;
-use disk::Folder;
+use disk::{open_file, Folder};
 use log::{Log, Sizes};
 pub use record::{digest_of_reply, Record};
 pub use segments::JournalError;
@@ -201,8 +202,11 @@ impl Opened {
 fn lock(files: &Files, path: &Path) -> Result<File, JournalError> {
     let name = files.path_of("lock");
     let mut options = File::options();
-    let opened = options.create(true).write(true).truncate(false).open(&name);
-    let file = opened.map_err(|error| JournalError::Io(format!("{} can't be opened: {error}", name.display())))?;
+    // Whoever can read it could hold it, and keep the gateway from starting.
+    options.create(true).write(true).truncate(false).mode(0o600);
+    let file = open_file(&name, &mut options)?;
+    file.set_permissions(Permissions::from_mode(0o600))
+        .map_err(|error| JournalError::Io(format!("{}: {error}", name.display())))?;
     let kind = fstatfs(&file).map_or(0, |found| found.f_type as u64 & 0xffff_ffff);
     if let Some(kind) = network(kind) {
         return Err(JournalError::Network(format!("{} is on {kind}", path.display())));

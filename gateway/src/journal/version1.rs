@@ -15,7 +15,7 @@ use sha2::{Digest, Sha256};
 use tokio::io::{AsyncBufReadExt, AsyncWriteExt, BufReader};
 use uuid::Uuid;
 
-use super::disk::{Files, Folder, Segment};
+use super::disk::{open_file, read_file, Files, Folder, Segment};
 use super::frame::{self, MARK};
 use super::record::Record;
 use super::segments::{Head, JournalError};
@@ -82,7 +82,7 @@ enum OldChange {
 }
 
 pub fn is_there(path: &Path) -> bool {
-    std::fs::File::open(path).and_then(|file| starts_as_one(&file)).unwrap_or(false)
+    open_file(path, std::fs::File::options().read(true)).and_then(|file| starts_as_one(&file)).unwrap_or(false)
 }
 
 fn starts_as_one(mut file: &std::fs::File) -> io::Result<bool> {
@@ -94,10 +94,10 @@ fn starts_as_one(mut file: &std::fs::File) -> io::Result<bool> {
 
 /// Makes way for a journal of this version. A file of version 1 must have been written anew before, or be empty.
 pub fn take_over(files: &Files, path: &Path) -> Result<(), JournalError> {
-    let bytes = match std::fs::read(path) {
+    let bytes = match read_file(path) {
         Ok(bytes) => bytes,
         Err(error) if error.kind() == io::ErrorKind::NotFound => return Ok(()),
-        Err(error) => return Err(JournalError::Io(format!("{} can't be opened: {error}", path.display()))),
+        Err(error) => return Err(error.into()),
     };
     let was_converted = bytes.starts_with(HEADER) && !files.list()?.is_empty();
     let was_cut_at_birth = HEADER.starts_with(&bytes);
