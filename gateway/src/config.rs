@@ -5,7 +5,7 @@ use std::path::{Path, PathBuf};
 use std::str::FromStr;
 use std::time::Duration;
 
-use anyhow::{Context, Result};
+use anyhow::Result;
 use clap::ValueEnum;
 use serde::Deserialize;
 use thiserror::Error;
@@ -81,7 +81,7 @@ pub struct Options {
     account: Option<Account>,
     /// The region in ARNs [default: us-east-1]
     #[arg(long, env = "HOBBYCHAIR_REGION")]
-    region: Option<String>,
+    region: Option<Region>,
     /// How many connections are served at once [default: 10000]
     #[arg(long, value_name = "N", env = "HOBBYCHAIR_CONNECTIONS")]
     connections: Option<u32>,
@@ -234,6 +234,29 @@ impl TryFrom<String> for Account {
     }
 }
 
+/// 1 to 64 letters, digits and hyphens: it stands in ARNs between colons.
+#[derive(Clone, Debug, PartialEq, Eq, Deserialize)]
+#[serde(try_from = "String")]
+struct Region(String);
+
+impl FromStr for Region {
+    type Err = String;
+
+    fn from_str(text: &str) -> Result<Region, String> {
+        let is_good = |byte: u8| byte.is_ascii_alphanumeric() || byte == b'-';
+        let is_region = (1..=64).contains(&text.len()) && text.bytes().all(is_good);
+        is_region.then(|| Region(text.into())).ok_or_else(|| "it is no region, as us-east-1".into())
+    }
+}
+
+impl TryFrom<String> for Region {
+    type Error = String;
+
+    fn try_from(text: String) -> Result<Region, String> {
+        text.parse()
+    }
+}
+
 /// A scheme and an authority, and perhaps a path, with no slash at the end.
 #[derive(Clone, Debug, PartialEq, Eq, Deserialize)]
 #[serde(try_from = "String")]
@@ -292,6 +315,8 @@ const PORT: u16 = 9324;
 const ACCOUNT: &str = "000000000000";
 const REGION: &str = "us-east-1";
 const CONNECTIONS: u32 = 10_000;
+const MOST_CONNECTIONS: u32 = 1_000_000;
+const MOST_THREADS: u32 = 256;
 const CQ_TIMEOUT: u32 = 30;
 const REQUEST_MEMORY: u64 = 256 << 20;
 const LEAST_REQUEST_MEMORY: usize = 64 << 20;
@@ -346,7 +371,7 @@ impl Options {
     pub fn threads(&self) -> Result<usize> {
         let processors = std::thread::available_parallelism().map_or(1, std::num::NonZeroUsize::get);
         match self.threads {
-            Some(threads) => Ok(at_least_one("threads", threads)? as usize),
+            Some(threads) => Ok(between("threads", threads, 1, MOST_THREADS)? as usize),
             None => Ok((processors / 2).max(1)),
         }
     }
@@ -361,8 +386,8 @@ impl Options {
         if self.journal_size.is_some() && self.journal.is_none() {
             return Err(Misuse("a size of the journal is given, and no journal".into()).into());
         }
-        let connections = at_least_one("connections", self.connections.unwrap_or(CONNECTIONS))?;
-        let polls = at_least_one("polls", self.polls.unwrap_or(connections - connections / 10))?;
+        let connections = between("connections", self.connections.unwrap_or(CONNECTIONS), 1, MOST_CONNECTIONS)?;
+        let polls = between("polls", self.polls.unwrap_or(connections - connections / 10), 1, MOST_CONNECTIONS)?;
         let cq_timeout = self.cq_timeout.unwrap_or(CQ_TIMEOUT);
         let shards = match self.shards {
             None => Shards::ONE,
@@ -384,7 +409,7 @@ impl Options {
             allowed_hosts: self.allowed_hosts.unwrap_or_default().into_iter().map(|name| name.0).collect(),
             owner: Owner {
                 account: self.account.map_or_else(|| ACCOUNT.into(), |account| account.0),
-                region: self.region.unwrap_or_else(|| REGION.into()),
+                region: self.region.map_or_else(|| REGION.into(), |region| region.0),
             },
             connections,
             polls,
@@ -412,16 +437,10 @@ fn between(name: &str, number: u32, least: u32, most: u32) -> Result<u32> {
     Ok(number)
 }
 
-fn at_least_one(name: &str, number: u32) -> Result<u32> {
-    if number == 0 {
-        return Err(Misuse(format!("{name} must be 1 or more")).into());
-    }
-    Ok(number)
-}
-
 fn read_file(path: &Path) -> Result<Options> {
-    let text = std::fs::read_to_string(path).with_context(|| format!("{} can't be read", path.display()))?;
-    toml::from_str(&text).map_err(|error| Misuse(format!("{}: {error}", path.display())).into())
+    let wrong = |why: String| Misuse(format!("{}: {why}", path.display()));
+    let text = std::fs::read_to_string(path).map_err(|error| wrong(format!("it can't be read: {error}")))?;
+    Ok(toml::from_str(&text).map_err(|error| wrong(error.to_string()))?)
 }
 
 #[cfg(test)]
@@ -506,8 +525,17 @@ mod tests {
         for bad in [alone, none, size, many, little] {
             assert!(settings(bad).unwrap_err().is::<Misuse>());
         }
-        let no_threads = Options { threads: Some(0), ..Options::default() };
-        assert!(no_threads.threads().unwrap_err().is::<Misuse>());
+        for bad in [0, MOST_THREADS + 1, u32::MAX] {
+            let threads = Options { threads: Some(bad), ..Options::default() };
+            assert!(threads.threads().unwrap_err().is::<Misuse>());
+            let timeout = Options { cq_timeout: Some(bad.wrapping_mul(100)), ..Options::default() };
+            assert!(settings(timeout).unwrap_err().is::<Misuse>());
+        }
+        let polls = Options { polls: Some(u32::MAX), ..Options::default() };
+        assert!(settings(polls).unwrap_err().is::<Misuse>());
+        for bad in ["", "us east", "a:b", "ü", &"x".repeat(65)] {
+            assert!(bad.parse::<Region>().is_err(), "{bad}");
+        }
         assert!(Options::default().threads().unwrap() >= 1);
     }
 }

@@ -127,7 +127,10 @@ impl Metrics {
             records: gauge("hobbychair_journal_records", "Records of the journal.")?,
             disk_full: gauge("hobbychair_journal_disk_full", "1 while the journal's disk has no space left.")?,
             commits: counter("hobbychair_journal_commits_total", "Commits to the journal.")?,
-            answering: gauge("hobbychair_cq_answering", "1 where cq answers, and 0 where the counts of messages are missing.")?,
+            answering: gauge(
+                "hobbychair_cq_answering",
+                "1 where cq answers, and 0 where the counts of messages are missing.",
+            )?,
             lines_lost: counter("hobbychair_log_lines_lost_total", "Lines of the log that nobody read in time.")?,
             restarts: counter("hobbychair_cq_restarts_total", "How often the program cq was started again.")?,
             registry,

@@ -178,7 +178,10 @@ mod tests {
         let mut output = Output::new(cat.stdout.take().unwrap());
         output.patience = Duration::from_millis(300);
         output.is_awaited = false;
-        assert!(tokio::time::timeout(Duration::from_millis(600), output.read_u8()).await.is_err(), "nothing is awaited");
+        assert!(
+            tokio::time::timeout(Duration::from_millis(600), output.read_u8()).await.is_err(),
+            "nothing is awaited"
+        );
         output.is_awaited = true;
         for _ in 0..4 {
             tokio::time::sleep(Duration::from_millis(100)).await;

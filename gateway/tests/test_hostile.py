@@ -16,6 +16,7 @@ from urllib.parse import urlsplit
 import pytest
 
 from started import ByJson, Started
+from test_operations import admin_url
 
 JSON = b"X-Amz-Target: AmazonSQS.%s\r\nContent-Type: application/x-amz-json-1.0\r\n"
 LONGEST_BODY = 6 * 1_048_576 + 65_536
@@ -91,6 +92,58 @@ def test_a_body_that_is_too_long_gets_413_in_the_form_of_its_protocol(gateway):
     status, headers, body = read_response(connection)
     assert status == 413 and headers["content-type"].startswith("text/xml")
     assert b"<Code>RequestEntityTooLarge</Code>" in body
+
+
+@pytest.mark.parametrize("announced", [True, False])
+def test_a_body_that_is_far_too_long_gets_413_and_no_reset(gateway, announced):
+    """Of an announced length the answer is there before the body is."""
+    for _ in range(4):
+        connection = connect(gateway)
+        connection.sendall(head(b"SendMessage", 48 << 20 if announced else None))
+        if announced:
+            is_refused_in_json(read_response(connection), 413, "RequestEntityTooLarge")
+        piece = b"x" * (1 << 20) if announced else b"100000\r\n" + b"x" * (1 << 20) + b"\r\n"
+        for _ in range(40):
+            connection.sendall(piece)
+        if not announced:
+            is_refused_in_json(read_response(connection), 413, "RequestEntityTooLarge")
+        connection.close()
+    serves(gateway)
+
+
+@pytest.mark.parametrize("framing", [b"Content-Length: 2\r\nTransfer-Encoding: chunked\r\n",
+                                     b"Transfer-Encoding: chunked\r\nContent-Length: 2\r\n"])
+def test_a_length_beside_chunks_closes_the_connection(gateway, framing):
+    """RFC 9112, 6.1."""
+    request = b"POST / HTTP/1.1\r\nHost: localhost\r\n" + JSON % b"ListQueues" + framing + b"\r\n2\r\n{}\r\n0\r\n\r\n"
+    connection = connect(gateway)
+    connection.sendall(request + request)
+    got = read_all(connection)
+    assert got.count(b"HTTP/1.1 200 OK") == 1 and b"connection: close" in got
+    # By chunks alone it stays.
+    connection = connect(gateway)
+    alone = request.replace(b"Content-Length: 2\r\n", b"")
+    connection.sendall(alone)
+    assert read_response(connection)[0] == 200
+    connection.sendall(alone)
+    assert read_response(connection)[0] == 200
+
+
+@pytest.mark.parametrize("behind", [b"x", b"GET / HTTP/1.1\r\nHost: localhost\r\n\r\n"])
+def test_a_client_that_sent_more_behind_its_poll_and_goes_takes_no_message(gateway, behind):
+    call = ByJson(gateway.url)
+    content = b'{"QueueUrl":"q.fifo","WaitTimeSeconds":20}'
+    connection = connect(gateway)
+    connection.sendall(head(b"ReceiveMessage", len(content)) + content)
+    time.sleep(0.2)
+    connection.sendall(behind)
+    time.sleep(0.2)
+    connection.close()
+    time.sleep(2.5)
+    call("SendMessage", QueueUrl="q.fifo", MessageBody="b", MessageGroupId="behind", MessageDeduplicationId=f"behind-{len(behind)}")
+    time.sleep(0.2)
+    (message,) = call("ReceiveMessage", QueueUrl="q.fifo")["Messages"]
+    call("DeleteMessage", QueueUrl="q.fifo", ReceiptHandle=message["ReceiptHandle"])
 
 
 def test_the_longest_message_gets_in_however_its_json_is_written(gateway):
@@ -240,12 +293,23 @@ def test_a_send_gets_in_while_all_polls_are_taken():
 
 
 def test_a_slow_request_is_cut_off_and_an_idle_connection_stays():
-    gateway = Started()
+    gateway = Started("--admin", "0")
     idle = connect(gateway)
     idle.sendall(head(b"ListQueues", 2) + b"{}")
     assert read_response(idle)[0] == 200
     slow = {"head": (b"GET / HTTP/1.1\r\n", b"X-A: b\r\n"), "length": (head(b"ListQueues", 200), b"x"),
             "chunks": (head(b"ListQueues", None), b"1\r\nx\r\n")}
+    whole = head(b"ListQueues", 2) + b"{}"
+    # Half a request in one write with the one before, and line ends, which are no request.
+    behind, blank = connect(gateway), connect(gateway)
+    behind.sendall(whole + b"POST / HT")
+    blank.sendall(whole + b"\r\n")
+    assert read_response(behind)[0] == read_response(blank)[0] == 200
+    begun_behind = time.monotonic()
+    admin = urlsplit(admin_url(gateway))
+    operator = socket.create_connection((admin.hostname, admin.port), timeout=60)
+    operator.sendall(b"GET /health HTTP/1.1\r\nHost: localhost\r\n\r\n")
+    assert read_response(operator)[0] == 200
     ended: dict[str, tuple[float, bytes]] = {}
 
     def send_slowly(name: str) -> None:
@@ -271,8 +335,12 @@ def test_a_slow_request_is_cut_off_and_an_idle_connection_stays():
     for name, (seconds, got) in ended.items():
         assert 28 < seconds < 35, (name, seconds)
         assert got == b"" if name == "head" else got.startswith(b"HTTP/1.1 408 "), (name, got)
-    idle.sendall(head(b"ListQueues", 2) + b"{}")
-    assert read_response(idle)[0] == 200
+    assert 28 < time.monotonic() - begun_behind < 35
+    assert select.select([behind], [], [], 2)[0] and read_all(behind) == b""
+    operator.sendall(b"GET /health HTTP/1.1\r\nHost: localhost\r\n\r\n")
+    for connection in (idle, blank):
+        connection.sendall(whole)
+    assert read_response(idle)[0] == read_response(blank)[0] == read_response(operator)[0] == 200
     assert gateway.stop() == 0
 
 

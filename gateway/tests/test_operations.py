@@ -15,7 +15,7 @@ import urllib.request
 
 import pytest
 
-from started import ByJson, ByQuery, Refused, Started, command, environment
+from started import ByBoto3, ByJson, ByQuery, Refused, Started, children, command, environment
 
 FIFO = {"FifoQueue": "true"}
 
@@ -199,6 +199,9 @@ def test_a_file_that_is_wrong_ends_with_status_2(tmp_path, text, said):
 @pytest.mark.parametrize("words", [
     ["--memory", "1MB"], ["--polls", "-1"], ["--log", "xml"], ["--admin", "here"], ["--url", "queues"], ["--open=maybe"],
     ["--certificate", "c.pem"], ["--key", "k.pem"], ["--journal-size", "1GiB"], ["--connections", "0"],
+    ["--threads", "257"], ["--threads", "4000000000"], ["--connections", "1000001"], ["--polls", "4000000000"],
+    ["--region", "us east"], ["--region", ""], ["--region", "a:b"], ["--cq-timeout", "0"], ["--cq-timeout", "3601"],
+    ["--request-memory", "1MiB"], ["--allowed-hosts", "a:80"],
 ])
 def test_words_that_are_wrong_end_with_status_2(words):
     ended = run("serve", "--port", "0", *words)
@@ -206,9 +209,9 @@ def test_words_that_are_wrong_end_with_status_2(words):
 
 
 def test_files_that_are_not_there_are_told(tmp_path):
-    for option in ("--config", "--credentials"):
+    for option, status in (("--config", 2), ("--credentials", 1)):
         ended = run("serve", "--port", "0", option, str(tmp_path / "none"))
-        assert ended.returncode == 1 and str(tmp_path / "none") in ended.stderr
+        assert ended.returncode == status and str(tmp_path / "none") in ended.stderr
 
 
 # ---- what it tells
@@ -289,7 +292,94 @@ def test_each_request_is_a_line_at_debug_and_no_body_is_told():
     assert not any("answered" in line for line in logged(level="info"))
 
 
+def test_nobody_waits_for_a_log_that_nobody_reads():
+    process = subprocess.Popen(command("serve", "--port", "0", "--admin", "0", "--log-level", "debug"), env=environment(),
+                               stdout=subprocess.PIPE, stderr=subprocess.PIPE, text=True)
+    try:
+        admin = process.stdout.readline().split()[-1]
+        call = ByJson(process.stdout.readline().split()[-1])
+        for _ in range(3000):
+            with pytest.raises(Refused):
+                call("SendMessage", QueueUrl="none.fifo", MessageBody="b", MessageGroupId="g", MessageDeduplicationId="d")
+        assert metric(get(admin + "/metrics")[1], "hobbychair_log_lines_lost_total") > 100
+        process.terminate()
+        assert process.wait(20) == 0
+    finally:
+        process.kill()
+
+
+# ---- with few open files
+
+
+def with_few_files(monkeypatch, tmp_path, count: int) -> None:
+    """The gateways that are started from now on may open so many files, and write their logs to a file."""
+    limited = tmp_path / "limited"
+    limited.write_text(f'#!/bin/sh\nulimit -n {count}\nexec {command()[0]} "$@" 2>>{tmp_path}/log\n')
+    limited.chmod(0o755)
+    monkeypatch.setenv("HOBBYCHAIR_GATEWAY", str(limited))
+
+
+def test_connections_leave_the_files_that_the_gateway_needs(monkeypatch, tmp_path):
+    with_few_files(monkeypatch, tmp_path, 256)
+    gateway = Started("--journal", str(tmp_path / "journal"), "--admin", "0", "--connections", "500")
+    try:
+        assert "256 open files, so 120 connections are served at once, and not 500" in (tmp_path / "log").read_text()
+        call = ByBoto3(gateway.client())
+        call("CreateQueue", QueueName="q.fifo", Attributes=FIFO)
+        idle = []
+        for url in (gateway.url, admin_url(gateway)):
+            host, port = url.removeprefix("http://").rsplit(":", 1)
+            idle += [socket.create_connection((host, int(port)), timeout=20) for _ in range(200)]
+        time.sleep(0.5)
+        for place in range(5):
+            (cq,) = children(gateway)
+            os.kill(cq, signal.SIGKILL)
+            call("SendMessage", QueueUrl="q.fifo", MessageBody="b", MessageGroupId="g", MessageDeduplicationId=f"{place}")
+        for connection in idle:
+            connection.close()
+        assert get(admin_url(gateway) + "/health") == (200, "serving\n")
+        assert len(call("ReceiveMessage", QueueUrl="q.fifo", MaxNumberOfMessages=10)["Messages"]) == 5
+    finally:
+        assert gateway.stop() == 0
+
+
+def test_too_few_files_are_told(monkeypatch, tmp_path):
+    with_few_files(monkeypatch, tmp_path, 64)
+    assert run("serve", "--port", "0").returncode == 1
+    assert "the system allows 64 open files, and the gateway needs" in (tmp_path / "log").read_text()
+
+
 # ---- how it ends
+
+
+def slow_start(tmp_path) -> subprocess.Popen:
+    slow = tmp_path / "slow"
+    slow.write_text(f'#!/bin/sh\n[ "$1" = session ] && sleep 2\nexec {environment()["HOBBYCHAIR_CQ"]} "$@"\n')
+    slow.chmod(0o755)
+    process = subprocess.Popen(command("serve", "--port", "0", "--admin", "0", "--cq", str(slow)), env=environment(),
+                               stdout=subprocess.PIPE, text=True)
+    assert process.stdout.readline().startswith("health and metrics on ")
+    return process
+
+
+def test_a_hangup_during_the_start_ends_nothing(tmp_path):
+    process = slow_start(tmp_path)
+    try:
+        for _ in range(3):
+            process.send_signal(signal.SIGHUP)
+            time.sleep(0.1)
+        assert process.stdout.readline().startswith("listening on ")
+    finally:
+        process.terminate()
+        assert process.wait(20) == 0
+
+
+@pytest.mark.parametrize("number", [signal.SIGTERM, signal.SIGINT])
+def test_a_signal_during_the_start_ends_it_well(tmp_path, number):
+    process = slow_start(tmp_path)
+    begun = time.monotonic()
+    process.send_signal(number)
+    assert process.wait(20) == 0 and time.monotonic() - begun < 1.5
 
 
 @pytest.mark.parametrize("number", [signal.SIGTERM, signal.SIGINT])

@@ -175,8 +175,7 @@ impl Actions {
             ));
         }
         let is_asked = !commands.is_empty();
-        let answers =
-            if is_asked { self.store.command_all(queue, commands, &caller.share).await } else { Vec::new() };
+        let answers = if is_asked { self.store.command_all(queue, commands, &caller.share).await } else { Vec::new() };
         let mut answers = answers.into_iter();
         let (mut successful, mut failed) = (Vec::new(), Vec::new());
         for (id, entry) in entries {

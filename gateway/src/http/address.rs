@@ -70,7 +70,8 @@ fn forwarded_scheme(headers: &HeaderMap) -> Option<&'static str> {
 const LONGEST_AUTHORITY: usize = 260;
 
 fn is_authority(host: &str) -> bool {
-    (1..=LONGEST_AUTHORITY).contains(&host.len()) && host.bytes().all(|byte| byte.is_ascii_alphanumeric() || b".-_:[]%~".contains(&byte))
+    (1..=LONGEST_AUTHORITY).contains(&host.len())
+        && host.bytes().all(|byte| byte.is_ascii_alphanumeric() || b".-_:[]%~".contains(&byte))
 }
 
 /// 127.0.0.0/8 and ::1, and the former as a socket of IPv6 sees it.

@@ -117,14 +117,8 @@ impl Door {
         }
     }
 
-    async fn converse<S>(
-        &self,
-        stream: S,
-        socket: RawFd,
-        peer: SocketAddr,
-        is_served: bool,
-        mut ending: Ending,
-    ) where
+    async fn converse<S>(&self, stream: S, socket: RawFd, peer: SocketAddr, is_served: bool, mut ending: Ending)
+    where
         S: AsyncRead + AsyncWrite + Unpin + Send + 'static,
     {
         let progress = Progress::new(if is_served { LONGEST_REQUEST } else { LONGEST_TURNING_AWAY }).of_socket(socket);

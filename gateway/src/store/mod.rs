@@ -119,13 +119,7 @@ impl Store {
         &self.jobs[self.shards.place_of(name)]
     }
 
-    async fn perform(
-        &self,
-        queue: &Arc<Queue>,
-        whats: Vec<What>,
-        passes: bool,
-        share: Option<&Arc<Share>>,
-    ) -> Answers {
+    async fn perform(&self, queue: &Arc<Queue>, whats: Vec<What>, passes: bool, share: Option<&Arc<Share>>) -> Answers {
         let count = whats.len();
         let (done, answers) = oneshot::channel();
         let done = Done { answers: done, _share: share.cloned() };
@@ -157,12 +151,7 @@ impl Store {
     }
 
     /// The answers to commands that are performed one after the other, in their order.
-    pub async fn command_all(
-        &self,
-        queue: &Arc<Queue>,
-        commands: Vec<Command>,
-        share: &Arc<Share>,
-    ) -> Vec<Answer> {
+    pub async fn command_all(&self, queue: &Arc<Queue>, commands: Vec<Command>, share: &Arc<Share>) -> Vec<Answer> {
         self.perform(queue, commands.into_iter().map(What::from).collect(), false, Some(share)).await
     }
 

@@ -300,7 +300,7 @@ impl Xml {
     fn leaf(&mut self, name: &str, text: &str) {
         let readable = if is_of_xml(text) { Cow::Borrowed(text) } else { text.chars().map(readable).collect() };
         self.element(name, |xml| {
-            let escaped = quick_xml::escape::escape(&*readable);
+            let escaped = quick_xml::escape::escape(&readable);
             // A carriage return as it is would be read as a line feed.
             let escaped = if escaped.contains('\r') { Cow::Owned(escaped.replace('\r', "&#xD;")) } else { escaped };
             xml.event(Event::Text(BytesText::from_escaped(escaped)));

@@ -42,7 +42,7 @@ impl Task {
                 (Some(queue), Some(What::Note(change))) => match self.note_with_room(queue, change) {
                     Ok(noted) => Entry::Noted(noted),
                     Err(Unnoted::LacksRoom(queue, change)) => {
-                        let what = Some(What::Note(change));
+                        let what = Some(What::Note(*change));
                         self.pending.push_front(Pending { queue: Some(queue), what, done });
                         self.lacks_room = true;
                         break;
@@ -192,7 +192,7 @@ impl Task {
             return Ok(Noted { queue, change, room, weight });
         }
         self.admission.answered(weight);
-        Err(room.err().map_or(Unnoted::LacksRoom(queue, change), Unnoted::Refused))
+        Err(room.err().map_or_else(|| Unnoted::LacksRoom(queue, Box::new(change)), Unnoted::Refused))
     }
 }
 

@@ -65,7 +65,7 @@ pub(super) enum Asking {
 /// Why a change isn't noted.
 pub(super) enum Unnoted {
     /// The journal has to find space first.
-    LacksRoom(Arc<Queue>, Change),
+    LacksRoom(Arc<Queue>, Box<Change>),
     Refused(SqsError),
     /// It changes nothing.
     Nothing,
