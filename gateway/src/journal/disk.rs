@@ -231,6 +231,7 @@ fn refusal(path: &Path, why: &str) -> io::Error {
 }
 
 /// A segment that is open.
+#[derive(Debug)]
 pub struct OpenSegment {
     file: File,
     path: PathBuf,
@@ -342,6 +343,6 @@ mod tests {
         let path = room.0.join("journal.1");
         rustix::fs::mknodat(rustix::fs::cwd(), &path, rustix::fs::FileType::Fifo, rustix::fs::Mode::RUSR, 0).unwrap();
         let files = Files::new(&room.0.join("journal"));
-        assert!(files.read(1).unwrap_err().to_string().ends_with("journal.1 is no file"));
+        assert!(files.read(1).unwrap_err().to_string().ends_with("journal.1: it is no file"));
     }
 }

@@ -286,8 +286,7 @@ impl State {
         }
         if let (Some(attempt), false) = (attempt, handed.is_empty()) {
             // What the store has no room for is kept with its message.
-            let is_copy =
-                |one: &&Handed| self.messages.get(&one.receipt.sequence).is_some_and(|own| own.form.is_none());
+            let is_copy = |one: &&Handed| self.messages.get(one.receipt.sequence).is_some_and(|own| own.form.is_none());
             let bytes = handed.iter().filter(is_copy).map(|one| one.form.len() as u64).sum();
             self.attempts.keep(attempt, Attempt { moment, until, handed: handed.clone(), bytes });
         }
