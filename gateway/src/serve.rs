@@ -238,9 +238,7 @@ fn note_jump(journal: &Journal, tables: &Tables, uncounted: u64) -> Result<()> {
     tracing::warn!("the clock is far ahead of the last record: {uncounted} ms of it make no message older");
     let mut batch = Batch { count: 1, ..Batch::default() };
     Record::of_jump(now, uncounted).append(&mut batch.records)?;
-    // Where the disk is full it waits, and all that comes then is written behind it.
-    journal.use_room(batch.records.len() as u64);
-    journal.hand_over(&mut batch);
+    journal.write_first(batch);
     tables.queues.jumps().note(now, uncounted);
     Ok(())
 }

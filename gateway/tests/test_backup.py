@@ -3,7 +3,6 @@
 from __future__ import annotations
 
 import itertools
-import shutil
 import subprocess
 import threading
 import time
@@ -28,7 +27,7 @@ def kept_of(copy: Path) -> list[str]:
 def test_a_copy_of_a_gateway_that_writes_is_good(tmp_path):
     """Queues come and go all the while, so that segments are written anew under the copies."""
     journal = tmp_path / "journal"
-    gateway = Started("--journal", str(journal), "--journal-size", "8MiB", "--no-pauses")
+    gateway = Started("--journal", str(journal), "--journal-size", "1MiB", "--no-pauses")
     call = ByJson(gateway.url)
     call("CreateQueue", QueueName="kept.fifo", Attributes=FIFO)
     for place in range(3):
@@ -93,49 +92,6 @@ def test_a_copy_needs_a_free_name_and_a_journal(tmp_path):
     assert none.returncode == 1 and "there is no journal" in none.stderr
     assert list(tmp_path.glob("other*")) == []
     assert gateway.stop() == 0
-
-
-def test_a_copy_that_lacks_what_a_segment_rests_on_is_found(tmp_path):
-    """The last segment is copied first, and the one before it when it was written anew since."""
-    journal, copy = tmp_path / "journal", tmp_path / "copy"
-    gateway = Started("--journal", str(journal), "--journal-size", "1MiB", "--no-pauses")
-    call = ByJson(gateway.url)
-
-    def fill(name: str) -> None:
-        call("CreateQueue", QueueName=name, Attributes=FIFO)
-        try:
-            for place in range(100):
-                call("SendMessage", QueueUrl=name, MessageBody="x" * 30_000, MessageGroupId="g",
-                     MessageDeduplicationId=str(place))
-        except Refused as refused:
-            assert refused.code == "OverLimit"
-
-    def wait_for(what) -> None:
-        latest = time.monotonic() + 20
-        while not what():
-            assert time.monotonic() < latest
-            time.sleep(0.02)
-
-    call("CreateQueue", QueueName="kept.fifo", Attributes=FIFO)
-    call("SendMessage", QueueUrl="kept.fifo", MessageBody="b", MessageGroupId="g", MessageDeduplicationId="d")
-    for place in range(12):
-        call("SendMessage", QueueUrl="kept.fifo", MessageBody="x" * 30_000, MessageGroupId=str(place),
-             MessageDeduplicationId=str(place))
-    fill("first.fifo")
-    call("DeleteQueue", QueueUrl="first.fifo")
-    wait_for(lambda: journal.with_name("journal.2").exists())
-    wait_for(lambda: b"first.fifo" not in journal.with_name("journal.1").read_bytes())
-    shutil.copy(journal.with_name("journal.2"), copy.with_name("copy.2"))
-    fill("second.fifo")
-    call("DeleteQueue", QueueUrl="kept.fifo")
-    wait_for(lambda: b"kept.fifo" not in b"".join(
-        segment.read_bytes() for segment in tmp_path.glob("journal.[12]")))
-    assert gateway.stop() == 0
-    for segment in tmp_path.glob("journal.1"):
-        shutil.copy(segment, copy.with_name("copy.1"))
-    for action in (["verify", str(copy)], ["--port", "0", "--journal", str(copy)]):
-        told = run(*action)
-        assert told.returncode == 1 and "this is a copy that lacks something" in told.stderr, told.stderr
 
 
 def test_what_a_kill_left_half_made_goes_at_the_next_start(tmp_path):

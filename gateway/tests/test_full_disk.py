@@ -18,6 +18,7 @@ from steered import SteeredCq
 from test_full import WINDOW, Filled
 
 FIFO = {"FifoQueue": "true"}
+DAY = 24 * 3_600_000
 
 
 @pytest.fixture
@@ -44,6 +45,11 @@ def fill(disk: Path) -> Path:
                 pass
     assert os.statvfs(disk).f_bavail == 0
     return filler
+
+
+def visible(call, queue: str) -> int:
+    told = call("GetQueueAttributes", QueueUrl=queue, AttributeNames=["All"])["Attributes"]
+    return int(told["ApproximateNumberOfMessages"])
 
 
 def policy(target: str) -> str:
@@ -111,7 +117,37 @@ def test_a_start_is_possible_where_nothing_can_be_written(tmp_path, disk):
     assert gateway.stop() == 0
 
 
-def test_a_task_that_moves_messages_leaves_nothing_hidden_on_a_full_disk(tmp_path, disk):
+def test_a_start_far_ahead_is_noted_as_soon_as_there_is_space(tmp_path, disk):
+    """A week of the time that the gateway wasn't there makes no message older, also after the next start."""
+    journal = disk / "journal"
+    gateway = Started("--journal", str(journal), room=tmp_path)
+    call = ByJson(gateway.url)
+    call("CreateQueue", QueueName="q.fifo", Attributes=FIFO)
+    call("SendMessage", QueueUrl="q.fifo", MessageBody="old", MessageGroupId="g", MessageDeduplicationId="old")
+    gateway.kill()
+    segment = journal.with_name("journal.1")
+    os.truncate(segment, end(segment))
+    filler = fill(disk)
+    gateway.set_clock(gateway.moment + 8 * DAY)
+    gateway.start()
+    filler.unlink()
+    latest = time.monotonic() + 20
+    while True:
+        try:
+            ByJson(gateway.url)("SendMessage", QueueUrl="q.fifo", MessageBody="new", MessageGroupId="g",
+                                MessageDeduplicationId="new")
+            break
+        except Refused as refused:
+            assert refused.code == "OverLimit" and time.monotonic() < latest
+            time.sleep(0.05)
+    gateway.kill()
+    gateway.start()
+    messages = ByJson(gateway.url)("ReceiveMessage", QueueUrl="q.fifo", MaxNumberOfMessages=10)["Messages"]
+    assert [message["Body"] for message in messages] == ["old", "new"]
+    assert gateway.stop() == 0
+
+
+def test_a_start_is_possible_while_a_task_moves_messages_on_a_full_disk(tmp_path, disk):
     gateway = Started("--journal", str(disk / "journal"), room=tmp_path)
     call = ByJson(gateway.url)
     call("CreateQueue", QueueName="dead.fifo", Attributes=FIFO)
@@ -133,8 +169,11 @@ def test_a_task_that_moves_messages_leaves_nothing_hidden_on_a_full_disk(tmp_pat
         gateway.kill()
         gateway.start()
         call = ByJson(gateway.url)
-        told = call("GetQueueAttributes", QueueUrl="dead.fifo", AttributeNames=["All"])["Attributes"]
-        assert told["ApproximateNumberOfMessagesNotVisible"] == "0"
+    # None is hidden for longer than it takes to move it.
+    latest = time.monotonic() + 20
+    while sum(visible(call, queue) for queue in ("dead.fifo", "q.fifo")) != 50:
+        assert time.monotonic() < latest
+        time.sleep(0.05)
     assert gateway.stop() == 0
 
 

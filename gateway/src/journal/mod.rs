@@ -53,6 +53,11 @@ impl Batch {
         }
     }
 
+    /// What was promised to its records: each may be a commit by itself.
+    fn promised(&self) -> u64 {
+        self.records.len() as u64 + self.count * frame::HEAD as u64
+    }
+
     fn is_empty(&self) -> bool {
         self.records.is_empty() && self.finished.is_empty()
     }
@@ -78,6 +83,8 @@ const LAST_PART: i64 = 4 << 20;
 struct Shared {
     files: Files,
     waiting: Mutex<Waiting>,
+    /// What is written before all that waits, as soon as there is space.
+    first: Mutex<Option<Batch>>,
     more: Condvar,
     /// Told when the thread has ended well.
     ended: Notify,
@@ -123,8 +130,8 @@ struct Rewriting {
 struct Waiting {
     batch: Batch,
     wants_room: bool,
-    /// Segments may be written anew again.
-    may_rewrite: bool,
+    /// There may be something to do beside what waits.
+    looks_again: bool,
     is_closed: bool,
 }
 
@@ -165,6 +172,7 @@ impl Taken {
         let shared = Shared {
             files: self.files,
             waiting: Mutex::default(),
+            first: Mutex::default(),
             more: Condvar::new(),
             ended: Notify::new(),
             room: AtomicI64::new(log.room() as i64),
@@ -252,6 +260,17 @@ impl Journal {
         waiting.batch.finished.append(&mut batch.finished);
         batch.records.clear();
         batch.count = 0;
+        self.0.more.notify_one();
+    }
+
+    /// Has records written before all that are handed over from now on, as soon as there is space for them. Until then
+    /// there is none for others.
+    pub fn write_first(&self, batch: Batch) {
+        let promised = batch.promised();
+        self.0.promised.fetch_add(promised, Ordering::Relaxed);
+        self.0.room.fetch_sub(promised as i64, Ordering::Relaxed);
+        *locked(&self.0.first) = Some(batch);
+        self.waiting().looks_again = true;
         self.0.more.notify_one();
     }
 

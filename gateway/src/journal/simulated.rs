@@ -12,7 +12,7 @@ use rand::{Rng, SeedableRng};
 use super::disk::{Folder, Segment};
 use super::log::{Log, Sizes};
 use super::record::Record;
-use super::segments::{frames, rewrite, Scanned};
+use super::segments::{frames, rewrite, scan_all, JournalError, Scanned};
 use crate::queues::ask::{Change, StoreName};
 use crate::queues::shards::Shards;
 
@@ -395,7 +395,7 @@ impl Run {
                     self.log = Some(opened);
                     break;
                 }
-                Err(super::JournalError::Io(_)) if !is_last => {
+                Err(JournalError::Io(_)) if !is_last => {
                     if self.random.gen_bool(0.5) {
                         self.disk.power_off();
                     }
@@ -595,4 +595,22 @@ fn a_full_disk_gets_no_record_into_a_segment_that_older_gateways_read() {
         assert_eq!(Model::read(&disk, &scanned).texts, BTreeSet::from([(1, 1), (1, 2)]));
         assert_eq!(scanned.spans.iter().map(|span| span.head.version).collect::<Vec<_>>(), [2, 3]);
     }
+}
+
+/// A copy has the last segment as it was before a removal, and the one before it as it was written anew since.
+#[test]
+fn a_copy_that_lacks_what_a_segment_rests_on_is_found() {
+    let disk = Disk::new(1);
+    let (mut log, _) = Log::open(Arc::new(disk.clone()), SIZES, Shards::ONE).unwrap();
+    log.commit(&[Act::Send(1, 1).line(), Act::Send(2, 2).line()].concat()).unwrap();
+    let closed = log.close(log.piece()).unwrap().unwrap();
+    log.commit(&Act::Send(2, 3).line()).unwrap();
+    let early = disk.read(2).unwrap();
+    log.commit(&Act::Remove(1).line()).unwrap();
+    let (removed, rests_on) = ([StoreName(1)].into(), log.active().last);
+    rewrite(&disk, &[closed], &removed, rests_on, 3000).unwrap().unwrap().publish(&disk).unwrap();
+    assert_eq!(scan_all(&disk).unwrap().spans[0].head.rests_on, rests_on);
+    let place = disk.state().names[&2];
+    disk.state().files[place].cache = early;
+    assert!(matches!(scan_all(&disk), Err(JournalError::Lacking { segment: 1, needed, .. }) if needed == rests_on));
 }

@@ -45,7 +45,7 @@ pub fn start(log: Log<Files>, journal: Journal, failed: fn(&str)) -> Result<(), 
 /// What there is to do next.
 enum Next {
     Grow,
-    Rewrite,
+    LookAgain,
     Write(Batch),
     Quiet,
     Close(Batch),
@@ -55,25 +55,27 @@ fn keep_writing(mut log: Log<Files>, journal: &Journal, failed: fn(&str)) -> Res
     let mut is_quiet = true;
     loop {
         rewrite_aside(&mut log, journal, failed)?;
+        write_first(&mut log, journal)?;
         match wait(journal, is_quiet) {
             Next::Grow => grow(&mut log, journal)?,
-            Next::Rewrite => {}
+            Next::LookAgain => {}
             Next::Write(mut batch) => {
-                is_quiet &= batch.records.is_empty();
-                if batch.records.is_empty() || commit(&mut log, journal, &batch)? {
-                    batch.tell();
+                if !batch.records.is_empty() {
+                    commit(&mut log, journal, &batch)?;
+                    is_quiet = false;
                 }
+                batch.tell();
             }
             Next::Quiet => {
                 commit_nothing(&mut log, journal)?;
                 is_quiet = true;
             }
             Next::Close(mut batch) => {
-                let is_written = batch.records.is_empty() || commit(&mut log, journal, &batch)?;
-                commit_nothing(&mut log, journal)?;
-                if is_written {
-                    batch.tell();
+                if !batch.records.is_empty() {
+                    commit(&mut log, journal, &batch)?;
                 }
+                commit_nothing(&mut log, journal)?;
+                batch.tell();
                 journal.0.ended.notify_one();
                 return Ok(());
             }
@@ -91,8 +93,8 @@ fn wait(journal: &Journal, is_quiet: bool) -> Next {
         if std::mem::take(&mut waiting.wants_room) {
             return Next::Grow;
         }
-        if std::mem::take(&mut waiting.may_rewrite) {
-            return Next::Rewrite;
+        if std::mem::take(&mut waiting.looks_again) {
+            return Next::LookAgain;
         }
         if !waiting.batch.is_empty() {
             return Next::Write(std::mem::take(&mut waiting.batch));
@@ -110,11 +112,7 @@ fn wait(journal: &Journal, is_quiet: bool) -> Next {
     }
 }
 
-/// Writes records. False if the journal was closed before there was space for them.
-fn commit(log: &mut Log<Files>, journal: &Journal, batch: &Batch) -> Result<bool, JournalError> {
-    if !wait_for_room(log, journal, batch)? {
-        return Ok(false);
-    }
+fn commit(log: &mut Log<Files>, journal: &Journal, batch: &Batch) -> Result<(), JournalError> {
     let shared = &journal.0;
     let before = log.room();
     let mut rest = batch.records.as_slice();
@@ -129,7 +127,7 @@ fn commit(log: &mut Log<Files>, journal: &Journal, batch: &Batch) -> Result<bool
     }
     let taken = before - log.room();
     // What was promised for the records is taken back, and what they took is counted instead.
-    let promised = batch.records.len() as u64 + batch.count * super::frame::HEAD as u64;
+    let promised = batch.promised();
     shared.room.fetch_add(promised as i64 - taken as i64, Ordering::Relaxed);
     shared.bytes.fetch_add(taken, Ordering::Relaxed);
     shared.promised.fetch_sub(promised, Ordering::Relaxed);
@@ -149,24 +147,20 @@ fn commit(log: &mut Log<Files>, journal: &Journal, batch: &Batch) -> Result<bool
     if log.is_long() {
         begin_segment(log, journal)?;
     }
-    Ok(true)
+    Ok(())
 }
 
-/// Waits until the disk has space for the records. What a start notes of itself has none set aside; nothing else waits
-/// here. False if the journal is closed before.
-fn wait_for_room(log: &mut Log<Files>, journal: &Journal, batch: &Batch) -> Result<bool, JournalError> {
-    let bytes = batch.records.len() as u64 + batch.count * super::frame::HEAD as u64;
-    while log.room() < bytes {
-        grow(log, journal)?;
-        if log.room() >= bytes {
-            break;
+/// Writes what the start noted, as soon as there is space for it.
+fn write_first(log: &mut Log<Files>, journal: &Journal) -> Result<(), JournalError> {
+    let first = locked(&journal.0.first).take();
+    match first {
+        Some(batch) if log.room() < batch.promised() => {
+            *locked(&journal.0.first) = Some(batch);
+            Ok(())
         }
-        if journal.waiting().is_closed {
-            return Ok(false);
-        }
-        std::thread::sleep(QUIET);
+        Some(batch) => commit(log, journal, &batch),
+        None => Ok(()),
     }
-    Ok(true)
 }
 
 /// How many bytes of these lines go into one commit: whole lines of `most` bytes in all, or one that is longer.
@@ -256,7 +250,7 @@ fn commit_nothing(log: &mut Log<Files>, journal: &Journal) -> Result<(), Journal
     if log.room() < super::frame::HEAD as u64 {
         return Ok(());
     }
-    commit(log, journal, &Batch::default()).map(drop)
+    commit(log, journal, &Batch::default())
 }
 
 /// Allocates space, or finds that there is none.
@@ -311,7 +305,7 @@ fn rewrite_aside(log: &mut Log<Files>, journal: &Journal, failed: fn(&str)) -> R
         rewriting.has_failed = !is_done;
         rewriting.next = Some(Instant::now() + REST.max(REST_SHARE * took));
         drop(rewriting);
-        journal.waiting().may_rewrite = true;
+        journal.waiting().looks_again = true;
         journal.0.more.notify_one();
     })?;
     Ok(())
