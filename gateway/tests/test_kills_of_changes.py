@@ -241,7 +241,7 @@ def run(gateway: Started, clients: list[Client], chance: random.Random) -> int:
 def test_what_was_told_of_queues_and_messages_outlives_kills(tmp_path):
     print(f"seed {SEED}")
     chance = random.Random(SEED)
-    gateway = Started("--journal", str(tmp_path / "journal"), "--journal-size", "6MiB", "--shards", "2", "--no-pauses",
+    gateway = Started("--journal", str(tmp_path / "journal"), "--journal-size", "3MiB", "--shards", "2", "--no-pauses",
                       room=tmp_path)
     clients = [Client(number, gateway) for number in range(CLIENTS)]
     done = drains = 0
