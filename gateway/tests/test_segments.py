@@ -329,11 +329,11 @@ def test_tags_leave_the_last_part_of_a_full_disk_to_purges(tmp_path):
         for name in ("a", "b"):
             call("SendMessage", QueueUrl="q.fifo", MessageBody=name, MessageGroupId=name, MessageDeduplicationId=name)
         call("ReceiveMessage", QueueUrl="q.fifo")
-        tags = {f"{place}" + "é" * 100: "é" * 256 for place in range(50)}
+        tags = [{f"{place}" + "é" * 100: value * 256 for place in range(50)} for value in "éü"]
         with pytest.raises(Refused, match="ServiceUnavailable 503"):
-            for _ in range(1000):
-                call("TagQueue", QueueUrl="q.fifo", Tags=tags)
-        call("UntagQueue", QueueUrl="q.fifo", TagKeys=list(tags))
+            for turn in range(1000):
+                call("TagQueue", QueueUrl="q.fifo", Tags=tags[turn % 2])
+        call("UntagQueue", QueueUrl="q.fifo", TagKeys=list(tags[0]))
         call("PurgeQueue", QueueUrl="q.fifo")
         gateway.kill()
         gateway.start()
