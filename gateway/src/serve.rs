@@ -10,6 +10,7 @@ use anyhow::{anyhow, bail, Context, Result};
 use tokio::net::TcpListener;
 use tokio::signal::unix::{signal, Signal, SignalKind};
 use tokio::sync::oneshot;
+use tokio::task::JoinHandle;
 
 use crate::access::Keys;
 use crate::actions::{Actions, Owner, Pauses};
@@ -81,16 +82,14 @@ const LAST_ANSWERS: Duration = Duration::from_secs(8);
 pub async fn serve(settings: Settings) -> Result<()> {
     let mut signals = Signals::new()?;
     let settings = Arc::new(settings);
-    // The start may take long without a pause.
-    let mut starting = tokio::spawn(start(settings.clone()));
+    // Both parts of the start may take long without a pause.
     let wants_reading = Cell::new(false);
-    let started = tokio::select! {
-        started = &mut starting => started??,
-        () = signals.wait_for_end(|| wants_reading.set(true)) => {
-            tracing::info!("ending before anybody was served");
-            return Ok(());
-        }
-    };
+    let preparing = tokio::spawn(prepare(settings.clone()));
+    let Some(prepared) = unless_ended(preparing, &mut signals, &wants_reading).await? else { return Ok(()) };
+    // The system ends a program with the thread that started it, and this one is there to the end.
+    let cqs = Cq::start_all(&settings.program, settings.shards.count(), settings.cq_timeout)?;
+    let starting = tokio::spawn(start(settings.clone(), prepared, cqs));
+    let Some(started) = unless_ended(starting, &mut signals, &wants_reading).await? else { return Ok(()) };
     if wants_reading.get() {
         Entrance::read_again(&started.entrance.keys, &started.entrance.certificate);
     }
@@ -102,6 +101,28 @@ pub async fn serve(settings: Settings) -> Result<()> {
     served
 }
 
+/// What a part of the start came to; nothing if a signal ended it.
+async fn unless_ended<T>(
+    part: JoinHandle<Result<T>>,
+    signals: &mut Signals,
+    wants_reading: &Cell<bool>,
+) -> Result<Option<T>> {
+    tokio::select! {
+        done = part => Ok(Some(done??)),
+        () = signals.wait_for_end(|| wants_reading.set(true)) => {
+            tracing::info!("ending before anybody was served");
+            Ok(None)
+        }
+    }
+}
+
+/// What is there before the programs are.
+struct Prepared {
+    entrance: Entrance,
+    places: Places,
+    admin: Arc<Admin>,
+}
+
 /// What is there when the journal is replayed.
 struct Started {
     entrance: Entrance,
@@ -110,7 +131,7 @@ struct Started {
     begun: Begun,
 }
 
-async fn start(settings: Arc<Settings>) -> Result<Started> {
+async fn prepare(settings: Arc<Settings>) -> Result<Prepared> {
     let entrance = Entrance::of(&settings)?;
     let places = Places::for_connections(settings.connections)?;
     test_built(&settings.program).await?;
@@ -125,7 +146,12 @@ async fn start(settings: Arc<Settings>) -> Result<Started> {
         let listener = listen_for_operators(address)?;
         tokio::spawn(admin.clone().serve(listener, places.operators));
     }
-    let begun = begin(&settings, &admin.health).await?;
+    Ok(Prepared { entrance, places, admin })
+}
+
+async fn start(settings: Arc<Settings>, prepared: Prepared, cqs: Vec<Cq>) -> Result<Started> {
+    let Prepared { entrance, places, admin } = prepared;
+    let begun = begin(&settings, &admin.health, cqs).await?;
     // Only one store is ever set.
     let _ = admin.store.set(begun.store.clone());
     tokio::spawn(retention::keep_sweeping(begun.store.clone()));
@@ -195,8 +221,8 @@ struct Begun {
     journal: Option<Journal>,
 }
 
-/// Starts the program, and brings it to where the journal is.
-async fn begin(settings: &Settings, health: &Health) -> Result<Begun> {
+/// Brings the programs to where the journal is.
+async fn begin(settings: &Settings, health: &Health, mut cqs: Vec<Cq>) -> Result<Begun> {
     let clock = Arc::new(match &settings.clock_file {
         Some(path) => Clock::of_file(path),
         None => Clock::new(),
@@ -204,7 +230,6 @@ async fn begin(settings: &Settings, health: &Health) -> Result<Begun> {
     let queues = Arc::new(Queues::default());
     let taken = take_journal(settings).await?;
     let shards = settings.shards;
-    let mut cqs = Cq::start_all(&settings.program, shards.count(), settings.cq_timeout)?;
     let (journal, replayed) = match taken {
         Some(taken) => {
             let opened = taken.open(shards)?;
