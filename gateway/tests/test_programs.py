@@ -103,15 +103,15 @@ def test_a_program_that_answers_no_more_is_started_anew(tmp_path, stand_in, what
 
 
 def test_without_a_journal_a_program_that_hangs_ends_the_gateway(stand_in):
-    gateway = Started("--cq", str(stand_in.path), "--cq-timeout", "1")
+    gateway = Started("--cq", str(stand_in.path), "--cq-timeout", "3")
     stand_in.tell("hang")
     with pytest.raises((OSError, Refused)):
         ByJson(gateway.url)("CreateQueue", QueueName="q.fifo", Attributes=FIFO)
     assert gateway.process.wait(20) == 1
 
 
-@pytest.mark.parametrize("what, said", [("garbage 3", "can't be read"), ("hang 1", "it didn't answer for 1 s"),
-                                        ("hang 3", "it didn't answer for 1 s"), ("close 1", "went on")])
+@pytest.mark.parametrize("what, said", [("garbage 3", "can't be read"), ("hang 1", "it didn't answer for 3 s"),
+                                        ("hang 3", "it didn't answer for 3 s"), ("close 1", "went on")])
 def test_a_start_with_such_a_program_ends_and_says_why(tmp_path, stand_in, what, said):
     """The journal has two records, so the third answer is the one behind them."""
     journal = ["--journal", str(tmp_path / "journal")]
@@ -121,7 +121,7 @@ def test_a_start_with_such_a_program_ends_and_says_why(tmp_path, stand_in, what,
     send(call, 1)
     assert gateway.stop() == 0
     stand_in.tell(what)
-    words = command("serve", "--port", "0", "--cq", str(stand_in.path), "--cq-timeout", "1", *journal)
+    words = command("serve", "--port", "0", "--cq", str(stand_in.path), "--cq-timeout", "3", *journal)
     ended = subprocess.run(words, env=environment(), capture_output=True, text=True, timeout=60)
     assert ended.returncode == 1 and said in ended.stderr.splitlines()[-1]
 
