@@ -83,6 +83,7 @@ def try_requests(gateway: Started) -> None:
     """Sends that wait for cq, whose clients wait or have gone, and answers that nobody reads."""
     call = ByJson(gateway.url)
     call("CreateQueue", QueueName="q", Attributes={"VisibilityTimeout": "0"})
+    call("CreateQueue", QueueName="small.fifo", Attributes=FIFO)
     (cq,) = children(gateway)
     send = json.dumps({"QueueUrl": "q", "MessageBody": "x" * MEBIBYTE}).encode()
     os.kill(cq, signal.SIGSTOP)
@@ -94,10 +95,13 @@ def try_requests(gateway: Started) -> None:
     finally:
         os.kill(cq, signal.SIGCONT)
     answered = [status_of(connection) for connection in first[:15] + later]
-    assert set(answered) == {200, 503} and answered.count(503) > 200
+    assert {200, 503} <= set(answered) <= {200, 403, 503} and answered.count(503) > 100
+    # The memory of messages may be full now.
+    call("PurgeQueue", QueueUrl="q")
+    for _ in range(10):
+        call("SendMessage", QueueUrl="q", MessageBody="x" * MEBIBYTE)
     unread = at_once([lambda: begin(gateway, "ReceiveMessage", b'{"QueueUrl":"q","MaxNumberOfMessages":10}')] * 100)
     # Small ones are served meanwhile.
-    call("CreateQueue", QueueName="small.fifo", Attributes=FIFO)
     call("SendMessage", QueueUrl="small.fifo", MessageBody="b", MessageGroupId="g", MessageDeduplicationId="d")
     assert call("ReceiveMessage", QueueUrl="small.fifo")["Messages"]
     statuses = [status_of(connection) for connection in unread]
