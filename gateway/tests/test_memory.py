@@ -5,8 +5,10 @@ from __future__ import annotations
 import json
 import os
 import re
+import select
 import signal
 import socket
+import subprocess
 import threading
 from collections.abc import Callable
 from pathlib import Path
@@ -14,7 +16,7 @@ from typing import Any
 
 import pytest
 
-from started import TOP, ByJson, Refused, Started, children, post
+from started import TOP, ByJson, Refused, Started, children, command, environment, post
 from test_operations import admin_url, get, metric
 
 MEBIBYTE = 1 << 20
@@ -241,15 +243,44 @@ def try_polls(gateway: Started) -> None:
     assert statuses.count(200) == 40 and statuses.count(503) == 60
 
 
+def try_operators(gateway: Started) -> None:
+    address, port = admin_url(gateway).removeprefix("http://").rsplit(":", 1)
+    head = b"GET /health HTTP/1.1\r\nHost: localhost\r\nX: " + b"x" * 30_000
+    idle = [socket.create_connection((address, int(port)), timeout=60) for _ in range(200)]
+    for connection in idle:
+        connection.sendall(head)
+    waiting = socket.create_connection((address, int(port)), timeout=60)
+    waiting.sendall(b"GET /health HTTP/1.1\r\nHost: localhost\r\n\r\n")
+    assert select.select([waiting], [], [], 0.3)[0] == []
+    for connection in idle:
+        connection.close()
+    assert status_of(waiting) == 200
+
+
+def try_log(gateway: Started) -> None:
+    words = command("serve", "--port", "0", "--admin", "0", "--log-level", "debug")
+    unread = subprocess.Popen(words, env=environment(), stdout=subprocess.PIPE, stderr=subprocess.PIPE, text=True)
+    try:
+        admin = unread.stdout.readline().split()[-1]
+        call = ByJson(unread.stdout.readline().split()[-1])
+        for _ in range(3_000):
+            with pytest.raises(Refused):
+                call("PurgeQueue", QueueUrl="none")
+        assert metric(get(admin + "/metrics")[1], "hobbychair_log_lines_lost_total") > 500
+    finally:
+        unread.kill()
+        unread.wait()
+
+
 TRIES = [try_requests, try_head, try_body, try_values, try_lists, try_message, try_queue, try_tables, try_refusals,
-         try_repeats, try_connections, try_polls]
+         try_repeats, try_connections, try_polls, try_operators, try_log]
 
 
 def test_each_row_has_its_try():
     assert len(rows()) == len(TRIES)
     assert all(any(word in row for word in words.split("_")[1:]) for row, words in zip(rows(), (
         "_all requests", "_head", "_body", "_values", "_list", "_message with", "_Policy", "_attempts", "_refusal", "_repeats",
-        "_connections", "_long polls")))
+        "_connections", "_long polls", "_operators", "_log")))
 
 
 @pytest.mark.parametrize("attack", TRIES, ids=lambda one: one.__name__.removeprefix("try_"))
