@@ -78,7 +78,7 @@ impl Letters {
 
     /// Hands out letters of the group, until there are so many.
     fn hand_of(&mut self, group: usize, most: usize, handed: &mut Vec<Handed>) -> io::Result<()> {
-        while handed.len() < most {
+        for _ in handed.len()..most {
             match self.take_oldest(group) {
                 Some(one) => handed.push(one)?,
                 None => return Ok(()),
@@ -90,10 +90,13 @@ impl Letters {
     /// Hands out up to so many: those of the group whose oldest letter is the oldest one, and then those of the next group.
     pub fn hand(&mut self, alloc: Global, most: usize) -> io::Result<Vec<Handed>> {
         let mut handed = Vec::new(alloc);
-        while handed.len() < most {
+        for _ in 0..most {
+            if handed.len() >= most {
+                break;
+            }
             match self.by_oldest.pop_first() {
                 Some((_, group)) => self.hand_of(group, most, &mut handed)?,
-                None => return Ok(handed),
+                None => break,
             }
         }
         Ok(handed)
