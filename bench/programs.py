@@ -5,9 +5,10 @@ import sys
 TOP = os.path.dirname(os.path.dirname(os.path.abspath(__file__)))
 
 
-def built(crate):
+def built(crate, top=TOP):
     """The program of the crate, as it was last proved and built. Where there is none, says what to type, and ends."""
-    program = f"{TOP}/crates/{crate}/out/{crate}"
+    folder = f"{top}/crates/{crate}"
+    program = f"{folder}/out/{crate}"
     if not os.access(program, os.X_OK):
-        sys.exit(f"crates/{crate} isn't built. To prove and build it: (cd crates/{crate} && rt run)")
+        sys.exit(f"{program} isn't built. To prove and build it: (cd {folder} && rt run)")
     return program
