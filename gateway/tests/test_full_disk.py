@@ -214,10 +214,13 @@ def test_what_changes_nothing_is_no_record(tmp_path):
         call("TagQueue", QueueUrl="q.fifo", Tags={"a": "1", "b": "2"})
         call("UntagQueue", QueueUrl="q.fifo", TagKeys=["c"])
         call("SetQueueAttributes", QueueUrl="q.fifo", Attributes={"VisibilityTimeout": "7"})
-    call("UntagQueue", QueueUrl="q.fifo", TagKeys=[f"key-{number}" for number in range(50_000)])
+    others = [f"{'k' * 100}-{number}" for number in range(50)]
+    call("UntagQueue", QueueUrl="q.fifo", TagKeys=others)
+    with pytest.raises(Refused):
+        call("UntagQueue", QueueUrl="q.fifo", TagKeys=[f"key-{number}" for number in range(50_000)])
     # An empty frame may have come.
     assert end(segment) < before + 500
-    call("UntagQueue", QueueUrl="q.fifo", TagKeys=["a", *(f"key-{number}" for number in range(1000))])
+    call("UntagQueue", QueueUrl="q.fifo", TagKeys=["a", *others[:49]])
     assert end(segment) < before + 1000
     gateway.kill()
     gateway.start()
