@@ -1,0 +1,87 @@
+-- The struct that is made has no bytes, so its calls are those that the clause names. Assumes `Logic`.
+use Rattle.std.proofs.Common.{List, [], ◌∷◌, ◌++◌, refl}
+use seplogic.Ra.Ura.{Ura}
+use mir.Syntax.{Fn}
+use mir.Val.{Val, vptr}
+use base.Logic.{SProp, ent}
+use prog.Memory.{Memory}
+use prog.Routine.{Routine}
+use prog.Wp.{Calls, Loops, WpFn, Tables}
+use contract.Monad.{Fun}
+use contract.Running.{tables, tables_of}
+use sound.WpLaws.{WpFn-mono}
+use types.Logic.{Logic}
+use types.Kit.{‵, raw, ◌⊛◌, prop, ◌$◌, ◌∵◌, !, qed, move, keep, drop, split, fsplit, fjoin, feq_l, regoal, suffices, done}
+use types.Part.{agg}
+use types.Run.{enter, returns, no_more}
+use types.ByLocal.{alloc_all, pass_all, free_all, look_at, sets}
+use denote.Exit.{yes}
+use denote.RattleType.{owns}
+use denote.Builtin.{RefOf}
+use denote.Signature.{plain, types_at, named_lft}
+use denote.Steps.{nothing}
+use denote.Triple.Clauses.{Clauses, Ended, closing}
+use denote.Triple.Entry.{alive}
+use denote.Triple.Spec.{Meets, triple_of}
+use denote.Triple.Table.{entered}
+use denote.Triple.Walked.{says, Stays, stay_dropped, walk_of, ends_at, walk_Meets, Goes-dropped}
+use Rattle.cq_disk.proofs.Walks.{unit_value, unit_made}
+use Rattle.cq_disk.specs.Noted.{event_of}
+use Rattle.cq_disk.specs.contracts.record.Record as Row
+use Rattle.cq_disk.specs.contracts.record.Call as CallRow
+use Rattle.cq_disk.specs.contracts.record.Record.and as contract_of
+use Rattle.cq_disk.specs.contracts.record.Record.and.Key.{name as #self}
+use Rattle.cq_disk.proofs.record.Record.and.Statement as stated
+use Rattle.cq_disk.proofs.record.Record.and.Code as code
+
+abbrev body : Fn
+body = code.function
+
+abbrev shape : Ended
+shape = contract_of.ended
+
+abbrev stayed : Stays shape.signature.params shape.kept
+stayed = (stay_dropped _ yes, (stay_dropped _ yes, tt))
+
+module _ {M : Type 1} {𝓤 : Ura M} (𝓛 : Logic 𝓤) (at_mem : Memory → SProp 𝓤) (run : Routine → Fun 𝓤) where
+  open 𝓛 use {H}
+
+  abbrev clauses : Clauses 𝓤 shape
+  clauses = contract_of.clauses 𝓛 at_mem run
+
+  module _ (C : Calls 𝓤 H) (Λ : Loops 𝓤 H) (z : (walk_of 𝓛 shape stayed clauses).Ghost) where
+    abbrev Post : Val → SProp 𝓤
+    Post = (walk_of 𝓛 shape stayed clauses).post z
+
+    walks : ent 𝓤 ((walk_of 𝓛 shape stayed clauses).pre z) (WpFn 𝓤 H C Λ body ((walk_of 𝓛 shape stayed clauses).args z) Post)
+    walks =
+        let given = z.0.3 in
+        let values = z.0.4 in
+        let so_far : Val = vptr given.0.ref_ptr.0 given.0.ref_ptr.1 in
+        let call : Val = vptr given.1.0.ref_ptr.0 given.1.0.ref_ptr.1 in
+        let made : (Row.the_row).Denot = record { calls = event_of given.1.0.now ∷ given.0.now.calls } in
+        qed 𝓛 ((raw (alive 𝓛 shape.signature z.0.0 z.0.1) ⊛ ‵ (owns (types_at shape.signature.params z.0.0) given values)) ∷ raw ((clauses z.0.0 given).requires z.1) ∷ []) ∵
+        keep ! (0 ∷ []) $ split ! $ move ! (1 ∷ []) $ fsplit ! $ fsplit ! $ feq_l ! (λ is₀. drop ! $ fsplit ! $ fsplit ! $ feq_l ! (λ is₁. drop ! $ drop ! $
+        regoal ! (λ (vs : List Val). prop (WpFn 𝓤 H C Λ body (vs ++ (values.1.0 ++ [])) Post)) is₀ refl $
+        regoal ! (λ (vs : List Val). prop (WpFn 𝓤 H C Λ body ((so_far ∷ []) ++ (vs ++ [])) Post)) is₁ refl $
+        enter ! C Λ body (so_far ∷ call ∷ []) Post $ alloc_all ! (λ l. pass_all ! refl ((tt, tt), ((tt, tt), tt)) $
+        sets ! (agg ! (no_more !)) refl (tt, tt) $
+        nothing ! $ unit_made ! $ fjoin ! $
+        returns ! (look_at ! 0 refl) $ free_all ! refl $
+        suffices ! _ (ends_at 𝓛 shape stayed clauses z unit_value made (tt, (tt, tt)) (tt, (tt, tt))) $ says ! refl $
+        nothing ! $ nothing ! $ fjoin ! $ nothing ! $ fjoin ! $ move ! (2 ∷ 0 ∷ 1 ∷ []) $ done !)))
+
+  meets : (𝓣 : Tables 𝓤 H) → Meets 𝓛 shape.signature (WpFn 𝓤 H 𝓣.C 𝓣.Λ body) (closing 𝓛 shape clauses)
+  meets 𝓣 =
+      walk_Meets 𝓛 shape stayed (
+        Goes-dropped 𝓛 3 (RefOf (0 ∷ []) tt (plain (λ _. Row.the_row)) (λ _. tt)) yes (λ κs x f. refl),
+        (Goes-dropped 𝓛 3 (RefOf (1 ∷ []) tt (plain (λ κs. CallRow.the_row (named_lft 3 2 tt κs))) (λ _. tt)) yes (λ κs x f. refl), tt),
+      ) clauses
+      (WpFn 𝓤 H 𝓣.C 𝓣.Λ body) (WpFn-mono 𝓤 H 𝓛.laws 𝓣 body) (walks 𝓣.C 𝓣.Λ)
+
+pub and_spec : {M : Type 1} → stated.statement M
+unfolding tables_of
+and_spec 𝓤 𝓛 𝓜 𝓡 wired =
+    let 𝓣 : Tables 𝓤 𝓛.H = tables_of 𝓤 𝓛.H 𝓜 (tables 𝓤 𝓛.H 𝓜 𝓡 𝓡.env) in
+    entered 𝓤 𝓛.H (triple_of 𝓛 shape.signature (closing 𝓛 shape (clauses 𝓛 𝓜.mem 𝓡.returns))) 𝓣.C 𝓣.Λ #self body
+    (code.unfolded 𝓤 𝓛.H 𝓜 𝓡 wired) (meets 𝓛 𝓜.mem 𝓡.returns 𝓣)

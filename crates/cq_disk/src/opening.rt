@@ -1,0 +1,100 @@
+//! Files of the operating system as devices.
+ghost use Rattle.std.specs.Prelude.{IfOk};
+ghost use Rattle.cq_disk.specs.Opened.{IsOpened};
+
+use crate::{Host, Modelled, Start, TornWrites};
+use std::fs::{self, File, OpenOptions, TryLockError};
+use std::io::{self, Write};
+use std::os::fd::AsRawFd;
+use std::os::unix::fs::{MetadataExt, OpenOptionsExt};
+use thiserror::Error;
+
+/// Why a file wasn't opened or made. Nothing in it was changed.
+#[derive(Clone, Copy, Debug, Error)]
+pub enum OpenFault {
+    /// It is open already, here or in another program.
+    #[error("the file is in use")]
+    Busy,
+    /// It is a folder, a link or a device, or has a second name.
+    #[error("it is not a regular file with one name")]
+    NotAFile,
+    #[error("{0}")]
+    Io(io::Error),
+}
+
+impl From<io::Error> for OpenFault {
+    fn from(error: io::Error) -> OpenFault {
+        OpenFault::Io(error)
+    }
+}
+
+/// Opens the file at a path. No other call opens it until the device is dropped, and its length stays what it is now.
+/// What is proved of the device holds for whatever bytes the file has, as `S` stands for them.
+pub fn open<S: Start>(
+    rt: &HostRuntime,
+    path: &str,
+    torn: TornWrites,
+    _start: S,
+) -> Result<Modelled<Host, S>, OpenFault>
+    ensures { IfOk result (IsOpened torn) }
+{
+    if !fs::symlink_metadata(rt, path)?.is_file() {
+        return Err(OpenFault::NotAFile);
+    }
+    let file = OpenOptions::new().read(true).write(true).open(rt, path)?;
+    let file = lock(rt, path, file)?;
+    let len = file.metadata()?.len() as usize;
+    Ok(Modelled::new(Host::new(file), len, torn))
+}
+
+/// Makes a file of so many zeros, which only its owner may read. Once this ends well, the zeros and the file's name
+/// are on the medium. A file that is there is left alone, and is an `Io` of the kind `AlreadyExists`.
+pub fn create(rt: &HostRuntime, path: &str, len: usize) -> Result<(), OpenFault> {
+    let file = OpenOptions::new()
+        .write(true)
+        .create_new(true)
+        .mode(0o600)
+        .open(rt, path)?;
+    let mut file = lock(rt, path, above_the_streams(file)?)?;
+    fill(&mut file, len)?;
+    file.sync_all()?;
+    let mut folder = fs::canonicalize(rt, path)?;
+    folder.pop();
+    fs::File::open(rt, folder.as_str())?.sync_all()?;
+    Ok(())
+}
+
+// What is meant for a standard stream that was closed must not land in the file.
+fn above_the_streams(file: File) -> io::Result<File> {
+    if file.as_raw_fd() <= 2 {
+        file.try_clone()
+    } else {
+        Ok(file)
+    }
+}
+
+// The lock is on the file itself, whatever its name. It is gone when the file is closed.
+fn lock(rt: &HostRuntime, path: &str, file: File) -> Result<File, OpenFault> {
+    let (found, named) = (file.metadata()?, fs::symlink_metadata(rt, path)?);
+    let is_named = found.dev() == named.dev() && found.ino() == named.ino();
+    if !is_named || !found.is_file() || found.nlink() != 1 {
+        return Err(OpenFault::NotAFile);
+    }
+    match file.try_lock() {
+        Ok(()) => Ok(file),
+        Err(TryLockError::WouldBlock) => Err(OpenFault::Busy),
+        Err(TryLockError::Error(error)) => Err(OpenFault::Io(error)),
+    }
+}
+
+const ZEROS: [u8; 65_536] = [0; 65_536];
+
+fn fill(file: &mut File, len: usize) -> io::Result<()> {
+    let mut left = len;
+    while left > 0 {
+        let many = left.min(ZEROS.len());
+        file.write_all(&ZEROS[..many])?;
+        left -= many;
+    }
+    Ok(())
+}
