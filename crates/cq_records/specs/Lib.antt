@@ -1,0 +1,10 @@
+pub mod Batch
+pub mod Batches
+pub mod Checksum
+pub mod Faults
+pub mod Frames
+pub mod Layout
+pub mod Logs
+pub mod Outcomes
+pub mod Rows
+pub mod within

@@ -1,0 +1,60 @@
+//! Reading the records of a log that a crash may have left.
+ghost use Rattle.std.specs.Prelude.{◌≡◌, ◌+◌, ◌<◌, ◌≤◌, ◌++◌, [], length, drop, map, vec_items, IsTrue, IfOk, IfSome, IsErrOf, MatchOption};
+ghost use Rattle.cq_disk.specs.Device.{LeavesOnly};
+ghost use Rattle.cq_records.specs.Frames.{frames, records, joined, BeginsWith, IsDamaged};
+
+use crate::frame::{HEAD_LENGTH, has_no_zero, read_head};
+use crate::{ReadFault, checksum};
+use cq_disk::Device;
+use std::alloc::Global;
+
+/// A record, and the place behind its frame.
+#[derive(Drop)]
+pub struct Found {
+    pub text: Vec<u8>,
+    pub behind: usize,
+}
+
+/// Reads the record that begins at this place. `None`: there is no whole one. It takes memory for this record alone.
+pub fn read_record<D: Device>(
+    alloc: Global,
+    device: &mut D,
+    at: usize,
+) -> Result<Option<Found>, ReadFault>
+    requires { at ≤ length (D.seen device.old) }
+
+    ensures found { IfOk result (λ found. IsTrue (D.is_honest device.new)
+        → MatchOption found (frames (drop at (D.seen device.old)) ≡ []) (λ it. BeginsWith it.text.items (drop at (D.seen device.old)))) }
+    ensures behind { IfOk result (λ found. IfSome found (λ it. (it.behind ≡ at + 9 + length it.text.items) × (it.behind ≤ length (D.seen device.old)))) }
+    ensures damaged { IsErrOf result ReadFault.Damaged → IsTrue (D.is_honest device.new) → IsDamaged (drop at (D.seen device.old)) }
+    ensures failed { IsErrOf result ReadFault.Failed → D.faults device.old < D.faults device.new }
+    ensures later { D.faults device.old ≤ D.faults device.new }
+
+    ensures seen { D.seen device.new ≡ D.seen device.old }
+    ensures honest { IsTrue (D.is_honest device.new) → IsTrue (D.is_honest device.old) }
+    ensures any_moment { LeavesOnly D.moment D.left_since device.old device.new (D.may_leave device.old) }
+    ensures keeps { D.keeps device.old device.new }
+{
+    let room = device.len() - at;
+    if room < HEAD_LENGTH {
+        return Ok(None);
+    }
+    let mut bytes = [0; HEAD_LENGTH];
+    device.read_at(at, &mut bytes)?;
+    let Some(head) = read_head(&bytes) else {
+        return Ok(None);
+    };
+    if head.text_length > room - HEAD_LENGTH {
+        return Ok(None);
+    }
+    let mut text = vec![in alloc; 0u8; head.text_length]?;
+    device.read_at(at + HEAD_LENGTH, &mut text)?;
+    if !has_no_zero(&text) {
+        return Ok(None);
+    }
+    if checksum(&text) as u64 != head.sum {
+        return Err(ReadFault::Damaged);
+    }
+    let behind = at + HEAD_LENGTH + text.len();
+    Ok(Some(Found { text, behind }))
+}
