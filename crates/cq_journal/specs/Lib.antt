@@ -1,0 +1,5 @@
+pub mod Found
+pub mod Numbers
+pub mod Root
+pub mod Roots
+pub mod within

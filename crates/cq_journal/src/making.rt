@@ -1,0 +1,42 @@
+//! How a root is made.
+ghost use Rattle.std.specs.Prelude.{◌≡◌, ◌+◌, ◌<◌, ◌≤◌, true, length, Some, IfOk};
+ghost use Rattle.cq_records.specs.Frames.{has_no_zero};
+ghost use Rattle.cq_journal.specs.Root.{root_half, root_device, IsRoot};
+ghost use Rattle.cq_journal.specs.Roots.{root_of, numbered};
+
+use crate::Root;
+use crate::root::batch_of;
+use cq_disk::{Device, Region};
+use cq_records::{Log, LogFault, blank};
+use std::alloc::Global;
+
+/// Makes a root of this text, in two halves of this length at the begin of a device. Whatever they have is lost.
+pub fn create<D: Device>(
+    alloc: Global,
+    device: D,
+    half: usize,
+    text: &[u8],
+) -> Result<Root<D>, LogFault>
+    requires room { half + half ≤ length (D.seen device) }
+    requires text { has_no_zero text.now ≡ true }
+    requires short { length text.now < 16581370 }
+    ensures root { IfOk result (λ root. IsRoot root) }
+    ensures half { IfOk result (λ root. root_half root ≡ half) }
+    ensures text { IfOk result (λ root. root_of half (D.seen (root_device root)) ≡ Some (numbered 1 text.now)) }
+{
+    let batch = batch_of(alloc, 1, text)?;
+    let mut device = device;
+    let _len = device.len();
+    device.sync()?;
+    let mut region = Region {
+        device,
+        start: half,
+        len: half,
+    };
+    blank(&mut region)?;
+    region.start = 0;
+    blank(&mut region)?;
+    let mut log = Log::new(region);
+    log.commit(&batch)?;
+    Ok(Root { log, number: 1 })
+}

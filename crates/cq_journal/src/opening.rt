@@ -1,0 +1,104 @@
+//! How a root is read.
+ghost use Rattle.std.specs.Prelude.{◌≡◌, ◌⊎◌, ◌+◌, ◌<◌, ◌≤◌, length, Some, None, IsTrue, IfOk, IfSome, MatchOption, IsErrOf};
+ghost use Rattle.cq_disk.specs.Device.{Only};
+ghost use Rattle.cq_journal.specs.Roots.{number_in, half_of};
+ghost use Rattle.cq_journal.specs.Found.{items_of, IsChosen, IsFound};
+
+use crate::number::read_number;
+use cq_disk::{Device, Region};
+use cq_records::{ReadFault, read_record};
+use std::alloc::Global;
+
+/// A root that was found in two halves: where the half in use begins, its number, and its record, which is the number
+/// and the text.
+#[derive(Drop)]
+pub struct Found {
+    pub start: usize,
+    pub number: u64,
+    pub bytes: Vec<u8>,
+}
+
+/// Reads the root that two halves have, of which the region is the first. `None`: neither has a record whose number
+/// is above 0. `Damaged`: both have the same number, or a record is damaged.
+pub fn read_root<D: Device>(
+    alloc: Global,
+    region: &mut Region<D>,
+) -> Result<Option<Found>, ReadFault>
+    requires start { region.old.start ≡ 0 }
+    requires room { region.old.len + region.old.len ≤ length (D.seen region.old.device) }
+
+    ensures found { IfOk result (λ found. IsTrue (D.is_honest region.new.device) → IsFound region.old.len (D.seen region.old.device) found) }
+    ensures start { IfOk result (λ found. IfSome found (λ it. (it.start ≡ 0) ⊎ (it.start ≡ region.old.len))) }
+    ensures place { IfOk result (λ _. (region.new.start ≡ 0) × (region.new.len ≡ region.old.len)) }
+    ensures seen { D.seen region.new.device ≡ D.seen region.old.device }
+    ensures durable { IfOk result (λ _. Only (D.seen region.new.device) (D.may_leave region.new.device)) }
+    ensures honest { IsTrue (D.is_honest region.new.device) → IsTrue (D.is_honest region.old.device) }
+    ensures failed { IsErrOf result ReadFault.Failed → D.faults region.old.device < D.faults region.new.device }
+{
+    let _len = region.device.len();
+    region.device.sync()?;
+    let first = read_half(alloc, region)?;
+    region.start = region.len;
+    let second = read_half(alloc, region)?;
+    region.start = 0;
+    choose(region.len, first, second)
+}
+
+/// The record of a half.
+fn read_half<D: Device>(alloc: Global, region: &mut Region<D>) -> Result<Option<Vec<u8>>, ReadFault>
+    ensures half { IfOk result (λ bytes. IsTrue (D.is_honest region.new.device)
+        → half_of region.old.start region.old.len (D.seen region.old.device) ≡ items_of bytes) }
+    ensures place { (region.new.start ≡ region.old.start) × (region.new.len ≡ region.old.len) }
+    ensures seen { D.seen region.new.device ≡ D.seen region.old.device }
+    ensures durable { Only (D.seen region.old.device) (D.may_leave region.old.device) → Only (D.seen region.new.device) (D.may_leave region.new.device) }
+    ensures honest { IsTrue (D.is_honest region.new.device) → IsTrue (D.is_honest region.old.device) }
+    ensures later { D.faults region.old.device ≤ D.faults region.new.device }
+    ensures failed { IsErrOf result ReadFault.Failed → D.faults region.old.device < D.faults region.new.device }
+{
+    let found = read_record(alloc, region, 0)?;
+    Ok(found.map(|it| it.text))
+}
+
+fn number_of_half(bytes: &Option<Vec<u8>>) -> u64
+    ensures { result ≡ number_in (items_of bytes.now) }
+{
+    match bytes {
+        Some(bytes) => read_number(bytes),
+        None => 0,
+    }
+}
+
+fn found_at(start: usize, number: u64, bytes: Option<Vec<u8>>) -> Option<Found>
+    ensures { MatchOption result (items_of bytes ≡ None) (λ it. (it.start ≡ start) × (it.number ≡ number) × (items_of bytes ≡ Some it.bytes.items)) }
+{
+    match bytes {
+        Some(bytes) => Some(Found {
+            start,
+            number,
+            bytes,
+        }),
+        None => None,
+    }
+}
+
+/// The half with the higher number.
+fn choose(
+    half: usize,
+    first: Option<Vec<u8>>,
+    second: Option<Vec<u8>>,
+) -> Result<Option<Found>, ReadFault>
+    ensures chosen { IfOk result (IsChosen half (items_of first) (items_of second)) }
+    ensures failed { IsErrOf result ReadFault.Failed → ⊥ }
+{
+    let (a, b) = (number_of_half(&first), number_of_half(&second));
+    if a == 0 && b == 0 {
+        return Ok(None);
+    }
+    if a == b {
+        return Err(ReadFault::Damaged);
+    }
+    if a < b {
+        return Ok(found_at(half, b, second));
+    }
+    Ok(found_at(0, a, first))
+}

@@ -1,0 +1,108 @@
+//! The root of a file: a text that is replaced as a whole.
+ghost use Rattle.std.specs.Prelude.{◌≡◌, ◌⊎◌, ◌+◌, ◌<◌, ◌≤◌, ◌^◌, [], ◌∷◌, true, length, drop, Some, IsTrue, IfOk, OnOk, IsErrOf};
+ghost use Rattle.cq_disk.specs.Device.{Only, LeavesOnly, HasCause};
+ghost use Rattle.cq_records.specs.Frames.{has_no_zero, records};
+ghost use Rattle.cq_records.specs.Batch.{batch_bytes};
+ghost use Rattle.cq_journal.specs.Roots.{root_of, numbered};
+
+use crate::number::push_number;
+use crate::{Found, NUMBER_LIMIT};
+use cq_disk::{Device, DeviceFault, Region};
+use cq_records::{Batch, Log, LogFault, blank};
+use std::alloc::{AllocError, Global};
+
+/// A root in the first bytes of a device: two halves of one length, of which one has the text. Each change is written
+/// into the other one, which is then in use.
+#[derive(Drop)]
+pub struct Root<D: Device> {
+    /// Over the half in use.
+    pub log: Log<Region<D>>,
+    pub number: u64,
+    ghost short: { log.device.len + log.device.len < 2 ^ 64 },
+}
+
+/// A batch of the record of this number and text.
+pub(crate) fn batch_of(alloc: Global, number: u64, text: &[u8]) -> Result<Batch, AllocError>
+    requires number { number < NUMBER_LIMIT }
+    requires text { has_no_zero text.now ≡ true }
+    requires short { length text.now < 16581370 }
+    ensures { IfOk result (λ batch. records (batch_bytes batch) ≡ numbered number text.now ∷ []) }
+{
+    let mut record = Vec::new(alloc);
+    push_number(&mut record, number)?;
+    record.extend_from_slice(text)?;
+    let mut batch = Batch::new(alloc);
+    batch.add(&record)?;
+    Ok(batch)
+}
+
+impl<D: Device> Root<D> {
+    ghost use Rattle.cq_journal.specs.Root.{root_half, root_device, root_number, IsRoot};
+    ghost use Rattle.cq_journal.specs.Found.{IsRootAt};
+    ghost use Rattle.cq_journal.specs.Roots.{IsOldOrNew, IsSameRoot};
+    ghost use Rattle.cq_journal.specs.within.Turns.{IsTurned};
+
+    /// The root that `read_root` found in two halves, of which the region is the first.
+    pub fn at(region: Region<D>, found: &Found) -> Root<D>
+        requires start { (found.now.start ≡ 0) ⊎ (found.now.start ≡ region.len) }
+        requires room { region.len + region.len ≤ length (D.seen region.device) }
+        requires durable { Only (D.seen region.device) (D.may_leave region.device) }
+        requires found { IsTrue (D.is_honest region.device) → IsRootAt region.len (D.seen region.device) found.now }
+        ensures root { IsRoot result }
+        ensures device { (root_device result ≡ region.device) × (root_half result ≡ region.len) × (root_number result ≡ found.now.number) }
+    {
+        let mut region = region;
+        let _len = region.device.len();
+        region.start = found.start;
+        Root {
+            log: Log {
+                device: region,
+                end: 0,
+            },
+            number: found.number,
+        }
+    }
+
+    /// Puts another text in the place of the root's. After `Ok` each crash leaves it; a crash at any moment of the
+    /// call leaves the old one or the new one. `Full`: it doesn't fit in a half, or there is no number left. After a
+    /// fault the root is to be opened anew.
+    pub fn put(&mut self, alloc: Global, text: &[u8]) -> Result<(), LogFault>
+        requires root { IsRoot self.old }
+        requires text { has_no_zero text.now ≡ true }
+        requires short { length text.now < 16581370 }
+
+        ensures root { OnOk result (IsRoot self.new) }
+        ensures text { OnOk result (IsTrue (D.is_honest (root_device self.new)) → root_of (root_half self.new) (D.seen (root_device self.new)) ≡ Some (numbered (root_number self.old + 1) text.now)) }
+        ensures any_moment { IsTrue (D.is_honest (root_device self.new)) → LeavesOnly D.moment D.left_since (root_device self.old) (root_device self.new)
+            (IsOldOrNew (root_half self.old) (D.seen (root_device self.old)) (numbered (root_number self.old + 1) text.now)) }
+        ensures keeps { D.keeps (root_device self.old) (root_device self.new) }
+        ensures honest { IsTrue (D.is_honest (root_device self.new)) → IsTrue (D.is_honest (root_device self.old)) }
+        ensures failed { IsErrOf result LogFault.Failed → D.faults (root_device self.old) < D.faults (root_device self.new) }
+    {
+        if self.number >= NUMBER_LIMIT - 1 {
+            return Err(LogFault::Full);
+        }
+        let batch = batch_of(alloc, self.number + 1, text)?;
+        self.turn()?;
+        self.log.commit(&batch)?;
+        self.number += 1;
+        Ok(())
+    }
+
+    /// Turns to the other half, and blanks it. The root is the same.
+    fn turn(&mut self) -> Result<(), DeviceFault>
+        requires { IsRoot self.old }
+
+        ensures turned { OnOk result (IsTurned self.old self.new) }
+        ensures any_moment { IsTrue (D.is_honest (root_device self.new)) → LeavesOnly D.moment D.left_since (root_device self.old) (root_device self.new)
+            (IsSameRoot (root_half self.old) (D.seen (root_device self.old))) }
+        ensures honest { IsTrue (D.is_honest (root_device self.new)) → IsTrue (D.is_honest (root_device self.old)) }
+        ensures keeps { D.keeps (root_device self.old) (root_device self.new) }
+        ensures cause { HasCause (D.faults (root_device self.old)) (D.faults (root_device self.new)) result }
+    {
+        self.log.device.start = self.log.device.len - self.log.device.start;
+        self.log.end = 0;
+        blank(&mut self.log.device)?;
+        Ok(())
+    }
+}
