@@ -1,20 +1,20 @@
-//! What operators are told, on an address of their own: `/health` and `/metrics`.
+//! What operators are told, on an address of their own: `/health`, `/metrics`, and messages where that was asked for.
 
 use std::convert::Infallible;
 use std::sync::atomic::{AtomicU64, AtomicU8, Ordering};
 use std::sync::{Arc, OnceLock};
 use std::time::Duration;
 
-use hyper::body::HttpBody;
-use hyper::header::{HeaderValue, CONTENT_TYPE};
+use hyper::header::{HeaderMap, HeaderValue, CONTENT_TYPE};
 use hyper::server::conn::Http;
 use hyper::service::service_fn;
-use hyper::{Body, Method, Request, Response, StatusCode};
+use hyper::{Body, Method, Request, Response, StatusCode, Uri};
 use tokio::net::TcpListener;
 use tokio::sync::Semaphore;
 
-use crate::http::{is_of_this_machine, Hosts, Progress, Watched, LONGEST_HEAD};
+use crate::http::{is_of_this_machine, Answer, Hosts, Progress, Watched, LONGEST_HEAD};
 use crate::metrics::{Counts, Metrics};
+use crate::peek::{self, Peeks};
 use crate::queues::ask::Outcome;
 use crate::store::Store;
 
@@ -64,12 +64,14 @@ impl Health {
     }
 }
 
-/// What the two paths tell of.
+/// What the paths tell of.
 pub struct Admin {
     pub health: Arc<Health>,
     pub metrics: Arc<Metrics>,
     /// The names by which operators of this machine reach it.
     pub hosts: Hosts,
+    /// Where messages may be looked at.
+    pub peeks: Option<Peeks>,
     /// There once the journal is replayed.
     pub store: OnceLock<Store>,
 }
@@ -96,7 +98,7 @@ impl Admin {
                         Err(error) if is_near => text(StatusCode::FORBIDDEN, format!("{error}\n")),
                         _ => admin.answer(&request).await,
                     };
-                    progress.answers(response.size_hint().lower());
+                    progress.answers(response.body().length());
                     Ok::<_, Infallible>(response)
                 }
             });
@@ -112,7 +114,7 @@ impl Admin {
         }
     }
 
-    async fn answer(&self, request: &Request<Body>) -> Response<Body> {
+    async fn answer(&self, request: &Request<Body>) -> Response<Answer> {
         if !matches!(*request.method(), Method::GET | Method::HEAD) {
             return text(StatusCode::METHOD_NOT_ALLOWED, "There is only GET here.\n".into());
         }
@@ -124,6 +126,7 @@ impl Admin {
                 (status, told) => text(status, told),
             },
             "/metrics" => self.answer_metrics().await,
+            path if path.starts_with(peek::PATH) => self.answer_peek(request.uri(), request.headers()).await,
             _ => text(StatusCode::NOT_FOUND, "There are /health and /metrics here.\n".into()),
         }
     }
@@ -134,7 +137,15 @@ impl Admin {
         tokio::time::timeout(LONGEST_LOOK, store.is_answering()).await.unwrap_or(false)
     }
 
-    async fn answer_metrics(&self) -> Response<Body> {
+    async fn answer_peek(&self, uri: &Uri, headers: &HeaderMap) -> Response<Answer> {
+        match (&self.peeks, self.store.get()) {
+            (None, _) => text(StatusCode::NOT_FOUND, "Messages are shown where --peek is said at the start.\n".into()),
+            (_, None) => text(StatusCode::SERVICE_UNAVAILABLE, "starting\n".into()),
+            (Some(peeks), Some(store)) => peeks.answer(store, uri, headers).await,
+        }
+    }
+
+    async fn answer_metrics(&self) -> Response<Answer> {
         let told = match self.store.get() {
             Some(store) => {
                 let counts = tokio::time::timeout(LONGEST_LOOK, counts(store)).await;
@@ -145,7 +156,7 @@ impl Admin {
         };
         match told {
             Ok(told) => {
-                let mut response = Response::new(Body::from(told));
+                let mut response = Response::new(Answer::new(told));
                 let content_type = HeaderValue::from_static(Metrics::content_type());
                 response.headers_mut().insert(CONTENT_TYPE, content_type);
                 response
@@ -169,8 +180,8 @@ async fn counts(store: &Store) -> Vec<Counts> {
     counts
 }
 
-fn text(status: StatusCode, told: String) -> Response<Body> {
-    let mut response = Response::new(Body::from(told));
+fn text(status: StatusCode, told: String) -> Response<Answer> {
+    let mut response = Response::new(Answer::new(told));
     *response.status_mut() = status;
     response.headers_mut().insert(CONTENT_TYPE, HeaderValue::from_static("text/plain; charset=utf-8"));
     response

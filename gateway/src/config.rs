@@ -94,6 +94,9 @@ pub struct Options {
     /// Tell operators /health and /metrics here: a port of 127.0.0.1, or HOST:PORT
     #[arg(long, value_name = "ADDRESS", env = "HOBBYCHAIR_ADMIN")]
     admin: Option<Address>,
+    /// Show operators messages too, at /_aws/sqs/messages; each is kept in memory a second time
+    #[arg(long, num_args = 0..=1, default_missing_value = "true", require_equals = true, value_name = "BOOL", env = "HOBBYCHAIR_PEEK")]
+    peek: Option<bool>,
     /// How lines of the log look [default: text]
     #[arg(long, value_name = "FORM", env = "HOBBYCHAIR_LOG")]
     log: Option<LogForm>,
@@ -355,6 +358,7 @@ impl Options {
             polls: self.polls.or(file.polls),
             no_pauses: self.no_pauses.or(file.no_pauses),
             admin: self.admin.or(file.admin),
+            peek: self.peek.or(file.peek),
             log: self.log.or(file.log),
             log_level: self.log_level.or(file.log_level),
             clock_file: self.clock_file,
@@ -386,6 +390,13 @@ impl Options {
         if self.journal_size.is_some() && self.journal.is_none() {
             return Err(Misuse("a size of the journal is given, and no journal".into()).into());
         }
+        let peek = self.peek.unwrap_or(false);
+        if peek && self.admin.is_none() {
+            return Err(Misuse(
+                "messages are to be shown by peek, and there is no address of operators (admin)".into(),
+            )
+            .into());
+        }
         let connections = between("connections", self.connections.unwrap_or(CONNECTIONS), 1, MOST_CONNECTIONS)?;
         let polls = between("polls", self.polls.unwrap_or(connections - connections / 10), 1, MOST_CONNECTIONS)?;
         let cq_timeout = self.cq_timeout.unwrap_or(CQ_TIMEOUT);
@@ -415,6 +426,7 @@ impl Options {
             polls,
             pauses: if self.no_pauses.unwrap_or(false) { Pauses::None } else { Pauses::AsSqs },
             admin: self.admin,
+            peek,
             queues: self.queue,
             clock_file: self.clock_file,
         })
@@ -522,7 +534,8 @@ mod tests {
         let size = Options { journal_size: Some(Size(1)), ..Options::default() };
         let many = Options { shards: Some(17), ..Options::default() };
         let little = Options { request_memory: Some(Size(1 << 20)), ..Options::default() };
-        for bad in [alone, none, size, many, little] {
+        let peek = Options { peek: Some(true), ..Options::default() };
+        for bad in [alone, none, size, many, little, peek] {
             assert!(settings(bad).unwrap_err().is::<Misuse>());
         }
         for bad in [0, MOST_THREADS + 1, u32::MAX] {

@@ -27,6 +27,7 @@ use crate::limits::Bounds;
 use crate::metrics::Metrics;
 use crate::move_tasks;
 use crate::moves;
+use crate::peek::Peeks;
 use crate::queues::ask::Ask;
 use crate::queues::shards::Shards;
 use crate::queues::Queues;
@@ -64,6 +65,8 @@ pub struct Settings {
     pub polls: u32,
     pub pauses: Pauses,
     pub admin: Option<Address>,
+    /// Operators may look at messages.
+    pub peek: bool,
     pub queues: Vec<DeclaredQueue>,
     /// A file whose number is the clock, for tests.
     pub clock_file: Option<PathBuf>,
@@ -140,6 +143,7 @@ async fn prepare(settings: Arc<Settings>) -> Result<Prepared> {
         health: Arc::new(Health::default()),
         metrics: Arc::new(Metrics::new()?),
         hosts: settings.hosts(),
+        peeks: settings.peek.then(|| Peeks::new(settings.owner.clone())),
         store: OnceLock::new(),
     });
     if let Some(address) = &settings.admin {
@@ -227,7 +231,7 @@ async fn begin(settings: &Settings, health: &Health, mut cqs: Vec<Cq>) -> Result
         Some(path) => Clock::of_file(path),
         None => Clock::new(),
     });
-    let queues = Arc::new(Queues::default());
+    let queues = Arc::new(Queues::new(settings.peek));
     let taken = take_journal(settings).await?;
     let shards = settings.shards;
     let (journal, replayed) = match taken {

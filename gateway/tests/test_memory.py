@@ -257,6 +257,30 @@ def try_operators(gateway: Started) -> None:
     assert status_of(waiting) == 200
 
 
+def try_peeks(gateway: Started) -> None:
+    """Answers of operators that nobody reads."""
+    shown = Started("--memory", "64MiB", "--admin", "0", "--peek")
+    try:
+        call = ByJson(shown.url)
+        call("CreateQueue", QueueName="q")
+        for _ in range(3):
+            call("SendMessage", QueueUrl="q", MessageBody="<" * MEBIBYTE)
+        address, port = admin_url(shown).removeprefix("http://").rsplit(":", 1)
+
+        def look() -> socket.socket:
+            connection = socket.create_connection((address, int(port)), timeout=60)
+            connection.sendall(b"GET /_aws/sqs/messages?QueueUrl=q HTTP/1.1\r\nHost: localhost\r\n\r\n")
+            return connection
+
+        unread = at_once([look] * 32)
+        statuses = [status_of(connection) for connection in unread]
+        assert set(statuses) == {200, 503}
+        assert status_of(look()) == 200, "what they kept is free again"
+        assert peak(shown) < 64 + 2 * 64 + 64
+    finally:
+        assert shown.stop() == 0
+
+
 def try_log(gateway: Started) -> None:
     words = command("serve", "--port", "0", "--admin", "0", "--log-level", "debug")
     unread = subprocess.Popen(words, env=environment(), stdout=subprocess.PIPE, stderr=subprocess.PIPE, text=True)
@@ -273,14 +297,14 @@ def try_log(gateway: Started) -> None:
 
 
 TRIES = [try_requests, try_head, try_body, try_values, try_lists, try_message, try_queue, try_tables, try_refusals,
-         try_repeats, try_connections, try_polls, try_operators, try_log]
+         try_repeats, try_connections, try_polls, try_operators, try_peeks, try_log]
 
 
 def test_each_row_has_its_try():
     assert len(rows()) == len(TRIES)
     assert all(any(word in row for word in words.split("_")[1:]) for row, words in zip(rows(), (
         "_all requests", "_head", "_body", "_values", "_list", "_message with", "_Policy", "_attempts", "_refusal", "_repeats",
-        "_connections", "_long polls", "_operators", "_log")))
+        "_connections", "_long polls", "_operators", "_show messages", "_log")))
 
 
 @pytest.mark.parametrize("attack", TRIES, ids=lambda one: one.__name__.removeprefix("try_"))

@@ -9,6 +9,8 @@ mod permissions;
 mod queues;
 mod receiving;
 
+pub use receiving::show;
+
 use std::hash::{Hash, Hasher};
 use std::sync::Arc;
 

@@ -75,32 +75,33 @@ impl Actions {
     }
 
     fn received(&self, queue: &Arc<Queue>, handed: Vec<Handed>, shown: &Shown) -> Result<Performed, SqsError> {
-        let messages = handed.iter().map(|one| self.show(queue, one, shown)).collect::<Result<_, _>>()?;
+        let shown = handed.iter().map(|one| show(queue, one, shown, &self.owner));
+        let messages = shown.collect::<Result<_, _>>()?;
         let receipts = handed.iter().map(|one| one.receipt).collect();
         let handed = (!handed.is_empty()).then(|| (queue.clone(), receipts));
         Ok(Performed { handed, ..Response::Messages(messages).into() })
     }
+}
 
-    fn show(&self, queue: &Queue, handed: &Handed, shown: &Shown) -> Result<ReceivedMessage, SqsError> {
-        let (kept, body) = read_form(&handed.form)
-            .ok_or_else(|| SqsError::InternalFailure("The store has a message in no form.".into()))?;
-        let handle = Handle { mark: queue.mark, receipt: handed.receipt, moment: handed.moment };
-        let system = shown.system().iter();
-        let told =
-            |one: &SystemAttribute| Some((one.name(), told(*one, queue.name.kind(), handed, &kept, &self.owner)?));
-        let attributes = system.filter_map(told).collect();
-        let wanted = kept.attributes.into_iter().filter(|(name, _)| shown.has(name));
-        let message_attributes: MessageAttributes = wanted.collect();
-        Ok(ReceivedMessage {
-            message_id: kept.id.to_string(),
-            receipt_handle: handle.outward(),
-            md5_of_body: md5_of_text(body),
-            body: body.into(),
-            attributes,
-            md5_of_attributes: (!message_attributes.is_empty()).then(|| md5_of_attributes(&message_attributes)),
-            message_attributes,
-        })
-    }
+/// A message as it is told: what of it was asked for.
+pub fn show(queue: &Queue, handed: &Handed, shown: &Shown, owner: &Owner) -> Result<ReceivedMessage, SqsError> {
+    let (kept, body) = read_form(&handed.form)
+        .ok_or_else(|| SqsError::InternalFailure("The store has a message in no form.".into()))?;
+    let handle = Handle { mark: queue.mark, receipt: handed.receipt, moment: handed.moment };
+    let system = shown.system().iter();
+    let told = |one: &SystemAttribute| Some((one.name(), told(*one, queue.name.kind(), handed, &kept, owner)?));
+    let attributes = system.filter_map(told).collect();
+    let wanted = kept.attributes.into_iter().filter(|(name, _)| shown.has(name));
+    let message_attributes: MessageAttributes = wanted.collect();
+    Ok(ReceivedMessage {
+        message_id: kept.id.to_string(),
+        receipt_handle: handle.outward(),
+        md5_of_body: md5_of_text(body),
+        body: body.into(),
+        attributes,
+        md5_of_attributes: (!message_attributes.is_empty()).then(|| md5_of_attributes(&message_attributes)),
+        message_attributes,
+    })
 }
 
 fn too_many_polls() -> SqsError {

@@ -32,7 +32,7 @@ use crate::wire::requests::Action;
 use crate::wire::{self, Incoming, Protocol, Reply};
 
 pub use address::{is_of_this_machine, Addresses};
-use answers::Answer;
+pub use answers::Answer;
 pub use connections::{listen, Door};
 pub use places::Places;
 pub use visitor::Hosts;

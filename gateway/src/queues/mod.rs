@@ -23,7 +23,7 @@ use crate::polling::Polls;
 use crate::retention::Jumps;
 use crate::texts::QueueName;
 use ask::{Ask, Cause, Change, Creation, Outcome, StoreName};
-pub use state::{bytes_of_queue, State, WINDOW};
+pub use state::{bytes_of_queue, Peeked, Place, State, Step, Visibility, WINDOW};
 
 /// So long a name isn't free after its queue was removed, in milliseconds
 /// (API Reference, CreateQueue, `QueueDeletedRecently`).
@@ -78,9 +78,16 @@ pub struct Queues {
     jumps: Jumps,
     copies: Copies,
     alarms: Alarms,
+    /// Operators look at messages, so these are kept here as well.
+    keeps_copies: bool,
 }
 
 impl Queues {
+    /// No queues. `keeps_copies`: messages are to be looked at.
+    pub fn new(keeps_copies: bool) -> Queues {
+        Queues { keeps_copies, ..Queues::default() }
+    }
+
     pub fn find(&self, name: &QueueName) -> Option<Arc<Queue>> {
         self.by_name.read().unwrap_or_else(PoisonError::into_inner).get(name).cloned()
     }
@@ -153,7 +160,13 @@ impl Queues {
         reply: Reply,
         moment: Moment,
     ) -> Result<(Outcome, bool), SqsError> {
-        let settled = self.counted(queue, |state| state.settle(ask, reply, moment, &self.jumps))?;
+        let settled = self.counted(queue, |state| {
+            let settled = state.settle(ask, reply, moment, &self.jumps)?;
+            if self.keeps_copies {
+                state.keep_copy(ask, &settled);
+            }
+            Ok(settled)
+        })?;
         match ask {
             Ask::Create { .. } => self.insert(queue),
             Ask::Remove { name: Some(name), .. } => self.remove(queue, name, moment),

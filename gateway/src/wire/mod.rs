@@ -9,6 +9,7 @@ pub mod responses;
 mod tests;
 mod value;
 
+pub use query::peeked;
 pub use requests::{Action, Request};
 pub use responses::Response;
 

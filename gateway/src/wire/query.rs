@@ -337,6 +337,19 @@ pub fn answer(action: Action, response: &Response, request_id: String) -> Reply 
     reply(200, xml, request_id)
 }
 
+/// Messages that nobody received, in the form of a receive, and where a list of them goes on.
+pub fn peeked(messages: &[ReceivedMessage], next: Option<&String>, request_id: String) -> Reply {
+    let mut xml = Xml::new();
+    xml.root("ReceiveMessageResponse", Service::Sqs, |xml| {
+        xml.element("ReceiveMessageResult", |xml| {
+            messages.iter().for_each(|message| xml.element("Message", |xml| received(xml, message)));
+            xml.optional("NextToken", next);
+        });
+        xml.element("ResponseMetadata", |xml| xml.leaf("RequestId", &request_id));
+    });
+    reply(200, xml, request_id)
+}
+
 pub fn refuse(error: &SqsError, request_id: String) -> Reply {
     let coded = error.coded();
     let mut xml = Xml::new();

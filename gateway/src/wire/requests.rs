@@ -411,6 +411,11 @@ pub struct Shown {
 }
 
 impl Shown {
+    /// All of them.
+    pub fn all() -> Shown {
+        Shown { system: SystemAttribute::ALL.to_vec(), names: vec!["All".into()] }
+    }
+
     fn read(members: Members<'_, '_>) -> Result<Shown, SqsError> {
         let mut asked = members.texts("AttributeNames", MOST_NAMES)?;
         asked.extend(members.texts("MessageSystemAttributeNames", MOST_NAMES)?);

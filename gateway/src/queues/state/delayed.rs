@@ -1,6 +1,7 @@
 //! Messages of a standard queue that were sent with a delay, until the store has them.
 
 use std::collections::{BTreeMap, HashMap, VecDeque};
+use std::ops::Bound;
 use std::sync::Arc;
 
 use uuid::Uuid;
@@ -104,6 +105,13 @@ impl DelayedMessages {
     pub(super) fn due(&self, now: Moment, most: usize) -> Vec<Arc<Delayed>> {
         let due = self.in_order.range(..=(now, u64::MAX)).take(most);
         due.map(|(_, message)| message.clone()).collect()
+    }
+
+    /// Messages behind a place, in order. Those that aren't tried any more are the last ones, as if they were never due.
+    pub(super) fn behind(&self, after: Place) -> impl Iterator<Item = (Place, &Arc<Delayed>)> {
+        let in_order = self.in_order.range((Bound::Excluded(after), Bound::Unbounded));
+        let set_aside = (0..).zip(&self.set_aside).map(|(place, message)| ((Moment::MAX, place), message));
+        in_order.map(|(place, message)| (*place, message)).chain(set_aside.filter(move |(place, _)| *place > after))
     }
 
     /// The alarm that has to be set for the first message, if none before it is.

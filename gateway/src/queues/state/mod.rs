@@ -5,6 +5,7 @@ mod attempts;
 mod delay;
 mod delayed;
 mod message;
+mod peek;
 mod receipts;
 #[cfg(test)]
 mod tests;
@@ -30,6 +31,7 @@ use crate::texts::{AttemptId, GroupId, QueueKind};
 use attempts::{Attempt, Attempts};
 use delayed::DelayedMessages;
 use message::{Handing, Message, Messages};
+pub use peek::{Peeked, Place, Step, Visibility};
 
 /// So long a deduplication id counts, in milliseconds. A repeated attempt id is given the same messages as long.
 pub const WINDOW: u64 = 300_000;

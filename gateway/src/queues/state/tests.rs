@@ -248,3 +248,79 @@ fn what_changes_nothing_is_no_change() {
     let values = ["30", "31", "31"].map(|value| set(&mut state, "VisibilityTimeout", value));
     assert_eq!(values, [false, true, false]);
 }
+
+fn send_and_keep(state: &mut State, place: u64, moment: Moment) {
+    let (group, dedup) = (GroupId::parse("g").unwrap(), DedupId::parse("d").unwrap());
+    let ask = Ask::Send { group, dedup, form: form(u128::from(place), moment), cause: Cause::Client };
+    let settled = state.settle(&ask, Reply::Sent(place), moment, &Jumps::default()).unwrap();
+    state.keep_copy(&ask, &settled);
+}
+
+fn peek_at_all(state: &State, at_once: usize, now: Moment) -> Vec<Peeked> {
+    let (mut seen, mut place) = (Vec::new(), Some(Place::FIRST));
+    while let Some(after) = place {
+        let step = state.peek(after, at_once, now);
+        assert!(step.peeked.len() <= at_once);
+        seen.extend(step.peeked);
+        place = step.next;
+    }
+    seen
+}
+
+#[test]
+fn looks_come_to_each_message_once_and_change_nothing() {
+    let mut state = state_of("standard");
+    (1..=5).for_each(|place| send_and_keep(&mut state, place, 10));
+    for (id, due) in [(6, 60), (7, 50), (8, 60)] {
+        assert!(delay(&mut state, id, due, 10));
+    }
+    let refused = [70, 80, 90].map(|next| state.refused_delayed(Uuid::from_u128(8), next));
+    assert_eq!(refused, [false, false, true]);
+    delete(&mut state, 2, 20);
+    receive(&mut state, 1, false, 30);
+    let bytes = state.bytes_in_use();
+    for at_once in 1..9 {
+        let seen = peek_at_all(&state, at_once, 55);
+        let ids = seen.iter().map(|one| Head::of_form(&Arc::<str>::from(one.form.clone())).unwrap().id.as_u128());
+        assert_eq!(ids.collect::<Vec<_>>(), [1, 3, 4, 5, 7, 6, 8], "{at_once} at once");
+        let seen: Vec<_> = seen.iter().map(|one| (one.visibility, one.count, one.first)).collect();
+        let (visible, delayed) = ((Visibility::Visible, 0, None), (Visibility::Delayed, 0, None));
+        assert_eq!(seen[..2], [(Visibility::InFlight, 1, Some(30)), visible]);
+        assert_eq!(seen[2..], [visible, visible, visible, delayed, delayed]);
+    }
+    assert_eq!((state.bytes_in_use(), state.openings), (bytes, 6));
+}
+
+#[test]
+fn what_is_kept_for_looks_counts_and_goes_with_its_message() {
+    let (mut plain, mut kept) = (state(), state());
+    send_standard(&mut plain, 1, 0, Cause::Client, 0);
+    send_and_keep(&mut kept, 1, 0);
+    let bytes = form(1, 0).bytes() + 1;
+    assert_eq!(kept.bytes_in_use(), plain.bytes_in_use() + bytes);
+    // A send that is repeated adds nothing.
+    send_and_keep(&mut kept, 1, 0);
+    assert_eq!(kept.bytes_in_use(), plain.bytes_in_use() + bytes);
+    delete(&mut plain, 1, 0);
+    delete(&mut kept, 1, 0);
+    assert_eq!(kept.bytes_in_use(), plain.bytes_in_use());
+    assert!(peek_at_all(&kept, 5, 0).is_empty());
+}
+
+#[test]
+fn own_handings_and_delays_are_told_by_a_look() {
+    let mut state = state();
+    send_and_keep(&mut state, 1, 10_000);
+    assert!(set(&mut state, "DelaySeconds", "5"));
+    let look = |state: &State, now| {
+        let (found, count) = (peek_at_all(state, 9, now), state.count());
+        assert_eq!(found.len() as u64, count);
+        (found[0].visibility, found[0].count, found[0].group.clone())
+    };
+    assert_eq!(look(&state, 14_999), (Visibility::Delayed, 0, "g".into()));
+    assert_eq!(look(&state, 15_000), (Visibility::Visible, 0, "g".into()));
+    receive(&mut state, 1, true, 20_000);
+    assert_eq!(look(&state, 20_000), (Visibility::InFlight, 0, "g".into()));
+    receive(&mut state, 2, false, 30_000);
+    assert_eq!(look(&state, 35_000), (Visibility::Visible, 1, "g".into()));
+}

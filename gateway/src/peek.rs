@@ -1,0 +1,360 @@
+//! `GET /_aws/sqs/messages`: what stands in a queue, for operators, as LocalStack shows it. Nothing is received by it.
+
+use std::fmt;
+use std::str::FromStr;
+use std::sync::Arc;
+
+use hyper::header::{HeaderMap, HeaderValue, ACCEPT, CONTENT_TYPE};
+use hyper::{Response, StatusCode, Uri};
+use serde_json::{json, Map, Value};
+use uuid::Uuid;
+
+use crate::actions::{show, Owner};
+use crate::budget::Budget;
+use crate::errors::SqsError;
+use crate::handles::Receipt;
+use crate::http::Answer;
+use crate::queues::ask::Handed;
+use crate::queues::{Peeked, Place, Queue, Step, Visibility};
+use crate::store::Store;
+use crate::texts::QueueName;
+use crate::wire::requests::Shown;
+use crate::wire::responses::ReceivedMessage;
+use crate::wire::{self, Protocol, Reply};
+
+/// The path, behind which a region, an account and a queue may stand.
+pub const PATH: &str = "/_aws/sqs/messages";
+
+/// The receipt handle of all messages. No action takes it.
+const HANDLE: &str = "SQS/BACKDOOR/ACCESS";
+
+/// So many messages are looked at before others may use the queue again.
+const STEP: usize = 100;
+
+/// An answer has at most so many messages, ends with the one with which they have so many bytes, and comes of so many.
+const MOST_MESSAGES: usize = 1_000;
+const MOST_BYTES: usize = 1 << 20;
+const MOST_LOOKED_AT: usize = 100_000;
+
+/// What all answers may keep in memory, and what one takes at most while it is made: messages of twice `MOST_BYTES`,
+/// and a text in which a byte of theirs may have six.
+const MEMORY: usize = 64 << 20;
+const LONGEST_ANSWER: usize = 16 << 20;
+
+/// The form of an answer.
+#[derive(Clone, Copy, Debug, PartialEq, Eq)]
+enum Form {
+    Xml,
+    Json,
+}
+
+impl Form {
+    fn of(headers: &HeaderMap) -> Form {
+        let accepts = headers.get_all(ACCEPT).iter().filter_map(|value| value.to_str().ok());
+        let mut kinds = accepts.flat_map(|accept| accept.split(',')).map(|kind| kind.split(';').next().unwrap_or(kind));
+        if kinds.any(|kind| kind.trim().eq_ignore_ascii_case("application/json")) {
+            Form::Json
+        } else {
+            Form::Xml
+        }
+    }
+}
+
+impl fmt::Display for Place {
+    fn fmt(&self, formatter: &mut fmt::Formatter<'_>) -> fmt::Result {
+        match self {
+            Place::Stored(sequence) => write!(formatter, "stored-{sequence}"),
+            Place::Delayed(due, added) => write!(formatter, "delayed-{due}-{added}"),
+        }
+    }
+}
+
+impl FromStr for Place {
+    type Err = SqsError;
+
+    fn from_str(text: &str) -> Result<Place, SqsError> {
+        let parts: Vec<_> = text.split('-').collect();
+        let place = match parts[..] {
+            ["stored", sequence] => sequence.parse().ok().map(Place::Stored),
+            ["delayed", due, added] => {
+                due.parse().ok().zip(added.parse().ok()).map(|(due, added)| Place::Delayed(due, added))
+            }
+            _ => None,
+        };
+        place.ok_or_else(|| SqsError::InvalidParameterValue("NextToken is none that was given out.".into()))
+    }
+}
+
+/// What is asked for.
+#[derive(Clone, Debug, PartialEq, Eq)]
+struct Wanted {
+    queue: QueueName,
+    shows_in_flight: bool,
+    shows_delayed: bool,
+    after: Place,
+}
+
+impl Wanted {
+    fn read(uri: &Uri) -> Result<Wanted, SqsError> {
+        let fields: Vec<_> = form_urlencoded::parse(uri.query().unwrap_or_default().as_bytes()).collect();
+        let field = |name: &str| fields.iter().find(|(found, _)| found == name).map(|(_, value)| &**value);
+        let is_said = |name: &str| field(name).is_some_and(|value| value == "1" || value.eq_ignore_ascii_case("true"));
+        let rest = uri.path().strip_prefix(PATH).unwrap_or_default();
+        let parts: Vec<_> = rest.strip_suffix('/').unwrap_or(rest).split('/').collect();
+        let url = match parts[..] {
+            [""] => field("QueueUrl").ok_or_else(|| SqsError::MissingParameter("QueueUrl".into()))?,
+            ["", _, _, queue] => queue,
+            _ => return Err(SqsError::InvalidAddress(uri.path().into())),
+        };
+        Ok(Wanted {
+            queue: QueueName::of_url(url)?,
+            shows_in_flight: is_said("ShowInvisible"),
+            shows_delayed: is_said("ShowDelayed"),
+            after: field("NextToken").map_or(Ok(Place::FIRST), str::parse)?,
+        })
+    }
+
+    fn has(&self, visibility: Visibility) -> bool {
+        match visibility {
+            Visibility::Visible => true,
+            Visibility::InFlight => self.shows_in_flight,
+            Visibility::Delayed => self.shows_delayed,
+        }
+    }
+}
+
+/// Shows messages of queues.
+pub struct Peeks {
+    owner: Owner,
+    budget: Budget,
+}
+
+impl Peeks {
+    pub fn new(owner: Owner) -> Peeks {
+        Peeks { owner, budget: Budget::of(MEMORY, 0) }
+    }
+
+    /// The answer to a request below `PATH`.
+    pub async fn answer(&self, store: &Store, uri: &Uri, headers: &HeaderMap) -> Response<Answer> {
+        let form = Form::of(headers);
+        let share = Arc::new(self.budget.share());
+        let page = if share.try_set(LONGEST_ANSWER) {
+            self.page(store, uri).await
+        } else {
+            Err(SqsError::ServiceUnavailable("Too many messages are being shown.".into()))
+        };
+        let mut response = response(form, page);
+        response.body_mut().count_by(share);
+        response
+    }
+
+    async fn page(&self, store: &Store, uri: &Uri) -> Result<Page, SqsError> {
+        let wanted = Wanted::read(uri)?;
+        let queue = store.queues().get(&wanted.queue)?;
+        let mut page = Page::default();
+        let mut place = Some(wanted.after);
+        while let (Some(after), false) = (place, page.is_full()) {
+            let step = {
+                let state = queue.state();
+                if state.removed {
+                    return Err(SqsError::QueueDoesNotExist);
+                }
+                state.peek(after, STEP, store.clock().now())
+            };
+            place = page.take(step, &wanted, &queue, &self.owner)?;
+            tokio::task::yield_now().await;
+        }
+        page.next = place.map(|place| place.to_string());
+        // What is shown is on disk, as all that clients are told.
+        if !store.settled_of(&wanted.queue).await {
+            return Err(SqsError::ServiceUnavailable("The store is gone.".into()));
+        }
+        Ok(page)
+    }
+}
+
+/// Messages that are shown at once.
+#[derive(Default)]
+struct Page {
+    messages: Vec<ReceivedMessage>,
+    bytes: usize,
+    looked_at: usize,
+    /// Where the next one begins, if there may be one.
+    next: Option<String>,
+}
+
+impl Page {
+    fn is_full(&self) -> bool {
+        self.messages.len() >= MOST_MESSAGES || self.bytes >= MOST_BYTES || self.looked_at >= MOST_LOOKED_AT
+    }
+
+    /// Takes up messages until it is full, and tells where to go on.
+    fn take(&mut self, step: Step, wanted: &Wanted, queue: &Queue, owner: &Owner) -> Result<Option<Place>, SqsError> {
+        for peeked in step.peeked {
+            let place = peeked.place;
+            self.looked_at += 1;
+            if wanted.has(peeked.visibility) {
+                self.add(peeked, wanted, queue, owner)?;
+            }
+            if self.is_full() {
+                return Ok(Some(place));
+            }
+        }
+        Ok(step.next)
+    }
+
+    fn add(&mut self, peeked: Peeked, wanted: &Wanted, queue: &Queue, owner: &Owner) -> Result<(), SqsError> {
+        let Peeked { visibility, sequence, group, count, first, form, .. } = peeked;
+        let (first, form) = (first.unwrap_or(0), Arc::<str>::from(form));
+        self.bytes += form.len();
+        let receipt = Receipt { sequence, ordinal: 0 };
+        let handed = Handed { receipt, count, moment: 0, first, group, form };
+        let mut message =
+            ReceivedMessage { receipt_handle: HANDLE.into(), ..show(queue, &handed, &Shown::all(), owner)? };
+        if wanted.shows_in_flight {
+            message.attributes.push(("IsVisible", (visibility != Visibility::InFlight).to_string()));
+        }
+        if wanted.shows_delayed {
+            message.attributes.push(("IsDelayed", (visibility == Visibility::Delayed).to_string()));
+        }
+        self.messages.push(message);
+        Ok(())
+    }
+}
+
+fn response(form: Form, page: Result<Page, SqsError>) -> Response<Answer> {
+    let id = Uuid::new_v4().to_string();
+    let (status, content_type, body) = match (form, page) {
+        (Form::Xml, Ok(page)) => parts_of(wire::peeked(&page.messages, page.next.as_ref(), id)),
+        (Form::Xml, Err(error)) => parts_of(Protocol::Query.refuse(&error, id)),
+        (Form::Json, Ok(page)) => (200, JSON, in_json(&page, id).to_string().into_bytes()),
+        (Form::Json, Err(error)) => (error.coded().status, JSON, refusal_in_json(&error, id).to_string().into_bytes()),
+    };
+    let mut response = Response::new(Answer::new(body));
+    *response.status_mut() = StatusCode::from_u16(status).unwrap_or(StatusCode::INTERNAL_SERVER_ERROR);
+    response.headers_mut().insert(CONTENT_TYPE, HeaderValue::from_static(content_type));
+    response
+}
+
+fn parts_of(reply: Reply) -> (u16, &'static str, Vec<u8>) {
+    (reply.status, reply.content_type, reply.body)
+}
+
+const JSON: &str = "application/json";
+
+/// The answer in JSON: the elements that it has in XML by their names. Several of one name are a list, and one stands
+/// by itself.
+fn in_json(page: &Page, id: String) -> Value {
+    let mut result = Map::new();
+    insert_each(&mut result, "Message", page.messages.iter().map(message_in_json).collect());
+    if let Some(next) = &page.next {
+        result.insert("NextToken".into(), json!(next));
+    }
+    let result = if result.is_empty() { Value::Null } else { Value::Object(result) };
+    json!({"ReceiveMessageResponse": {"ReceiveMessageResult": result, "ResponseMetadata": {"RequestId": id}}})
+}
+
+fn insert_each(map: &mut Map<String, Value>, name: &str, mut values: Vec<Value>) {
+    let value = match values.len() {
+        0 => return,
+        1 => values.swap_remove(0),
+        _ => Value::Array(values),
+    };
+    map.insert(name.into(), value);
+}
+
+fn message_in_json(message: &ReceivedMessage) -> Value {
+    let mut told = Map::new();
+    for (name, value) in [
+        ("MessageId", &message.message_id),
+        ("ReceiptHandle", &message.receipt_handle),
+        ("MD5OfBody", &message.md5_of_body),
+        ("Body", &message.body),
+    ] {
+        told.insert(name.into(), json!(value));
+    }
+    let attributes = message.attributes.iter().map(|(name, value)| json!({"Name": name, "Value": value}));
+    insert_each(&mut told, "Attribute", attributes.collect());
+    if let Some(md5) = &message.md5_of_attributes {
+        told.insert("MD5OfMessageAttributes".into(), json!(md5));
+    }
+    let attributes = message.message_attributes.iter().map(|(name, value)| json!({"Name": name, "Value": value}));
+    insert_each(&mut told, "MessageAttribute", attributes.collect());
+    Value::Object(told)
+}
+
+fn refusal_in_json(error: &SqsError, id: String) -> Value {
+    let fault = if error.is_sender_fault() { "Sender" } else { "Receiver" };
+    let told = json!({"Type": fault, "Code": error.coded().code, "Message": error.told(), "Detail": null});
+    json!({"ErrorResponse": {"Error": told, "RequestId": id}})
+}
+
+#[cfg(test)]
+mod tests {
+    use super::*;
+
+    fn read(uri: &str) -> Result<Wanted, SqsError> {
+        Wanted::read(&uri.parse().unwrap())
+    }
+
+    #[test]
+    fn what_is_asked_for() {
+        let plain = Wanted {
+            queue: QueueName::parse("q.fifo").unwrap(),
+            shows_in_flight: false,
+            shows_delayed: false,
+            after: Place::FIRST,
+        };
+        for url in ["http%3A%2F%2Flocalhost%3A9324%2F000000000000%2Fq.fifo", "http://any/eu-west-1/1/q.fifo/", "q.fifo"]
+        {
+            assert_eq!(
+                read(&format!("/_aws/sqs/messages?QueueUrl={url}&ShowDelayed=false")),
+                Ok(plain.clone()),
+                "{url}"
+            );
+        }
+        assert_eq!(read("/_aws/sqs/messages/us-east-1/000000000000/q.fifo"), Ok(plain.clone()));
+        let all =
+            read("/_aws/sqs/messages/r/1/q.fifo/?ShowInvisible=True&ShowDelayed=1&NextToken=delayed-5-7").unwrap();
+        assert_eq!(all, Wanted { shows_in_flight: true, shows_delayed: true, after: Place::Delayed(5, 7), ..plain });
+    }
+
+    #[test]
+    fn what_names_no_queue_or_no_place_is_refused() {
+        for (uri, code) in [
+            ("/_aws/sqs/messages", "MissingParameter"),
+            ("/_aws/sqs/messages?QueueUrl=", "InvalidAddress"),
+            ("/_aws/sqs/messages?QueueUrl=http%3A%2F%2Fhello.world", "InvalidAddress"),
+            ("/_aws/sqs/messages/1/q.fifo", "InvalidAddress"),
+            ("/_aws/sqs/messages/r/1/q.fifo/more", "InvalidAddress"),
+            ("/_aws/sqs/messagesq.fifo", "InvalidAddress"),
+            ("/_aws/sqs/messages?QueueUrl=q&NextToken=stored", "InvalidParameterValue"),
+            ("/_aws/sqs/messages?QueueUrl=q&NextToken=stored--1", "InvalidParameterValue"),
+        ] {
+            let error = read(uri).unwrap_err();
+            assert_eq!(error.coded().code, code, "{uri}");
+        }
+    }
+
+    #[test]
+    fn a_place_comes_back() {
+        for place in [Place::FIRST, Place::Stored(u64::MAX), Place::Delayed(1_700_000_000_000, 3)] {
+            assert_eq!(place.to_string().parse(), Ok(place));
+        }
+    }
+
+    #[test]
+    fn json_is_told_to_those_who_accept_it() {
+        let form = |accepted: &[&str]| {
+            Form::of(&accepted.iter().map(|value| (ACCEPT, value.parse().unwrap())).collect::<HeaderMap>())
+        };
+        for json in
+            [&["application/json"][..], &["text/html, Application/JSON;q=0.9"], &["text/xml", "application/json"]]
+        {
+            assert_eq!(form(json), Form::Json, "{json:?}");
+        }
+        for xml in [&[][..], &["*/*"], &["application/jsonp"], &["text/xml"]] {
+            assert_eq!(form(xml), Form::Xml, "{xml:?}");
+        }
+    }
+}
