@@ -12,10 +12,14 @@ import threading
 import time
 import urllib.error
 import urllib.request
+from concurrent.futures import ThreadPoolExecutor
+from email.utils import parsedate_to_datetime
+from pathlib import Path
 
+import boto3
 import pytest
 
-from started import ByBoto3, ByJson, ByQuery, Refused, Started, children, command, environment
+from started import START, ByBoto3, ByJson, ByQuery, Refused, Started, children, command, environment
 
 FIFO = {"FifoQueue": "true"}
 
@@ -308,6 +312,49 @@ def test_nobody_waits_for_a_log_that_nobody_reads():
         process.kill()
 
 
+def test_signatures_and_dates_go_by_the_wall_clock(tmp_path):
+    """The clock of messages may be another one, and SDKs mend their own by the header Date."""
+    keys = tmp_path / "keys.toml"
+    keys.write_text('[[key]]\naccess_key = "A"\nsecret = "the secret of A"\n')
+    started = Started("--credentials", str(keys), room=tmp_path)
+    try:
+        signed = boto3.client("sqs", endpoint_url=started.url, region_name="us-east-1", aws_access_key_id="A",
+                              aws_secret_access_key="the secret of A")
+        answer = signed.create_queue(QueueName="q")
+        date = answer["ResponseMetadata"]["HTTPHeaders"]["date"]
+        assert abs(parsedate_to_datetime(date).timestamp() - time.time()) < 60
+        told = signed.get_queue_attributes(QueueUrl=answer["QueueUrl"], AttributeNames=["CreatedTimestamp"])
+        assert told["Attributes"]["CreatedTimestamp"] == str(START // 1000)
+    finally:
+        assert started.stop() == 0
+
+
+def ticks(pids: list[int]) -> int:
+    """The processor time of programs and of their threads, in hundredths of a second."""
+    stats = [Path(f"/proc/{pid}/stat").read_text().rsplit(")", 1)[1].split() for pid in pids]
+    return sum(int(stat[11]) + int(stat[12]) for stat in stats)
+
+
+def test_a_gateway_that_nobody_asks_takes_no_processor_time(tmp_path):
+    gateway = Started("--journal", str(tmp_path / "journal"), "--admin", "0")
+    try:
+        call = ByJson(gateway.url)
+        for place in range(20):
+            call("CreateQueue", QueueName=f"q{place}")
+            call("SendMessage", QueueUrl=f"q{place}", MessageBody="b")
+        call("CreateQueue", QueueName="empty")
+        with ThreadPoolExecutor(1) as pool:
+            poll = pool.submit(call, "ReceiveMessage", QueueUrl="empty", WaitTimeSeconds=8)
+            time.sleep(2)
+            programs = [gateway.process.pid, *children(gateway)]
+            before = ticks(programs)
+            time.sleep(5)
+            assert ticks(programs) - before <= 5, "a hundredth of a processor"
+            assert poll.result() == {}
+    finally:
+        assert gateway.stop() == 0
+
+
 # ---- with few open files
 
 
@@ -339,6 +386,26 @@ def test_connections_leave_the_files_that_the_gateway_needs(monkeypatch, tmp_pat
             connection.close()
         assert get(admin_url(gateway) + "/health") == (200, "serving\n")
         assert len(call("ReceiveMessage", QueueUrl="q.fifo", MaxNumberOfMessages=10)["Messages"]) == 5
+    finally:
+        assert gateway.stop() == 0
+
+
+def test_the_limit_of_open_files_is_raised(monkeypatch, tmp_path):
+    """What a shell has is less than the connections need."""
+    limited = tmp_path / "limited"
+    limited.write_text(f'#!/bin/sh\nulimit -S -n 200\nexec {command()[0]} "$@"\n')
+    limited.chmod(0o755)
+    monkeypatch.setenv("HOBBYCHAIR_GATEWAY", str(limited))
+    gateway = Started("--connections", "400")
+    try:
+        host, port = gateway.url.removeprefix("http://").rsplit(":", 1)
+        idle = [socket.create_connection((host, int(port)), timeout=20) for _ in range(399)]
+        for connection in idle:
+            connection.sendall(b"GET / HTTP/1.1\r\nHost: localhost\r\n\r\n")
+        assert {connection.recv(12) for connection in idle} == {b"HTTP/1.1 400"}
+        assert ByJson(gateway.url)("ListQueues") == {}
+        for connection in idle:
+            connection.close()
     finally:
         assert gateway.stop() == 0
 
