@@ -113,8 +113,10 @@ def test_what_a_gateway_writes_is_locked_by_whichever_name(journal, tmp_path, na
 
 
 def test_a_journal_that_cannot_be_written_ends_the_gateway(tmp_path):
-    ended = start(tmp_path / "none" / "journal")
-    assert ended.returncode == 1 and len(ended.stderr.splitlines()) == 1 and "No such file" in ended.stderr
+    none = tmp_path / "none"
+    ended = start(none / "journal")
+    assert ended.returncode == 1
+    assert ended.stderr == f"hobbychair: there is no folder {none} for the journal {none / 'journal'}\n"
 
 
 def test_a_dump_is_a_script(journal):
@@ -164,5 +166,14 @@ def test_errors_name_their_file(tmp_path, journal):
     os.mkdir(f"{journal}.1")
     ended = start(journal)
     assert ended.returncode == 1 and f"{journal}.1: " in ended.stderr
-    ended = start(tmp_path / "none" / "journal")
-    assert ended.returncode == 1 and f"{tmp_path / 'none' / 'journal'}" in ended.stderr
+    none = tmp_path / "none"
+    ended = start(none / "journal")
+    assert ended.returncode == 1
+    assert ended.stderr == f"hobbychair: there is no folder {none} for the journal {none / 'journal'}\n"
+    none.mkdir()
+    for path in (str(none), f"{none}/"):
+        ended = subprocess.run(command("--port", "0", "--journal", path), env=environment(), capture_output=True, text=True,
+                               timeout=60)
+        assert ended.returncode == 1
+        assert ended.stderr == f"hobbychair: {none} is a folder: a journal is named by a file in one, as {none}/journal\n"
+    assert sorted(tmp_path.glob("none*")) == [none] and not list(none.iterdir())

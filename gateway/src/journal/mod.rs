@@ -159,6 +159,7 @@ pub struct Taken {
 impl Taken {
     /// Keeps other gateways from the journal named by a path.
     pub fn new(path: &Path) -> Result<Taken, JournalError> {
+        test_place(path)?;
         let files = Files::new(path);
         let lock = lock(&files, path)?;
         Ok(Taken { files, path: path.into(), lock })
@@ -204,6 +205,20 @@ impl Opened {
         self.journal.0.count.store(records, Ordering::Relaxed);
         writer::start(self.log, self.journal.clone(), failed)?;
         Ok(self.journal)
+    }
+}
+
+/// Refuses a path by which nothing can be named in a folder that is there.
+fn test_place(path: &Path) -> Result<(), JournalError> {
+    let named = |path: &Path| path.to_string_lossy().trim_end_matches('/').to_string();
+    if path.is_dir() {
+        return Err(JournalError::IsFolder(named(path)));
+    }
+    match path.parent() {
+        Some(folder) if !folder.as_os_str().is_empty() && !folder.is_dir() => {
+            Err(JournalError::NoFolder { path: named(path), folder: named(folder) })
+        }
+        _ => Ok(()),
     }
 }
 

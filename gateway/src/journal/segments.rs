@@ -17,6 +17,10 @@ use crate::queues::shards::{Shards, HASH};
 pub enum JournalError {
     #[error("{0}")]
     Io(String),
+    #[error("there is no folder {folder} for the journal {path}")]
+    NoFolder { path: String, folder: String },
+    #[error("{0} is a folder: a journal is named by a file in one, as {0}/journal")]
+    IsFolder(String),
     #[error("{0} is in use by another process")]
     InUse(String),
     #[error("{0} is no journal: it doesn't begin as one")]
