@@ -27,6 +27,7 @@ struct CommandLine {
 #[derive(Subcommand)]
 enum Command {
     /// Serve clients of SQS
+    #[command(override_usage = "hobbychair serve [OPTIONS]")]
     Serve(Box<Options>),
     /// Write a journal as a script for cq session
     Dump {
@@ -43,7 +44,7 @@ enum Command {
         /// The journal, as serve is given it
         file: PathBuf,
         /// The copy, named in the same way
-        target: PathBuf,
+        copy: PathBuf,
     },
     /// Write the completions of this command line for a shell
     Completions {
@@ -55,6 +56,7 @@ enum Command {
 /// Does what the command line says, and tells the exit status: 0, 1 if it couldn't begin or go on, or 2 if what it was
 /// told is at fault.
 pub fn main() -> i32 {
+    forget_empty_variables();
     let command_line = CommandLine::parse();
     match run(command_line.command) {
         Ok(()) => {
@@ -74,13 +76,20 @@ pub fn main() -> i32 {
     }
 }
 
+/// A variable that is empty says nothing: so a container can be told less than its image says.
+fn forget_empty_variables() {
+    let is_ours = |name: &str| name.starts_with("HOBBYCHAIR_");
+    let empty = std::env::vars_os().filter(|(name, value)| value.is_empty() && name.to_str().is_some_and(is_ours));
+    empty.for_each(|(name, _)| std::env::remove_var(name));
+}
+
 fn run(command: Command) -> Result<()> {
     let mut out = io::BufWriter::new(io::stdout());
     match command {
         Command::Serve(options) => serve_by(*options)?,
         Command::Dump { file } => inspect::dump(&file, &mut out)?,
         Command::Verify { file } => inspect::verify(&file, &mut out)?,
-        Command::Backup { file, target } => inspect::back_up(&file, &target, &mut out)?,
+        Command::Backup { file, copy } => inspect::back_up(&file, &copy, &mut out)?,
         Command::Completions { shell } => {
             clap_complete::generate(shell, &mut CommandLine::command(), "hobbychair", &mut out);
         }

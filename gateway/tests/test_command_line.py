@@ -27,6 +27,22 @@ def test_bad_words_end_with_status_2(words):
     assert ended.stderr.startswith("error: ")
 
 
+def test_a_word_that_is_none_is_told_in_a_few_lines():
+    ended = run("serve", "--prot", "1")
+    assert ended.returncode == 2 and "--port" in ended.stderr and "hobbychair serve [OPTIONS]" in ended.stderr
+    assert "clock-file" not in ended.stderr and max(map(len, ended.stderr.splitlines())) < 120
+
+
+def test_a_variable_that_is_empty_says_nothing(monkeypatch):
+    for name in ("JOURNAL", "PORT", "OPEN", "CREDENTIALS", "CONFIG", "MEMORY", "LOG"):
+        monkeypatch.setenv(f"HOBBYCHAIR_{name}", "")
+    gateway = Started()
+    try:
+        assert gateway.url.startswith("http://127.0.0.1:") and ByJson(gateway.url)("ListQueues") == {}
+    finally:
+        assert gateway.stop() == 0
+
+
 def test_help_names_the_commands():
     ended = run("--help")
     assert ended.returncode == 0 and "dump" in ended.stdout and "serve" in ended.stdout
