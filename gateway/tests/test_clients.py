@@ -1,5 +1,5 @@
-"""Clients that others wrote: Terraform, the AWS CLI and Celery. They wait most of the time, so all run side by side,
-each with a gateway of its own."""
+"""Clients that others wrote: Terraform, the AWS CLI, Celery and the AWS SDK for Go. They wait most of the time, so all run
+side by side, each with a gateway of its own."""
 
 from __future__ import annotations
 
@@ -22,7 +22,7 @@ from typing import Any
 import boto3
 import pytest
 
-from started import Started
+from started import TOP, Started, gateway_program, program
 
 FILES = Path(__file__).parent / "clients"
 REGISTRY = "registry.terraform.io"
@@ -217,6 +217,23 @@ def test_the_aws_cli_signs(room):
         with pytest.raises(EndedBadly, match="SignatureDoesNotMatch"):
             cli(gateway, room, AWS_SECRET_ACCESS_KEY="another secret")("list-queues")
         sessions_of_cli(cli(gateway, room))
+
+
+# The AWS SDK for Go, which compares the digests of bodies by itself
+
+SDK = Path(os.environ.get("GOPATH") or "/usr/share/gocode") / "src" / "github.com" / "aws" / "aws-sdk-go"
+
+
+def missing_for_go() -> str | None:
+    if shutil.which("go") is None:
+        return "golang-go isn't installed"
+    return None if SDK.is_dir() else "golang-github-aws-aws-sdk-go-dev isn't installed"
+
+
+@side_by_side(missing_for_go())
+def test_the_aws_sdk_for_go_finds_the_digests_that_it_makes(room):
+    run(str(TOP / "check" / "clients"), cwd=room,
+        env=settings(HOBBYCHAIR_GATEWAY=gateway_program(), HOBBYCHAIR_CQ=program()))
 
 
 # Celery
