@@ -91,6 +91,15 @@ def test_a_copy_needs_a_free_name_and_a_journal(tmp_path):
     none = run("backup", str(tmp_path / "none"), str(tmp_path / "other"))
     assert none.returncode == 1 and "there is no journal" in none.stderr
     assert list(tmp_path.glob("other*")) == []
+    folder = tmp_path / "folder"
+    missing = run("backup", str(journal), str(folder / "copy"))
+    assert missing.returncode == 1
+    assert missing.stderr == f"hobbychair: there is no folder {folder} for the journal {folder / 'copy'}\n"
+    folder.mkdir()
+    named = run("backup", str(journal), str(folder))
+    assert named.returncode == 1
+    assert named.stderr == f"hobbychair: {folder} is a folder: a journal is named by a file in one, as {folder}/journal\n"
+    assert sorted(tmp_path.glob("folder*")) == [folder] and list(folder.iterdir()) == []
     assert gateway.stop() == 0
 
 

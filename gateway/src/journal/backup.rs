@@ -6,7 +6,7 @@ use std::time::Duration;
 
 use super::disk::{Files, Folder, Segment};
 use super::segments::{scan_all, scan_front, JournalError};
-use super::Found;
+use super::{test_place, Found};
 
 /// So often a copy is begun anew where segments were written anew meanwhile, with a pause before each.
 const MOST_TRIES: u32 = 20;
@@ -16,6 +16,7 @@ const PAUSE: Duration = Duration::from_millis(100);
 /// in order and the last one last, so that each removal is in the copy that another segment rests on; what wasn't told to
 /// anybody isn't copied. Of the target there must be nothing.
 pub fn back_up(from: &Path, to: &Path) -> Result<Vec<Found>, JournalError> {
+    test_place(to)?;
     let (source, target) = (Files::new(from), Files::new(to));
     if let Some(number) = target.list()?.first() {
         return Err(JournalError::IsThere(target.path_of(&number.to_string()).display().to_string()));
