@@ -138,38 +138,31 @@ impl Peeks {
     pub async fn answer(&self, store: &Store, uri: &Uri, headers: &HeaderMap) -> Response<Answer> {
         let form = Form::of(headers);
         let share = Arc::new(self.budget.share());
-        let page = if share.try_set(LONGEST_ANSWER) {
-            self.page(store, uri).await
+        let told = if share.try_set(LONGEST_ANSWER) {
+            self.page(store, uri, form).await
         } else {
             Err(SqsError::ServiceUnavailable("Too many messages are being shown.".into()))
         };
-        let mut response = response(form, page);
+        let mut response = told.unwrap_or_else(|error| Told::refusal(form, &error)).into_response();
         response.body_mut().count_by(share);
         response
     }
 
-    async fn page(&self, store: &Store, uri: &Uri) -> Result<Page, SqsError> {
+    /// A page in a form. It is made on a thread beside those that serve clients, so that these wait for nothing.
+    async fn page(&self, store: &Store, uri: &Uri, form: Form) -> Result<Told, SqsError> {
         let wanted = Wanted::read(uri)?;
         let queue = store.queues().get(&wanted.queue)?;
-        let mut page = Page::default();
-        let mut place = Some(wanted.after);
-        while let (Some(after), false) = (place, page.is_full()) {
-            let step = {
-                let state = queue.state();
-                if state.removed {
-                    return Err(SqsError::QueueDoesNotExist);
-                }
-                state.peek(after, STEP, store.clock().now())
-            };
-            place = page.take(step, &wanted, &queue, &self.owner)?;
-            tokio::task::yield_now().await;
-        }
-        page.next = place.map(|place| place.to_string());
+        let (name, owner, shared) = (wanted.queue.clone(), self.owner.clone(), store.clone());
+        let making =
+            tokio::task::spawn_blocking(move || Page::of(&shared, &queue, &wanted, &owner).map(|page| page.told(form)));
+        let gone = || SqsError::ServiceUnavailable("The store is gone.".into());
+        let told = making.await.unwrap_or_else(|_| Err(gone()))?;
         // What is shown is on disk, as all that clients are told.
-        if !store.settled_of(&wanted.queue).await {
-            return Err(SqsError::ServiceUnavailable("The store is gone.".into()));
+        if store.settled_of(&name).await {
+            Ok(told)
+        } else {
+            Err(gone())
         }
-        Ok(page)
     }
 }
 
@@ -184,6 +177,31 @@ struct Page {
 }
 
 impl Page {
+    fn of(store: &Store, queue: &Queue, wanted: &Wanted, owner: &Owner) -> Result<Page, SqsError> {
+        let mut page = Page::default();
+        let mut place = Some(wanted.after);
+        while let (Some(after), false) = (place, page.is_full()) {
+            let step = {
+                let state = queue.state();
+                if state.removed {
+                    return Err(SqsError::QueueDoesNotExist);
+                }
+                state.peek(after, STEP, store.clock().now())
+            };
+            place = page.take(step, wanted, queue, owner)?;
+        }
+        page.next = place.map(|place| place.to_string());
+        Ok(page)
+    }
+
+    fn told(&self, form: Form) -> Told {
+        let id = Uuid::new_v4().to_string();
+        match form {
+            Form::Xml => wire::peeked(&self.messages, self.next.as_ref(), id).into(),
+            Form::Json => Told::in_json(200, &in_json(self, id)),
+        }
+    }
+
     fn is_full(&self) -> bool {
         self.messages.len() >= MOST_MESSAGES || self.bytes >= MOST_BYTES || self.looked_at >= MOST_LOOKED_AT
     }
@@ -222,22 +240,38 @@ impl Page {
     }
 }
 
-fn response(form: Form, page: Result<Page, SqsError>) -> Response<Answer> {
-    let id = Uuid::new_v4().to_string();
-    let (status, content_type, body) = match (form, page) {
-        (Form::Xml, Ok(page)) => parts_of(wire::peeked(&page.messages, page.next.as_ref(), id)),
-        (Form::Xml, Err(error)) => parts_of(Protocol::Query.refuse(&error, id)),
-        (Form::Json, Ok(page)) => (200, JSON, in_json(&page, id).to_string().into_bytes()),
-        (Form::Json, Err(error)) => (error.coded().status, JSON, refusal_in_json(&error, id).to_string().into_bytes()),
-    };
-    let mut response = Response::new(Answer::new(body));
-    *response.status_mut() = StatusCode::from_u16(status).unwrap_or(StatusCode::INTERNAL_SERVER_ERROR);
-    response.headers_mut().insert(CONTENT_TYPE, HeaderValue::from_static(content_type));
-    response
+/// An answer before it is sent.
+struct Told {
+    status: u16,
+    content_type: &'static str,
+    body: Vec<u8>,
 }
 
-fn parts_of(reply: Reply) -> (u16, &'static str, Vec<u8>) {
-    (reply.status, reply.content_type, reply.body)
+impl Told {
+    fn in_json(status: u16, value: &Value) -> Told {
+        Told { status, content_type: JSON, body: value.to_string().into_bytes() }
+    }
+
+    fn refusal(form: Form, error: &SqsError) -> Told {
+        let id = Uuid::new_v4().to_string();
+        match form {
+            Form::Xml => Protocol::Query.refuse(error, id).into(),
+            Form::Json => Told::in_json(error.coded().status, &refusal_in_json(error, id)),
+        }
+    }
+
+    fn into_response(self) -> Response<Answer> {
+        let mut response = Response::new(Answer::new(self.body));
+        *response.status_mut() = StatusCode::from_u16(self.status).unwrap_or(StatusCode::INTERNAL_SERVER_ERROR);
+        response.headers_mut().insert(CONTENT_TYPE, HeaderValue::from_static(self.content_type));
+        response
+    }
+}
+
+impl From<Reply> for Told {
+    fn from(reply: Reply) -> Told {
+        Told { status: reply.status, content_type: reply.content_type, body: reply.body }
+    }
 }
 
 const JSON: &str = "application/json";
