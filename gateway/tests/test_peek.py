@@ -4,16 +4,20 @@ from __future__ import annotations
 
 import hashlib
 import json
+import random
 import re
+import time
 import urllib.error
 import urllib.parse
 import urllib.request
 import xml.etree.ElementTree
+from collections.abc import Iterator
+from contextlib import suppress
 from typing import Any
 
 import pytest
 
-from started import START, ByBoto3, ByJson, Started
+from started import START, ByBoto3, ByJson, Refused, Started
 from test_operations import admin_url, get, metric, run
 
 FIFO = {"FifoQueue": "true"}
@@ -85,6 +89,17 @@ def peek(gateway: Started, url: str, **fields: Any) -> list[dict[str, Any]]:
     result = result_in_json(answer)
     assert result == result_in_xml(other) and "NextToken" not in result
     return result["Message"]
+
+
+def pages(gateway: Started, url: str, **fields: Any) -> Iterator[list[dict[str, Any]]]:
+    """All messages that are shown, by pages."""
+    token: dict[str, str] = {}
+    while True:
+        result = result_in_json(ask(gateway, url, **fields, **token)[2])
+        yield result["Message"]
+        if "NextToken" not in result:
+            return
+        token = {"NextToken": result["NextToken"]}
 
 
 def bodies(messages: list[dict[str, Any]]) -> list[str]:
@@ -201,15 +216,97 @@ def test_a_list_goes_on_until_all_were_shown_once(gateway):
     late = [str(number) for number in range(120)]
     for body in late:
         send(call, url, body, DelaySeconds=900)
-    pages, token = [], {}
-    while True:
-        result = result_in_json(ask(gateway, url, ShowDelayed="true", **token)[2])
-        pages.append(bodies(result["Message"]))
-        if "NextToken" not in result:
-            break
-        token = {"NextToken": result["NextToken"]}
-    assert [body for page in pages for body in page] == [str(number) for number in range(1_300)] + large + late
-    assert [len(page) for page in pages] == [1_000, 302, 120], "1,000 messages, and 1 MiB"
+    found = [bodies(page) for page in pages(gateway, url, ShowDelayed="true")]
+    assert [body for page in found for body in page] == [str(number) for number in range(1_300)] + large + late
+    assert [len(page) for page in found] == [1_000, 302, 120], "1,000 messages, and 1 MiB"
+
+
+def counted(call, url: str) -> list[int]:
+    told = call("GetQueueAttributes", QueueUrl=url, AttributeNames=["All"])["Attributes"]
+    return [int(told[f"ApproximateNumberOfMessages{which}"]) for which in ("", "NotVisible", "Delayed")]
+
+
+def shown(gateway: Started, url: str) -> list[int]:
+    """How many are shown that are visible, in flight, and delayed."""
+    whole = pages(gateway, url, ShowInvisible="true", ShowDelayed="true")
+    states = [attributes(message) for page in whole for message in page]
+    in_flight = sum(state["IsVisible"] == "false" for state in states)
+    delayed = sum(state["IsDelayed"] == "true" for state in states)
+    return [len(states) - in_flight - delayed, in_flight, delayed]
+
+
+class Work:
+    """What clients do with a queue of each kind and their dead-letter queues, by a seed."""
+
+    def __init__(self, gateway: Started, seed: int) -> None:
+        self.gateway, self.random = gateway, random.Random(seed)
+        self.call = ByJson(gateway.url)
+        self.handles: list[tuple[str, str]] = []
+        for suffix, attributes in ((".fifo", {**FIFO, "DelaySeconds": "5"}), ("", {})):
+            dead = {"deadLetterTargetArn": f"arn:aws:sqs:us-east-1:000000000000:dead{suffix}", "maxReceiveCount": 2}
+            self.call("CreateQueue", QueueName=f"dead{suffix}", Attributes=FIFO if suffix else {})
+            more = {"RedrivePolicy": json.dumps(dead), "VisibilityTimeout": "10"}
+            self.call("CreateQueue", QueueName=f"q{suffix}", Attributes={**attributes, **more})
+        self.queues = ["dead", "dead.fifo", "q", "q.fifo"]
+
+    def send(self, turn: int) -> None:
+        name, size = self.random.choice(["q", "q.fifo"]), self.random.choice([1, 1, 1, 1, 300_000])
+        late = {} if name.endswith(".fifo") else {"DelaySeconds": self.random.choice([0, 0, 3, 20])}
+        send(self.call, name, f"{turn}-" + "x" * size, group=str(turn % 3), **late)
+
+    def receive(self) -> None:
+        name = self.random.choice(self.queues)
+        messages = receive(self.call, name, self.random.randint(1, 10))
+        self.handles += [(name, message["ReceiptHandle"]) for message in messages]
+
+    def end(self, action: str, **more: Any) -> None:
+        if self.handles:
+            name, handle = self.handles.pop(self.random.randrange(len(self.handles)))
+            # It may have come too late.
+            with suppress(Refused):
+                self.call(action, QueueUrl=name, ReceiptHandle=handle, **more)
+
+    def turn(self, number: int) -> None:
+        match self.random.randrange(8):
+            case 0 | 1 | 2:
+                self.send(number)
+            case 3 | 4:
+                self.receive()
+            case 5:
+                self.end("DeleteMessage")
+            case 6:
+                self.end("ChangeMessageVisibility", VisibilityTimeout=self.random.choice([0, 5, 40]))
+            case _:
+                self.gateway.set_clock(self.gateway.moment + self.random.randrange(15_000))
+
+    def compare(self) -> list[list[int]]:
+        """As many are shown as are counted, once what is due is in the store."""
+        for _ in range(100):
+            both = [(counted(self.call, name), shown(self.gateway, name)) for name in self.queues]
+            if all(count == seen for count, seen in both):
+                break
+            time.sleep(0.05)
+        assert [seen for _, seen in both] == [count for count, _ in both]
+        return [seen for _, seen in both]
+
+
+@pytest.mark.parametrize("seed", range(4))
+def test_as_many_are_shown_as_are_counted(tmp_path, seed):
+    gateway = Started("--admin", "0", "--peek", "--journal", str(tmp_path / "journal"), room=tmp_path)
+    work, seen = Work(gateway, seed), []
+    for number in range(300):
+        work.turn(number)
+        if number % 25 == 0:
+            seen += work.compare()
+        if number == 150:
+            gateway.kill()
+            gateway.start()
+            work.call = ByJson(gateway.url)
+            seen += work.compare()
+    assert all(max(counts) > 1 for counts in zip(*seen)), "there were some of each kind"
+    work.call("PurgeQueue", QueueUrl="q")
+    work.compare()
+    assert gateway.stop() == 0
 
 
 def test_what_is_shown_is_there_after_a_restart_too(tmp_path):
