@@ -3,6 +3,7 @@
 from __future__ import annotations
 
 import hashlib
+import http.client
 import json
 import random
 import re
@@ -11,6 +12,7 @@ import urllib.error
 import urllib.parse
 import urllib.request
 import xml.etree.ElementTree
+from collections import Counter
 from collections.abc import Iterator
 from contextlib import suppress
 from typing import Any
@@ -344,6 +346,26 @@ def test_a_token_that_nobody_gave_out_is_refused(gateway):
     status, _, answer = ask(gateway, "q", NextToken="stored-x")
     assert status == 400 and json.loads(answer)["ErrorResponse"]["Error"]["Code"] == "InvalidParameterValue"
     assert peek(gateway, "q", NextToken="stored-99") == []
+
+
+def test_whatever_is_asked_is_answered(gateway):
+    call, chance = ByJson(gateway.url), random.Random(7)
+    call("CreateQueue", QueueName="q")
+    send(call, "q", "a", DelaySeconds=900)
+    parts = ["QueueUrl=q", "QueueUrl=", "&", "&NextToken=", "stored-", "delayed-", "-", "0", "18446744073709551615",
+             "18446744073709551616", "%00", "%ff", "%", "+", "=", "&ShowDelayed=1", "&ShowInvisible=", "q.fifo", "/", "x" * 5_000]
+    host, port = admin_url(gateway).removeprefix("http://").rsplit(":", 1)
+    connection = http.client.HTTPConnection(host, int(port), timeout=60)
+    statuses = Counter()
+    for _ in range(1_000):
+        path = chance.choice([PATH, PATH, f"{PATH}/", f"{PATH}/a/b/q", f"{PATH}/a/b/%ff", f"{PATH}//", f"{PATH}x", f"{PATH}/a/b/c/q"])
+        query = "QueueUrl=q" * chance.randrange(2) + "".join(chance.choices(parts, k=chance.randrange(6)))
+        connection.request("GET", f"{path}?{query}", headers={"Accept": chance.choice(["application/json", "text/xml", ";,;/"])})
+        answer = connection.getresponse()
+        answer.read()
+        statuses[answer.status] += 1
+    assert set(statuses) == {200, 400, 404} and min(statuses.values()) > 50, statuses
+    assert bodies(peek(gateway, "q", ShowDelayed="1")) == ["a"]
 
 
 def test_messages_are_shown_to_operators_alone_and_where_that_was_said(tmp_path):
