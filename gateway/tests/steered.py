@@ -18,10 +18,12 @@ def told():
     except (OSError, ValueError): return {{}}
 
 cq = subprocess.Popen([{program!r}, 'session'], stdin=subprocess.PIPE)
-for line in sys.stdin.buffer:
+for number, line in enumerate(sys.stdin.buffer):
     text = line.decode()
     while (word := told().get('hold')) is not None and word in text: time.sleep(0.005)
-    if (word := told().get('end')) is not None and word in text: sys.exit(cq.kill())
+    if (word := told().get('end')) is not None and word in text and number >= told().get('behind', 0):
+        with open({ends!r}, 'a') as file: file.write('.')
+        sys.exit(cq.kill())
     if (word := told().get('slow')) is not None and word in text: time.sleep(0.003)
     cq.stdin.write(line); cq.stdin.flush()
 """
@@ -29,15 +31,21 @@ for line in sys.stdin.buffer:
 
 class SteeredCq:
     def __init__(self, room: Path) -> None:
-        self.program, self.orders = room / "steered-cq", room / "orders"
-        self.program.write_text(SOURCE.format(python=sys.executable, program=program(), orders=str(self.orders)))
+        self.program, self.orders, self.told_ends = room / "steered-cq", room / "orders", room / "ends"
+        self.program.write_text(SOURCE.format(python=sys.executable, program=program(), orders=str(self.orders),
+                                              ends=str(self.told_ends)))
         self.program.chmod(0o755)
 
     def words(self) -> list[str]:
         return ["--cq", str(self.program)]
 
-    def tell(self, **orders: str) -> None:
-        """`hold`, `end` and `slow`: what happens to lines that have this text. What was told before counts no more."""
+    def ends(self) -> int:
+        """How often it ended since it was told to."""
+        return self.told_ends.stat().st_size if self.told_ends.exists() else 0
+
+    def tell(self, **orders: str | int) -> None:
+        """`hold`, `end` and `slow`: what happens to lines that have this text; `behind` so many lines, it ends. What was
+        told before counts no more."""
         new = self.orders.with_suffix(".new")
         new.write_text(json.dumps(orders))
         new.replace(self.orders)

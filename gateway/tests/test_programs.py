@@ -13,6 +13,7 @@ from pathlib import Path
 import pytest
 
 from started import ByJson, Refused, Started, children, command, environment, program
+from steered import SteeredCq
 from test_operations import admin_url, get, metric
 
 FIFO = {"FifoQueue": "true"}
@@ -124,6 +125,19 @@ def test_a_start_with_such_a_program_ends_and_says_why(tmp_path, stand_in, what,
     words = command("serve", "--port", "0", "--cq", str(stand_in.path), "--cq-timeout", "3", *journal)
     ended = subprocess.run(words, env=environment(), capture_output=True, text=True, timeout=60)
     assert ended.returncode == 1 and said in ended.stderr.splitlines()[-1]
+
+
+def test_a_program_that_ends_at_whatever_it_is_asked_ends_the_gateway(tmp_path):
+    """The journal has one record, and so the first four lines are of its replay."""
+    cq = SteeredCq(tmp_path)
+    gateway = Started("--journal", str(tmp_path / "journal"), *cq.words())
+    call = ByJson(gateway.url)
+    call("CreateQueue", QueueName="q.fifo", Attributes=FIFO)
+    cq.tell(end='"op"', behind=4)
+    with pytest.raises((OSError, Refused)):
+        for number in range(5):
+            send(call, number)
+    assert gateway.process.wait(60) == 1 and cq.ends() == 9
 
 
 @pytest.mark.parametrize("number", [signal.SIGTERM, signal.SIGKILL])

@@ -20,8 +20,8 @@ def names(call) -> list[str]:
     return [url.rsplit("/", 1)[-1] for url in call("ListQueues").get("QueueUrls", [])]
 
 
-def wait_for(what) -> None:
-    latest = time.monotonic() + 20
+def wait_for(what, seconds: float = 20) -> None:
+    latest = time.monotonic() + seconds
     while not what():
         assert time.monotonic() < latest
         time.sleep(0.02)
@@ -66,7 +66,7 @@ def rolled(gateway: Started, journal: Path) -> None:
 def test_a_removed_queue_stays_so_where_an_earlier_name_of_it_could_not_be_removed(tmp_path):
     cq, journal = SteeredCq(tmp_path), tmp_path / "journal"
     gateway = Started("--journal", str(journal), "--journal-size", "100000", *cq.words(), room=tmp_path)
-    # Removals end the program, each twice. After eight ends in a row the gateway would end, too, so this isn't for long.
+    # Removals end the program, each twice.
     cq.tell(end='"kind":"remove"')
     rolled(gateway, journal)
     time.sleep(1)
@@ -78,6 +78,19 @@ def test_a_removed_queue_stays_so_where_an_earlier_name_of_it_could_not_be_remov
         gateway.kill()
         gateway.start()
         assert names(ByJson(gateway.url)) == []
+    assert gateway.stop() == 0
+
+
+def test_a_removal_that_ends_the_program_each_time_ends_no_gateway(tmp_path):
+    """It is tried again and again, and nothing else is asked."""
+    cq, journal = SteeredCq(tmp_path), tmp_path / "journal"
+    gateway = Started("--journal", str(journal), "--journal-size", "100000", *cq.words(), room=tmp_path)
+    cq.tell(end='"kind":"remove"')
+    rolled(gateway, journal)
+    wait_for(lambda: cq.ends() >= 12 or gateway.process.poll() is not None, 60)
+    assert gateway.process.poll() is None
+    cq.tell()
+    assert names(ByJson(gateway.url)) == ["q.fifo"]
     assert gateway.stop() == 0
 
 

@@ -28,6 +28,7 @@ impl Task {
             return Err(Ended::NotNext { client: 0, number: 0 });
         };
         self.close(&asked);
+        self.ends = 0;
         self.give_room_back(&asked);
         let start: String = asked.raw.get().chars().take(200).collect();
         // A client may have said what stands in it.
@@ -54,7 +55,12 @@ impl Task {
                 }
                 Ok(())
             }
+            Entry::Probe { tag, .. } if tag == number => {
+                self.ends = 0;
+                Ok(())
+            }
             Entry::Counted { tag, .. } if tag == number => {
+                self.ends = 0;
                 let answer = match reply {
                     Reply::Counts { visible, in_flight } => Ok(Outcome::Counts { visible, in_flight }),
                     Reply::Refused(code) => Err(SqsError::of_refusal(code)),

@@ -147,10 +147,21 @@ impl Task {
     fn count(&mut self, queue: Arc<Queue>) -> Result<Entry, Ended> {
         let entry = self.moment()?;
         self.open.push_back(Open { entry, done: None });
-        self.last_number += 1;
-        let tag = self.last_number;
+        let tag = self.next_tag();
         self.write_count(tag, &queue)?;
         Ok(Entry::Counted { tag, queue })
+    }
+
+    /// Asks for something that changes nothing, to see whether the program answers it.
+    pub(super) fn probe(&mut self, queue: Arc<Queue>) -> Result<Entry, Ended> {
+        let tag = self.next_tag();
+        self.write_count(tag, &queue)?;
+        Ok(Entry::Probe { tag, queue })
+    }
+
+    fn next_tag(&mut self) -> u64 {
+        self.last_number += 1;
+        self.last_number
     }
 
     pub(super) fn write_count(&mut self, tag: u64, queue: &Queue) -> Result<(), Ended> {

@@ -25,6 +25,11 @@ pub(super) enum Entry {
         tag: u64,
         queue: Arc<Queue>,
     },
+    /// A count that nobody waits for. Its answer tells that the program doesn't end at whatever it is asked.
+    Probe {
+        tag: u64,
+        queue: Arc<Queue>,
+    },
     Noted(Noted),
     Ready(Option<Answer>),
 }

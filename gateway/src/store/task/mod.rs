@@ -56,7 +56,8 @@ const CLIENTS: u32 = 256;
 /// No more is read from the pipe, or gathered for it, at once.
 const PIECE: usize = 256 * 1024;
 
-/// A program that ends so often and answers nothing in between isn't started again.
+/// A program that ends so often and answers nothing in between isn't started again. What an ask does to it each time
+/// doesn't add up, however often that is asked: behind one that is given up the program is asked for something else.
 const MOST_ENDS_IN_A_ROW: u32 = 8;
 
 /// The longest line of the program: ten bodies, of which each byte may be written as six.
@@ -306,23 +307,34 @@ impl Task {
         self.waits_for_answer = false;
         // One whose answer couldn't be read isn't among those that are open.
         self.open_due.clear();
+        let mut given_up = None;
         for open in std::mem::take(&mut self.open) {
-            let entry = self.ask_again(open.entry)?;
+            let entry = match self.ask_again(open.entry)? {
+                Again::Asked(entry) => entry,
+                Again::GivenUp(queue) => {
+                    given_up = Some(queue);
+                    let message = "The store ended twice at this request.";
+                    Entry::Ready(Some(Err(SqsError::InternalFailure(message.into()))))
+                }
+            };
             self.open.push_back(Open { entry, done: open.done });
+        }
+        if let Some(queue) = given_up {
+            let entry = self.probe(queue)?;
+            self.open.push_back(Open { entry, done: None });
         }
         tracing::warn!("cq was started again, and is where the journal is");
         Ok(())
     }
 
-    fn ask_again(&mut self, entry: Entry) -> Result<Entry, Ended> {
-        Ok(match entry {
+    fn ask_again(&mut self, entry: Entry) -> Result<Again, Ended> {
+        Ok(Again::Asked(match entry {
             Entry::Asked(mut asked) => {
                 asked.ends += 1;
                 if asked.ends >= MOST_ENDS {
                     self.forget_open(&asked.ask);
                     self.give_room_back(&asked);
-                    let message = "The store ended twice at this request.";
-                    return Ok(Entry::Ready(Some(Err(SqsError::InternalFailure(message.into())))));
+                    return Ok(Again::GivenUp(asked.queue));
                 }
                 self.last_number += 1;
                 asked.number = self.last_number;
@@ -335,10 +347,21 @@ impl Task {
                 self.write_count(tag, &queue)?;
                 Entry::Counted { tag, queue }
             }
+            Entry::Probe { tag, queue } => {
+                self.write_count(tag, &queue)?;
+                Entry::Probe { tag, queue }
+            }
             Entry::Moment => self.moment()?,
             other => other,
-        })
+        }))
     }
+}
+
+/// What comes of an entry that was open when the program ended.
+enum Again {
+    Asked(Entry),
+    /// It was open at an end before, too. It was asked of this queue.
+    GivenUp(Arc<Queue>),
 }
 
 async fn grown(grown: Option<&mut watch::Receiver<()>>) {
