@@ -1,9 +1,11 @@
 //! Queues at rest go over to fresh names of the store, so that the records of their messages can go.
 
+use std::collections::HashMap;
 use std::sync::Arc;
 use std::time::{Duration, Instant};
 
 use crate::errors::SqsError;
+use crate::handles::Mark;
 use crate::queues::ask::{Ask, Before, Creation};
 use crate::queues::{Queue, State};
 use crate::store::{Held, Store};
@@ -17,9 +19,33 @@ const SHORT_PAUSE: Duration = Duration::from_millis(250);
 /// A queue that has fewer records since it has its name keeps it.
 const WORTH_ROLLING: u64 = 1000;
 
+/// Queues that couldn't be rolled, and how long each is let alone: longer each time, up to [`PAUSE`]. What goes wrong may
+/// take others' time.
+#[derive(Default)]
+struct Rests(HashMap<Mark, Rest>);
+
+struct Rest {
+    end: Instant,
+    length: Duration,
+}
+
+impl Rests {
+    fn is_resting(&self, mark: Mark, now: Instant) -> bool {
+        self.0.get(&mark).is_some_and(|rest| now < rest.end)
+    }
+
+    fn begin(&mut self, mark: Mark, now: Instant) {
+        // Those that came to their end long ago are of queues that were rolled since, or removed.
+        self.0.retain(|_, rest| now < rest.end + 2 * PAUSE);
+        let length = self.0.get(&mark).map_or(SHORT_PAUSE, |rest| PAUSE.min(2 * rest.length));
+        self.0.insert(mark, Rest { end: now + length, length });
+    }
+}
+
 /// Rolls queues for as long as the gateway serves.
 pub async fn keep_rolling(store: Store) {
     let mut looked = Instant::now();
+    let mut rests = Rests::default();
     loop {
         tokio::time::sleep(SHORT_PAUSE).await;
         let least = if store.wants_space() { 1 } else { WORTH_ROLLING };
@@ -28,10 +54,11 @@ pub async fn keep_rolling(store: Store) {
         }
         looked = Instant::now();
         for queue in store.queues().all() {
-            if !is_due(&queue.state(), least, store.clock().now()) {
+            if rests.is_resting(queue.mark, looked) || !is_due(&queue.state(), least, store.clock().now()) {
                 continue;
             }
             if let Err(error) = roll(&store, &queue, least).await {
+                rests.begin(queue.mark, Instant::now());
                 tracing::warn!("{} keeps its name in the store: {error}", queue.name);
             }
         }
@@ -93,5 +120,28 @@ fn creation_of(queue: &Queue, state: &State) -> Creation {
         attributes: state.attributes.clone(),
         tags: state.tags.clone(),
         before: Some(before),
+    }
+}
+
+#[cfg(test)]
+mod tests {
+    use super::*;
+
+    #[test]
+    fn a_queue_that_cannot_be_rolled_is_let_alone_for_longer_each_time() {
+        let (mut rests, mut now) = (Rests::default(), Instant::now());
+        let (mark, other) = (Mark(1), Mark(2));
+        let mut lengths = Vec::new();
+        for _ in 0..8 {
+            rests.begin(mark, now);
+            let length = rests.0[&mark].length;
+            assert!(rests.is_resting(mark, now) && !rests.is_resting(other, now));
+            now += length;
+            assert!(!rests.is_resting(mark, now));
+            lengths.push(length.as_millis());
+        }
+        assert_eq!(lengths, [250, 500, 1_000, 2_000, 4_000, 8_000, 10_000, 10_000]);
+        rests.begin(other, now + 3 * PAUSE);
+        assert_eq!(rests.0.len(), 1);
     }
 }
