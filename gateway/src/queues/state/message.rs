@@ -2,9 +2,10 @@
 //!
 //! What is counted or looked for is kept in order as it changes, so that nothing walks over all of a queue.
 
-use std::collections::{BTreeMap, BTreeSet};
+use std::collections::HashMap;
 use std::sync::Arc;
 
+use super::numbers::Numbers;
 use crate::clock::Moment;
 use crate::queues::groups::Group;
 
@@ -61,14 +62,18 @@ pub(super) struct Handing {
     pub(super) touched: bool,
 }
 
+/// Messages with this end of a timeout are visible.
+const VISIBLE: Moment = 0;
+
 /// The messages of a queue that aren't deleted, by their sequence numbers.
 #[derive(Debug, Default)]
 pub(super) struct Messages {
-    by_sequence: BTreeMap<u64, Message>,
-    /// The ends of timeouts that weren't found to be over.
-    ends: BTreeSet<(Moment, u64)>,
-    /// All messages that have no such end.
-    visible: BTreeSet<u64>,
+    by_sequence: HashMap<u64, Message>,
+    order: Numbers<()>,
+    /// By the ends of timeouts that weren't found to be over. All others are [`VISIBLE`].
+    by_end: Numbers<Moment>,
+    /// How many have such an end.
+    hidden: usize,
     /// All messages up to this one were found to be due.
     due: u64,
     /// How many visible ones are behind it.
@@ -97,22 +102,25 @@ impl Messages {
     }
 
     pub(super) fn first(&self) -> Option<&Message> {
-        self.by_sequence.values().next()
+        let ((), sequence) = self.order.first()?;
+        self.get(sequence)
     }
 
     /// Messages from this number on, in order.
     pub(super) fn from(&self, sequence: u64) -> impl Iterator<Item = (u64, &Message)> {
-        self.by_sequence.range(sequence..).map(|(sequence, message)| (*sequence, message))
+        self.order.from((), sequence).filter_map(|((), sequence)| Some((sequence, self.get(sequence)?)))
     }
 
     /// Adds a message that isn't hidden.
     pub(super) fn add(&mut self, sequence: u64, message: Message) {
         self.by_sequence.insert(sequence, message);
-        self.show(sequence);
+        self.order.insert((), sequence);
+        self.put_in(sequence, VISIBLE);
     }
 
     pub(super) fn remove(&mut self, sequence: u64) -> Option<Message> {
         let message = self.by_sequence.remove(&sequence)?;
+        self.order.remove((), sequence);
         self.take_out(sequence, message.until);
         Some(message)
     }
@@ -122,66 +130,77 @@ impl Messages {
         let message = self.by_sequence.get_mut(&sequence)?;
         let before = std::mem::replace(&mut message.until, until);
         self.take_out(sequence, before);
-        self.ends.insert((until, sequence));
+        self.put_in(sequence, until);
         Some(before)
     }
 
-    fn show(&mut self, sequence: u64) {
-        self.visible.insert(sequence);
-        self.visible_behind += u64::from(sequence > self.due);
+    /// Puts a message that is hidden until then into the order of ends.
+    fn put_in(&mut self, sequence: u64, until: Moment) {
+        self.by_end.insert(until, sequence);
+        if until == VISIBLE {
+            self.visible_behind += u64::from(sequence > self.due);
+        } else {
+            self.hidden += 1;
+        }
     }
 
+    /// Takes a message that was hidden until then out of the order of ends.
     fn take_out(&mut self, sequence: u64, until: Moment) {
-        if !self.ends.remove(&(until, sequence)) && self.visible.remove(&sequence) {
+        if until != VISIBLE && self.by_end.remove(until, sequence) {
+            self.hidden -= 1;
+        } else if self.by_end.remove(VISIBLE, sequence) {
             self.visible_behind -= u64::from(sequence > self.due);
         }
     }
 
     /// Takes up which timeouts are over by now. Each is found once.
     fn look(&mut self, now: Moment) {
-        while let Some((until, sequence)) = self.ends.first().copied().filter(|(until, _)| *until <= now) {
-            self.ends.remove(&(until, sequence));
-            self.show(sequence);
+        while let Some(end) = self.by_end.first_key_from(VISIBLE + 1).filter(|end| *end <= now) {
+            let shown = self.by_end.move_first(end, VISIBLE);
+            self.hidden -= shown.count();
+            self.visible_behind += shown.count_above(self.due);
         }
     }
 
     /// How many messages are in flight.
     pub(super) fn count_in_flight(&mut self, now: Moment) -> usize {
         self.look(now);
-        self.ends.len()
+        self.hidden
     }
 
     /// Those whose timeout wasn't found to be over.
     pub(super) fn in_flight(&self) -> impl Iterator<Item = (u64, &Message)> {
-        self.ends.iter().filter_map(|(_, sequence)| Some((*sequence, self.get(*sequence)?)))
+        self.by_end.from(VISIBLE + 1, 0).filter_map(|(_, sequence)| Some((sequence, self.get(sequence)?)))
     }
 
     /// The first end of a timeout that is still to come.
     pub(super) fn next_end(&mut self, now: Moment) -> Option<Moment> {
         self.look(now);
-        self.ends.first().map(|(until, _)| *until)
+        self.by_end.first_key_from(VISIBLE + 1)
     }
 
     /// The first message that isn't in flight.
     pub(super) fn first_visible(&mut self, now: Moment) -> Option<&Message> {
         self.look(now);
-        self.by_sequence.get(self.visible.first()?)
+        let (_, sequence) = self.by_end.first().filter(|(end, _)| *end == VISIBLE)?;
+        self.get(sequence)
     }
 
     /// None counts as due any more.
     pub(super) fn forget_due(&mut self) {
         self.due = 0;
-        self.visible_behind = self.visible.len() as u64;
+        self.visible_behind = (self.len() - self.hidden) as u64;
     }
 
     /// Finds those that are due, which are the first ones, and tells the first one that isn't. Each is found once.
     pub(super) fn look_for_due(&mut self, is_due: impl Fn(&Message) -> bool) -> Option<&Message> {
-        for (sequence, message) in self.by_sequence.range(self.due + 1..) {
+        for ((), sequence) in self.order.from((), self.due + 1) {
+            let message = self.by_sequence.get(&sequence)?;
             if !is_due(message) {
                 return Some(message);
             }
-            self.due = *sequence;
-            self.visible_behind -= u64::from(self.visible.contains(sequence));
+            self.due = sequence;
+            self.visible_behind -= u64::from(self.by_end.has(VISIBLE, sequence));
         }
         None
     }

@@ -5,6 +5,7 @@ mod attempts;
 mod delay;
 mod delayed;
 mod message;
+mod numbers;
 mod peek;
 mod receipts;
 #[cfg(test)]
