@@ -5,6 +5,7 @@ use std::sync::atomic::{AtomicU64, AtomicU8, Ordering};
 use std::sync::{Arc, OnceLock};
 use std::time::Duration;
 
+use bytes::Bytes;
 use hyper::header::{HeaderMap, HeaderValue, CONTENT_TYPE};
 use hyper::server::conn::Http;
 use hyper::service::service_fn;
@@ -12,7 +13,8 @@ use hyper::{Body, Method, Request, Response, StatusCode, Uri};
 use tokio::net::TcpListener;
 use tokio::sync::Semaphore;
 
-use crate::http::{is_of_this_machine, Answer, Hosts, Progress, Watched, LONGEST_HEAD};
+use crate::budget::Share;
+use crate::http::{is_of_this_machine, to_be_written, Hosts, Progress, Watched, LONGEST_HEAD};
 use crate::metrics::{Counts, Metrics};
 use crate::peek::{self, Peeks};
 use crate::queues::ask::Outcome;
@@ -94,12 +96,15 @@ impl Admin {
                 let (admin, progress) = (admin.clone(), progress.clone());
                 async move {
                     progress.is_read();
-                    let response = match admin.hosts.test(request.uri(), request.headers()) {
-                        Err(error) if is_near => text(StatusCode::FORBIDDEN, format!("{error}\n")),
+                    let (response, share) = match admin.hosts.test(request.uri(), request.headers()) {
+                        Err(error) if is_near => (text(StatusCode::FORBIDDEN, format!("{error}\n")), None),
                         _ => admin.answer(&request).await,
                     };
-                    progress.answers(response.body().length());
-                    Ok::<_, Infallible>(response)
+                    progress.answers(response.body().len() as u64);
+                    Ok::<_, Infallible>(match share {
+                        Some(share) => to_be_written(response, &share),
+                        None => response.map(Body::from),
+                    })
                 }
             });
             let mut http = Http::new();
@@ -114,7 +119,16 @@ impl Admin {
         }
     }
 
-    async fn answer(&self, request: &Request<Body>) -> Response<Answer> {
+    /// The answer to a request, and what it counts, if it does.
+    async fn answer(&self, request: &Request<Body>) -> (Response<Bytes>, Option<Arc<Share>>) {
+        let is_read = matches!(*request.method(), Method::GET | Method::HEAD);
+        if is_read && request.uri().path().starts_with(peek::PATH) {
+            return self.answer_peek(request.uri(), request.headers()).await;
+        }
+        (self.tell(request).await, None)
+    }
+
+    async fn tell(&self, request: &Request<Body>) -> Response<Bytes> {
         if !matches!(*request.method(), Method::GET | Method::HEAD) {
             return text(StatusCode::METHOD_NOT_ALLOWED, "There is only GET here.\n".into());
         }
@@ -126,7 +140,6 @@ impl Admin {
                 (status, told) => text(status, told),
             },
             "/metrics" => self.answer_metrics().await,
-            path if path.starts_with(peek::PATH) => self.answer_peek(request.uri(), request.headers()).await,
             _ => text(StatusCode::NOT_FOUND, "There are /health and /metrics here.\n".into()),
         }
     }
@@ -137,15 +150,19 @@ impl Admin {
         tokio::time::timeout(LONGEST_LOOK, store.is_answering()).await.unwrap_or(false)
     }
 
-    async fn answer_peek(&self, uri: &Uri, headers: &HeaderMap) -> Response<Answer> {
-        match (&self.peeks, self.store.get()) {
+    async fn answer_peek(&self, uri: &Uri, headers: &HeaderMap) -> (Response<Bytes>, Option<Arc<Share>>) {
+        let refusal = match (&self.peeks, self.store.get()) {
             (None, _) => text(StatusCode::NOT_FOUND, "Messages are shown where --peek is said at the start.\n".into()),
             (_, None) => text(StatusCode::SERVICE_UNAVAILABLE, "starting\n".into()),
-            (Some(peeks), Some(store)) => peeks.answer(store, uri, headers).await,
-        }
+            (Some(peeks), Some(store)) => {
+                let (response, share) = peeks.answer(store, uri, headers).await;
+                return (response, Some(share));
+            }
+        };
+        (refusal, None)
     }
 
-    async fn answer_metrics(&self) -> Response<Answer> {
+    async fn answer_metrics(&self) -> Response<Bytes> {
         let told = match self.store.get() {
             Some(store) => {
                 let counts = tokio::time::timeout(LONGEST_LOOK, counts(store)).await;
@@ -156,7 +173,7 @@ impl Admin {
         };
         match told {
             Ok(told) => {
-                let mut response = Response::new(Answer::new(told));
+                let mut response = Response::new(Bytes::from(told));
                 let content_type = HeaderValue::from_static(Metrics::content_type());
                 response.headers_mut().insert(CONTENT_TYPE, content_type);
                 response
@@ -180,8 +197,8 @@ async fn counts(store: &Store) -> Vec<Counts> {
     counts
 }
 
-fn text(status: StatusCode, told: String) -> Response<Answer> {
-    let mut response = Response::new(Answer::new(told));
+fn text(status: StatusCode, told: String) -> Response<Bytes> {
+    let mut response = Response::new(Bytes::from(told));
     *response.status_mut() = status;
     response.headers_mut().insert(CONTENT_TYPE, HeaderValue::from_static("text/plain; charset=utf-8"));
     response

@@ -25,7 +25,7 @@ impl Budget {
         Budget { used: Arc::default(), most, free }
     }
 
-    /// What one request has of the budget: nothing yet.
+    /// What a connection's request has of the budget: nothing yet.
     pub fn share(&self) -> Share {
         Share { budget: self.clone(), bytes: AtomicUsize::new(0) }
     }
@@ -41,7 +41,7 @@ impl Budget {
     }
 }
 
-/// What one request has of the budget. It goes back when this is dropped.
+/// What the request of a connection has of the budget, one after the other. It goes back when this is dropped.
 #[derive(Debug)]
 pub struct Share {
     budget: Budget,
@@ -63,6 +63,10 @@ impl Share {
     /// Counts so many bytes from now on, whether they are there or not: they are in memory already.
     pub fn set(&self, length: usize) {
         let wanted = length.saturating_sub(self.budget.free);
+        // What all connections share isn't touched by requests that count nothing.
+        if self.bytes.load(Ordering::Relaxed) == wanted {
+            return;
+        }
         let before = self.bytes.swap(wanted, Ordering::Relaxed);
         // The difference may be below zero: it wraps, and the sum wraps back.
         self.budget.used.fetch_add(wanted.wrapping_sub(before), Ordering::Relaxed);
@@ -71,7 +75,7 @@ impl Share {
 
 impl Drop for Share {
     fn drop(&mut self) {
-        self.budget.used.fetch_sub(*self.bytes.get_mut(), Ordering::Relaxed);
+        self.set(0);
     }
 }
 

@@ -4,16 +4,16 @@ use std::fmt;
 use std::str::FromStr;
 use std::sync::Arc;
 
+use bytes::Bytes;
 use hyper::header::{HeaderMap, HeaderValue, ACCEPT, CONTENT_TYPE};
 use hyper::{Response, StatusCode, Uri};
 use serde_json::{json, Map, Value};
 use uuid::Uuid;
 
 use crate::actions::{show, Owner};
-use crate::budget::Budget;
+use crate::budget::{Budget, Share};
 use crate::errors::SqsError;
 use crate::handles::Receipt;
-use crate::http::Answer;
 use crate::queues::ask::Handed;
 use crate::queues::{Peeked, Place, Queue, Step, Visibility};
 use crate::store::Store;
@@ -134,8 +134,8 @@ impl Peeks {
         Peeks { owner, budget: Budget::of(MEMORY, 0) }
     }
 
-    /// The answer to a request below `PATH`.
-    pub async fn answer(&self, store: &Store, uri: &Uri, headers: &HeaderMap) -> Response<Answer> {
+    /// The answer to a request below `PATH`, and what it counts.
+    pub async fn answer(&self, store: &Store, uri: &Uri, headers: &HeaderMap) -> (Response<Bytes>, Arc<Share>) {
         let form = Form::of(headers);
         let share = Arc::new(self.budget.share());
         let told = if share.try_set(LONGEST_ANSWER) {
@@ -143,9 +143,7 @@ impl Peeks {
         } else {
             Err(SqsError::ServiceUnavailable("Too many messages are being shown.".into()))
         };
-        let mut response = told.unwrap_or_else(|error| Told::refusal(form, &error)).into_response();
-        response.body_mut().count_by(share);
-        response
+        (told.unwrap_or_else(|error| Told::refusal(form, &error)).into_response(), share)
     }
 
     /// A page in a form. It is made on a thread beside those that serve clients, so that these wait for nothing.
@@ -260,8 +258,8 @@ impl Told {
         }
     }
 
-    fn into_response(self) -> Response<Answer> {
-        let mut response = Response::new(Answer::new(self.body));
+    fn into_response(self) -> Response<Bytes> {
+        let mut response = Response::new(Bytes::from(self.body));
         *response.status_mut() = StatusCode::from_u16(self.status).unwrap_or(StatusCode::INTERNAL_SERVER_ERROR);
         response.headers_mut().insert(CONTENT_TYPE, HeaderValue::from_static(self.content_type));
         response

@@ -1,64 +1,44 @@
-//! The bodies of answers: they count for the budget of requests until they are written.
+//! The bodies of answers: large ones count for the budget of requests until they are written.
 
-use std::convert::Infallible;
-use std::pin::Pin;
 use std::sync::Arc;
-use std::task::{Context, Poll};
 
 use bytes::Bytes;
-use hyper::body::{HttpBody, SizeHint};
-use hyper::header::HeaderMap;
+use hyper::body::Sender;
+use hyper::header::CONTENT_LENGTH;
+use hyper::{Body, Response};
 
 use crate::budget::Share;
 
 /// So many bytes go to a connection at once. It takes the next ones when these are on their way.
 const PIECE: usize = 64 << 10;
 
-/// The body of an answer, and what it counts until all but its last piece is written.
-pub struct Answer {
-    rest: Bytes,
-    share: Option<Arc<Share>>,
+/// The answer as a connection writes it. It counts by this share until all but its last piece is written.
+pub fn to_be_written(mut answer: Response<Bytes>, share: &Arc<Share>) -> Response<Body> {
+    if answer.body().len() <= PIECE {
+        share.set(0);
+        return answer.map(Body::from);
+    }
+    let length = answer.body().len();
+    answer.headers_mut().insert(CONTENT_LENGTH, length.into());
+    share.set(length);
+    let share = share.clone();
+    answer.map(|bytes| {
+        let (sender, body) = Body::channel();
+        tokio::spawn(write(bytes, sender, share));
+        body
+    })
 }
 
-impl Answer {
-    pub fn new(bytes: impl Into<Bytes>) -> Answer {
-        Answer { rest: bytes.into(), share: None }
-    }
-
-    /// How many bytes are to be written.
-    pub fn length(&self) -> u64 {
-        self.rest.len() as u64
-    }
-
-    /// Counts by this share from now on.
-    pub fn count_by(&mut self, share: Arc<Share>) {
-        share.set(self.rest.len());
-        self.share = Some(share);
-    }
-}
-
-impl HttpBody for Answer {
-    type Data = Bytes;
-    type Error = Infallible;
-
-    fn poll_data(mut self: Pin<&mut Self>, _: &mut Context<'_>) -> Poll<Option<Result<Bytes, Infallible>>> {
-        if self.rest.is_empty() {
-            return Poll::Ready(None);
+async fn write(mut rest: Bytes, mut sender: Sender, share: Arc<Share>) {
+    while !rest.is_empty() {
+        let piece = rest.split_to(rest.len().min(PIECE));
+        if rest.is_empty() {
+            // Behind this one the connection's next request may count.
+            share.set(0);
         }
-        let length = self.rest.len().min(PIECE);
-        Poll::Ready(Some(Ok(self.rest.split_to(length))))
-    }
-
-    fn poll_trailers(self: Pin<&mut Self>, _: &mut Context<'_>) -> Poll<Result<Option<HeaderMap>, Infallible>> {
-        Poll::Ready(Ok(None))
-    }
-
-    fn is_end_stream(&self) -> bool {
-        self.rest.is_empty()
-    }
-
-    fn size_hint(&self) -> SizeHint {
-        SizeHint::with_exact(self.rest.len() as u64)
+        if sender.send_data(piece).await.is_err() {
+            return;
+        }
     }
 }
 
@@ -66,19 +46,45 @@ impl HttpBody for Answer {
 mod tests {
     use super::*;
 
+    use hyper::body::HttpBody;
+
     use crate::budget::Budget;
 
     #[tokio::test]
-    async fn an_answer_counts_until_its_last_piece_is_taken() {
+    async fn a_large_answer_counts_until_its_last_piece_is_on_its_way() {
         let budget = Budget::of(usize::MAX, 0);
-        let mut answer = Answer::new(vec![7; PIECE + 1]);
-        answer.count_by(Arc::new(budget.share()));
-        assert_eq!((budget.used(), answer.size_hint().exact()), (PIECE + 1, Some(PIECE as u64 + 1)));
-        assert_eq!(answer.data().await.unwrap().unwrap().len(), PIECE);
-        assert_eq!((budget.used(), answer.is_end_stream()), (PIECE + 1, false));
-        assert_eq!(answer.data().await.unwrap().unwrap().len(), 1);
-        assert!(answer.is_end_stream() && answer.data().await.is_none());
-        drop(answer);
-        assert_eq!(budget.used(), 0);
+        let share = Arc::new(budget.share());
+        let bytes = Bytes::from(vec![7; 3 * PIECE + 1]);
+        let mut answer = to_be_written(Response::new(bytes.clone()), &share);
+        assert_eq!(answer.headers()[CONTENT_LENGTH], "196609");
+        let mut written = Vec::new();
+        for _ in 0..2 {
+            assert_eq!(budget.used(), bytes.len());
+            written.extend(answer.body_mut().data().await.unwrap().unwrap());
+        }
+        while let Some(piece) = answer.body_mut().data().await {
+            written.extend(piece.unwrap());
+        }
+        assert_eq!((written, budget.used()), (bytes.to_vec(), 0));
+    }
+
+    #[tokio::test]
+    async fn an_answer_that_nobody_reads_counts_no_more() {
+        let budget = Budget::of(usize::MAX, 0);
+        let share = Arc::new(budget.share());
+        drop(to_be_written(Response::new(vec![7; 2 * PIECE].into()), &share));
+        drop(share);
+        while budget.used() > 0 {
+            tokio::task::yield_now().await;
+        }
+    }
+
+    #[tokio::test]
+    async fn a_small_answer_counts_nothing() {
+        let budget = Budget::of(usize::MAX, 0);
+        let share = Arc::new(budget.share());
+        share.set(9);
+        let answer = to_be_written(Response::new(vec![7; PIECE].into()), &share);
+        assert_eq!((budget.used(), answer.body().size_hint().exact()), (0, Some(PIECE as u64)));
     }
 }

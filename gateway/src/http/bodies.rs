@@ -9,25 +9,21 @@ use hyper::Body;
 use tokio::time::{timeout_at, Instant};
 
 use crate::attributes::LONGEST_MESSAGE;
-use crate::budget::{Budget, Share};
+use crate::budget::Share;
 use crate::errors::SqsError;
 
 /// The longest body of a request, in bytes: JSON writes one byte of a message as six at most, and 64 KiB are for the
 /// rest.
 pub const LONGEST_BODY: usize = 6 * LONGEST_MESSAGE + (64 << 10);
 
-/// A whole body, and its share of the budget.
-#[derive(Debug)]
-pub struct Whole {
-    pub bytes: Bytes,
-    pub share: Share,
-}
-
-/// Reads a body to its end. It is refused where it is longer than [`LONGEST_BODY`], isn't whole at `deadline`, or finds
-/// no room. What is refused for its length or for want of room is read on beside the refusal and thrown away: what is left
-/// unread would have the connection reset before its client has read the answer.
-pub async fn read(mut body: Body, budget: &Budget, deadline: Instant) -> Result<Whole, SqsError> {
-    let read = read_whole(&mut body, budget, deadline).await;
+/// Reads a body to its end, and has it count for the share. It is refused where it is longer than [`LONGEST_BODY`], isn't
+/// whole at `deadline`, or finds no room. What is refused for its length or for want of room is read on beside the refusal
+/// and thrown away: what is left unread would have the connection reset before its client has read the answer.
+pub async fn read(mut body: Body, share: &Share, deadline: Instant) -> Result<Bytes, SqsError> {
+    let read = read_whole(&mut body, share, deadline).await;
+    if read.is_err() {
+        share.set(0);
+    }
     if matches!(read, Err(SqsError::RequestTooLong { .. } | SqsError::ServiceUnavailable(_))) {
         tokio::spawn(throw_away(body, deadline));
     }
@@ -38,11 +34,10 @@ fn too_long() -> SqsError {
     SqsError::RequestTooLong { limit: LONGEST_BODY }
 }
 
-async fn read_whole(body: &mut Body, budget: &Budget, deadline: Instant) -> Result<Whole, SqsError> {
+async fn read_whole(body: &mut Body, share: &Share, deadline: Instant) -> Result<Bytes, SqsError> {
     if body.size_hint().lower() > LONGEST_BODY as u64 {
         return Err(too_long());
     }
-    let share = budget.share();
     let mut pieces = Pieces::default();
     while let Some(piece) = next_piece(body, deadline).await? {
         if pieces.len() + piece.len() > LONGEST_BODY {
@@ -53,7 +48,7 @@ async fn read_whole(body: &mut Body, budget: &Budget, deadline: Instant) -> Resu
         }
         pieces.add(piece);
     }
-    Ok(Whole { bytes: pieces.into_bytes(), share })
+    Ok(pieces.into_bytes())
 }
 
 async fn next_piece(body: &mut Body, deadline: Instant) -> Result<Option<Bytes>, SqsError> {
@@ -120,6 +115,8 @@ mod tests {
 
     use std::time::Duration;
 
+    use crate::budget::Budget;
+
     fn soon() -> Instant {
         Instant::now() + Duration::from_secs(5)
     }
@@ -139,44 +136,49 @@ mod tests {
 
     #[tokio::test]
     async fn pieces_are_put_together() {
-        let budget = Budget::new(256 << 20);
+        let share = Budget::new(256 << 20).share();
         for (pieces, whole) in [(&[][..], ""), (&["ab"], "ab"), (&["a", "b", "cd"], "abcd")] {
-            let read = read(body_of(pieces), &budget, soon()).await.unwrap();
-            assert_eq!(read.bytes, whole);
+            assert_eq!(read(body_of(pieces), &share, soon()).await.unwrap(), whole);
         }
     }
 
     #[tokio::test]
     async fn a_body_that_is_too_long_is_refused_with_and_without_a_length() {
         let budget = Budget::new(256 << 20);
+        let share = budget.share();
         let long = vec![b'x'; LONGEST_BODY + 1];
-        let sized = read(Body::from(long.clone()), &budget, soon()).await;
+        let sized = read(Body::from(long.clone()), &share, soon()).await;
         assert!(matches!(sized, Err(SqsError::RequestTooLong { .. })));
         let (mut sender, body) = Body::channel();
         tokio::spawn(async move { while sender.send_data(Bytes::from(vec![b'x'; 1 << 16])).await.is_ok() {} });
-        let chunked = read(body, &budget, soon()).await;
+        let chunked = read(body, &share, soon()).await;
         assert!(matches!(chunked, Err(SqsError::RequestTooLong { .. })));
-        assert!(read(Body::from(long[1..].to_vec()), &budget, soon()).await.is_ok());
         assert_eq!(budget.used(), 0);
+        assert!(read(Body::from(long[1..].to_vec()), &share, soon()).await.is_ok());
+        assert!(budget.used() > 6 << 20);
     }
 
     #[tokio::test]
     async fn what_is_being_read_has_a_bound_that_is_given_back() {
         let budget = Budget::of(10, 3);
-        let first = read(Body::from("12345678901"), &budget, soon()).await.unwrap();
-        let second = read(Body::from("123456"), &budget, soon()).await;
-        assert!(matches!(second, Err(SqsError::ServiceUnavailable(_))));
+        let (first, second) = (budget.share(), budget.share());
+        assert!(read(Body::from("12345678901"), &first, soon()).await.is_ok());
+        let refused = read(Body::from("123456"), &second, soon()).await;
+        assert!(matches!(refused, Err(SqsError::ServiceUnavailable(_))));
+        assert_eq!(budget.used(), 8);
         // A small one gets in all the same.
-        assert!(read(Body::from("123"), &budget, soon()).await.is_ok());
+        assert!(read(Body::from("123"), &second, soon()).await.is_ok());
         drop(first);
-        assert!(read(Body::from("1234567890123"), &budget, soon()).await.is_ok());
+        assert!(read(Body::from("1234567890123"), &second, soon()).await.is_ok());
+        drop(second);
         assert_eq!(budget.used(), 0);
     }
 
     #[tokio::test]
     async fn a_body_that_does_not_come_is_a_timeout() {
         let (_sender, body) = Body::channel();
-        let read = read(body, &Budget::new(256 << 20), Instant::now() + Duration::from_millis(20)).await;
+        let share = Budget::new(256 << 20).share();
+        let read = read(body, &share, Instant::now() + Duration::from_millis(20)).await;
         assert!(matches!(read, Err(SqsError::RequestTimeout)));
     }
 }

@@ -6,10 +6,11 @@ use std::os::unix::io::{AsRawFd, RawFd};
 use std::sync::Arc;
 use std::time::Duration;
 
+use bytes::Bytes;
 use hyper::header::{HeaderValue, CONNECTION};
 use hyper::server::conn::Http;
 use hyper::service::service_fn;
-use hyper::Response;
+use hyper::{Body, Request, Response};
 use tokio::io::{AsyncRead, AsyncWrite};
 use tokio::net::{TcpListener, TcpSocket, TcpStream};
 use tokio::sync::{OwnedSemaphorePermit, Semaphore};
@@ -17,7 +18,7 @@ use tokio::time::{timeout, Instant};
 
 use super::places::Places;
 use super::watched::{Progress, Watched};
-use super::{Answer, Arrival, Service, Taken, LONGEST_HEAD};
+use super::{answers, Arrival, Connection, Service, Taken, LONGEST_HEAD};
 use crate::ending::Ending;
 use crate::tls::Certificate;
 
@@ -123,23 +124,8 @@ impl Door {
     {
         let progress = Progress::new(if is_served { LONGEST_REQUEST } else { LONGEST_TURNING_AWAY }).of_socket(socket);
         let stream = Watched::new(stream, progress.clone());
-        let (service, begun) = (self.service.clone(), progress.clone());
-        let handle = service_fn(move |request| {
-            let (service, progress) = (service.clone(), progress.clone());
-            async move {
-                let arrival = Arrival { peer, began: Instant::now(), deadline: progress.deadline() };
-                if !is_served {
-                    return Ok(Box::pin(service.turn_away(arrival, request)).await);
-                }
-                let taken = service.take_in(arrival, &progress, request).await;
-                let mut response = answer(taken, &progress).await?;
-                progress.answers(response.body().length());
-                if progress.must_close() {
-                    response.headers_mut().insert(CONNECTION, HeaderValue::from_static("close"));
-                }
-                Ok::<_, io::Error>(response)
-            }
-        });
+        let requests = self.service.clone().connection(peer, progress.clone());
+        let handle = service_fn(move |request| handle(requests.clone(), request, is_served));
         let mut http = Http::new();
         http.http1_only(true).max_buf_size(LONGEST_HEAD);
         let connection = http.serve_connection(stream, handle);
@@ -148,7 +134,7 @@ impl Door {
             ended = connection.as_mut() => ended,
             () = ending.comes() => {
                 // hyper would wait for the first request of a connection that has had none.
-                if !begun.is_begun() {
+                if !progress.is_begun() {
                     return;
                 }
                 connection.as_mut().graceful_shutdown();
@@ -162,8 +148,24 @@ impl Door {
     }
 }
 
+/// Answers a request.
+async fn handle(connection: Arc<Connection>, request: Request<Body>, is_served: bool) -> io::Result<Response<Body>> {
+    let began = Instant::now();
+    let arrival = Arrival { began, deadline: connection.progress.deadline(began) };
+    if !is_served {
+        return Ok(Box::pin(connection.turn_away(arrival, request)).await.map(Body::from));
+    }
+    let taken = connection.clone().take_in(arrival, request).await;
+    let mut response = answer(taken, &connection.progress).await?;
+    let must_close = connection.progress.answers(response.body().len() as u64);
+    if must_close {
+        response.headers_mut().insert(CONNECTION, HeaderValue::from_static("close"));
+    }
+    Ok(answers::to_be_written(response, &connection.share))
+}
+
 /// The answer, unless the client goes before it is there. What it asked for is given up then.
-async fn answer(taken: Taken, progress: &Progress) -> io::Result<Response<Answer>> {
+async fn answer(taken: Taken, progress: &Progress) -> io::Result<Response<Bytes>> {
     if !taken.may_wait() {
         return Ok(taken.answer().await);
     }

@@ -59,13 +59,10 @@ impl Framing {
                     }
                 },
                 Place::Head(head) => {
-                    let Some(end) = memchr::memchr(b'\n', bytes) else { return head.add(bytes) };
-                    head.add(&bytes[..end]);
-                    bytes = &bytes[end + 1..];
-                    if head.ends_with_line() {
-                        self.must_close |= head.has_chunks && head.length.is_some();
-                        self.place = head.body();
-                    }
+                    let Some(end) = head.end_in(bytes) else { return };
+                    bytes = &bytes[end..];
+                    self.must_close |= head.has_chunks && head.length.is_some();
+                    self.place = head.body();
                 }
                 Place::Body(left) => {
                     let count = bytes.len().min(usize::try_from(*left).unwrap_or(usize::MAX));
@@ -101,6 +98,20 @@ impl Framing {
 }
 
 impl Head {
+    /// Takes up bytes, and tells where the head ends in them, if it does.
+    fn end_in(&mut self, bytes: &[u8]) -> Option<usize> {
+        let mut begin = 0;
+        for end in memchr::memchr_iter(b'\n', bytes) {
+            if self.end_line(&bytes[begin..end]) {
+                return Some(end + 1);
+            }
+            begin = end + 1;
+        }
+        self.add(&bytes[begin..]);
+        None
+    }
+
+    /// Takes up a part of a line.
     fn add(&mut self, bytes: &[u8]) {
         let begin = self.length_of_line.min(LOOKED_AT);
         let count = bytes.len().min(LOOKED_AT - begin);
@@ -108,19 +119,31 @@ impl Head {
         self.length_of_line = self.length_of_line.saturating_add(bytes.len());
     }
 
-    /// Takes up a line that is whole. True if it is the empty one behind the head.
-    fn ends_with_line(&mut self) -> bool {
-        let looked_at = &self.line[..self.length_of_line.min(LOOKED_AT)];
-        let line = looked_at.strip_suffix(b"\r").unwrap_or(looked_at);
-        let is_end = line.is_empty();
-        if let Some((name, value)) = std::str::from_utf8(line).ok().and_then(|line| line.split_once(':')) {
-            if name.eq_ignore_ascii_case("content-length") {
-                self.length = value.trim().parse().ok();
-            }
-            self.has_chunks |= name.eq_ignore_ascii_case("transfer-encoding");
+    /// Takes up the last part of a line, without its line feed. True if it is the empty one behind the head.
+    fn end_line(&mut self, bytes: &[u8]) -> bool {
+        if self.length_of_line == 0 {
+            // Most heads come in one piece.
+            return self.take_line(&bytes[..bytes.len().min(LOOKED_AT)]);
         }
+        self.add(bytes);
+        let (line, length) = (self.line, self.length_of_line.min(LOOKED_AT));
         self.length_of_line = 0;
-        is_end
+        self.take_line(&line[..length])
+    }
+
+    #[inline]
+    fn take_line(&mut self, line: &[u8]) -> bool {
+        match line {
+            [] | [b'\r'] => return true,
+            [b'c' | b'C', ..] => {
+                if let Some(value) = value_of(line, b"content-length:") {
+                    self.length = std::str::from_utf8(value).ok().and_then(|value| value.trim().parse().ok());
+                }
+            }
+            [b't' | b'T', ..] => self.has_chunks |= value_of(line, b"transfer-encoding:").is_some(),
+            _ => {}
+        }
+        false
     }
 
     fn body(&self) -> Place {
@@ -130,6 +153,12 @@ impl Head {
             _ => Place::Between,
         }
     }
+}
+
+/// What stands behind this name, which has its colon with it, in a line of a head.
+fn value_of<'l>(line: &'l [u8], name: &[u8]) -> Option<&'l [u8]> {
+    let (start, value) = (line.get(..name.len())?, &line[name.len()..]);
+    start.eq_ignore_ascii_case(name).then_some(value)
 }
 
 #[cfg(test)]

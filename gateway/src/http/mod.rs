@@ -14,7 +14,7 @@ use std::sync::Arc;
 use std::time::SystemTime;
 
 use bytes::Bytes;
-use hyper::header::{HeaderMap, HeaderValue, AUTHORIZATION, CONNECTION, CONTENT_TYPE};
+use hyper::header::{HeaderMap, HeaderName, HeaderValue, AUTHORIZATION, CONNECTION, CONTENT_TYPE};
 use hyper::http::request::Parts;
 use hyper::{Body, Request, Response, StatusCode};
 use tokio::time::Instant;
@@ -32,11 +32,18 @@ use crate::wire::requests::Action;
 use crate::wire::{self, Incoming, Protocol, Reply};
 
 pub use address::{is_of_this_machine, Addresses};
-pub use answers::Answer;
+pub use answers::to_be_written;
 pub use connections::{listen, Door};
 pub use places::Places;
 pub use visitor::Hosts;
+use visitor::KnownHost;
 pub use watched::{Progress, Watched};
+
+static TARGET: HeaderName = HeaderName::from_static("x-amz-target");
+static INVOCATION: HeaderName = HeaderName::from_static("amz-sdk-invocation-id");
+static SDK_REQUEST: HeaderName = HeaderName::from_static("amz-sdk-request");
+static REQUEST_ID: HeaderName = HeaderName::from_static("x-amzn-requestid");
+static QUERY_ERROR: HeaderName = HeaderName::from_static("x-amzn-query-error");
 
 /// The longest head of a request, in bytes.
 pub const LONGEST_HEAD: usize = 32 << 10;
@@ -53,16 +60,26 @@ pub struct Service {
     metrics: Arc<Metrics>,
 }
 
-/// A request as it came in: who sent it, and when it began.
-struct Arrival {
+/// What the requests of one connection share, one after the other.
+struct Connection {
+    service: Arc<Service>,
     peer: SocketAddr,
+    progress: Progress,
+    /// What its request counts for the budget.
+    share: Arc<Share>,
+    host: KnownHost,
+}
+
+/// When a request began, and when it has to be whole.
+#[derive(Clone, Copy)]
+struct Arrival {
     began: Instant,
     deadline: Instant,
 }
 
 /// A request that was read, and that may be performed.
 struct Call {
-    service: Arc<Service>,
+    connection: Arc<Connection>,
     protocol: Protocol,
     action: Action,
     request: Box<wire::Request>,
@@ -71,7 +88,6 @@ struct Call {
     base_url: String,
     /// Where repeats are told by nothing else.
     digest: Option<[u8; 32]>,
-    share: Arc<Share>,
 }
 
 /// A call of which there may be repeats, and whether it says that it is one.
@@ -92,16 +108,15 @@ struct Told {
 
 /// A request that was taken in. A long poll keeps this and no more: what was read of its connection goes before.
 struct Taken {
-    service: Arc<Service>,
+    connection: Arc<Connection>,
     told: Told,
     next: Next,
-    share: Arc<Share>,
 }
 
 /// What comes of a request that was taken in.
 enum Next {
     Perform(Box<Call>, Option<Box<Tried>>),
-    Answered(Box<Response<Answer>>),
+    Answered(Box<Response<Bytes>>),
 }
 
 impl Service {
@@ -117,79 +132,21 @@ impl Service {
         Service { actions, repeats: Repeats::default(), budget, keys, hosts, addresses, metrics }
     }
 
-    /// Takes in a request: its body is read, and what it asks for. Whatever comes in, there is an answer, in the protocol
-    /// that the request speaks.
-    async fn take_in(self: Arc<Service>, arrival: Arrival, progress: &Progress, request: Request<Body>) -> Taken {
-        let (head, body) = request.into_parts();
-        let (body, share) = match bodies::read(body, &self.budget, arrival.deadline).await {
-            Ok(bodies::Whole { bytes, share }) => (Ok(bytes), Arc::new(share)),
-            Err(error) => (Err(error), Arc::new(self.budget.share())),
-        };
-        if body.is_ok() {
-            progress.is_read();
-        }
-        let mut told = Told { arrival, request_id: Uuid::new_v4(), action: None, queue: None, identity: None };
-        let protocol = protocol_of(&head.headers);
-        let read = match &body {
-            _ if length_of_head(&head) > LONGEST_HEAD => Err(Unread::LongHead),
-            Ok(bytes) => self.clone().read(&head, bytes, &share, &mut told),
-            Err(error) => Err(Unread::Refused { error: error.clone(), closes: true }),
-        };
-        let next = read.unwrap_or_else(|unread| {
-            let response = match unread {
-                Unread::LongHead => too_long_a_head(),
-                Unread::NotFound => not_found(),
-                Unread::Refused { error, closes } => refused(protocol, &error, told.request_id, closes),
-            };
-            Next::Answered(Box::new(response))
-        });
-        Taken { service: self, told, next, share }
+    /// What a connection's requests have in common. A connection has one open at a time.
+    fn connection(self: Arc<Service>, peer: SocketAddr, progress: Progress) -> Arc<Connection> {
+        let share = Arc::new(self.budget.share());
+        Arc::new(Connection { service: self, peer, progress, share, host: KnownHost::default() })
     }
 
-    /// Finds out who asks, reads what is asked for, and whether that one may.
-    fn read(
-        self: Arc<Service>,
+    fn identify(
+        &self,
         head: &Parts,
         body: &Bytes,
-        share: &Arc<Share>,
-        told: &mut Told,
-    ) -> Result<Next, Unread> {
-        let protocol = protocol_of(&head.headers);
-        let path_queue = address::queue_of_path(head.uri.path()).map_err(|_| Unread::NotFound)?;
-        let incoming = Incoming {
-            target: text_of(&head.headers, "x-amz-target"),
-            path_queue,
-            query: head.uri.query().unwrap_or_default(),
-            body,
-        };
-        let identity = self.identify(head, body, incoming.service())?;
-        told.identity = identity.clone();
-        let request = protocol.read(&incoming)?;
-        let action = request.action();
-        told.action = Some(action);
-        if tracing::enabled!(tracing::Level::DEBUG) {
-            told.queue = request.queue().cloned();
-        }
-        if let Some(identity) = identity.as_ref().filter(|identity| !identity.may(action, request.queue())) {
-            return Err(self.actions.denied(identity, action, request.queue()).into());
-        }
-        let base_url =
-            if action.tells_urls() { self.addresses.base_url(&head.headers, told.arrival.peer) } else { String::new() };
-        share.set(request.bytes_kept(body.len()));
-        let (request, request_id, share) = (Box::new(request), told.request_id, share.clone());
-        let mut call =
-            Call { service: self, protocol, action, request, request_id, identity, base_url, digest: None, share };
-        if call.request.is_told_by_its_call() {
-            call.digest = call.key(head, body).map(|key| key.0);
-        }
-        let key = if Key::is_of(action) { call.key(head, body) } else { None };
-        let is_again = text_of(&head.headers, "amz-sdk-request").is_some_and(is_repeat);
-        Ok(Next::Perform(Box::new(call), key.map(|key| Box::new(Tried { key, is_again }))))
-    }
-
-    fn identify(&self, head: &Parts, body: &Bytes, service: wire::Service) -> Result<Option<Arc<Identity>>, SqsError> {
+        service: wire::Service,
+        host: &KnownHost,
+    ) -> Result<Option<Arc<Identity>>, SqsError> {
         let Some(keys) = &self.keys else {
-            self.hosts.test(&head.uri, &head.headers)?;
+            self.hosts.test_again(&head.uri, &head.headers, host)?;
             return Ok(None);
         };
         let signable = Signable {
@@ -201,20 +158,89 @@ impl Service {
         };
         keys.verify(&signable, service.name(), SystemTime::now()).map(Some)
     }
+}
+
+impl Connection {
+    /// Takes in a request: its body is read, and what it asks for. Whatever comes in, there is an answer, in the protocol
+    /// that the request speaks.
+    async fn take_in(self: Arc<Connection>, arrival: Arrival, request: Request<Body>) -> Taken {
+        let (head, body) = request.into_parts();
+        let body = bodies::read(body, &self.share, arrival.deadline).await;
+        if body.is_ok() {
+            self.progress.is_read();
+        }
+        let mut told = Told { arrival, request_id: Uuid::new_v4(), action: None, queue: None, identity: None };
+        let protocol = protocol_of(&head.headers);
+        let read = match body {
+            _ if length_of_head(&head) > LONGEST_HEAD => Err(Unread::LongHead),
+            Ok(bytes) => self.clone().read(protocol, &head, &bytes, &mut told),
+            Err(error) => Err(Unread::Refused { error, closes: true }),
+        };
+        let next = read.unwrap_or_else(|unread| {
+            let response = match unread {
+                Unread::LongHead => too_long_a_head(),
+                Unread::NotFound => not_found(),
+                Unread::Refused { error, closes } => refused(protocol, &error, told.request_id, closes),
+            };
+            Next::Answered(Box::new(response))
+        });
+        Taken { connection: self, told, next }
+    }
+
+    /// Finds out who asks, reads what is asked for, and whether that one may.
+    fn read(
+        self: Arc<Connection>,
+        protocol: Protocol,
+        head: &Parts,
+        body: &Bytes,
+        told: &mut Told,
+    ) -> Result<Next, Unread> {
+        let path_queue = address::queue_of_path(head.uri.path()).map_err(|_| Unread::NotFound)?;
+        let incoming = Incoming {
+            target: text_of(&head.headers, &TARGET),
+            path_queue,
+            query: head.uri.query().unwrap_or_default(),
+            body,
+        };
+        let service = &self.service;
+        let identity = service.identify(head, body, incoming.service(), &self.host)?;
+        told.identity = identity.clone();
+        let request = protocol.read(&incoming)?;
+        let action = request.action();
+        told.action = Some(action);
+        if tracing::enabled!(tracing::Level::DEBUG) {
+            told.queue = request.queue().cloned();
+        }
+        if let Some(identity) = identity.as_ref().filter(|identity| !identity.may(action, request.queue())) {
+            return Err(service.actions.denied(identity, action, request.queue()).into());
+        }
+        let base_url =
+            if action.tells_urls() { service.addresses.base_url(&head.headers, self.peer) } else { String::new() };
+        self.share.set(request.bytes_kept(body.len()));
+        let (request, request_id) = (Box::new(request), told.request_id);
+        let mut call =
+            Call { connection: self, protocol, action, request, request_id, identity, base_url, digest: None };
+        if call.request.is_told_by_its_call() {
+            call.digest = call.key(head, body).map(|key| key.0);
+        }
+        let key = if Key::is_of(action) { call.key(head, body) } else { None };
+        let is_again = || text_of(&head.headers, &SDK_REQUEST).is_some_and(is_repeat);
+        Ok(Next::Perform(Box::new(call), key.map(|key| Box::new(Tried { key, is_again: is_again() }))))
+    }
 
     /// Refuses a request of a connection that is one too many.
-    async fn turn_away(&self, arrival: Arrival, request: Request<Body>) -> Response<Answer> {
+    async fn turn_away(&self, arrival: Arrival, request: Request<Body>) -> Response<Bytes> {
         let (head, body) = request.into_parts();
         // What is left unread would have the connection reset before its client has read the answer.
-        let _ = bodies::read(body, &self.budget, arrival.deadline).await;
+        let _ = bodies::read(body, &self.share, arrival.deadline).await;
         let error = SqsError::ServiceUnavailable("Too many connections are open.".into());
-        self.metrics.answered(None, StatusCode::SERVICE_UNAVAILABLE.as_u16(), arrival.began.elapsed());
+        self.service.metrics.answered(None, StatusCode::SERVICE_UNAVAILABLE.as_u16(), arrival.began.elapsed());
         refused(protocol_of(&head.headers), &error, Uuid::new_v4(), true)
     }
 
     fn tell(&self, told: &Told, status: StatusCode) {
         let time = told.arrival.began.elapsed();
-        self.metrics.answered(told.action, status.as_u16(), time);
+        self.service.metrics.answered(told.action, status.as_u16(), time);
         tracing::debug!(
             request = %told.request_id,
             action = told.action.map_or("none", Action::name),
@@ -222,7 +248,7 @@ impl Service {
             status = status.as_u16(),
             milliseconds = time.as_secs_f64() * 1e3,
             key = told.identity.as_ref().map(|identity| identity.name()),
-            peer = %told.arrival.peer,
+            peer = %self.peer,
             "answered"
         );
     }
@@ -234,13 +260,12 @@ impl Taken {
         matches!(&self.next, Next::Perform(call, _) if call.action == Action::ReceiveMessage)
     }
 
-    async fn answer(self) -> Response<Answer> {
-        let mut response = match self.next {
+    async fn answer(self) -> Response<Bytes> {
+        let response = match self.next {
             Next::Perform(call, tried) => response(call.answer(tried).await),
             Next::Answered(response) => *response,
         };
-        response.body_mut().count_by(self.share);
-        self.service.tell(&self.told, response.status());
+        self.connection.tell(&self.told, response.status());
         response
     }
 }
@@ -267,7 +292,7 @@ impl Call {
         let Some(tried) = tried else {
             return self.answer_once().await;
         };
-        let service = self.service.clone();
+        let service = self.connection.service.clone();
         let (protocol, request_id) = (self.protocol, self.request_id);
         let Tried { key, is_again } = *tried;
         let (_present, answer) = match service.repeats.enter(key, is_again, service.actions.store().clock()) {
@@ -286,7 +311,7 @@ impl Call {
 
     /// What makes a repeat of this call one.
     fn key(&self, head: &Parts, body: &[u8]) -> Option<Key> {
-        let invocation = text_of(&head.headers, "amz-sdk-invocation-id")?;
+        let invocation = text_of(&head.headers, &INVOCATION)?;
         let access_key = match &self.identity {
             Some(identity) => identity.name(),
             None => claimed_key(&head.headers),
@@ -310,15 +335,15 @@ impl Call {
     }
 
     async fn perform_kept(self: Box<Call>, presence: Presence, begun: Begun) {
-        let service = self.service.clone();
+        let connection = self.connection.clone();
         let made = self.perform(presence).await;
-        service.repeats.end(begun, made);
+        connection.service.repeats.end(begun, made);
     }
 
     async fn perform(self: Box<Call>, presence: Presence) -> Made {
-        let Call { service, protocol, action, request, request_id, identity, base_url, digest, share } = *self;
-        let caller = Caller { base_url, presence, identity, call: digest, share };
-        match service.actions.perform(request, &caller).await {
+        let Call { connection, protocol, action, request, request_id, identity, base_url, digest } = *self;
+        let caller = Caller { base_url, presence, identity, call: digest, share: connection.share.clone() };
+        match connection.service.actions.perform(request, &caller).await {
             Ok(performed) => {
                 let is_worth_keeping = !performed.response.is_empty_receive();
                 let reply = protocol.answer(action, &performed.response, request_id.to_string());
@@ -333,14 +358,14 @@ impl Call {
 }
 
 fn protocol_of(headers: &HeaderMap) -> Protocol {
-    if headers.contains_key("x-amz-target") {
+    if headers.contains_key(&TARGET) {
         Protocol::Json
     } else {
         Protocol::Query
     }
 }
 
-fn text_of<'h>(headers: &'h HeaderMap, name: &str) -> Option<&'h str> {
+fn text_of<'h>(headers: &'h HeaderMap, name: &HeaderName) -> Option<&'h str> {
     headers.get(name).and_then(|value| value.to_str().ok())
 }
 
@@ -357,22 +382,22 @@ fn claimed_key(headers: &HeaderMap) -> &str {
     credential.split('/').next().unwrap_or_default()
 }
 
-fn response(reply: Reply) -> Response<Answer> {
-    let mut response = Response::new(Answer::new(reply.body));
+fn response(reply: Reply) -> Response<Bytes> {
+    let mut response = Response::new(Bytes::from(reply.body));
     *response.status_mut() = StatusCode::from_u16(reply.status).unwrap_or(StatusCode::INTERNAL_SERVER_ERROR);
     let headers = response.headers_mut();
     headers.insert(CONTENT_TYPE, HeaderValue::from_static(reply.content_type));
     if let Ok(request_id) = HeaderValue::try_from(reply.request_id) {
-        headers.insert("x-amzn-requestid", request_id);
+        headers.insert(&REQUEST_ID, request_id);
     }
     if let Some(Ok(error)) = reply.query_error.map(HeaderValue::try_from) {
-        headers.insert("x-amzn-query-error", error);
+        headers.insert(&QUERY_ERROR, error);
     }
     response
 }
 
 /// A refusal. `closes`: the connection ends behind it.
-fn refused(protocol: Protocol, error: &SqsError, request_id: Uuid, closes: bool) -> Response<Answer> {
+fn refused(protocol: Protocol, error: &SqsError, request_id: Uuid, closes: bool) -> Response<Bytes> {
     let mut response = response(protocol.refuse(error, request_id.to_string()));
     if closes {
         response.headers_mut().insert(CONNECTION, HeaderValue::from_static("close"));
@@ -380,15 +405,15 @@ fn refused(protocol: Protocol, error: &SqsError, request_id: Uuid, closes: bool)
     response
 }
 
-fn too_long_a_head() -> Response<Answer> {
-    let mut response = Response::new(Answer::new("The head of a request has at most 32 KiB.\n"));
+fn too_long_a_head() -> Response<Bytes> {
+    let mut response = Response::new(Bytes::from_static(b"The head of a request has at most 32 KiB.\n"));
     *response.status_mut() = StatusCode::REQUEST_HEADER_FIELDS_TOO_LARGE;
     response.headers_mut().insert(CONNECTION, HeaderValue::from_static("close"));
     response
 }
 
-fn not_found() -> Response<Answer> {
-    let mut response = Response::new(Answer::new("There is nothing at this path.\n"));
+fn not_found() -> Response<Bytes> {
+    let mut response = Response::new(Bytes::from_static(b"There is nothing at this path.\n"));
     *response.status_mut() = StatusCode::NOT_FOUND;
     response
 }

@@ -1,7 +1,9 @@
 //! Where no keys are asked for, whoever reaches the gateway may command it, and so may a page in a browser that runs on
 //! the same machine. Browsers say from which page a request comes, and by which name they reached the gateway.
 
-use hyper::header::{HeaderMap, HOST, ORIGIN};
+use std::sync::OnceLock;
+
+use hyper::header::{HeaderMap, HeaderName, HeaderValue, HOST, ORIGIN};
 use hyper::Uri;
 
 use crate::errors::SqsError;
@@ -18,12 +20,45 @@ pub struct Hosts {
 /// Stands for all names.
 const ANY: &str = "*";
 
+/// As many bytes a host has that is kept: the longest name, and a port.
+const LONGEST_KNOWN: usize = 260;
+
+static SEC_FETCH_SITE: HeaderName = HeaderName::from_static("sec-fetch-site");
+
+/// The name by which the client of a connection has reached the gateway. Most say the same each time. It is a copy: what
+/// was read of a connection goes with its request.
+#[derive(Debug, Default)]
+pub struct KnownHost(OnceLock<Box<[u8]>>);
+
+impl KnownHost {
+    /// Whether this is what `Hosts` knew before.
+    fn is(&self, host: &HeaderValue) -> bool {
+        self.0.get().is_some_and(|known| **known == *host.as_bytes())
+    }
+}
+
 impl Hosts {
     /// `allowed` are names without ports, or `*`; `url` is the one under which clients know the gateway.
     pub fn new(allowed: &[String], url: Option<&str>) -> Hosts {
         let of_url = url.and_then(|url| url.parse::<Uri>().ok()).and_then(|uri| uri.host().map(String::from));
         let names = allowed.iter().cloned().chain(of_url).map(|name| name.to_ascii_lowercase());
         Hosts { any: allowed.iter().any(|name| name == ANY), names: names.collect() }
+    }
+
+    /// Does what `test` does, for a request of a connection whose client may have been found to know the gateway.
+    pub fn test_again(&self, uri: &Uri, headers: &HeaderMap, known: &KnownHost) -> Result<(), SqsError> {
+        let mut hosts = headers.get_all(HOST).iter();
+        let (Some(host), None) = (hosts.next(), hosts.next()) else { return self.test(uri, headers) };
+        let is_page = headers.contains_key(ORIGIN) || headers.contains_key(&SEC_FETCH_SITE);
+        if known.is(host) && uri.authority().is_none() && !is_page {
+            return Ok(());
+        }
+        self.test(uri, headers)?;
+        if host.len() <= LONGEST_KNOWN {
+            // Where another one is known, that one stays.
+            let _ = known.0.set(host.as_bytes().into());
+        }
+        Ok(())
     }
 
     /// Refuses what a page of another site sends, and what names a host that isn't the gateway's: a name that somebody
@@ -67,7 +102,7 @@ fn is_of_another_site(headers: &HeaderMap) -> bool {
     if !origins.all(|origin| origin.to_str().is_ok_and(is_own)) {
         return true;
     }
-    headers.get_all("sec-fetch-site").iter().any(|site| match site.as_bytes() {
+    headers.get_all(&SEC_FETCH_SITE).iter().any(|site| match site.as_bytes() {
         b"same-origin" | b"none" => false,
         b"same-site" => !has_origin,
         _ => true,
@@ -81,6 +116,25 @@ mod tests {
     fn tested(hosts: &Hosts, uri: &str, headers: &[(&'static str, &str)]) -> Result<(), SqsError> {
         let headers = headers.iter().map(|(name, value)| (name.parse().unwrap(), value.parse().unwrap())).collect();
         hosts.test(&uri.parse().unwrap(), &headers)
+    }
+
+    #[test]
+    fn what_is_known_of_a_connection_lets_nobody_else_in() {
+        let (hosts, known) = (Hosts::default(), KnownHost::default());
+        let again = |uri: &str, headers: &[(&'static str, &str)]| {
+            let headers = headers.iter().map(|(name, value)| (name.parse().unwrap(), value.parse().unwrap())).collect();
+            hosts.test_again(&uri.parse().unwrap(), &headers, &known).is_ok()
+        };
+        let local = ("host", "localhost:9324");
+        assert!(!again("/", &[("host", "evil.example")]));
+        for _ in 0..2 {
+            assert!(again("/", &[local]) && again("/", &[("host", "127.0.0.1")]));
+            assert!(!again("/", &[("host", "evil.example")]));
+            assert!(!again("/", &[local, ("host", "evil.example")]));
+            assert!(!again("http://evil.example/", &[local]));
+            assert!(!again("/", &[local, ("origin", "http://evil.example")]));
+            assert!(!again("/", &[local, ("sec-fetch-site", "cross-site")]));
+        }
     }
 
     #[test]

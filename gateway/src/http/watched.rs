@@ -5,13 +5,13 @@ use std::io;
 use std::os::unix::io::RawFd;
 use std::pin::Pin;
 use std::sync::{Arc, Mutex, MutexGuard, PoisonError};
-use std::task::{Context, Poll};
+use std::task::{ready, Context, Poll};
 use std::time::Duration;
 
 use rustix::fd::BorrowedFd;
 use rustix::io::{poll, PollFd, PollFlags};
 use tokio::io::{AsyncRead, AsyncWrite, ReadBuf};
-use tokio::time::{sleep_until, Instant, Sleep};
+use tokio::time::{sleep, sleep_until, Instant, Sleep};
 
 use super::framing::Framing;
 
@@ -47,10 +47,13 @@ struct State {
     is_begun: bool,
     /// hyper waits for bytes, and so comes to know when the client goes.
     is_awaited: bool,
-    /// When something was read or written last.
+    /// When something was read or written last, where the connection may not be idle for ever.
     last: Instant,
-    /// When the client has to have read what it is sent.
-    end_of_answer: Option<Instant>,
+    /// So long the client has for the answer, of which all was written so far without a wait.
+    time_for_answer: Option<Duration>,
+    /// Goes off now and then, so that it is looked whether the client has gone. It outlasts the wait for one answer, so
+    /// that most answers need no timer.
+    look: Option<Pin<Box<Sleep>>>,
 }
 
 impl Progress {
@@ -61,7 +64,8 @@ impl Progress {
             is_begun: false,
             is_awaited: false,
             last: Instant::now(),
-            end_of_answer: None,
+            time_for_answer: None,
+            look: None,
         };
         Progress { longest, idle: None, socket: None, state: Arc::new(Mutex::new(state)) }
     }
@@ -86,25 +90,23 @@ impl Progress {
     }
 
     fn bytes_came(&self, bytes: &[u8]) {
-        let (mut state, now) = (self.state(), Instant::now());
+        let mut state = self.state();
         let before = state.framing.begun;
         state.framing.take(bytes);
-        (state.is_begun, state.is_awaited, state.last) = (true, false, now);
+        (state.is_begun, state.is_awaited) = (true, false);
+        if self.idle.is_some() {
+            state.last = Instant::now();
+        }
         if !state.framing.is_within() {
             state.begun = None;
         } else if state.framing.begun > before {
-            state.begun = Some(now);
+            state.begun = Some(Instant::now());
         }
     }
 
-    /// When the request has to be whole of which a part is there.
-    fn running_deadline(&self) -> Option<Instant> {
-        self.state().begun.map(|begun| begun + self.longest)
-    }
-
-    /// When the request has to be whole whose head is there.
-    pub fn deadline(&self) -> Instant {
-        self.running_deadline().unwrap_or_else(|| Instant::now() + self.longest)
+    /// When the request has to be whole whose head is there at `now`.
+    pub fn deadline(&self, now: Instant) -> Instant {
+        self.state().begun.unwrap_or(now) + self.longest
     }
 
     /// The request is read: the next byte is another one's.
@@ -116,20 +118,18 @@ impl Progress {
         }
     }
 
-    /// The client is sent an answer of so many bytes. It has a time in proportion to these for it.
-    pub fn answers(&self, bytes: u64) {
-        let time = LONGEST_STALL + Duration::from_secs(bytes / SLOWEST);
-        self.state().end_of_answer = Some(Instant::now() + time);
+    /// The client is sent an answer of so many bytes. It has a time in proportion to these for it. True if the connection
+    /// has to end behind the answer, since nobody can tell where the next request begins.
+    pub fn answers(&self, bytes: u64) -> bool {
+        let mut state = self.state();
+        state.time_for_answer = Some(LONGEST_STALL + Duration::from_secs(bytes / SLOWEST));
+        state.framing.must_close
     }
 
-    /// Whether the connection has to end behind the answer, since nobody can tell where the next request begins.
-    pub fn must_close(&self) -> bool {
-        self.state().framing.must_close
-    }
-
-    /// When the connection ends if nothing comes: a request is late, or there is none for too long.
-    fn end_of_waiting(&self) -> Option<Instant> {
-        let state = self.state();
+    /// Bytes are awaited. Tells when the connection ends if none come: a request is late, or there is none for too long.
+    fn awaits(&self) -> Option<Instant> {
+        let mut state = self.state();
+        state.is_awaited = true;
         match (state.begun, self.idle) {
             (Some(begun), _) => Some(begun + self.longest + GRACE),
             (None, Some(idle)) => Some(state.last + idle),
@@ -141,10 +141,17 @@ impl Progress {
     /// that one is answered.
     pub async fn leaves(&self) {
         let Some(socket) = self.socket else { return std::future::pending().await };
+        std::future::poll_fn(|context| self.poll_leaves(socket, context)).await;
+    }
+
+    fn poll_leaves(&self, socket: RawFd, context: &mut Context<'_>) -> Poll<()> {
+        let mut state = self.state();
         loop {
-            tokio::time::sleep(LOOK).await;
-            if !self.state().is_awaited && is_hung_up(socket) {
-                return;
+            let look = state.look.get_or_insert_with(|| Box::pin(sleep(LOOK)));
+            ready!(look.as_mut().poll(context));
+            look.as_mut().reset(Instant::now() + LOOK);
+            if !state.is_awaited && is_hung_up(socket) {
+                return Poll::Ready(());
             }
         }
     }
@@ -167,6 +174,8 @@ pub struct Watched<S> {
     late: Option<Pin<Box<Sleep>>>,
     /// When the client has to have read something.
     stalled: Option<Instant>,
+    /// When it has to have read the whole answer, of which a part is written.
+    end_of_answer: Option<Instant>,
     unread: Option<Pin<Box<Sleep>>>,
 }
 
@@ -181,31 +190,30 @@ fn is_over(timer: &mut Option<Pin<Box<Sleep>>>, end: Instant, context: &mut Cont
 
 impl<S> Watched<S> {
     pub fn new(stream: S, progress: Progress) -> Watched<S> {
-        Watched { stream, progress, late: None, stalled: None, unread: None }
+        Watched { stream, progress, late: None, stalled: None, end_of_answer: None, unread: None }
     }
 
-    /// Whether a part of a request is there, and the rest of it is late, or nothing has come for too long.
+    /// Nothing has come. Tells whether a part of a request is there, and the rest of it is late, or it is so for too long.
     fn is_late(&mut self, context: &mut Context<'_>) -> bool {
-        self.progress.end_of_waiting().is_some_and(|end| is_over(&mut self.late, end, context))
+        self.progress.awaits().is_some_and(|end| is_over(&mut self.late, end, context))
     }
 
     /// Passes on what a write came to. One that can't go on for too long is an error, and so is an answer that takes too
     /// long as a whole.
     fn watch<T>(&mut self, context: &mut Context<'_>, written: Poll<io::Result<T>>) -> Poll<io::Result<T>> {
-        let now = Instant::now();
-        let end_of_answer = {
-            let mut state = self.progress.state();
-            if written.is_ready() {
-                state.last = now;
-            }
-            state.end_of_answer
-        };
         if written.is_ready() {
             self.stalled = None;
+            if self.progress.idle.is_some() {
+                self.progress.state().last = Instant::now();
+            }
             return written;
         }
+        let now = Instant::now();
+        if let Some(time) = self.progress.state().time_for_answer.take() {
+            self.end_of_answer = Some(now + time);
+        }
         let stalled = *self.stalled.get_or_insert(now + LONGEST_STALL);
-        let end = end_of_answer.map_or(stalled, |end| end.min(stalled));
+        let end = self.end_of_answer.map_or(stalled, |end| end.min(stalled));
         if is_over(&mut self.unread, end, context) {
             return Poll::Ready(Err(io::ErrorKind::TimedOut.into()));
         }
@@ -224,11 +232,8 @@ impl<S: AsyncRead + Unpin> AsyncRead for Watched<S> {
         if buffer.filled().len() > before {
             self.progress.bytes_came(&buffer.filled()[before..]);
         }
-        if read.is_pending() {
-            self.progress.state().is_awaited = true;
-            if self.is_late(context) {
-                return Poll::Ready(Err(io::ErrorKind::TimedOut.into()));
-            }
+        if read.is_pending() && self.is_late(context) {
+            return Poll::Ready(Err(io::ErrorKind::TimedOut.into()));
         }
         read
     }
@@ -274,7 +279,7 @@ mod tests {
     async fn a_request_begins_with_its_first_byte() {
         let (mut client, server) = tokio::io::duplex(64);
         let progress = Progress::new(Duration::from_secs(30));
-        let left = |progress: &Progress| (progress.deadline() - Instant::now()).as_secs();
+        let left = |progress: &Progress| (progress.deadline(Instant::now()) - Instant::now()).as_secs();
         let mut server = Watched::new(server, progress.clone());
         tokio::time::advance(Duration::from_secs(40)).await;
         client.write_all(b"G").await.unwrap();
