@@ -188,8 +188,49 @@ impl Given {
 
 /// All attributes that a queue has.
 #[derive(Clone, Debug, PartialEq, Eq, Serialize, Deserialize)]
-#[serde(transparent)]
-pub struct QueueAttributes(BTreeMap<String, String>);
+#[serde(from = "BTreeMap<String, String>", into = "BTreeMap<String, String>")]
+pub struct QueueAttributes {
+    texts: BTreeMap<String, String>,
+    often: Often,
+}
+
+/// What each send or receive needs, read from the texts whenever these change.
+#[derive(Clone, Copy, Debug, PartialEq, Eq)]
+struct Often {
+    visibility_timeout: u32,
+    wait_time: u32,
+    retention: u64,
+    maximum_message_size: usize,
+    dedups_by_content: bool,
+    dedups_by_group: bool,
+}
+
+impl Often {
+    fn read(texts: &BTreeMap<String, String>) -> Often {
+        let value = |name: &str| texts.get(name).map(String::as_str).unwrap_or_default();
+        let number = |name: &str| value(name).parse::<u64>().unwrap_or(0);
+        Often {
+            visibility_timeout: number("VisibilityTimeout") as u32,
+            wait_time: number("ReceiveMessageWaitTimeSeconds") as u32,
+            retention: 1000 * value("MessageRetentionPeriod").parse::<u64>().unwrap_or(345_600),
+            maximum_message_size: number("MaximumMessageSize") as usize,
+            dedups_by_content: value("ContentBasedDeduplication") == "true",
+            dedups_by_group: value("DeduplicationScope") == "messageGroup",
+        }
+    }
+}
+
+impl From<BTreeMap<String, String>> for QueueAttributes {
+    fn from(texts: BTreeMap<String, String>) -> QueueAttributes {
+        QueueAttributes { often: Often::read(&texts), texts }
+    }
+}
+
+impl From<QueueAttributes> for BTreeMap<String, String> {
+    fn from(attributes: QueueAttributes) -> BTreeMap<String, String> {
+        attributes.texts
+    }
+}
 
 impl QueueAttributes {
     /// Those of a new queue: what is given, and defaults.
@@ -200,7 +241,7 @@ impl QueueAttributes {
                 whole.insert(attribute.name.to_string(), default.to_string());
             }
         }
-        let mut attributes = QueueAttributes(whole);
+        let mut attributes = QueueAttributes::from(whole);
         attributes.set(&given.clone().with_what_it_ends());
         attributes.test_together()?;
         Ok(attributes)
@@ -231,11 +272,12 @@ impl QueueAttributes {
     pub fn set(&mut self, given: &Given) {
         for (name, value) in &given.0 {
             if value.is_empty() {
-                self.0.remove(name);
+                self.texts.remove(name);
             } else {
-                self.0.insert(name.clone(), value.clone());
+                self.texts.insert(name.clone(), value.clone());
             }
         }
+        self.often = Often::read(&self.texts);
     }
 
     /// What of these changes anything.
@@ -259,7 +301,7 @@ impl QueueAttributes {
 
     /// The value of an attribute that the queue has.
     pub fn text(&self, name: &str) -> Option<&str> {
-        self.0.get(name).map(String::as_str)
+        self.texts.get(name).map(String::as_str)
     }
 
     fn value(&self, name: &str) -> &str {
@@ -272,12 +314,12 @@ impl QueueAttributes {
 
     /// Seconds, from 0 to 43,200.
     pub fn visibility_timeout(&self) -> u32 {
-        self.number("VisibilityTimeout") as u32
+        self.often.visibility_timeout
     }
 
     /// Seconds, from 0 to 20.
     pub fn wait_time(&self) -> u32 {
-        self.number("ReceiveMessageWaitTimeSeconds") as u32
+        self.often.wait_time
     }
 
     /// So long a message is delayed, in milliseconds.
@@ -287,12 +329,12 @@ impl QueueAttributes {
 
     /// So long a message is kept, in milliseconds.
     pub fn retention(&self) -> u64 {
-        1000 * self.value("MessageRetentionPeriod").parse().unwrap_or(345_600)
+        self.often.retention
     }
 
     /// Bytes of a body with its attributes.
     pub fn maximum_message_size(&self) -> usize {
-        self.number("MaximumMessageSize") as usize
+        self.often.maximum_message_size
     }
 
     /// The policy as it was given; empty if there is none.
@@ -306,15 +348,15 @@ impl QueueAttributes {
     }
 
     pub fn dedups_by_content(&self) -> bool {
-        self.value("ContentBasedDeduplication") == "true"
+        self.often.dedups_by_content
     }
 
     pub fn dedups_by_group(&self) -> bool {
-        self.value("DeduplicationScope") == "messageGroup"
+        self.often.dedups_by_group
     }
 
     pub fn iter(&self) -> impl Iterator<Item = (&str, &str)> {
-        self.0.iter().map(|(name, value)| (name.as_str(), value.as_str()))
+        self.texts.iter().map(|(name, value)| (name.as_str(), value.as_str()))
     }
 }
 

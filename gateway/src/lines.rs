@@ -101,16 +101,6 @@ pub fn read_receipt(text: &str, base: u64) -> Option<Receipt> {
 }
 
 #[derive(Serialize)]
-struct Arrive<'a> {
-    op: &'static str,
-    at: u32,
-    clock: u64,
-    client: u32,
-    number: u64,
-    ask: &'a RawValue,
-}
-
-#[derive(Serialize)]
 struct Query<'a> {
     op: &'static str,
     at: u32,
@@ -143,7 +133,21 @@ pub fn append_request(
     number: u64,
     ask: &RawValue,
 ) -> Result<(), serde_json::Error> {
-    append(out, &Arrive { op: "arrive", at: SERVER, clock, client, number, ask })
+    // By pieces, since these names are the same in each line, and serde would look for what is to be escaped in them.
+    append_number(out, "{\"op\":\"arrive\",\"at\":", SERVER.into())?;
+    append_number(out, ",\"clock\":", clock)?;
+    append_number(out, ",\"client\":", client.into())?;
+    append_number(out, ",\"number\":", number)?;
+    out.extend_from_slice(b",\"ask\":");
+    out.extend_from_slice(ask.get().as_bytes());
+    out.extend_from_slice(b"}\n");
+    out.extend_from_slice(PUT);
+    Ok(())
+}
+
+fn append_number(out: &mut Vec<u8>, name: &str, number: u64) -> Result<(), serde_json::Error> {
+    out.extend_from_slice(name.as_bytes());
+    serde_json::to_writer(out, &number)
 }
 
 /// Appends a request that does nothing but move the store's moment on. A count is of the moment of the last request.
@@ -230,7 +234,8 @@ const OUTBOX_EMPTY: u32 = 34;
 /// Reads a line of output, without its line feed.
 pub fn read_output(line: &[u8]) -> Result<Output<'_>, BadOutput> {
     let bad = || BadOutput(String::from_utf8_lossy(&line[..line.len().min(200)]).into_owned());
-    let fields: OutputFields<'_> = serde_json::from_slice(line).map_err(|_| bad())?;
+    let text = std::str::from_utf8(line).map_err(|_| bad())?;
+    let fields: OutputFields<'_> = serde_json::from_str(text).map_err(|_| bad())?;
     if let Some(code) = fields.refused {
         return Ok(if code == OUTBOX_EMPTY { Output::Nothing } else { Output::Refused(code) });
     }

@@ -245,5 +245,10 @@ fn sent(queue: &Queue, message: &Message, outcome: &Outcome) -> Result<Sent, Sqs
 
 /// A sequence number as clients see it: 20 digits. Messages of standard queues have none.
 pub(super) fn sequence_number(kind: QueueKind, sequence: u64) -> Option<String> {
-    (kind == QueueKind::Fifo).then(|| format!("{sequence:020}"))
+    const ZEROS: &str = "00000000000000000000";
+    let text = || {
+        let digits = sequence.to_string();
+        [&ZEROS[digits.len()..], &digits].concat()
+    };
+    (kind == QueueKind::Fifo).then(text)
 }

@@ -26,7 +26,10 @@ fn members(body: &[u8]) -> Result<Map<'_>, SqsError> {
     if body.is_empty() {
         return Ok(Map::default());
     }
-    match serde_json::from_slice(body) {
+    let no_json = || SqsError::Serialization("The request's body is no JSON.".into());
+    // All of it at once, and not each text by itself.
+    let body = std::str::from_utf8(body).map_err(|_| no_json())?;
+    match serde_json::from_str(body) {
         Ok(Value::Map(map)) => Ok(map),
         Ok(_) => Err(SqsError::Serialization("The request's body is no JSON object.".into())),
         // Other reasons could show what the client sent.
@@ -34,7 +37,7 @@ fn members(body: &[u8]) -> Result<Map<'_>, SqsError> {
             let message = format!("A request has at most {MOST_VALUES} values, and names that are strings.");
             Err(SqsError::Serialization(message))
         }
-        Err(_) => Err(SqsError::Serialization("The request's body is no JSON.".into())),
+        Err(_) => Err(no_json()),
     }
 }
 
