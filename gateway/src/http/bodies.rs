@@ -59,6 +59,8 @@ async fn next_piece(body: &mut Body, deadline: Instant) -> Result<Option<Bytes>,
     };
     match found {
         Some(Ok(piece)) => Ok(Some(piece)),
+        // Where nobody had time to refuse it, the connection has ended it in the meantime.
+        Some(Err(_)) if Instant::now() >= deadline => Err(SqsError::RequestTimeout),
         Some(Err(_)) => Err(SqsError::InvalidParameterValue("The request's body broke off.".into())),
         None => Ok(None),
     }
@@ -172,6 +174,17 @@ mod tests {
         assert!(read(Body::from("1234567890123"), &second, soon()).await.is_ok());
         drop(second);
         assert_eq!(budget.used(), 0);
+    }
+
+    #[tokio::test]
+    async fn a_body_that_breaks_off_when_it_is_late_is_a_timeout() {
+        let share = Budget::new(256 << 20).share();
+        for (deadline, is_late) in [(soon(), false), (Instant::now(), true)] {
+            let (sender, body) = Body::channel();
+            sender.abort();
+            let refused = read(body, &share, deadline).await.unwrap_err();
+            assert_eq!(matches!(refused, SqsError::RequestTimeout), is_late, "{refused}");
+        }
     }
 
     #[tokio::test]
