@@ -28,8 +28,9 @@ FILES = Path(__file__).parent / "clients"
 REGISTRY = "registry.terraform.io"
 ACCESS_KEY = "CLIENT"
 SECRET = "secret-of-the-client"
-# Both in seconds: what one program or one wait may take, and what a task of Celery has.
-LONGEST = 300
+# Both in seconds: what one program or one wait may take, on a machine that is slow and busy, and what a task of Celery
+# has.
+LONGEST = 900
 VISIBILITY_TIMEOUT = 30
 
 Scenario = Callable[[Path], None]
