@@ -28,18 +28,20 @@ pub struct Handle {
 }
 
 const PARTS: usize = 4;
-const BYTES: usize = 4 + 8 * PARTS;
+const BYTES: usize = 8 * PARTS + 4;
 
 impl Handle {
-    /// The handle as clients see it: a checksum and four numbers, in URL-safe base64.
+    /// The handle as clients see it: four numbers and a checksum, in URL-safe base64.
+    ///
+    /// The moment is first, so that a handle begins with `A`: the AWS CLI takes one that begins with `-` for an option.
     pub fn outward(&self) -> String {
         let mut bytes = [0; BYTES];
-        let numbers = [self.mark.0, self.receipt.sequence, self.receipt.ordinal, self.moment];
+        let numbers = [self.moment, self.mark.0, self.receipt.sequence, self.receipt.ordinal];
         for (place, number) in numbers.iter().enumerate() {
-            bytes[4 + 8 * place..12 + 8 * place].copy_from_slice(&number.to_be_bytes());
+            bytes[8 * place..8 * place + 8].copy_from_slice(&number.to_be_bytes());
         }
-        let sum = crc32fast::hash(&bytes[4..]);
-        bytes[..4].copy_from_slice(&sum.to_be_bytes());
+        let sum = crc32fast::hash(&bytes[..8 * PARTS]);
+        bytes[8 * PARTS..].copy_from_slice(&sum.to_be_bytes());
         base64::encode_config(bytes, base64::URL_SAFE_NO_PAD)
     }
 }
@@ -54,13 +56,13 @@ impl FromStr for Handle {
         let bytes: [u8; BYTES] = decoded.ok().and_then(|bytes| bytes.try_into().ok()).ok_or(invalid.clone())?;
         let number = |place: usize| {
             let mut own = [0; 8];
-            own.copy_from_slice(&bytes[4 + 8 * place..12 + 8 * place]);
+            own.copy_from_slice(&bytes[8 * place..8 * place + 8]);
             u64::from_be_bytes(own)
         };
         let handle = Handle {
-            mark: Mark(number(0)),
-            receipt: Receipt { sequence: number(1), ordinal: number(2) },
-            moment: number(3),
+            mark: Mark(number(1)),
+            receipt: Receipt { sequence: number(2), ordinal: number(3) },
+            moment: number(0),
         };
         let is_receipt = handle.receipt.sequence > 0 && handle.receipt.ordinal > 0;
         (is_receipt && handle.outward() == text).then_some(handle).ok_or(invalid)
@@ -83,6 +85,15 @@ mod tests {
             assert!(spoilt == text || spoilt.parse::<Handle>().is_err(), "{spoilt}");
             Ok(())
         });
+    }
+
+    #[test]
+    fn no_handle_begins_like_an_option_of_a_command_line() {
+        for mark in 0..5000_u64 {
+            let receipt = Receipt { sequence: mark + 1, ordinal: 1 };
+            let text = Handle { mark: Mark(mark << 50), receipt, moment: 1_700_000_000_000 + mark }.outward();
+            assert!(text.starts_with('A'), "{text}");
+        }
     }
 
     #[test]
