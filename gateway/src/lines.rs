@@ -167,7 +167,7 @@ pub fn append_count(out: &mut Vec<u8>, tag: u64, queue: StoreName) -> Result<(),
 
 /// A reply of the store.
 #[derive(Clone, Debug, PartialEq, Eq)]
-pub enum Reply {
+pub enum StoreReply {
     Created,
     Removed,
     /// The store's sequence number.
@@ -195,7 +195,7 @@ pub struct Given {
 #[derive(Debug)]
 pub enum Output<'a> {
     /// The answer to the request or query of this client and number.
-    Answer { client: u32, number: u64, reply: Reply, text: &'a str },
+    Answer { client: u32, number: u64, reply: StoreReply, text: &'a str },
     /// The request's own line was refused, by this number.
     Refused(u32),
     /// The line that should have given the answer of a refused request.
@@ -246,17 +246,17 @@ pub fn read_output(line: &[u8]) -> Result<Output<'_>, BadOutput> {
     Ok(Output::Answer { client, number, reply, text: raw.get() })
 }
 
-fn read_reply(text: &str) -> Option<Reply> {
+fn read_reply(text: &str) -> Option<StoreReply> {
     let fields: ReplyFields<'_> = serde_json::from_str(text).ok()?;
     Some(match fields.kind.as_ref() {
-        "created" => Reply::Created,
-        "removed" => Reply::Removed,
-        "sent" => Reply::Sent(fields.sequence?),
-        "received" => Reply::Received(fields.messages?),
-        "deleted" => Reply::Deleted(fields.removed?),
-        "changed" => Reply::Changed,
-        "counts" => Reply::Counts { visible: fields.visible?, in_flight: fields.in_flight? },
-        "refused" => Reply::Refused(fields.code?),
+        "created" => StoreReply::Created,
+        "removed" => StoreReply::Removed,
+        "sent" => StoreReply::Sent(fields.sequence?),
+        "received" => StoreReply::Received(fields.messages?),
+        "deleted" => StoreReply::Deleted(fields.removed?),
+        "changed" => StoreReply::Changed,
+        "counts" => StoreReply::Counts { visible: fields.visible?, in_flight: fields.in_flight? },
+        "refused" => StoreReply::Refused(fields.code?),
         _ => return None,
     })
 }
@@ -289,7 +289,8 @@ mod tests {
     #[test]
     fn answers_are_read() {
         let line = br#"{"client":1,"length":3,"line":6,"number":9,"reply":{"kind":"received","messages":[{"body":"a\n","group":"g","receipt":"1-2-1"}]}}"#;
-        let Ok(Output::Answer { client: 1, number: 9, reply: Reply::Received(given), text }) = read_output(line) else {
+        let Ok(Output::Answer { client: 1, number: 9, reply: StoreReply::Received(given), text }) = read_output(line)
+        else {
             panic!()
         };
         assert!(text.starts_with("{\"kind\"") && given[0].body == "a\n");
@@ -308,7 +309,7 @@ mod tests {
         let line = br#"{"client":1,"length":3,"line":6,"number":9,"reply":{"kind":"received","messages":[{"body":"a","group":"g","receipt":"1-2-1"}]}}"#;
         check(2000, edits(), |edits| {
             let spoilt = spoilt(line, &edits);
-            if let Ok(Output::Answer { reply: Reply::Received(given), .. }) = read_output(&spoilt) {
+            if let Ok(Output::Answer { reply: StoreReply::Received(given), .. }) = read_output(&spoilt) {
                 prop_assert!(given.iter().all(|given| read_receipt(&given.receipt, u64::MAX).is_none()));
             }
             Ok(())

@@ -21,7 +21,7 @@ use super::record::Record;
 use super::segments::{Head, JournalError};
 use crate::attributes::{Given, QueueAttributes};
 use crate::cq::{Cq, CqError};
-use crate::lines::{self, read_receipt, Fields, Kind, Output, Reply};
+use crate::lines::{self, read_receipt, Fields, Kind, Output, StoreReply};
 use crate::messages::{read_form, AttributeValue, Form, Kept, MessageAttributes};
 use crate::queues::ask::{Ask, Cause, Change, Changer, Creation, StoreName};
 use crate::queues::shards::Shards;
@@ -413,15 +413,15 @@ struct OldGiven<'a> {
     receipt: String,
 }
 
-fn old_reply<'a>(reply: &'a Reply, incarnation: u64, split: &'a HashMap<String, String>) -> Option<OldReply<'a>> {
+fn old_reply<'a>(reply: &'a StoreReply, incarnation: u64, split: &'a HashMap<String, String>) -> Option<OldReply<'a>> {
     let plain = |kind| OldReply { incarnation: None, kind, messages: None, removed: None, sequence: None };
     Some(match reply {
-        Reply::Created => OldReply { incarnation: Some(incarnation), ..plain("created") },
-        Reply::Removed => plain("removed"),
-        Reply::Sent(sequence) => OldReply { sequence: Some(*sequence), ..plain("sent") },
-        Reply::Deleted(removed) => OldReply { removed: Some(*removed), ..plain("deleted") },
-        Reply::Changed => plain("changed"),
-        Reply::Received(given) => {
+        StoreReply::Created => OldReply { incarnation: Some(incarnation), ..plain("created") },
+        StoreReply::Removed => plain("removed"),
+        StoreReply::Sent(sequence) => OldReply { sequence: Some(*sequence), ..plain("sent") },
+        StoreReply::Deleted(removed) => OldReply { removed: Some(*removed), ..plain("deleted") },
+        StoreReply::Changed => plain("changed"),
+        StoreReply::Received(given) => {
             let mut messages = Vec::with_capacity(given.len());
             for one in given {
                 let receipt = read_receipt(&one.receipt, 0)?;
@@ -432,7 +432,7 @@ fn old_reply<'a>(reply: &'a Reply, incarnation: u64, split: &'a HashMap<String, 
             }
             OldReply { messages: Some(messages), ..plain("received") }
         }
-        Reply::Counts { .. } | Reply::Refused(_) => return None,
+        StoreReply::Counts { .. } | StoreReply::Refused(_) => return None,
     })
 }
 

@@ -17,7 +17,7 @@ use crate::clock::Moment;
 use crate::delays::Alarms;
 use crate::errors::SqsError;
 use crate::handles::{Handle, Mark, Receipt};
-use crate::lines::Reply;
+use crate::lines::StoreReply;
 use crate::moves::Copies;
 use crate::polling::Polls;
 use crate::retention::Jumps;
@@ -157,7 +157,7 @@ impl Queues {
         &self,
         queue: &Arc<Queue>,
         ask: &Ask,
-        reply: Reply,
+        reply: StoreReply,
         moment: Moment,
     ) -> Result<(Outcome, bool), SqsError> {
         let settled = self.counted(queue, |state| {

@@ -13,7 +13,7 @@ use super::State;
 use crate::attributes::{Given, QueueAttributes};
 use crate::clock::Moment;
 use crate::handles::Receipt;
-use crate::lines::{self, Reply};
+use crate::lines::{self, StoreReply};
 use crate::messages::Form;
 use crate::retention::Jumps;
 use crate::seeded::check;
@@ -110,7 +110,7 @@ impl Both {
         Both { list: List::default(), state: State::new(StoreName(1), &creation, now), now }
     }
 
-    fn settle(&mut self, ask: &Ask, reply: Reply) -> Outcome {
+    fn settle(&mut self, ask: &Ask, reply: StoreReply) -> Outcome {
         self.state.settle(ask, reply, self.now, &Jumps::default()).unwrap().outcome
     }
 
@@ -120,7 +120,7 @@ impl Both {
         self.list.messages.insert(sequence, Message { group, sent: self.now, until: 0, count: 0 });
         let form = Form::Whole(format!("{{\"id\":\"{}\"}}\nb", Uuid::from_u128(7)));
         let (group, dedup) = (GroupId::parse(group).unwrap(), DedupId::parse("d").unwrap());
-        self.settle(&Ask::Send { group, dedup, form, cause: Cause::Client }, Reply::Sent(sequence));
+        self.settle(&Ask::Send { group, dedup, form, cause: Cause::Client }, StoreReply::Sent(sequence));
     }
 
     /// Asks as a receive does that is to hand out only what is due.
@@ -134,7 +134,7 @@ impl Both {
             }
             let given = self.list.hand(due, visibility, self.now);
             let asked = Ask::Receive { size: due as u8, visibility, attempt: None, most: None, own: false };
-            let Outcome::Received { handed, set_aside, .. } = self.settle(&asked, Reply::Received(given)) else {
+            let Outcome::Received { handed, set_aside, .. } = self.settle(&asked, StoreReply::Received(given)) else {
                 panic!()
             };
             prop_assert!(set_aside.is_empty(), "{set_aside:?}");
@@ -175,7 +175,7 @@ impl Both {
             Step::Delete(place) => {
                 if let Some(receipt) = self.some_handed(place) {
                     self.list.messages.remove(&receipt.sequence);
-                    self.settle(&Ask::Delete { receipt, by_client: false }, Reply::Deleted(true));
+                    self.settle(&Ask::Delete { receipt, by_client: false }, StoreReply::Deleted(true));
                 }
             }
             Step::Change(place, visibility) => {
@@ -183,7 +183,10 @@ impl Both {
                 let message = found.and_then(|receipt| self.list.messages.get_mut(&receipt.sequence));
                 if let (Some(receipt), Some(message)) = (found, message.filter(|message| message.until > self.now)) {
                     message.until = self.now + 1000 * u64::from(*visibility);
-                    self.settle(&Ask::Change { receipt, visibility: *visibility, by: Changer::Client }, Reply::Changed);
+                    self.settle(
+                        &Ask::Change { receipt, visibility: *visibility, by: Changer::Client },
+                        StoreReply::Changed,
+                    );
                 }
             }
             Step::Delay(seconds) => {

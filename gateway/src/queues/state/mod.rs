@@ -23,7 +23,7 @@ use crate::clock::Moment;
 use crate::errors::SqsError;
 use crate::handles::Receipt;
 use crate::limits::{ID_BYTES, MESSAGE_BYTES, QUEUE_BYTES};
-use crate::lines::{read_receipt, Given, Reply};
+use crate::lines::{read_receipt, Given, StoreReply};
 use crate::messages::{Form, Head};
 use crate::move_tasks::{self, MoveTask, Status};
 use crate::redrive::RedrivePolicy;
@@ -166,23 +166,23 @@ impl State {
     }
 
     /// Takes up the store's answer to an ask of `moment`.
-    pub fn settle(&mut self, ask: &Ask, reply: Reply, moment: Moment, jumps: &Jumps) -> Result<Settled, SqsError> {
+    pub fn settle(&mut self, ask: &Ask, reply: StoreReply, moment: Moment, jumps: &Jumps) -> Result<Settled, SqsError> {
         match (ask, reply) {
-            (Ask::Change { receipt, .. }, Reply::Refused(NOT_IN_FLIGHT)) if !self.has_message(*receipt) => {
+            (Ask::Change { receipt, .. }, StoreReply::Refused(NOT_IN_FLIGHT)) if !self.has_message(*receipt) => {
                 Err(SqsError::of_no_message())
             }
-            (_, Reply::Refused(code)) => Err(SqsError::of_refusal(code)),
-            (Ask::Create { store, .. }, Reply::Created) => {
+            (_, StoreReply::Refused(code)) => Err(SqsError::of_refusal(code)),
+            (Ask::Create { store, .. }, StoreReply::Created) => {
                 if *store != self.store {
                     self.go_over(*store);
                 }
                 Ok(Settled::done(false))
             }
-            (Ask::Remove { store, .. }, Reply::Removed) => {
+            (Ask::Remove { store, .. }, StoreReply::Removed) => {
                 self.earlier.retain(|name| name != store);
                 Ok(Settled::done(true))
             }
-            (Ask::Send { group, dedup, form, cause }, Reply::Sent(place)) => {
+            (Ask::Send { group, dedup, form, cause }, StoreReply::Sent(place)) => {
                 let settled = self.sent(group, form, place, moment)?;
                 match (cause, &settled.outcome) {
                     (Cause::Due(id), _) => self.delayed.remove(*id),
@@ -193,14 +193,14 @@ impl State {
                 }
                 Ok(settled)
             }
-            (Ask::Receive { visibility, attempt, most, own, .. }, Reply::Received(given)) => {
+            (Ask::Receive { visibility, attempt, most, own, .. }, StoreReply::Received(given)) => {
                 let until = moment + 1000 * u64::from(*visibility);
                 let (horizon, due) = (self.horizon(jumps, moment), moment.checked_sub(self.delay));
                 let receiving = Receiving { own: *own, most: *most, moment, until, horizon, due };
                 self.received(given, attempt.as_ref(), &receiving)
             }
-            (Ask::Delete { receipt, .. }, Reply::Deleted(removed)) => Ok(self.deleted(*receipt, removed)),
-            (Ask::Change { receipt, visibility, by }, Reply::Changed) => {
+            (Ask::Delete { receipt, .. }, StoreReply::Deleted(removed)) => Ok(self.deleted(*receipt, removed)),
+            (Ask::Change { receipt, visibility, by }, StoreReply::Changed) => {
                 Ok(self.changed(*receipt, *visibility, *by, moment))
             }
             _ => Err(misfit()),

@@ -20,14 +20,19 @@ fn send(state: &mut State, place: u64, moment: Moment) {
     let form = Form::Whole(format!("{{\"id\":\"{}\"}}\nbody", Uuid::from_u128(7)));
     let (group, dedup) = (GroupId::parse("g").unwrap(), DedupId::parse("d").unwrap());
     state
-        .settle(&Ask::Send { group, dedup, form, cause: Cause::Client }, Reply::Sent(place), moment, &Jumps::default())
+        .settle(
+            &Ask::Send { group, dedup, form, cause: Cause::Client },
+            StoreReply::Sent(place),
+            moment,
+            &Jumps::default(),
+        )
         .unwrap();
 }
 
 fn delete(state: &mut State, sequence: u64, moment: Moment) {
     let receipt = Receipt { sequence, ordinal: 1 };
     let ask = Ask::Delete { receipt, by_client: true };
-    state.settle(&ask, Reply::Deleted(true), moment, &Jumps::default()).unwrap();
+    state.settle(&ask, StoreReply::Deleted(true), moment, &Jumps::default()).unwrap();
 }
 
 #[test]
@@ -62,7 +67,7 @@ fn receive(state: &mut State, ordinal: u64, own: bool, moment: Moment) -> (Vec<H
     let ask = Ask::Receive { size: 1, visibility: 5, attempt: None, most: Some(2), own };
     let (group, receipt) = ("g".into(), format!("1-1-{ordinal}"));
     let given = crate::lines::Given { group, receipt, body: "b".into() };
-    let settled = state.settle(&ask, Reply::Received(vec![given]), moment, &Jumps::default()).unwrap();
+    let settled = state.settle(&ask, StoreReply::Received(vec![given]), moment, &Jumps::default()).unwrap();
     match settled.outcome {
         Outcome::Received { handed, set_aside, .. } => (handed, set_aside),
         other => panic!("{other:?}"),
@@ -121,7 +126,7 @@ fn send_standard(state: &mut State, place: u64, sent: Moment, cause: Cause, mome
     let id = Uuid::from_u128(u128::from(place));
     let (group, dedup) = (GroupId::of_message(id), DedupId::of_message(id));
     let ask = Ask::Send { group, dedup, form: form(u128::from(place), sent), cause };
-    state.settle(&ask, Reply::Sent(place), moment, &Jumps::default()).unwrap().outcome
+    state.settle(&ask, StoreReply::Sent(place), moment, &Jumps::default()).unwrap().outcome
 }
 
 fn delay(state: &mut State, id: u128, due: Moment, moment: Moment) -> bool {
@@ -148,9 +153,9 @@ fn a_delayed_message_is_as_old_as_its_send() {
     assert!(state.bytes_in_use() < delayed);
 }
 
-fn given(places: std::ops::RangeInclusive<u64>) -> Reply {
+fn given(places: std::ops::RangeInclusive<u64>) -> StoreReply {
     let given = |place| crate::lines::Given { group: "g".into(), receipt: format!("1-{place}-1"), body: "b".into() };
-    Reply::Received(places.map(given).collect())
+    StoreReply::Received(places.map(given).collect())
 }
 
 #[test]
@@ -162,7 +167,7 @@ fn a_standard_queue_has_120_000_messages_in_flight_and_a_fifo_queue_more() {
         (1..=most).for_each(|place| drop(send_standard(&mut state, place, 0, Cause::Client, 0)));
         state.settle(&ask, given(1..=most - 1), 1000, &Jumps::default()).unwrap();
         let same_end = Ask::Change { receipt: Receipt { sequence: 1, ordinal: 1 }, visibility: 5, by: Changer::Client };
-        state.settle(&same_end, Reply::Changed, 1000, &Jumps::default()).unwrap();
+        state.settle(&same_end, StoreReply::Changed, 1000, &Jumps::default()).unwrap();
         assert!(!state.has_most_in_flight(1000));
         state.settle(&ask, given(most..=most), 2000, &Jumps::default()).unwrap();
         assert_eq!((state.has_most_in_flight(2000), state.has_most_in_flight(5999)), (is_bounded, is_bounded));
@@ -178,7 +183,7 @@ fn in_flight(name: &str, count: u64, end: Moment) -> State {
     for place in 1..=count {
         let (group, dedup) = (GroupId::of_message(Uuid::from_u128(place.into())), DedupId::parse("d").unwrap());
         let ask = Ask::Send { group, dedup, form: form(place.into(), 0), cause: Cause::Client };
-        state.settle(&ask, Reply::Sent(place), 0, &Jumps::default()).unwrap();
+        state.settle(&ask, StoreReply::Sent(place), 0, &Jumps::default()).unwrap();
     }
     let visibility = (end / 1000) as u32;
     let ask = Ask::Receive { size: 10, visibility, attempt: None, most: None, own: false };
@@ -252,7 +257,7 @@ fn what_changes_nothing_is_no_change() {
 fn send_and_keep(state: &mut State, place: u64, moment: Moment) {
     let (group, dedup) = (GroupId::parse("g").unwrap(), DedupId::parse("d").unwrap());
     let ask = Ask::Send { group, dedup, form: form(u128::from(place), moment), cause: Cause::Client };
-    let settled = state.settle(&ask, Reply::Sent(place), moment, &Jumps::default()).unwrap();
+    let settled = state.settle(&ask, StoreReply::Sent(place), moment, &Jumps::default()).unwrap();
     state.keep_copy(&ask, &settled);
 }
 

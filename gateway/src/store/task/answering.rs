@@ -4,7 +4,7 @@ use super::entries::{Asked, Entry, Noted, Open};
 use super::{Ended, Task};
 use crate::errors::SqsError;
 use crate::journal::Record;
-use crate::lines::{self, Output, Reply};
+use crate::lines::{self, Output, StoreReply};
 use crate::queues::ask::{Ask, Outcome};
 use crate::store::{Answer, Done};
 
@@ -37,7 +37,7 @@ impl Task {
         Ok(())
     }
 
-    fn answered(&mut self, client: u32, number: u64, reply: Reply, text: &str) -> Result<(), Ended> {
+    fn answered(&mut self, client: u32, number: u64, reply: StoreReply, text: &str) -> Result<(), Ended> {
         let Some(Open { entry, done }) = self.open.pop_front() else {
             return Err(Ended::NotNext { client, number });
         };
@@ -62,8 +62,8 @@ impl Task {
             Entry::Counted { tag, .. } if tag == number => {
                 self.ends = 0;
                 let answer = match reply {
-                    Reply::Counts { visible, in_flight } => Ok(Outcome::Counts { visible, in_flight }),
-                    Reply::Refused(code) => Err(SqsError::of_refusal(code)),
+                    StoreReply::Counts { visible, in_flight } => Ok(Outcome::Counts { visible, in_flight }),
+                    StoreReply::Refused(code) => Err(SqsError::of_refusal(code)),
                     _ => Err(SqsError::InternalFailure("The store gave no counts.".into())),
                 };
                 self.finish(answer, done);
@@ -73,7 +73,7 @@ impl Task {
         }
     }
 
-    fn settle(&mut self, asked: &Asked, reply: Reply, text: &str) -> Result<Answer, Ended> {
+    fn settle(&mut self, asked: &Asked, reply: StoreReply, text: &str) -> Result<Answer, Ended> {
         let settled = self.queues.settle(&asked.queue, &asked.ask, reply, asked.moment);
         self.give_room_back(asked);
         Ok(match settled {
