@@ -13,7 +13,7 @@ use crate::queues::ask::{self, Ask, Cause, Changer, Delayed, Outcome};
 use crate::queues::Queue;
 use crate::store::{Answer, Command};
 use crate::texts::{Body, DedupId, GroupId, QueueKind, QueueName};
-use crate::wire::requests::{Batch, Change, Message, Sending};
+use crate::wire::requests::{Batch, Message, Sending, VisibilityChange};
 use crate::wire::responses::{Done, Failed, Sent};
 use crate::wire::Response;
 
@@ -134,7 +134,7 @@ impl Actions {
         .await
     }
 
-    pub(super) async fn change(&self, name: &QueueName, change: &Change) -> Result<Performed, SqsError> {
+    pub(super) async fn change(&self, name: &QueueName, change: &VisibilityChange) -> Result<Performed, SqsError> {
         let queue = self.queue(name)?;
         let answer = self.store.ask(&queue, change_ask(&queue, change)?).await;
         nothing_of(&change.handle, answer)?;
@@ -144,12 +144,12 @@ impl Actions {
     pub(super) async fn change_batch(
         &self,
         name: &QueueName,
-        batch: Batch<Change>,
+        batch: Batch<VisibilityChange>,
         caller: &Caller,
     ) -> Result<Performed, SqsError> {
         let queue = self.queue(name)?;
-        let result_of = |change: &Change, answer| nothing_of(&change.handle, answer);
-        let command_of = |_: &str, change: &Change| change_ask(&queue, change).map(Command::Ask);
+        let result_of = |change: &VisibilityChange, answer| nothing_of(&change.handle, answer);
+        let command_of = |_: &str, change: &VisibilityChange| change_ask(&queue, change).map(Command::Ask);
         self.answer_each(&queue, batch, command_of, result_of, caller).await
     }
 
@@ -220,7 +220,7 @@ fn delete_ask(queue: &Queue, handle: &str) -> Result<Ask, SqsError> {
     Ok(Ask::Delete { receipt: queue.receipt_of(handle)?, by_client: true })
 }
 
-fn change_ask(queue: &Queue, change: &Change) -> Result<Ask, SqsError> {
+fn change_ask(queue: &Queue, change: &VisibilityChange) -> Result<Ask, SqsError> {
     let receipt = queue.receipt_of(&change.handle)?;
     let visibility = change.visibility.unwrap_or_else(|| queue.state().attributes.visibility_timeout());
     Ok(Ask::Change { receipt, visibility, by: Changer::Client })

@@ -163,8 +163,8 @@ impl FromStr for Action {
 pub enum Request {
     AddPermission { queue: QueueName, permission: Permission },
     CancelMessageMoveTask { handle: Option<TaskHandle> },
-    ChangeMessageVisibility { queue: QueueName, change: Change },
-    ChangeMessageVisibilityBatch { queue: QueueName, batch: Batch<Change> },
+    ChangeMessageVisibility { queue: QueueName, change: VisibilityChange },
+    ChangeMessageVisibilityBatch { queue: QueueName, batch: Batch<VisibilityChange> },
     CreateQueue { queue: QueueName, attributes: Given, tags: Tags },
     DeleteMessage { queue: QueueName, handle: String },
     DeleteMessageBatch { queue: QueueName, batch: Batch<String> },
@@ -277,7 +277,7 @@ pub type Batch<T> = Vec<(String, Result<T, SqsError>)>;
 /// A handle and a new timeout in seconds. An entry of a batch may leave it out, and means the queue's (API Reference,
 /// ChangeMessageVisibilityBatchRequestEntry).
 #[derive(Clone, Debug, PartialEq, Eq)]
-pub struct Change {
+pub struct VisibilityChange {
     pub handle: String,
     pub visibility: Option<u32>,
 }
@@ -645,14 +645,14 @@ fn handle(members: Members<'_, '_>) -> Result<String, SqsError> {
     members.required_text("ReceiptHandle").map(String::from)
 }
 
-fn change(members: Members<'_, '_>) -> Result<Change, SqsError> {
+fn change(members: Members<'_, '_>) -> Result<VisibilityChange, SqsError> {
     let change = change_entry(members)?;
     change.visibility.is_some().then_some(change).ok_or_else(|| SqsError::MissingParameter("VisibilityTimeout".into()))
 }
 
-fn change_entry(members: Members<'_, '_>) -> Result<Change, SqsError> {
+fn change_entry(members: Members<'_, '_>) -> Result<VisibilityChange, SqsError> {
     let visibility = members.number("VisibilityTimeout", 0, LONGEST_TIMEOUT)?;
-    Ok(Change { handle: handle(members)?, visibility })
+    Ok(VisibilityChange { handle: handle(members)?, visibility })
 }
 
 fn permission(members: Members<'_, '_>) -> Result<Permission, SqsError> {
