@@ -75,7 +75,7 @@ impl<'a> Fields<'a> {
             Ask::Delete { receipt, .. } => {
                 Fields { receipt: Some(receipt_text(*receipt, base)), ..Fields::new(Kind::Delete, queue) }
             }
-            Ask::Change { receipt, visibility, .. } => Fields {
+            Ask::ChangeVisibility { receipt, visibility, .. } => Fields {
                 receipt: Some(receipt_text(*receipt, base)),
                 visibility: Some(*visibility),
                 ..Fields::new(Kind::Change, queue)
@@ -280,7 +280,7 @@ mod tests {
     #[test]
     fn requests_become_two_lines() {
         let receipt = Receipt { sequence: 12, ordinal: 4 };
-        let line = line_of(&Ask::Change { receipt, visibility: 9, by: Changer::Client });
+        let line = line_of(&Ask::ChangeVisibility { receipt, visibility: 9, by: Changer::Client });
         let expected = "{\"op\":\"arrive\",\"at\":1,\"clock\":5,\"client\":2,\"number\":3,\"ask\":{\"kind\":\"change\",\
             \"queue\":\"7.fifo\",\"visibility\":9,\"receipt\":\"1-2-4\"}}\n{\"op\":\"put\",\"from\":1,\"to\":\"clients\"}\n";
         assert_eq!(line, expected);

@@ -208,7 +208,7 @@ pub async fn give_back(store: &Store, queue: &Arc<Queue>, messages: &[Handed]) {
         let last = |handed: &Handed| state.own_receipt_of(handed.receipt.sequence).unwrap_or(handed.receipt);
         messages.iter().map(last).collect()
     };
-    let change = |receipt| Ask::Change { receipt, visibility: 0, by: Changer::Gateway };
+    let change = |receipt| Ask::ChangeVisibility { receipt, visibility: 0, by: Changer::Gateway };
     if !receipts.is_empty() {
         let _ = store.ask_all(queue, receipts.into_iter().map(change).collect()).await;
     }
@@ -269,7 +269,7 @@ async fn keep_giving_back(store: Store, queue: Arc<Queue>, mut left: Vec<Receipt
 /// Gives messages back, and tells which have to wait.
 async fn give_back_all(store: &Store, queue: &Arc<Queue>, receipts: Vec<Receipt>) -> Vec<Receipt> {
     let mut left = Vec::new();
-    let change = |receipt: &Receipt| Ask::Change { receipt: *receipt, visibility: 0, by: Changer::Gateway };
+    let change = |receipt: &Receipt| Ask::ChangeVisibility { receipt: *receipt, visibility: 0, by: Changer::Gateway };
     for some in receipts.chunks(GIVEN_BACK_AT_ONCE) {
         let answers = store.ask_all(queue, some.iter().map(change).collect()).await;
         let waiting = some.iter().zip(answers).filter(|(_, answer)| {

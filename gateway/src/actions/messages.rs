@@ -223,7 +223,7 @@ fn delete_ask(queue: &Queue, handle: &str) -> Result<Ask, SqsError> {
 fn change_ask(queue: &Queue, change: &VisibilityChange) -> Result<Ask, SqsError> {
     let receipt = queue.receipt_of(&change.handle)?;
     let visibility = change.visibility.unwrap_or_else(|| queue.state().attributes.visibility_timeout());
-    Ok(Ask::Change { receipt, visibility, by: Changer::Client })
+    Ok(Ask::ChangeVisibility { receipt, visibility, by: Changer::Client })
 }
 
 /// The MD5s are of what this send carried, also where the message is one that was sent before.

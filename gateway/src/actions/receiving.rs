@@ -69,7 +69,8 @@ impl Actions {
     ) -> Result<Option<Vec<Handed>>, SqsError> {
         let Some(attempt) = &receive.attempt else { return Ok(None) };
         let Some(found) = queue.state().attempt(attempt, self.store.clock().now()) else { return Ok(None) };
-        let change = |handed: &Handed| Ask::Change { receipt: handed.receipt, visibility, by: Changer::Attempt };
+        let change =
+            |handed: &Handed| Ask::ChangeVisibility { receipt: handed.receipt, visibility, by: Changer::Attempt };
         let answers = self.store.ask_all(queue, found.iter().map(change).collect()).await;
         Ok(answers.iter().all(Result::is_ok).then_some(found))
     }

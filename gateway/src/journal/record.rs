@@ -103,7 +103,7 @@ impl<'a> Record<'a> {
                 record.most = *most;
                 record.own = *own;
             }
-            Ask::Change { by, .. } => record.by_attempt = *by == Changer::Attempt,
+            Ask::ChangeVisibility { by, .. } => record.by_attempt = *by == Changer::Attempt,
             Ask::Delete { .. } => {}
         }
         record
@@ -174,7 +174,7 @@ impl<'a> Record<'a> {
             Kind::Change => {
                 // Those of the gateway and those of clients do the same.
                 let by = if self.by_attempt { Changer::Attempt } else { Changer::Client };
-                Ask::Change { receipt: receipt()?, visibility: fields.visibility?, by }
+                Ask::ChangeVisibility { receipt: receipt()?, visibility: fields.visibility?, by }
             }
         })
     }
@@ -232,7 +232,7 @@ mod tests {
             Ask::Send { group, dedup, form, cause: Cause::Due(Uuid::from_u128(7)) },
             Ask::Receive { size: 3, visibility: 9, attempt: AttemptId::parse("x").ok(), most: Some(2), own: false },
             Ask::Receive { size: 3, visibility: 0, attempt: None, most: None, own: true },
-            Ask::Change { receipt, visibility: 5, by: Changer::Attempt },
+            Ask::ChangeVisibility { receipt, visibility: 5, by: Changer::Attempt },
             Ask::Remove { store: StoreName(7), name: QueueName::parse("q.fifo") },
         ] {
             let raw = serde_json::value::to_raw_value(&Fields::of(StoreName(7), 10, &ask)).unwrap();

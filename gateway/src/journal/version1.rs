@@ -291,7 +291,7 @@ impl Conversion {
             Kind::Delete => Ask::Delete { receipt: receipt()?, by_client: false },
             Kind::Change => {
                 let by = if beside.by_attempt { Changer::Attempt } else { Changer::Client };
-                Ask::Change { receipt: receipt()?, visibility: fields.visibility?, by }
+                Ask::ChangeVisibility { receipt: receipt()?, visibility: fields.visibility?, by }
             }
         })
     }

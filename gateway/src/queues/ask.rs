@@ -63,7 +63,7 @@ pub enum Ask {
         receipt: Receipt,
         by_client: bool,
     },
-    Change {
+    ChangeVisibility {
         receipt: Receipt,
         visibility: u32,
         by: Changer,

@@ -184,7 +184,7 @@ impl Both {
                 if let (Some(receipt), Some(message)) = (found, message.filter(|message| message.until > self.now)) {
                     message.until = self.now + 1000 * u64::from(*visibility);
                     self.settle(
-                        &Ask::Change { receipt, visibility: *visibility, by: Changer::Client },
+                        &Ask::ChangeVisibility { receipt, visibility: *visibility, by: Changer::Client },
                         StoreReply::Changed,
                     );
                 }

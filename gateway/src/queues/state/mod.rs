@@ -168,7 +168,9 @@ impl State {
     /// Takes up the store's answer to an ask of `moment`.
     pub fn settle(&mut self, ask: &Ask, reply: StoreReply, moment: Moment, jumps: &Jumps) -> Result<Settled, SqsError> {
         match (ask, reply) {
-            (Ask::Change { receipt, .. }, StoreReply::Refused(NOT_IN_FLIGHT)) if !self.has_message(*receipt) => {
+            (Ask::ChangeVisibility { receipt, .. }, StoreReply::Refused(NOT_IN_FLIGHT))
+                if !self.has_message(*receipt) =>
+            {
                 Err(SqsError::of_no_message())
             }
             (_, StoreReply::Refused(code)) => Err(SqsError::of_refusal(code)),
@@ -200,7 +202,7 @@ impl State {
                 self.received(given, attempt.as_ref(), &receiving)
             }
             (Ask::Delete { receipt, .. }, StoreReply::Deleted(removed)) => Ok(self.deleted(*receipt, removed)),
-            (Ask::Change { receipt, visibility, by }, StoreReply::Changed) => {
+            (Ask::ChangeVisibility { receipt, visibility, by }, StoreReply::Changed) => {
                 Ok(self.changed(*receipt, *visibility, *by, moment))
             }
             _ => Err(misfit()),

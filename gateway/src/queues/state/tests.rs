@@ -166,7 +166,8 @@ fn a_standard_queue_has_120_000_messages_in_flight_and_a_fifo_queue_more() {
         let mut state = state_of(name);
         (1..=most).for_each(|place| drop(send_standard(&mut state, place, 0, Cause::Client, 0)));
         state.settle(&ask, given(1..=most - 1), 1000, &Jumps::default()).unwrap();
-        let same_end = Ask::Change { receipt: Receipt { sequence: 1, ordinal: 1 }, visibility: 5, by: Changer::Client };
+        let same_end =
+            Ask::ChangeVisibility { receipt: Receipt { sequence: 1, ordinal: 1 }, visibility: 5, by: Changer::Client };
         state.settle(&same_end, StoreReply::Changed, 1000, &Jumps::default()).unwrap();
         assert!(!state.has_most_in_flight(1000));
         state.settle(&ask, given(most..=most), 2000, &Jumps::default()).unwrap();

@@ -106,7 +106,7 @@ impl Task {
 
     /// The program doesn't have this one any more.
     pub(super) fn forget_open(&mut self, ask: &Ask) {
-        self.open_changes -= usize::from(matches!(ask, Ask::Change { .. }));
+        self.open_changes -= usize::from(matches!(ask, Ask::ChangeVisibility { .. }));
         if let Some(id) = ask.due() {
             self.open_due.remove(&id);
         }

@@ -121,7 +121,7 @@ impl Task {
             return ready(Err(SqsError::InternalFailure("No client is free.".into())));
         };
         self.last_number += 1;
-        self.open_changes += usize::from(matches!(ask, Ask::Change { .. }));
+        self.open_changes += usize::from(matches!(ask, Ask::ChangeVisibility { .. }));
         self.open_due.extend(ask.due());
         let asked = Asked { queue, ask, raw, moment, client, number: self.last_number, room, weight, ends: 0 };
         self.write(&asked)?;
@@ -173,7 +173,7 @@ impl Task {
     fn is_decided_by_others(&self, queue: &Queue, receipt: Receipt, has_expired: bool) -> bool {
         let is_of_message = |open: &Open| match &open.entry {
             Entry::Asked(asked) => match asked.ask {
-                Ask::Change { receipt: other, .. } | Ask::Delete { receipt: other, .. } => {
+                Ask::ChangeVisibility { receipt: other, .. } | Ask::Delete { receipt: other, .. } => {
                     asked.queue.mark == queue.mark && other.sequence == receipt.sequence
                 }
                 _ => false,
@@ -221,7 +221,7 @@ fn repeats_delayed(ask: &Ask, queue: &Queue, now: Moment) -> Option<Uuid> {
 fn answer_about_earlier(ask: &Ask, base: u64) -> Option<Answer> {
     match ask {
         Ask::Delete { receipt, .. } if receipt.sequence <= base => Some(Ok(Outcome::Done)),
-        Ask::Change { receipt, .. } if receipt.sequence <= base => Some(Err(SqsError::of_no_message())),
+        Ask::ChangeVisibility { receipt, .. } if receipt.sequence <= base => Some(Err(SqsError::of_no_message())),
         _ => None,
     }
 }
@@ -230,7 +230,9 @@ fn answer_about_earlier(ask: &Ask, base: u64) -> Option<Answer> {
 fn with_last_receipt(ask: Ask, state: &State) -> Ask {
     match ask {
         Ask::Delete { receipt, by_client } => Ask::Delete { receipt: state.last_receipt(receipt), by_client },
-        Ask::Change { receipt, visibility, by } => Ask::Change { receipt: state.last_receipt(receipt), visibility, by },
+        Ask::ChangeVisibility { receipt, visibility, by } => {
+            Ask::ChangeVisibility { receipt: state.last_receipt(receipt), visibility, by }
+        }
         other => other,
     }
 }

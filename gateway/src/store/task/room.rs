@@ -12,9 +12,9 @@ pub(super) fn need_of(ask: &Ask) -> Need {
         Ask::Create { creation, .. } if creation.before.is_some() => Need::Less,
         Ask::Create { .. } | Ask::Send { cause: Cause::Client, .. } => Need::More,
         // What the gateway is handed itself it deletes or gives back, and for that there has to be space.
-        Ask::Change { by: Changer::Gateway, .. } => Need::Less,
+        Ask::ChangeVisibility { by: Changer::Gateway, .. } => Need::Less,
         Ask::Receive { own: true, visibility: 0, .. } | Ask::Delete { .. } | Ask::Remove { .. } => Need::Less,
-        Ask::Send { .. } | Ask::Receive { .. } | Ask::Change { .. } => Need::Same,
+        Ask::Send { .. } | Ask::Receive { .. } | Ask::ChangeVisibility { .. } => Need::Same,
     }
 }
 
