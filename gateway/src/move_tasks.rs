@@ -12,7 +12,7 @@ use crate::clock::Moment;
 use crate::errors::SqsError;
 use crate::messages::read_form;
 use crate::moves::{give_back, move_all, Kind};
-use crate::queues::ask::{Ask, Change, Handed, Outcome};
+use crate::queues::ask::{Ask, Handed, Outcome, TableChange};
 use crate::queues::Queue;
 use crate::store::Store;
 use crate::texts::QueueName;
@@ -131,7 +131,7 @@ pub async fn run(store: Store, rights: Rights, queue: Arc<Queue>, id: Uuid) {
         if moved == 0 && task.status == Status::Running {
             task.status = Status::Completed;
         }
-        while let Err(error) = store.note(&queue, Change::Task(task.clone())).await {
+        while let Err(error) = store.note(&queue, TableChange::Task(task.clone())).await {
             if error == SqsError::QueueDoesNotExist {
                 return;
             }

@@ -201,7 +201,7 @@ fn standard_send(kept: &Kept, call: Option<DedupId>, delay: u64, body: &Body) ->
     let form = Form::new(kept, body).map_err(cannot_be_kept)?;
     if delay > 0 {
         let delayed = Delayed { id: kept.id, due: kept.sent + delay, call, form: form.into_whole() };
-        return Ok(Command::Note(ask::Change::Delayed(Arc::new(delayed))));
+        return Ok(Command::Note(ask::TableChange::Delayed(Arc::new(delayed))));
     }
     let dedup = call.unwrap_or_else(|| DedupId::of_message(kept.id));
     Ok(Command::Ask(Ask::Send { group: GroupId::of_message(kept.id), dedup, form, cause: Cause::Client }))

@@ -7,7 +7,7 @@ use uuid::{Builder, Uuid};
 use super::{Actions, Caller, Performed};
 use crate::errors::SqsError;
 use crate::move_tasks::{run, MoveTask, Status};
-use crate::queues::ask::Change;
+use crate::queues::ask::TableChange;
 use crate::queues::Queue;
 use crate::redrive::QueueArn;
 use crate::texts::QueueName;
@@ -64,7 +64,7 @@ impl Actions {
             }
         };
         let id = task.id;
-        self.store.note(&queue, Change::Task(task)).await?;
+        self.store.note(&queue, TableChange::Task(task)).await?;
         let handle = TaskHandle { id, queue: queue.name.clone() }.outward();
         tokio::spawn(run(self.store.clone(), self.rights.clone(), queue, id));
         Ok(Response::TaskHandle(handle).into())
@@ -111,7 +111,7 @@ impl Actions {
             return Err(SqsError::InvalidParameterValue(message.into()));
         }
         task.status = Status::Cancelled;
-        self.store.note(&queue, Change::Task(task)).await?;
+        self.store.note(&queue, TableChange::Task(task)).await?;
         let moved = find(&queue, *id).map_or(0, |task| task.moved);
         Ok(Response::Moved(moved).into())
     }

@@ -4,7 +4,7 @@ use super::{Actions, Performed};
 use crate::attributes::Given;
 use crate::errors::SqsError;
 use crate::policy::{Permission, Policy};
-use crate::queues::ask::Change;
+use crate::queues::ask::TableChange;
 use crate::texts::QueueName;
 use crate::wire::Response;
 
@@ -32,7 +32,7 @@ impl Actions {
         let mut policy = Policy::of_queue(queue.state().attributes.policy())?;
         change(&mut policy)?;
         let given = Given::read(name.kind(), &[("Policy".into(), policy.text())])?;
-        self.store.note(&queue, Change::Attributes(given)).await?;
+        self.store.note(&queue, TableChange::Attributes(given)).await?;
         Ok(Response::Nothing.into())
     }
 }

@@ -7,7 +7,7 @@ use crate::attributes::{Given, QueueAttributes, Wanted, COUNTS};
 use crate::delays::bring_up_to_date;
 use crate::errors::SqsError;
 use crate::handles::Receipt;
-use crate::queues::ask::{Ask, Change, Creation, Outcome};
+use crate::queues::ask::{Ask, Creation, Outcome, TableChange};
 use crate::queues::Queue;
 use crate::rolling::remove_earlier;
 use crate::store::{Answer, Held};
@@ -114,7 +114,7 @@ impl Actions {
         let queue = self.queue(name)?;
         queue.state().attributes.test_change(&given)?;
         self.test_redrive(name, &given, caller)?;
-        self.store.note(&queue, Change::Attributes(given.with_what_it_ends())).await?;
+        self.store.note(&queue, TableChange::Attributes(given.with_what_it_ends())).await?;
         Ok(Response::Nothing.into())
     }
 
@@ -124,13 +124,13 @@ impl Actions {
         let mut whole = queue.state().tags.clone();
         whole.extend(tags.clone());
         test_count_of_tags(&whole)?;
-        self.store.note(&queue, Change::Tag(tags)).await?;
+        self.store.note(&queue, TableChange::Tag(tags)).await?;
         Ok(Response::Nothing.into())
     }
 
     pub(super) async fn untag(&self, name: &QueueName, keys: Vec<String>) -> Result<Performed, SqsError> {
         let queue = self.queue(name)?;
-        self.store.note(&queue, Change::Untag(keys)).await?;
+        self.store.note(&queue, TableChange::Untag(keys)).await?;
         Ok(Response::Nothing.into())
     }
 
@@ -156,7 +156,7 @@ impl Actions {
             return Err(SqsError::PurgeQueueInProgress { queue: name.to_string() });
         }
         delete_all(&queue, &held).await?;
-        held.note(Change::Purged).await?;
+        held.note(TableChange::Purged).await?;
         Ok(Response::Nothing.into())
     }
 }

@@ -12,7 +12,7 @@ use crate::clock::Moment;
 use crate::lines::{read_receipt, Fields, Kind};
 use crate::messages::Form;
 use crate::moves::Origin;
-use crate::queues::ask::{Ask, Cause, Change, Changer, Creation, StoreName};
+use crate::queues::ask::{Ask, Cause, Changer, Creation, StoreName, TableChange};
 use crate::texts::{hex, AttemptId, DedupId, GroupId, QueueName};
 
 /// A record as it stands in the journal.
@@ -56,7 +56,7 @@ pub struct Record<'a> {
     #[serde(borrow, default, skip_serializing_if = "Option::is_none")]
     pub queue: Option<Cow<'a, str>>,
     #[serde(default, skip_serializing_if = "Option::is_none")]
-    pub note: Option<Change>,
+    pub note: Option<TableChange>,
     /// Of a start: so many milliseconds before it don't count for retention. Such a record is of no queue.
     #[serde(default, skip_serializing_if = "Option::is_none")]
     pub uncounted: Option<u64>,
@@ -109,7 +109,7 @@ impl<'a> Record<'a> {
         record
     }
 
-    pub fn of_note(clock: Moment, queue: StoreName, change: &Change) -> Record<'a> {
+    pub fn of_note(clock: Moment, queue: StoreName, change: &TableChange) -> Record<'a> {
         let queue = Some(queue.text().into());
         Record { queue, note: Some(change.clone()), ..Record::at(clock) }
     }
@@ -244,9 +244,9 @@ mod tests {
             assert_eq!(format!("{again:?}"), format!("{ask:?}"));
         }
         let mut line = Vec::new();
-        Record::of_note(5, StoreName(7), &Change::Purged).append(&mut line).unwrap();
+        Record::of_note(5, StoreName(7), &TableChange::Purged).append(&mut line).unwrap();
         let note = Record::read(&line[..line.len() - 1]).unwrap();
-        assert_eq!((note.note.clone(), note.store_name()), (Some(Change::Purged), Some(StoreName(7))));
+        assert_eq!((note.note.clone(), note.store_name()), (Some(TableChange::Purged), Some(StoreName(7))));
         assert!(Record::read(b"{}").is_none());
     }
 }

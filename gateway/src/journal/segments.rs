@@ -370,7 +370,7 @@ mod tests {
     use super::*;
     use crate::attributes::{Given, QueueAttributes};
     use crate::lines::Fields;
-    use crate::queues::ask::{Ask, Change, Creation};
+    use crate::queues::ask::{Ask, Creation, TableChange};
     use crate::texts::{QueueKind, QueueName};
 
     fn append(payload: &mut Vec<u8>, ask: &Ask) {
@@ -382,7 +382,7 @@ mod tests {
     fn what_asks_for_a_removal_removes_and_nothing_that_a_client_wrote() {
         let tags = BTreeMap::from([("kind".to_string(), "remove".to_string())]);
         let mut payload = Vec::new();
-        Record::of_note(1, StoreName(7), &Change::Tag(tags.clone())).append(&mut payload).unwrap();
+        Record::of_note(1, StoreName(7), &TableChange::Tag(tags.clone())).append(&mut payload).unwrap();
         let given = Given::read(QueueKind::Standard, &[]).unwrap();
         let attributes = QueueAttributes::for_creation(QueueKind::Standard, &given).unwrap();
         let name = QueueName::parse("q").unwrap();

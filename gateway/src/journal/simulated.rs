@@ -13,7 +13,7 @@ use super::disk::{Folder, Segment};
 use super::log::{Log, Sizes};
 use super::record::Record;
 use super::segments::{frames, rewrite, scan_all, JournalError, Scanned};
-use crate::queues::ask::{Change, StoreName};
+use crate::queues::ask::{StoreName, TableChange};
 use crate::queues::shards::Shards;
 
 /// Small sectors, so that small records stand on several.
@@ -306,7 +306,7 @@ impl Act {
 }
 
 fn note(queue: u64, text: &str, line: &mut Vec<u8>) {
-    let change = Change::Untag(vec![text.to_string()]);
+    let change = TableChange::Untag(vec![text.to_string()]);
     Record::of_note(1, StoreName(queue), &change).append(line).unwrap();
 }
 
@@ -338,7 +338,7 @@ impl Model {
                     if scanned.removed.contains(&name) {
                         continue;
                     }
-                    let Some(Change::Untag(keys)) = &record.note else { panic!("{line:?}") };
+                    let Some(TableChange::Untag(keys)) = &record.note else { panic!("{line:?}") };
                     let (kind, text) = keys[0].split_once(' ').unwrap();
                     let text = text.parse().unwrap();
                     let act = if kind == "send" { Act::Send(name.0, text) } else { Act::Delete(name.0, text) };

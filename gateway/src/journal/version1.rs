@@ -23,7 +23,7 @@ use crate::attributes::{Given, QueueAttributes};
 use crate::cq::{Cq, CqError};
 use crate::lines::{self, read_receipt, Fields, Kind, Output, StoreReply};
 use crate::messages::{read_form, AttributeValue, Form, Kept, MessageAttributes};
-use crate::queues::ask::{Ask, Cause, Change, Changer, Creation, StoreName};
+use crate::queues::ask::{Ask, Cause, Changer, Creation, StoreName, TableChange};
 use crate::queues::shards::Shards;
 use crate::store::ReplayError;
 use crate::texts::{hex, AttemptId, Body, DedupId, GroupId, QueueName};
@@ -204,7 +204,7 @@ struct Asked {
 
 enum AskedWhat {
     Ask { ask: Ask, raw: Box<RawValue>, number: u64, digest: String, incarnation: u64 },
-    Note(Change),
+    Note(TableChange),
 }
 
 #[derive(Default)]
@@ -312,10 +312,10 @@ impl Conversion {
 
     fn take_change(&mut self, change: OldChange) -> Option<()> {
         let (name, change, clock) = match change {
-            OldChange::Attributes { queue, attributes, clock } => (queue, Change::Attributes(attributes), clock),
-            OldChange::Tag { queue, tags } => (queue, Change::Tag(tags), self.last_clock),
-            OldChange::Untag { queue, keys } => (queue, Change::Untag(keys), self.last_clock),
-            OldChange::Purged { queue, clock } => (queue, Change::Purged, clock),
+            OldChange::Attributes { queue, attributes, clock } => (queue, TableChange::Attributes(attributes), clock),
+            OldChange::Tag { queue, tags } => (queue, TableChange::Tag(tags), self.last_clock),
+            OldChange::Untag { queue, keys } => (queue, TableChange::Untag(keys), self.last_clock),
+            OldChange::Purged { queue, clock } => (queue, TableChange::Purged, clock),
         };
         let store = self.queues.get(&name)?.store;
         self.asked.push(Asked { clock, store, what: AskedWhat::Note(change) });

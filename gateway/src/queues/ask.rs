@@ -158,7 +158,7 @@ pub struct Before {
 /// A change of what the gateway keeps of a queue, of which the store knows nothing.
 #[derive(Clone, Debug, PartialEq, Eq, Serialize, Deserialize)]
 #[serde(rename_all = "lowercase")]
-pub enum Change {
+pub enum TableChange {
     Attributes(Given),
     Tag(BTreeMap<String, String>),
     Untag(Vec<String>),

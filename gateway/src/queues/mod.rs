@@ -22,7 +22,7 @@ use crate::moves::Copies;
 use crate::polling::Polls;
 use crate::retention::Jumps;
 use crate::texts::QueueName;
-use ask::{Ask, Cause, Change, Creation, Outcome, StoreName};
+use ask::{Ask, Cause, Creation, Outcome, StoreName, TableChange};
 pub use state::{bytes_of_queue, Peeked, Place, State, Step, Visibility, WINDOW};
 
 /// So long a name isn't free after its queue was removed, in milliseconds
@@ -180,9 +180,9 @@ impl Queues {
     }
 
     /// Takes up a change of which the store knows nothing. The second value says whether the journal has to know.
-    pub fn apply(&self, queue: &Arc<Queue>, change: &Change, moment: Moment) -> (Outcome, bool) {
+    pub fn apply(&self, queue: &Arc<Queue>, change: &TableChange, moment: Moment) -> (Outcome, bool) {
         let settled = self.counted(queue, |state| state.apply(change, moment));
-        if matches!(change, Change::Delayed(_)) {
+        if matches!(change, TableChange::Delayed(_)) {
             self.alarms.set_next(queue);
         }
         if settled.opened {

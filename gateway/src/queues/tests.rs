@@ -8,7 +8,7 @@ use proptest::sample::Index;
 use proptest::test_runner::TestCaseResult;
 use uuid::Uuid;
 
-use super::ask::{Ask, Cause, Change, Changer, Creation, Outcome, StoreName};
+use super::ask::{Ask, Cause, Changer, Creation, Outcome, StoreName, TableChange};
 use super::State;
 use crate::attributes::{Given, QueueAttributes};
 use crate::clock::Moment;
@@ -192,7 +192,7 @@ impl Both {
             Step::Delay(seconds) => {
                 self.list.delay = 1000 * u64::from(*seconds);
                 let given = Given::read(QueueKind::Fifo, &[("DelaySeconds".into(), seconds.to_string())]).unwrap();
-                self.state.apply(&Change::Attributes(given), self.now);
+                self.state.apply(&TableChange::Attributes(given), self.now);
             }
         }
         Ok(())

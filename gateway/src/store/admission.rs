@@ -6,7 +6,7 @@ use std::sync::Arc;
 use crate::clock::Moment;
 use crate::errors::SqsError;
 use crate::limits::{Bound, MESSAGE_BYTES, QUEUE_BYTES};
-use crate::queues::ask::{Ask, Cause, Change};
+use crate::queues::ask::{Ask, Cause, TableChange};
 use crate::queues::{bytes_of_queue, Queue, Queues};
 
 /// A queue that takes no more without its messages gets attributes and tags also where the bound is full.
@@ -53,11 +53,11 @@ impl Admission {
     }
 
     /// Lets a change pass that the gateway alone keeps, as `admit` does an ask.
-    pub fn admit_change(&self, queue: &Queue, change: &Change, now: Moment) -> Result<u64, SqsError> {
+    pub fn admit_change(&self, queue: &Queue, change: &TableChange, now: Moment) -> Result<u64, SqsError> {
         match change {
-            Change::Delayed(message) => self.admit_bytes(message.form.len() as u64 + MESSAGE_BYTES, now),
+            TableChange::Delayed(message) => self.admit_bytes(message.form.len() as u64 + MESSAGE_BYTES, now),
             // A queue of ordinary size stays what operators can change, so that memory comes free by other attributes.
-            Change::Tag(_) | Change::Attributes(_) => match queue.state().growth(change) {
+            TableChange::Tag(_) | TableChange::Attributes(_) => match queue.state().growth(change) {
                 (_, whole) if whole <= ORDINARY => Ok(0),
                 (0, _) => Ok(0),
                 (more, _) => self.admit_bytes(more, now),

@@ -14,7 +14,7 @@ use crate::clock::Clock;
 use crate::errors::SqsError;
 use crate::handles::Mark;
 use crate::journal::Journal;
-use crate::queues::ask::{Ask, Change, Outcome};
+use crate::queues::ask::{Ask, Outcome, TableChange};
 use crate::queues::shards::Shards;
 use crate::queues::{Queue, Queues};
 use crate::texts::QueueName;
@@ -58,7 +58,7 @@ pub enum Command {
     /// The store does it.
     Ask(Ask),
     /// A change of what the gateway alone keeps.
-    Note(Change),
+    Note(TableChange),
 }
 
 enum What {
@@ -66,7 +66,7 @@ enum What {
     Count,
     /// Moves the store's moment on.
     Moment,
-    Note(Change),
+    Note(TableChange),
     /// Keeps all other jobs of the queue waiting until it is let go.
     Hold,
     LetGo,
@@ -161,7 +161,7 @@ impl Store {
     }
 
     /// A change of what the gateway alone keeps.
-    pub async fn note(&self, queue: &Arc<Queue>, change: Change) -> Answer {
+    pub async fn note(&self, queue: &Arc<Queue>, change: TableChange) -> Answer {
         self.perform_one(queue, What::Note(change)).await
     }
 
@@ -223,7 +223,7 @@ impl Held {
         self.ask_all(vec![ask]).await.pop().unwrap_or_else(|| Err(gone()))
     }
 
-    pub async fn note(&self, change: Change) -> Answer {
+    pub async fn note(&self, change: TableChange) -> Answer {
         let answers = self.store.perform(&self.queue, vec![What::Note(change)], true, None);
         answers.await.pop().unwrap_or_else(|| Err(gone()))
     }

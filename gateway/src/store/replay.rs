@@ -19,7 +19,7 @@ use crate::clock::{Clock, Moment};
 use crate::cq::{Cq, CqError};
 use crate::journal::{digest_of_reply, JournalError, Opened, Record, Records};
 use crate::lines::{self, BadOutput, Fields, Kind, Output};
-use crate::queues::ask::{Ask, Change, StoreName};
+use crate::queues::ask::{Ask, StoreName, TableChange};
 use crate::queues::shards::{Shard, Shards};
 use crate::queues::{Queue, Queues};
 
@@ -68,7 +68,7 @@ enum Waiting {
     },
     Note {
         queue: Arc<Queue>,
-        change: Change,
+        change: TableChange,
         clock: Moment,
     },
     /// The request behind all others.

@@ -16,7 +16,7 @@ use std::sync::Arc;
 
 use uuid::Uuid;
 
-use super::ask::{Ask, Before, Cause, Change, Changer, Creation, Delayed, Fate, Handed, Outcome, StoreName};
+use super::ask::{Ask, Before, Cause, Changer, Creation, Delayed, Fate, Handed, Outcome, StoreName, TableChange};
 use super::groups::{Group, Groups};
 use crate::attributes::QueueAttributes;
 use crate::clock::Moment;
@@ -366,29 +366,29 @@ impl State {
     }
 
     /// What of a change changes anything; none if nothing does.
-    pub fn effect_of(&self, change: Change) -> Option<Change> {
+    pub fn effect_of(&self, change: TableChange) -> Option<TableChange> {
         match change {
-            Change::Attributes(given) => {
+            TableChange::Attributes(given) => {
                 let given = self.attributes.news_of(&given);
-                (!given.is_empty()).then_some(Change::Attributes(given))
+                (!given.is_empty()).then_some(TableChange::Attributes(given))
             }
-            Change::Tag(mut tags) => {
+            TableChange::Tag(mut tags) => {
                 tags.retain(|key, value| self.tags.get(key) != Some(value));
-                (!tags.is_empty()).then_some(Change::Tag(tags))
+                (!tags.is_empty()).then_some(TableChange::Tag(tags))
             }
-            Change::Untag(keys) => {
+            TableChange::Untag(keys) => {
                 let there: BTreeSet<_> = keys.into_iter().filter(|key| self.tags.contains_key(key)).collect();
-                (!there.is_empty()).then(|| Change::Untag(there.into_iter().collect()))
+                (!there.is_empty()).then(|| TableChange::Untag(there.into_iter().collect()))
             }
             other => Some(other),
         }
     }
 
     /// Takes up a change of which the store knows nothing.
-    pub fn apply(&mut self, change: &Change, moment: Moment) -> Settled {
+    pub fn apply(&mut self, change: &TableChange, moment: Moment) -> Settled {
         let settled = match change {
-            Change::Delayed(message) => self.delay_message(message, moment),
-            Change::Attributes(given) if !self.attributes.news_of(given).is_empty() => {
+            TableChange::Delayed(message) => self.delay_message(message, moment),
+            TableChange::Attributes(given) if !self.attributes.news_of(given).is_empty() => {
                 self.attributes.set(given);
                 self.redrive = self.attributes.redrive();
                 self.set_delay(delay_of_all(self.kind, &self.attributes));
@@ -396,24 +396,24 @@ impl State {
                 // What was delayed may be due by other attributes.
                 Settled::done(true)
             }
-            Change::Attributes(_) => Settled::unchanged(Outcome::Done),
-            Change::Tag(tags) => {
+            TableChange::Attributes(_) => Settled::unchanged(Outcome::Done),
+            TableChange::Tag(tags) => {
                 let new = tags.iter().filter(|(key, value)| {
                     self.tags.insert(key.to_string(), value.to_string()).as_ref() != Some(value)
                 });
                 let count = new.count();
                 Settled { changed: count > 0, ..Settled::done(false) }
             }
-            Change::Untag(keys) => {
+            TableChange::Untag(keys) => {
                 let count = keys.iter().filter(|key| self.tags.remove(*key).is_some()).count();
                 Settled { changed: count > 0, ..Settled::done(false) }
             }
-            Change::Purged => {
+            TableChange::Purged => {
                 self.purged = Some(moment);
                 self.delayed.clear();
                 Settled::done(false)
             }
-            Change::Task(task) => {
+            TableChange::Task(task) => {
                 move_tasks::note(&mut self.tasks, task);
                 Settled::done(false)
             }
@@ -469,16 +469,16 @@ impl State {
 
     /// By how many bytes a change of attributes or tags makes the queue larger without its messages, and how large it is
     /// then.
-    pub fn growth(&self, change: &Change) -> (u64, u64) {
+    pub fn growth(&self, change: &TableChange) -> (u64, u64) {
         let more = |earlier: Option<&str>, name: &str, value: &str| match earlier {
             Some(earlier) => value.len().saturating_sub(earlier.len()),
             None => name.len() + value.len(),
         };
         let more: usize = match change {
-            Change::Attributes(given) => {
+            TableChange::Attributes(given) => {
                 given.iter().map(|(name, value)| more(self.attributes.text(name), name, value)).sum()
             }
-            Change::Tag(tags) => {
+            TableChange::Tag(tags) => {
                 tags.iter().map(|(key, value)| more(self.tags.get(key).map(String::as_str), key, value)).sum()
             }
             _ => 0,

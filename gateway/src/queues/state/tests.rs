@@ -132,7 +132,7 @@ fn send_standard(state: &mut State, place: u64, sent: Moment, cause: Cause, mome
 fn delay(state: &mut State, id: u128, due: Moment, moment: Moment) -> bool {
     let form = form(id, moment).into_whole();
     let message = Delayed { id: Uuid::from_u128(id), due, call: None, form };
-    state.apply(&Change::Delayed(Arc::new(message)), moment).changed
+    state.apply(&TableChange::Delayed(Arc::new(message)), moment).changed
 }
 
 #[test]
@@ -148,7 +148,7 @@ fn a_delayed_message_is_as_old_as_its_send() {
     assert!(!state.is_delayed(id) && state.bytes_in_use() == delayed);
     let four_days = 345_600_000;
     assert!(state.has_old(&Jumps::default(), 1000 + four_days) && !state.has_old(&Jumps::default(), 999 + four_days));
-    state.apply(&Change::Purged, 5500);
+    state.apply(&TableChange::Purged, 5500);
     assert_eq!((due(&state, 6000), state.counts(1, 0, 6000)), (0, [1, 0, 0]));
     assert!(state.bytes_in_use() < delayed);
 }
@@ -194,7 +194,7 @@ fn in_flight(name: &str, count: u64, end: Moment) -> State {
 
 fn set(state: &mut State, name: &str, value: &str) -> bool {
     let given = Given::read(state.kind, &[(name.into(), value.into())]).unwrap();
-    state.apply(&Change::Attributes(given), 0).changed
+    state.apply(&TableChange::Attributes(given), 0).changed
 }
 
 /// How long 300 calls take behind a first one. Walks of a whole queue would take seconds.
@@ -245,10 +245,10 @@ fn a_sweep_is_found_worth_it_without_a_walk_of_what_was_deleted() {
 #[test]
 fn what_changes_nothing_is_no_change() {
     let mut state = state();
-    let tags = |value: &str| Change::Tag(BTreeMap::from([("a".to_string(), value.to_string())]));
+    let tags = |value: &str| TableChange::Tag(BTreeMap::from([("a".to_string(), value.to_string())]));
     let changes = [tags("1"), tags("1"), tags("2"), tags("2")].map(|change| state.apply(&change, 5).changed);
     assert_eq!(changes, [true, false, true, false]);
-    let untag = |key: &str| Change::Untag(vec![key.into()]);
+    let untag = |key: &str| TableChange::Untag(vec![key.into()]);
     let changes = [untag("b"), untag("a"), untag("a")].map(|change| state.apply(&change, 5).changed);
     assert_eq!(changes, [false, true, false]);
     let values = ["30", "31", "31"].map(|value| set(&mut state, "VisibilityTimeout", value));

@@ -12,7 +12,7 @@ use crate::clock::Moment;
 use crate::errors::SqsError;
 use crate::handles::Receipt;
 use crate::lines::{self, Fields};
-use crate::queues::ask::{Ask, Cause, Change, Outcome};
+use crate::queues::ask::{Ask, Cause, Outcome, TableChange};
 use crate::queues::{Queue, State};
 use crate::store::{Answer, What};
 use crate::texts::QueueKind;
@@ -184,7 +184,7 @@ impl Task {
     }
 
     /// Sets space of the journal and memory aside for a change.
-    fn note_with_room(&self, queue: Arc<Queue>, change: Change) -> Result<Noted, Unnoted> {
+    fn note_with_room(&self, queue: Arc<Queue>, change: TableChange) -> Result<Noted, Unnoted> {
         let (effect, removed) = {
             let state = queue.state();
             (state.effect_of(change), state.removed)

@@ -6,7 +6,7 @@ use serde_json::value::RawValue;
 
 use crate::clock::Moment;
 use crate::errors::SqsError;
-use crate::queues::ask::{Ask, Change};
+use crate::queues::ask::{Ask, TableChange};
 use crate::queues::Queue;
 use crate::store::{Answer, Done, What};
 
@@ -37,7 +37,7 @@ pub(super) enum Entry {
 /// A change of which the program isn't told.
 pub(super) struct Noted {
     pub(super) queue: Arc<Queue>,
-    pub(super) change: Change,
+    pub(super) change: TableChange,
     /// Bytes that were set aside for its record.
     pub(super) room: u64,
     /// Bytes of memory that it was counted with.
@@ -70,7 +70,7 @@ pub(super) enum Asking {
 /// Why a change isn't noted.
 pub(super) enum Unnoted {
     /// The journal has to find space first.
-    LacksRoom(Arc<Queue>, Box<Change>),
+    LacksRoom(Arc<Queue>, Box<TableChange>),
     Refused(SqsError),
     /// It changes nothing.
     Nothing,

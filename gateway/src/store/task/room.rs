@@ -4,7 +4,7 @@ use serde_json::value::RawValue;
 
 use crate::journal::Need;
 use crate::messages::Form;
-use crate::queues::ask::{Ask, Cause, Change, Changer};
+use crate::queues::ask::{Ask, Cause, Changer, TableChange};
 
 pub(super) fn need_of(ask: &Ask) -> Need {
     match ask {
@@ -18,11 +18,11 @@ pub(super) fn need_of(ask: &Ask) -> Need {
     }
 }
 
-pub(super) fn need_of_note(change: &Change) -> Need {
+pub(super) fn need_of_note(change: &TableChange) -> Need {
     match change {
-        Change::Delayed(_) => Need::More,
-        Change::Attributes(_) | Change::Tag(_) | Change::Task(_) => Need::Same,
-        Change::Untag(_) | Change::Purged => Need::Less,
+        TableChange::Delayed(_) => Need::More,
+        TableChange::Attributes(_) | TableChange::Tag(_) | TableChange::Task(_) => Need::Same,
+        TableChange::Untag(_) | TableChange::Purged => Need::Less,
     }
 }
 
@@ -37,9 +37,9 @@ pub(super) fn bytes_of(ask: &Ask, raw: &RawValue) -> u64 {
 }
 
 /// What the record of a change takes at most.
-pub(super) fn bytes_of_note(change: &Change) -> u64 {
+pub(super) fn bytes_of_note(change: &TableChange) -> u64 {
     let bytes = match change {
-        Change::Delayed(message) => length_in_json(&message.form),
+        TableChange::Delayed(message) => length_in_json(&message.form),
         _ => serde_json::to_vec(change).map_or(0, |bytes| bytes.len()),
     };
     (bytes + 512) as u64
