@@ -131,7 +131,7 @@ pub async fn run(store: Store, rights: Rights, queue: Arc<Queue>, id: Uuid) {
         if moved == 0 && task.status == Status::Running {
             task.status = Status::Completed;
         }
-        while let Err(error) = store.note(&queue, TableChange::Task(task.clone())).await {
+        while let Err(error) = store.change(&queue, TableChange::Task(task.clone())).await {
             if error == SqsError::QueueDoesNotExist {
                 return;
             }

@@ -9,9 +9,9 @@ use crate::attributes::LONGEST_MESSAGE;
 use crate::digests::{md5_of_attributes, md5_of_text};
 use crate::errors::SqsError;
 use crate::messages::{Form, Kept, MessageAttributes, TRACE_HEADER};
-use crate::queues::ask::{self, Ask, Cause, Changer, Delayed, Outcome};
+use crate::queues::ask::{Ask, Cause, Changer, Delayed, Outcome, TableChange};
 use crate::queues::Queue;
-use crate::store::{Answer, Command};
+use crate::store::{Answer, Operation};
 use crate::texts::{Body, DedupId, GroupId, QueueKind, QueueName};
 use crate::wire::requests::{Batch, Message, Sending, VisibilityChange};
 use crate::wire::responses::{Done, Failed, Sent};
@@ -25,8 +25,8 @@ impl Actions {
         caller: &Caller,
     ) -> Result<Performed, SqsError> {
         let queue = self.queue(name)?;
-        let command = self.sending(&queue, None, &message, caller)?;
-        let outcome = self.store.command(&queue, command, &caller.share).await?;
+        let send = self.sending(&queue, None, &message, caller)?;
+        let outcome = self.store.perform(&queue, send, &caller.share).await?;
         Ok(Response::Sent(sent(&queue, &message, &outcome)?).into())
     }
 
@@ -42,9 +42,9 @@ impl Actions {
         if size > LONGEST_MESSAGE {
             return Err(SqsError::BatchRequestTooLong { limit: LONGEST_MESSAGE, sent: size });
         }
-        let command_of = |id: &str, message: &Message| self.sending(&queue, Some(id), message, caller);
+        let operation_of = |id: &str, message: &Message| self.sending(&queue, Some(id), message, caller);
         let result_of = |message: &Message, answer: Answer| sent(&queue, message, &answer?).map(Some);
-        self.answer_each(&queue, batch, command_of, result_of, caller).await
+        self.answer_each(&queue, batch, operation_of, result_of, caller).await
     }
 
     /// What sends a message. `entry` is its id in a batch.
@@ -54,7 +54,7 @@ impl Actions {
         entry: Option<&str>,
         message: &Message,
         caller: &Caller,
-    ) -> Result<Command, SqsError> {
+    ) -> Result<Operation, SqsError> {
         let limit = queue.state().attributes.maximum_message_size();
         if message.size() > limit {
             return Err(SqsError::InvalidParameterValue(format!(
@@ -80,7 +80,7 @@ impl Actions {
         dedup: Option<&DedupId>,
         message: &Message,
         caller: &Caller,
-    ) -> Result<Command, SqsError> {
+    ) -> Result<Operation, SqsError> {
         let (by_content, by_group) = {
             let attributes = &queue.state().attributes;
             (attributes.dedups_by_content(), attributes.dedups_by_group())
@@ -93,7 +93,7 @@ impl Actions {
         let for_store = if by_group { dedup.within(group) } else { dedup.clone() };
         let kept = Kept { dedup: Some(dedup), ..self.kept(message, caller) };
         let form = Form::new(&kept, &message.body).map_err(cannot_be_kept)?;
-        Ok(Command::Ask(Ask::Send { group: group.clone(), dedup: for_store, form, cause: Cause::Client }))
+        Ok(Operation::Ask(Ask::Send { group: group.clone(), dedup: for_store, form, cause: Cause::Client }))
     }
 
     /// What is kept of a message of either kind of queue.
@@ -127,7 +127,7 @@ impl Actions {
         self.answer_each(
             &queue,
             batch,
-            |_, handle| delete_ask(&queue, handle).map(Command::Ask),
+            |_, handle| delete_ask(&queue, handle).map(Operation::Ask),
             |handle, answer| nothing_of(handle, answer),
             caller,
         )
@@ -149,33 +149,34 @@ impl Actions {
     ) -> Result<Performed, SqsError> {
         let queue = self.queue(name)?;
         let result_of = |change: &VisibilityChange, answer| nothing_of(&change.handle, answer);
-        let command_of = |_: &str, change: &VisibilityChange| change_ask(&queue, change).map(Command::Ask);
-        self.answer_each(&queue, batch, command_of, result_of, caller).await
+        let operation_of = |_: &str, change: &VisibilityChange| change_ask(&queue, change).map(Operation::Ask);
+        self.answer_each(&queue, batch, operation_of, result_of, caller).await
     }
 
-    /// Performs all good entries at once, and tells what came of each. The commands are made of their ids and of them.
+    /// Performs all good entries at once, and tells what came of each. An operation is made of the id and the entry.
     async fn answer_each<T>(
         &self,
         queue: &Arc<Queue>,
         batch: Batch<T>,
-        command_of: impl Fn(&str, &T) -> Result<Command, SqsError>,
+        operation_of: impl Fn(&str, &T) -> Result<Operation, SqsError>,
         result_of: impl Fn(&T, Answer) -> Result<Option<Sent>, SqsError>,
         caller: &Caller,
     ) -> Result<Performed, SqsError> {
-        let mut commands = Vec::with_capacity(batch.len());
+        let mut operations = Vec::with_capacity(batch.len());
         let mut entries = Vec::with_capacity(batch.len());
         for (id, entry) in batch {
-            let read = entry.and_then(|entry| Ok((command_of(&id, &entry)?, entry)));
+            let read = entry.and_then(|entry| Ok((operation_of(&id, &entry)?, entry)));
             entries.push((
                 id,
-                read.map(|(command, entry)| {
-                    commands.push(command);
+                read.map(|(operation, entry)| {
+                    operations.push(operation);
                     entry
                 }),
             ));
         }
-        let is_asked = !commands.is_empty();
-        let answers = if is_asked { self.store.command_all(queue, commands, &caller.share).await } else { Vec::new() };
+        let is_asked = !operations.is_empty();
+        let answers =
+            if is_asked { self.store.perform_all(queue, operations, &caller.share).await } else { Vec::new() };
         let mut answers = answers.into_iter();
         let (mut successful, mut failed) = (Vec::new(), Vec::new());
         for (id, entry) in entries {
@@ -197,14 +198,14 @@ fn cannot_be_kept(error: serde_json::Error) -> SqsError {
 
 /// Sends a message to a standard queue: at once, or into the tables where it is delayed, by `delay` milliseconds. Where
 /// repeats of the call can be told, `call` stands for this message of it.
-fn standard_send(kept: &Kept, call: Option<DedupId>, delay: u64, body: &Body) -> Result<Command, SqsError> {
+fn standard_send(kept: &Kept, call: Option<DedupId>, delay: u64, body: &Body) -> Result<Operation, SqsError> {
     let form = Form::new(kept, body).map_err(cannot_be_kept)?;
     if delay > 0 {
         let delayed = Delayed { id: kept.id, due: kept.sent + delay, call, form: form.into_whole() };
-        return Ok(Command::Note(ask::TableChange::Delayed(Arc::new(delayed))));
+        return Ok(Operation::Change(TableChange::Delayed(Arc::new(delayed))));
     }
     let dedup = call.unwrap_or_else(|| DedupId::of_message(kept.id));
-    Ok(Command::Ask(Ask::Send { group: GroupId::of_message(kept.id), dedup, form, cause: Cause::Client }))
+    Ok(Operation::Ask(Ask::Send { group: GroupId::of_message(kept.id), dedup, form, cause: Cause::Client }))
 }
 
 fn no_answer() -> SqsError {

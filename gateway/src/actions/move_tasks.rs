@@ -64,7 +64,7 @@ impl Actions {
             }
         };
         let id = task.id;
-        self.store.note(&queue, TableChange::Task(task)).await?;
+        self.store.change(&queue, TableChange::Task(task)).await?;
         let handle = TaskHandle { id, queue: queue.name.clone() }.outward();
         tokio::spawn(run(self.store.clone(), self.rights.clone(), queue, id));
         Ok(Response::TaskHandle(handle).into())
@@ -111,7 +111,7 @@ impl Actions {
             return Err(SqsError::InvalidParameterValue(message.into()));
         }
         task.status = Status::Cancelled;
-        self.store.note(&queue, TableChange::Task(task)).await?;
+        self.store.change(&queue, TableChange::Task(task)).await?;
         let moved = find(&queue, *id).map_or(0, |task| task.moved);
         Ok(Response::Moved(moved).into())
     }

@@ -32,7 +32,7 @@ impl Actions {
         let mut policy = Policy::of_queue(queue.state().attributes.policy())?;
         change(&mut policy)?;
         let given = Given::read(name.kind(), &[("Policy".into(), policy.text())])?;
-        self.store.note(&queue, TableChange::Attributes(given)).await?;
+        self.store.change(&queue, TableChange::Attributes(given)).await?;
         Ok(Response::Nothing.into())
     }
 }

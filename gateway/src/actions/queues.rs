@@ -114,7 +114,7 @@ impl Actions {
         let queue = self.queue(name)?;
         queue.state().attributes.test_change(&given)?;
         self.test_redrive(name, &given, caller)?;
-        self.store.note(&queue, TableChange::Attributes(given.with_what_it_ends())).await?;
+        self.store.change(&queue, TableChange::Attributes(given.with_what_it_ends())).await?;
         Ok(Response::Nothing.into())
     }
 
@@ -124,13 +124,13 @@ impl Actions {
         let mut whole = queue.state().tags.clone();
         whole.extend(tags.clone());
         test_count_of_tags(&whole)?;
-        self.store.note(&queue, TableChange::Tag(tags)).await?;
+        self.store.change(&queue, TableChange::Tag(tags)).await?;
         Ok(Response::Nothing.into())
     }
 
     pub(super) async fn untag(&self, name: &QueueName, keys: Vec<String>) -> Result<Performed, SqsError> {
         let queue = self.queue(name)?;
-        self.store.note(&queue, TableChange::Untag(keys)).await?;
+        self.store.change(&queue, TableChange::Untag(keys)).await?;
         Ok(Response::Nothing.into())
     }
 
@@ -156,7 +156,7 @@ impl Actions {
             return Err(SqsError::PurgeQueueInProgress { queue: name.to_string() });
         }
         delete_all(&queue, &held).await?;
-        held.note(TableChange::Purged).await?;
+        held.change(TableChange::Purged).await?;
         Ok(Response::Nothing.into())
     }
 }

@@ -25,12 +25,12 @@ pub use figures::{Figures, JournalFigures};
 pub use replay::{replay_all, ReplayError, Replayed, Tables};
 pub use task::{start, Ended, Start};
 
-/// What is asked for, and where the answers go.
+/// Operations that are performed one after the other, and where their answers go.
 struct Job {
     queue: Option<Arc<Queue>>,
-    whats: Vec<What>,
-    /// It may pass where its queue is held.
-    passes: bool,
+    operations: Vec<Operation>,
+    /// It doesn't wait where its queue is held.
+    ignores_hold: bool,
     done: Done,
 }
 
@@ -53,31 +53,30 @@ impl From<oneshot::Sender<Answers>> for Done {
     }
 }
 
-/// What is told to a queue.
-pub enum Command {
-    /// The store does it.
+/// What a task can do to a queue.
+pub enum Operation {
+    /// The program does it.
     Ask(Ask),
     /// A change of what the gateway alone keeps.
-    Note(TableChange),
-}
-
-enum What {
-    Ask(Ask),
+    Change(TableChange),
+    /// Counts visible messages and those in flight.
     Count,
     /// Moves the store's moment on.
     Moment,
-    Note(TableChange),
-    /// Keeps all other jobs of the queue waiting until it is let go.
+    /// Keeps all other jobs of the queue waiting until it is released.
     Hold,
-    LetGo,
+    Release,
 }
 
-impl From<Command> for What {
-    fn from(command: Command) -> What {
-        match command {
-            Command::Ask(ask) => What::Ask(ask),
-            Command::Note(change) => What::Note(change),
-        }
+impl From<Ask> for Operation {
+    fn from(ask: Ask) -> Operation {
+        Operation::Ask(ask)
+    }
+}
+
+impl From<TableChange> for Operation {
+    fn from(change: TableChange) -> Operation {
+        Operation::Change(change)
     }
 }
 
@@ -119,11 +118,17 @@ impl Store {
         &self.jobs[self.shards.place_of(name)]
     }
 
-    async fn perform(&self, queue: &Arc<Queue>, whats: Vec<What>, passes: bool, share: Option<&Arc<Share>>) -> Answers {
-        let count = whats.len();
+    async fn submit(
+        &self,
+        queue: &Arc<Queue>,
+        operations: Vec<Operation>,
+        ignores_hold: bool,
+        share: Option<&Arc<Share>>,
+    ) -> Answers {
+        let count = operations.len();
         let (done, answers) = oneshot::channel();
         let done = Done { answers: done, _share: share.cloned() };
-        let job = Job { queue: Some(queue.clone()), whats, passes, done };
+        let job = Job { queue: Some(queue.clone()), operations, ignores_hold, done };
         let answered = match self.jobs_of(&queue.name).send(job) {
             Ok(()) => answers.await.ok(),
             Err(_) => None,
@@ -131,44 +136,44 @@ impl Store {
         answered.unwrap_or_else(|| (0..count).map(|_| Err(gone())).collect())
     }
 
-    async fn perform_one(&self, queue: &Arc<Queue>, what: What) -> Answer {
-        self.perform(queue, vec![what], false, None).await.pop().unwrap_or_else(|| Err(gone()))
+    async fn submit_one(&self, queue: &Arc<Queue>, operation: Operation) -> Answer {
+        self.submit(queue, vec![operation], false, None).await.pop().unwrap_or_else(|| Err(gone()))
     }
 
     /// The answer to one ask, when all that it rests on is on disk.
     pub async fn ask(&self, queue: &Arc<Queue>, ask: Ask) -> Answer {
-        self.perform_one(queue, What::Ask(ask)).await
+        self.submit_one(queue, ask.into()).await
     }
 
     /// The answers to asks that are written one after the other, in their order.
     pub async fn ask_all(&self, queue: &Arc<Queue>, asks: Vec<Ask>) -> Vec<Answer> {
-        self.perform(queue, asks.into_iter().map(What::Ask).collect(), false, None).await
+        self.submit(queue, asks.into_iter().map(Operation::from).collect(), false, None).await
     }
 
-    /// The answer to one command, as that of `ask`. Its request counts by `share` until it is there.
-    pub async fn command(&self, queue: &Arc<Queue>, command: Command, share: &Arc<Share>) -> Answer {
-        self.command_all(queue, vec![command], share).await.pop().unwrap_or_else(|| Err(gone()))
+    /// The answer to one operation, as that of `ask`. Its request counts by `share` until it is there.
+    pub async fn perform(&self, queue: &Arc<Queue>, operation: Operation, share: &Arc<Share>) -> Answer {
+        self.perform_all(queue, vec![operation], share).await.pop().unwrap_or_else(|| Err(gone()))
     }
 
-    /// The answers to commands that are performed one after the other, in their order.
-    pub async fn command_all(&self, queue: &Arc<Queue>, commands: Vec<Command>, share: &Arc<Share>) -> Vec<Answer> {
-        self.perform(queue, commands.into_iter().map(What::from).collect(), false, Some(share)).await
+    /// The answers to operations that are performed one after the other, in their order.
+    pub async fn perform_all(&self, queue: &Arc<Queue>, operations: Vec<Operation>, share: &Arc<Share>) -> Vec<Answer> {
+        self.submit(queue, operations, false, Some(share)).await
     }
 
     /// How many messages of the queue are visible and how many in flight, at this moment.
     pub async fn count(&self, queue: &Arc<Queue>) -> Answer {
-        self.perform_one(queue, What::Count).await
+        self.submit_one(queue, Operation::Count).await
     }
 
     /// A change of what the gateway alone keeps.
-    pub async fn note(&self, queue: &Arc<Queue>, change: TableChange) -> Answer {
-        self.perform_one(queue, What::Note(change)).await
+    pub async fn change(&self, queue: &Arc<Queue>, change: TableChange) -> Answer {
+        self.submit_one(queue, change.into()).await
     }
 
     /// Waits for a first answer of each program. False if there is none.
     pub async fn is_answering(&self) -> bool {
         for jobs in self.jobs.iter() {
-            match perform_beside(jobs, vec![What::Moment]).await {
+            match submit_beside(jobs, vec![Operation::Moment]).await {
                 Ok(answers) if answers.iter().all(Result::is_ok) => {}
                 _ => return false,
             }
@@ -178,7 +183,7 @@ impl Store {
 
     /// Waits until all that the tables show is on disk. False if it never will be.
     pub async fn settled(&self) -> bool {
-        let begun: Vec<_> = self.jobs.iter().map(|jobs| perform_beside(jobs, Vec::new())).collect();
+        let begun: Vec<_> = self.jobs.iter().map(|jobs| submit_beside(jobs, Vec::new())).collect();
         for answer in begun {
             if answer.await.is_err() {
                 return false;
@@ -189,22 +194,22 @@ impl Store {
 
     /// Waits until all that the tables show of the queues of this name is on disk. False if it never will be.
     pub async fn settled_of(&self, name: &QueueName) -> bool {
-        perform_beside(self.jobs_of(name), Vec::new()).await.is_ok()
+        submit_beside(self.jobs_of(name), Vec::new()).await.is_ok()
     }
 
     /// Keeps all others from the queue until what this gives is dropped. Whoever begins this brings it to its end, or
     /// the queue is kept for good.
     pub async fn hold(&self, queue: &Arc<Queue>) -> Result<Held, SqsError> {
-        self.perform_one(queue, What::Hold).await?;
+        self.submit_one(queue, Operation::Hold).await?;
         Ok(Held { store: self.clone(), queue: queue.clone() })
     }
 }
 
-/// Asks for something that is of no queue.
-fn perform_beside(jobs: &mpsc::UnboundedSender<Job>, whats: Vec<What>) -> oneshot::Receiver<Answers> {
+/// Submits operations that are of no queue.
+fn submit_beside(jobs: &mpsc::UnboundedSender<Job>, operations: Vec<Operation>) -> oneshot::Receiver<Answers> {
     let (done, answers) = oneshot::channel();
     // Where the task is gone, no answer comes.
-    let _ = jobs.send(Job { queue: None, whats, passes: true, done: done.into() });
+    let _ = jobs.send(Job { queue: None, operations, ignores_hold: true, done: done.into() });
     answers
 }
 
@@ -216,15 +221,15 @@ pub struct Held {
 
 impl Held {
     pub async fn ask_all(&self, asks: Vec<Ask>) -> Vec<Answer> {
-        self.store.perform(&self.queue, asks.into_iter().map(What::Ask).collect(), true, None).await
+        self.store.submit(&self.queue, asks.into_iter().map(Operation::from).collect(), true, None).await
     }
 
     pub async fn ask(&self, ask: Ask) -> Answer {
         self.ask_all(vec![ask]).await.pop().unwrap_or_else(|| Err(gone()))
     }
 
-    pub async fn note(&self, change: TableChange) -> Answer {
-        let answers = self.store.perform(&self.queue, vec![What::Note(change)], true, None);
+    pub async fn change(&self, change: TableChange) -> Answer {
+        let answers = self.store.submit(&self.queue, vec![change.into()], true, None);
         answers.await.pop().unwrap_or_else(|| Err(gone()))
     }
 }
@@ -235,7 +240,7 @@ impl Drop for Held {
         let queue = Some(self.queue.clone());
         // Where the task is gone, nothing waits any more.
         let jobs = self.store.jobs_of(&self.queue.name);
-        let _ = jobs.send(Job { queue, whats: vec![What::LetGo], passes: true, done: done.into() });
+        let _ = jobs.send(Job { queue, operations: vec![Operation::Release], ignores_hold: true, done: done.into() });
     }
 }
 

@@ -133,7 +133,7 @@ impl Task {
                     self.finish(answer, done);
                 }
                 Entry::Ready(Some(answer)) => self.finish(answer, done),
-                _ => self.release(done),
+                _ => self.finish_job(done),
             }
         }
     }
@@ -162,11 +162,11 @@ impl Task {
     fn finish(&mut self, answer: Answer, done: Option<Done>) {
         self.answers.push(answer);
         if done.is_some() {
-            self.release(done);
+            self.finish_job(done);
         }
     }
 
-    fn release(&mut self, done: Option<Done>) {
+    fn finish_job(&mut self, done: Option<Done>) {
         if let Some(done) = done {
             self.batch.finished.push((done, std::mem::take(&mut self.answers)));
         }

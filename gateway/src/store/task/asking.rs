@@ -1,11 +1,11 @@
-//! Asks: what is written to the program, and what is answered without it.
+//! Starts operations: which are written to the program, and which are answered without it.
 
 use std::sync::Arc;
 
 use serde_json::value::RawValue;
 use uuid::Uuid;
 
-use super::entries::{Asked, Asking, Entry, Noted, Open, Pending, Unnoted};
+use super::entries::{Asked, Entry, Noted, Open, Pending, Started};
 use super::room::{bytes_of, bytes_of_note, need_of, need_of_note};
 use super::{Ended, Task, PIECE};
 use crate::clock::Moment;
@@ -14,53 +14,43 @@ use crate::handles::Receipt;
 use crate::lines::{self, Fields};
 use crate::queues::ask::{Ask, Cause, Outcome, TableChange};
 use crate::queues::{Queue, State};
-use crate::store::{Answer, What};
+use crate::store::{Answer, Done, Operation};
 use crate::texts::QueueKind;
 
 impl Task {
-    /// Writes what waits, as long as there are free clients.
-    pub(super) fn ask_pending(&mut self) -> Result<(), Ended> {
+    /// Starts the operations that wait, as long as there are free clients.
+    pub(super) fn start_pending(&mut self) -> Result<(), Ended> {
         while !self.lacks_room && !self.waits_for_answer && !self.free.is_empty() && self.out.bytes.len() < PIECE {
-            let Some(Pending { queue, what, done }) = self.pending.pop_front() else { break };
-            let entry = match (queue, what) {
-                (Some(queue), Some(What::Ask(ask))) => match self.ask(queue, ask)? {
-                    Asking::Begun(entry) => entry,
-                    Asking::LacksRoom(queue, ask) => {
-                        let what = Some(What::Ask(ask));
-                        self.pending.push_front(Pending { queue: Some(queue), what, done });
-                        self.lacks_room = true;
-                        break;
-                    }
-                    Asking::WaitsForAnswer(queue, ask) => {
-                        let what = Some(What::Ask(ask));
-                        self.pending.push_front(Pending { queue: Some(queue), what, done });
-                        self.waits_for_answer = true;
-                        break;
-                    }
-                },
-                (Some(queue), Some(What::Count)) => self.count(queue)?,
-                (Some(queue), Some(What::Note(change))) => match self.note_with_room(queue, change) {
-                    Ok(noted) => Entry::Noted(noted),
-                    Err(Unnoted::LacksRoom(queue, change)) => {
-                        let what = Some(What::Note(*change));
-                        self.pending.push_front(Pending { queue: Some(queue), what, done });
-                        self.lacks_room = true;
-                        break;
-                    }
-                    Err(Unnoted::Refused(error)) => Entry::Ready(Some(Err(error))),
-                    Err(Unnoted::Nothing) => Entry::Ready(Some(Ok(Outcome::Done))),
-                },
-                (Some(_), Some(What::Hold | What::LetGo)) => Entry::Ready(Some(Ok(Outcome::Done))),
-                (_, Some(What::Moment)) => self.moment()?,
-                _ => Entry::Ready(None),
+            let Some(Pending { queue, operation, done }) = self.pending.pop_front() else { break };
+            let started = match (queue, operation) {
+                (Some(queue), Some(Operation::Ask(ask))) => self.start_ask(queue, ask)?,
+                (Some(queue), Some(Operation::Change(change))) => self.start_change(queue, change),
+                (Some(queue), Some(Operation::Count)) => Started::Open(self.count(queue)?),
+                (Some(_), Some(Operation::Hold | Operation::Release)) => Started::ready(Ok(Outcome::Done)),
+                (_, Some(Operation::Moment)) => Started::Open(self.moment()?),
+                _ => Started::Open(Entry::Ready(None)),
             };
-            self.open.push_back(Open { entry, done });
+            match started {
+                Started::Open(entry) => self.open.push_back(Open { entry, done }),
+                Started::LacksRoom(queue, operation) => {
+                    self.put_back(queue, operation, done);
+                    self.lacks_room = true;
+                }
+                Started::WaitsForAnswer(queue, operation) => {
+                    self.put_back(queue, operation, done);
+                    self.waits_for_answer = true;
+                }
+            }
         }
         Ok(())
     }
 
-    fn ask(&mut self, queue: Arc<Queue>, ask: Ask) -> Result<Asking, Ended> {
-        let ready = |answer| Ok(Asking::Begun(Entry::Ready(Some(answer))));
+    fn put_back(&mut self, queue: Arc<Queue>, operation: Operation, done: Option<Done>) {
+        self.pending.push_front(Pending { queue: Some(queue), operation: Some(operation), done });
+    }
+
+    fn start_ask(&mut self, queue: Arc<Queue>, ask: Ask) -> Result<Started, Ended> {
+        let ready = |answer| Ok(Started::ready(answer));
         let (store, base, ask) = {
             let state = queue.state();
             (state.store, state.base, with_last_receipt(ask, &state))
@@ -79,7 +69,7 @@ impl Task {
             let receipt = *receipt;
             let has_expired = queue.state().has_expired(receipt, moment);
             if self.is_decided_by_others(&queue, receipt, has_expired) {
-                return Ok(Asking::WaitsForAnswer(queue, ask));
+                return Ok(Started::WaitsForAnswer(queue, ask.into()));
             }
             // A receive that is open and hands the message out again counts as later than this.
             if has_expired {
@@ -92,7 +82,7 @@ impl Task {
         };
         let raw = serde_json::value::to_raw_value(&Fields::of(store, base, &ask))?;
         match self.ask_admitted(queue, ask, raw, moment, weight)? {
-            Asking::Begun(entry @ Entry::Asked(_)) => Ok(Asking::Begun(entry)),
+            started @ Started::Open(Entry::Asked(_)) => Ok(started),
             other => {
                 self.admission.answered(weight);
                 Ok(other)
@@ -107,13 +97,13 @@ impl Task {
         raw: Box<RawValue>,
         moment: Moment,
         weight: u64,
-    ) -> Result<Asking, Ended> {
-        let ready = |answer| Ok(Asking::Begun(Entry::Ready(Some(answer))));
+    ) -> Result<Started, Ended> {
+        let ready = |answer| Ok(Started::ready(answer));
         let room = match &self.journal {
             None => 0,
             Some(journal) => match journal.set_aside(need_of(&ask), bytes_of(&ask, &raw)) {
                 Ok(Some(room)) => room,
-                Ok(None) => return Ok(Asking::LacksRoom(queue, ask)),
+                Ok(None) => return Ok(Started::LacksRoom(queue, ask.into())),
                 Err(error) => return ready(Err(error)),
             },
         };
@@ -125,7 +115,7 @@ impl Task {
         self.open_due.extend(ask.due());
         let asked = Asked { queue, ask, raw, moment, client, number: self.last_number, room, weight, ends: 0 };
         self.write(&asked)?;
-        Ok(Asking::Begun(Entry::Asked(Box::new(asked))))
+        Ok(Started::Open(Entry::Asked(Box::new(asked))))
     }
 
     /// Whether this is the send of a due message that the store has by now, that a purge has taken, or that is with the
@@ -183,27 +173,30 @@ impl Task {
         (has_expired || self.open_changes > 0) && self.open.iter().any(is_of_message)
     }
 
-    /// Sets space of the journal and memory aside for a change.
-    fn note_with_room(&self, queue: Arc<Queue>, change: TableChange) -> Result<Noted, Unnoted> {
+    /// Sets space of the journal and memory aside for a change, which is applied when all before it is answered.
+    fn start_change(&self, queue: Arc<Queue>, change: TableChange) -> Started {
         let (effect, removed) = {
             let state = queue.state();
             (state.effect_of(change), state.removed)
         };
         let change = match effect {
-            _ if removed => return Err(Unnoted::Refused(SqsError::QueueDoesNotExist)),
+            _ if removed => return Started::ready(Err(SqsError::QueueDoesNotExist)),
             Some(change) => change,
-            None => return Err(Unnoted::Nothing),
+            None => return Started::ready(Ok(Outcome::Done)),
         };
-        let weight = self.admission.admit_change(&queue, &change, self.clock.now()).map_err(Unnoted::Refused)?;
+        let weight = match self.admission.admit_change(&queue, &change, self.clock.now()) {
+            Ok(weight) => weight,
+            Err(error) => return Started::ready(Err(error)),
+        };
         let room = match &self.journal {
             None => Ok(Some(0)),
             Some(journal) => journal.set_aside(need_of_note(&change), bytes_of_note(&change)),
         };
         if let Ok(Some(room)) = room {
-            return Ok(Noted { queue, change, room, weight });
+            return Started::Open(Entry::Noted(Noted { queue, change, room, weight }));
         }
         self.admission.answered(weight);
-        Err(room.err().map_or_else(|| Unnoted::LacksRoom(queue, Box::new(change)), Unnoted::Refused))
+        room.err().map_or_else(|| Started::LacksRoom(queue, change.into()), |error| Started::ready(Err(error)))
     }
 }
 

@@ -1,14 +1,13 @@
-//! What waits to be asked, and what waits for its answer.
+//! Operations that wait to be started, and entries that wait for their answers.
 
 use std::sync::Arc;
 
 use serde_json::value::RawValue;
 
 use crate::clock::Moment;
-use crate::errors::SqsError;
 use crate::queues::ask::{Ask, TableChange};
 use crate::queues::Queue;
-use crate::store::{Answer, Done, What};
+use crate::store::{Answer, Done, Operation};
 
 /// Something whose answer is due. Answers are given in the order of the requests.
 pub(super) struct Open {
@@ -58,28 +57,27 @@ pub(super) struct Asked {
     pub(super) ends: u32,
 }
 
-/// What came of trying to ask.
-pub(super) enum Asking {
-    Begun(Entry),
+/// What came of trying to start an operation.
+pub(super) enum Started {
+    /// Its answer is due.
+    Open(Entry),
     /// The journal has to find space first.
-    LacksRoom(Arc<Queue>, Ask),
-    /// What is to be answered is decided by something that isn't answered yet.
-    WaitsForAnswer(Arc<Queue>, Ask),
+    LacksRoom(Arc<Queue>, Operation),
+    /// Another operation, whose answer is still due, decides what is to be answered.
+    WaitsForAnswer(Arc<Queue>, Operation),
 }
 
-/// Why a change isn't noted.
-pub(super) enum Unnoted {
-    /// The journal has to find space first.
-    LacksRoom(Arc<Queue>, Box<TableChange>),
-    Refused(SqsError),
-    /// It changes nothing.
-    Nothing,
+impl Started {
+    /// It is answered without the program.
+    pub(super) fn ready(answer: Answer) -> Started {
+        Started::Open(Entry::Ready(Some(answer)))
+    }
 }
 
-/// What waits until there is a free client.
+/// An operation that waits until there is a free client.
 pub(super) struct Pending {
     pub(super) queue: Option<Arc<Queue>>,
-    /// Nothing, where only what was asked before is waited for.
-    pub(super) what: Option<What>,
+    /// None where only the answers to earlier operations are waited for.
+    pub(super) operation: Option<Operation>,
     pub(super) done: Option<Done>,
 }

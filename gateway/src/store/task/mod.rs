@@ -20,7 +20,7 @@ use uuid::Uuid;
 use super::admission::Admission;
 use super::figures::Counters;
 use super::replay::{replay, ReplayError};
-use super::{Answers, HeldJobs, Job, Store, What};
+use super::{Answers, HeldJobs, Job, Operation, Store};
 use crate::clock::Clock;
 use crate::cq::{Cq, CqError};
 use crate::errors::SqsError;
@@ -199,7 +199,7 @@ impl Task {
 
     /// Waits for one thing to happen, and does what follows from it.
     async fn turn(&mut self, jobs: &mut mpsc::UnboundedReceiver<Job>) -> Result<(), Ended> {
-        self.ask_pending()?;
+        self.start_pending()?;
         self.settle_ready()?;
         self.hand_over();
         self.tell_open();
@@ -244,11 +244,11 @@ impl Task {
 
     fn take(&mut self, job: Job) {
         let Some(queue) = &job.queue else {
-            let what = job.whats.into_iter().next();
-            self.pending.push_back(Pending { queue: None, what, done: Some(job.done) });
+            let operation = job.operations.into_iter().next();
+            self.pending.push_back(Pending { queue: None, operation, done: Some(job.done) });
             return;
         };
-        if !job.passes {
+        if !job.ignores_hold {
             if let Some(waiting) = self.held.get_mut(&queue.mark) {
                 waiting.push_back(job);
                 return;
@@ -260,28 +260,28 @@ impl Task {
     fn append(&mut self, job: Job) {
         let Some(queue) = job.queue else { return };
         let mut done = Some(job.done);
-        let count = job.whats.len();
-        for (place, what) in job.whats.into_iter().enumerate() {
-            match what {
-                What::Hold => {
+        let count = job.operations.len();
+        for (place, operation) in job.operations.into_iter().enumerate() {
+            match operation {
+                Operation::Hold => {
                     self.held.entry(queue.mark).or_default();
                 }
-                What::LetGo => {
-                    self.let_go(&queue);
+                Operation::Release => {
+                    self.release(&queue);
                     return;
                 }
                 _ => {}
             }
             let done = if place + 1 == count { done.take() } else { None };
-            self.pending.push_back(Pending { queue: Some(queue.clone()), what: Some(what), done });
+            self.pending.push_back(Pending { queue: Some(queue.clone()), operation: Some(operation), done });
         }
     }
 
     /// Takes the jobs that waited for a held queue, up to one that holds it again.
-    fn let_go(&mut self, queue: &Queue) {
+    fn release(&mut self, queue: &Queue) {
         let mut waiting = self.held.remove(&queue.mark).unwrap_or_default();
         while let Some(job) = waiting.pop_front() {
-            let holds = job.whats.iter().any(|what| matches!(what, What::Hold));
+            let holds = job.operations.iter().any(|operation| matches!(operation, Operation::Hold));
             self.append(job);
             if holds {
                 self.held.insert(queue.mark, waiting);
