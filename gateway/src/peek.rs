@@ -156,7 +156,7 @@ impl Peeks {
         let gone = || SqsError::ServiceUnavailable("The store is gone.".into());
         let told = making.await.unwrap_or_else(|_| Err(gone()))?;
         // What is shown is on disk, as all that clients are told.
-        if store.settled_of(&name).await {
+        if store.wait_until_durable(&name).await {
             Ok(told)
         } else {
             Err(gone())

@@ -188,7 +188,7 @@ impl Actions {
             }
         }
         let response = Response::Batch { successful, failed };
-        Ok(Performed { is_settled: is_asked, ..response.into() })
+        Ok(Performed { is_durable: is_asked, ..response.into() })
     }
 }
 

@@ -52,19 +52,19 @@ pub struct Performed {
     /// What a receive handed out, so that it can be told whether that is still in flight.
     pub handed: Option<(Arc<Queue>, Vec<Receipt>)>,
     /// What it rests on was on disk when it was made.
-    pub is_settled: bool,
+    pub is_durable: bool,
 }
 
 impl From<Response> for Performed {
     fn from(response: Response) -> Performed {
-        Performed { response, handed: None, is_settled: true }
+        Performed { response, handed: None, is_durable: true }
     }
 }
 
 impl Performed {
     /// A result that was read from the tables alone.
     fn of_tables(response: Response) -> Performed {
-        Performed { response, handed: None, is_settled: false }
+        Performed { response, handed: None, is_durable: false }
     }
 }
 
@@ -157,23 +157,23 @@ impl Actions {
     /// Does what a request asks for, when all that it rests on is on disk.
     pub async fn perform(&self, request: Box<Request>, caller: &Caller) -> Result<Performed, SqsError> {
         let name = request.queue().cloned();
-        let performed = self.perform_unsettled(request, caller).await;
-        let is_settled = performed.as_ref().is_ok_and(|performed| performed.is_settled);
-        if !is_settled && !self.settled(name).await {
+        let performed = self.dispatch(request, caller).await;
+        let is_durable = performed.as_ref().is_ok_and(|performed| performed.is_durable);
+        if !is_durable && !self.wait_until_durable(name).await {
             return Err(SqsError::ServiceUnavailable("The store is gone.".into()));
         }
         performed
     }
 
     /// Waits until what the tables show is on disk: of one name, or of all.
-    async fn settled(&self, name: Option<QueueName>) -> bool {
+    async fn wait_until_durable(&self, name: Option<QueueName>) -> bool {
         match name {
-            Some(name) => self.store.settled_of(&name).await,
-            None => self.store.settled().await,
+            Some(name) => self.store.wait_until_durable(&name).await,
+            None => self.store.wait_until_all_durable().await,
         }
     }
 
-    async fn perform_unsettled(&self, request: Box<Request>, caller: &Caller) -> Result<Performed, SqsError> {
+    async fn dispatch(&self, request: Box<Request>, caller: &Caller) -> Result<Performed, SqsError> {
         match *request {
             Request::SendMessage { queue, message } => self.send(&queue, message, caller).await,
             Request::SendMessageBatch { queue, batch } => self.send_batch(&queue, batch, caller).await,

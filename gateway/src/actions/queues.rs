@@ -78,7 +78,7 @@ impl Actions {
     pub(super) async fn get_attributes(&self, name: &QueueName, wanted: &Wanted) -> Result<Performed, SqsError> {
         let queue = self.queue(name)?;
         let counts = if wanted.has_counts() { Some(self.count(&queue).await?) } else { None };
-        let is_settled = counts.is_some();
+        let is_durable = counts.is_some();
         let mut told = self.told(&queue);
         if let Some(Outcome::Counts { visible, in_flight }) = counts {
             let counts = queue.state().counts(visible, in_flight, self.store.clock().now());
@@ -86,7 +86,7 @@ impl Actions {
         }
         told.retain(|(name, _)| wanted.has(name));
         told.sort_unstable();
-        Ok(Performed { is_settled, ..Performed::of_tables(Response::Attributes(told)) })
+        Ok(Performed { is_durable, ..Performed::of_tables(Response::Attributes(told)) })
     }
 
     async fn count(&self, queue: &Arc<Queue>) -> Answer {

@@ -361,7 +361,7 @@ impl Journal {
     }
 
     /// Waits until all that was handed over is on disk.
-    pub async fn settled(&self) {
+    pub async fn wait_until_durable(&self) {
         let (done, answers) = oneshot::channel();
         let mut batch = Batch { finished: vec![(done.into(), Vec::new())], ..Batch::default() };
         self.hand_over(&mut batch);

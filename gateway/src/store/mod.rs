@@ -182,7 +182,7 @@ impl Store {
     }
 
     /// Waits until all that the tables show is on disk. False if it never will be.
-    pub async fn settled(&self) -> bool {
+    pub async fn wait_until_all_durable(&self) -> bool {
         let begun: Vec<_> = self.jobs.iter().map(|jobs| submit_beside(jobs, Vec::new())).collect();
         for answer in begun {
             if answer.await.is_err() {
@@ -193,7 +193,7 @@ impl Store {
     }
 
     /// Waits until all that the tables show of the queues of this name is on disk. False if it never will be.
-    pub async fn settled_of(&self, name: &QueueName) -> bool {
+    pub async fn wait_until_durable(&self, name: &QueueName) -> bool {
         submit_beside(self.jobs_of(name), Vec::new()).await.is_ok()
     }
 

@@ -298,7 +298,7 @@ impl Task {
         tokio::time::sleep(pause(self.ends)).await;
         self.hand_over();
         self.cq.stop().await;
-        journal.settled().await;
+        journal.wait_until_durable().await;
         self.cq = Cq::start(&self.program)?.with_patience(self.patience);
         replay(&mut self.cq, journal.records()?, self.shard, None).await?;
         self.incoming.clear();
