@@ -152,20 +152,20 @@ impl Queues {
         self.last_store_name.fetch_max(name.0, Ordering::Relaxed);
     }
 
-    /// Takes up the store's answer to an ask of this queue. The second value says whether the journal has to know.
-    pub fn settle(
+    /// Applies the store's reply to an ask of this queue. The second value says whether the journal has to know.
+    pub fn apply_reply(
         &self,
         queue: &Arc<Queue>,
         ask: &Ask,
         reply: StoreReply,
         moment: Moment,
     ) -> Result<(Outcome, bool), SqsError> {
-        let settled = self.counted(queue, |state| {
-            let settled = state.settle(ask, reply, moment, &self.jumps)?;
+        let applied = self.counted(queue, |state| {
+            let applied = state.apply_reply(ask, reply, moment, &self.jumps)?;
             if self.keeps_copies {
-                state.keep_copy(ask, &settled);
+                state.keep_copy(ask, &applied);
             }
-            Ok(settled)
+            Ok(applied)
         })?;
         match ask {
             Ask::Create { .. } => self.insert(queue),
@@ -173,22 +173,22 @@ impl Queues {
             Ask::Send { cause: Cause::Move(origin), .. } => self.copies.note(*origin),
             _ => {}
         }
-        if settled.opened {
+        if applied.opened {
             queue.opened.notify_one();
         }
-        Ok((settled.outcome, settled.changed))
+        Ok((applied.outcome, applied.changed))
     }
 
-    /// Takes up a change of which the store knows nothing. The second value says whether the journal has to know.
-    pub fn apply(&self, queue: &Arc<Queue>, change: &TableChange, moment: Moment) -> (Outcome, bool) {
-        let settled = self.counted(queue, |state| state.apply(change, moment));
+    /// Applies a change of which the store knows nothing. The second value says whether the journal has to know.
+    pub fn apply_change(&self, queue: &Arc<Queue>, change: &TableChange, moment: Moment) -> (Outcome, bool) {
+        let applied = self.counted(queue, |state| state.apply_change(change, moment));
         if matches!(change, TableChange::Delayed(_)) {
             self.alarms.set_next(queue);
         }
-        if settled.opened {
+        if applied.opened {
             queue.opened.notify_one();
         }
-        (settled.outcome, settled.changed)
+        (applied.outcome, applied.changed)
     }
 
     /// Does something to a queue, and counts what it takes of memory from then on.

@@ -110,8 +110,8 @@ impl Both {
         Both { list: List::default(), state: State::new(StoreName(1), &creation, now), now }
     }
 
-    fn settle(&mut self, ask: &Ask, reply: StoreReply) -> Outcome {
-        self.state.settle(ask, reply, self.now, &Jumps::default()).unwrap().outcome
+    fn apply_reply(&mut self, ask: &Ask, reply: StoreReply) -> Outcome {
+        self.state.apply_reply(ask, reply, self.now, &Jumps::default()).unwrap().outcome
     }
 
     fn send(&mut self, group: &'static str) {
@@ -120,7 +120,7 @@ impl Both {
         self.list.messages.insert(sequence, Message { group, sent: self.now, until: 0, count: 0 });
         let form = Form::Whole(format!("{{\"id\":\"{}\"}}\nb", Uuid::from_u128(7)));
         let (group, dedup) = (GroupId::parse(group).unwrap(), DedupId::parse("d").unwrap());
-        self.settle(&Ask::Send { group, dedup, form, cause: Cause::Client }, StoreReply::Sent(sequence));
+        self.apply_reply(&Ask::Send { group, dedup, form, cause: Cause::Client }, StoreReply::Sent(sequence));
     }
 
     /// Asks as a receive does that is to hand out only what is due.
@@ -134,7 +134,8 @@ impl Both {
             }
             let given = self.list.hand(due, visibility, self.now);
             let asked = Ask::Receive { size: due as u8, visibility, attempt: None, most: None, own: false };
-            let Outcome::Received { handed, set_aside, .. } = self.settle(&asked, StoreReply::Received(given)) else {
+            let Outcome::Received { handed, set_aside, .. } = self.apply_reply(&asked, StoreReply::Received(given))
+            else {
                 panic!()
             };
             prop_assert!(set_aside.is_empty(), "{set_aside:?}");
@@ -175,7 +176,7 @@ impl Both {
             Step::Delete(place) => {
                 if let Some(receipt) = self.some_handed(place) {
                     self.list.messages.remove(&receipt.sequence);
-                    self.settle(&Ask::Delete { receipt, by_client: false }, StoreReply::Deleted(true));
+                    self.apply_reply(&Ask::Delete { receipt, by_client: false }, StoreReply::Deleted(true));
                 }
             }
             Step::Change(place, visibility) => {
@@ -183,7 +184,7 @@ impl Both {
                 let message = found.and_then(|receipt| self.list.messages.get_mut(&receipt.sequence));
                 if let (Some(receipt), Some(message)) = (found, message.filter(|message| message.until > self.now)) {
                     message.until = self.now + 1000 * u64::from(*visibility);
-                    self.settle(
+                    self.apply_reply(
                         &Ask::ChangeVisibility { receipt, visibility: *visibility, by: Changer::Client },
                         StoreReply::Changed,
                     );
@@ -192,7 +193,7 @@ impl Both {
             Step::Delay(seconds) => {
                 self.list.delay = 1000 * u64::from(*seconds);
                 let given = Given::read(QueueKind::Fifo, &[("DelaySeconds".into(), seconds.to_string())]).unwrap();
-                self.state.apply(&TableChange::Attributes(given), self.now);
+                self.state.apply_change(&TableChange::Attributes(given), self.now);
             }
         }
         Ok(())

@@ -64,7 +64,8 @@ enum Waiting {
         number: u64,
         digest: String,
         clock: Moment,
-        settle: Option<(Arc<Queue>, Ask)>,
+        /// The queue and its ask, where there are tables.
+        subject: Option<(Arc<Queue>, Ask)>,
     },
     Note {
         queue: Arc<Queue>,
@@ -158,7 +159,7 @@ pub async fn replay(
     let reader = tokio::task::spawn_blocking(move || records.read(|read| payloads.blocking_send(read).is_ok()));
     let mut incoming = BytesMut::new();
     while !replay.is_done {
-        replay.settle_notes();
+        replay.apply_changes();
         let may_read = !replay.is_read && replay.out.len() < PIECE;
         tokio::select! {
             biased;
@@ -236,7 +237,7 @@ impl Replay {
         }
         match (record.ask, &record.note) {
             (Some(raw), None) => {
-                let settle = match self.tables {
+                let subject = match self.tables {
                     Some(_) => Some(self.ask_of(&record, record.fields()?, store)?),
                     None => None,
                 };
@@ -249,7 +250,7 @@ impl Replay {
                 let client = 1 + (number % CLIENTS) as u32;
                 lines::append_request(&mut lines, record.clock, client, number, raw).ok()?;
                 self.out.extend_from_slice(&lines);
-                self.waiting.push_back(Waiting::Ask { number, digest, clock: record.clock, settle });
+                self.waiting.push_back(Waiting::Ask { number, digest, clock: record.clock, subject });
             }
             (None, Some(change)) => {
                 if self.tables.is_some() {
@@ -304,7 +305,7 @@ impl Replay {
         let Some(end) = memchr::memrchr(b'\n', incoming) else { return Ok(()) };
         let whole = incoming.split_to(end + 1);
         for line in whole[..end].split(|byte| *byte == b'\n') {
-            self.settle_notes();
+            self.apply_changes();
             let number = match self.waiting.front() {
                 Some(Waiting::Ask { number, .. }) => *number,
                 _ => 0,
@@ -313,8 +314,8 @@ impl Replay {
             let Output::Answer { number: answered, reply, text, .. } = output else {
                 return Err(ReplayError::OtherReply(number));
             };
-            let (number, digest, clock, settle) = match self.waiting.pop_front() {
-                Some(Waiting::Ask { number, digest, clock, settle }) => (number, digest, clock, settle),
+            let (number, digest, clock, subject) = match self.waiting.pop_front() {
+                Some(Waiting::Ask { number, digest, clock, subject }) => (number, digest, clock, subject),
                 Some(Waiting::Last) => {
                     self.is_done = true;
                     return Ok(());
@@ -324,19 +325,19 @@ impl Replay {
             if answered != number || digest_of_reply(text) != digest {
                 return Err(ReplayError::OtherReply(number));
             }
-            if let (Some((queue, ask)), Some(tables)) = (settle, &self.tables) {
-                let settled = tables.queues.settle(&queue, &ask, reply, clock);
-                settled.map_err(|_| ReplayError::OtherReply(number))?;
+            if let (Some((queue, ask)), Some(tables)) = (subject, &self.tables) {
+                let applied = tables.queues.apply_reply(&queue, &ask, reply, clock);
+                applied.map_err(|_| ReplayError::OtherReply(number))?;
             }
         }
         Ok(())
     }
 
-    fn settle_notes(&mut self) {
+    fn apply_changes(&mut self) {
         while let Some(Waiting::Note { .. }) = self.waiting.front() {
             if let Some(Waiting::Note { queue, change, clock }) = self.waiting.pop_front() {
                 if let Some(tables) = &self.tables {
-                    tables.queues.apply(&queue, &change, clock);
+                    tables.queues.apply_change(&queue, &change, clock);
                 }
             }
         }

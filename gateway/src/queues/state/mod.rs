@@ -100,8 +100,8 @@ pub struct State {
     vain_sweep: Option<(u64, Option<Moment>)>,
 }
 
-/// What the answer to an ask did.
-pub struct Settled {
+/// What a reply of the store or a change did.
+pub struct Applied {
     pub outcome: Outcome,
     /// Something changed, so the journal has to know.
     pub changed: bool,
@@ -109,13 +109,13 @@ pub struct Settled {
     pub opened: bool,
 }
 
-impl Settled {
-    fn unchanged(outcome: Outcome) -> Settled {
-        Settled { outcome, changed: false, opened: false }
+impl Applied {
+    fn unchanged(outcome: Outcome) -> Applied {
+        Applied { outcome, changed: false, opened: false }
     }
 
-    fn done(opened: bool) -> Settled {
-        Settled { outcome: Outcome::Done, changed: true, opened }
+    fn done(opened: bool) -> Applied {
+        Applied { outcome: Outcome::Done, changed: true, opened }
     }
 }
 
@@ -165,8 +165,14 @@ impl State {
         }
     }
 
-    /// Takes up the store's answer to an ask of `moment`.
-    pub fn settle(&mut self, ask: &Ask, reply: StoreReply, moment: Moment, jumps: &Jumps) -> Result<Settled, SqsError> {
+    /// Applies the store's reply to an ask of `moment`.
+    pub fn apply_reply(
+        &mut self,
+        ask: &Ask,
+        reply: StoreReply,
+        moment: Moment,
+        jumps: &Jumps,
+    ) -> Result<Applied, SqsError> {
         match (ask, reply) {
             (Ask::ChangeVisibility { receipt, .. }, StoreReply::Refused(NOT_IN_FLIGHT))
                 if !self.has_message(*receipt) =>
@@ -178,22 +184,22 @@ impl State {
                 if *store != self.store {
                     self.go_over(*store);
                 }
-                Ok(Settled::done(false))
+                Ok(Applied::done(false))
             }
             (Ask::Remove { store, .. }, StoreReply::Removed) => {
                 self.earlier.retain(|name| name != store);
-                Ok(Settled::done(true))
+                Ok(Applied::done(true))
             }
             (Ask::Send { group, dedup, form, cause }, StoreReply::Sent(place)) => {
-                let settled = self.sent(group, form, place, moment)?;
-                match (cause, &settled.outcome) {
+                let applied = self.sent(group, form, place, moment)?;
+                match (cause, &applied.outcome) {
                     (Cause::Due(id), _) => self.delayed.remove(*id),
                     (Cause::Client, Outcome::Sent { id, .. }) if self.kind == QueueKind::Standard => {
                         self.delayed.note_call(dedup, *id, moment);
                     }
                     _ => {}
                 }
-                Ok(settled)
+                Ok(applied)
             }
             (Ask::Receive { visibility, attempt, most, own, .. }, StoreReply::Received(given)) => {
                 let until = moment + 1000 * u64::from(*visibility);
@@ -213,11 +219,11 @@ impl State {
         self.openings += 1;
     }
 
-    fn sent(&mut self, group: &GroupId, form: &Form, place: u64, moment: Moment) -> Result<Settled, SqsError> {
+    fn sent(&mut self, group: &GroupId, form: &Form, place: u64, moment: Moment) -> Result<Applied, SqsError> {
         let sequence = self.base + place;
         if sequence <= self.last_sequence {
             let id = self.recent_id(sequence).ok_or_else(misfit)?;
-            return Ok(Settled::unchanged(Outcome::Sent { sequence, id }));
+            return Ok(Applied::unchanged(Outcome::Sent { sequence, id }));
         }
         if sequence != self.last_sequence + 1 {
             return Err(misfit());
@@ -244,7 +250,7 @@ impl State {
         }
         self.messages.add(sequence, Message::new(sent, group, form, bytes));
         self.open();
-        Ok(Settled { outcome: Outcome::Sent { sequence, id }, changed: true, opened: true })
+        Ok(Applied { outcome: Outcome::Sent { sequence, id }, changed: true, opened: true })
     }
 
     fn remember(&mut self, moment: Moment, id: Uuid) {
@@ -279,7 +285,7 @@ impl State {
         given: Vec<Given>,
         attempt: Option<&AttemptId>,
         receiving: &Receiving,
-    ) -> Result<Settled, SqsError> {
+    ) -> Result<Applied, SqsError> {
         let (moment, until) = (receiving.moment, receiving.until);
         let (changed, opened) = (!given.is_empty(), !given.is_empty() && until <= moment);
         let (mut handed, mut set_aside) = (Vec::with_capacity(given.len()), Vec::new());
@@ -299,7 +305,7 @@ impl State {
             self.open();
         }
         let outcome = Outcome::Received { handed, set_aside, openings: self.openings };
-        Ok(Settled { outcome, changed, opened })
+        Ok(Applied { outcome, changed, opened })
     }
 
     fn hand(&mut self, given: Given, receiving: &Receiving) -> Result<(Handed, Option<Fate>), SqsError> {
@@ -329,9 +335,9 @@ impl State {
         Ok((Handed { receipt, count, moment, first, group: given.group, form }, fate))
     }
 
-    fn deleted(&mut self, receipt: Receipt, removed: bool) -> Settled {
+    fn deleted(&mut self, receipt: Receipt, removed: bool) -> Applied {
         if !removed {
-            return Settled::unchanged(Outcome::Done);
+            return Applied::unchanged(Outcome::Done);
         }
         if let Some(message) = self.messages.remove(receipt.sequence) {
             if let Some(groups) = &mut self.groups {
@@ -347,10 +353,10 @@ impl State {
             }
         }
         self.open();
-        Settled::done(true)
+        Applied::done(true)
     }
 
-    fn changed(&mut self, receipt: Receipt, visibility: u32, by: Changer, moment: Moment) -> Settled {
+    fn changed(&mut self, receipt: Receipt, visibility: u32, by: Changer, moment: Moment) -> Applied {
         let until = moment + 1000 * u64::from(visibility);
         self.hide(receipt.sequence, until);
         if let Some(last) = self.messages.get_mut(receipt.sequence).and_then(|message| message.last.as_mut()) {
@@ -362,7 +368,7 @@ impl State {
             self.attempts.forget_with(receipt.sequence);
         }
         self.open();
-        Settled::done(true)
+        Applied::done(true)
     }
 
     /// What of a change changes anything; none if nothing does.
@@ -384,9 +390,9 @@ impl State {
         }
     }
 
-    /// Takes up a change of which the store knows nothing.
-    pub fn apply(&mut self, change: &TableChange, moment: Moment) -> Settled {
-        let settled = match change {
+    /// Applies a change of which the store knows nothing.
+    pub fn apply_change(&mut self, change: &TableChange, moment: Moment) -> Applied {
+        let applied = match change {
             TableChange::Delayed(message) => self.delay_message(message, moment),
             TableChange::Attributes(given) if !self.attributes.news_of(given).is_empty() => {
                 self.attributes.set(given);
@@ -394,41 +400,41 @@ impl State {
                 self.set_delay(delay_of_all(self.kind, &self.attributes));
                 self.modified = moment;
                 // What was delayed may be due by other attributes.
-                Settled::done(true)
+                Applied::done(true)
             }
-            TableChange::Attributes(_) => Settled::unchanged(Outcome::Done),
+            TableChange::Attributes(_) => Applied::unchanged(Outcome::Done),
             TableChange::Tag(tags) => {
                 let new = tags.iter().filter(|(key, value)| {
                     self.tags.insert(key.to_string(), value.to_string()).as_ref() != Some(value)
                 });
                 let count = new.count();
-                Settled { changed: count > 0, ..Settled::done(false) }
+                Applied { changed: count > 0, ..Applied::done(false) }
             }
             TableChange::Untag(keys) => {
                 let count = keys.iter().filter(|key| self.tags.remove(*key).is_some()).count();
-                Settled { changed: count > 0, ..Settled::done(false) }
+                Applied { changed: count > 0, ..Applied::done(false) }
             }
             TableChange::Purged => {
                 self.purged = Some(moment);
                 self.delayed.clear();
-                Settled::done(false)
+                Applied::done(false)
             }
             TableChange::Task(task) => {
                 move_tasks::note(&mut self.tasks, task);
-                Settled::done(false)
+                Applied::done(false)
             }
         };
         self.own_bytes = bytes_of_queue(&self.attributes, &self.tags);
-        self.notes += u64::from(settled.changed);
-        settled
+        self.notes += u64::from(applied.changed);
+        applied
     }
 
-    fn delay_message(&mut self, message: &Arc<Delayed>, moment: Moment) -> Settled {
+    fn delay_message(&mut self, message: &Arc<Delayed>, moment: Moment) -> Applied {
         match self.delayed.add(message, moment) {
-            Some(first) => Settled::unchanged(Outcome::Delayed { id: first }),
+            Some(first) => Applied::unchanged(Outcome::Delayed { id: first }),
             None => {
                 self.last_send = moment;
-                Settled { outcome: Outcome::Delayed { id: message.id }, changed: true, opened: false }
+                Applied { outcome: Outcome::Delayed { id: message.id }, changed: true, opened: false }
             }
         }
     }

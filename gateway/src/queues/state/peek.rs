@@ -3,7 +3,7 @@
 use std::sync::Arc;
 
 use super::message::Message;
-use super::{Settled, State};
+use super::{Applied, State};
 use crate::clock::Moment;
 use crate::queues::ask::{Ask, Delayed, Outcome};
 
@@ -68,8 +68,8 @@ pub struct Step {
 
 impl State {
     /// Keeps what was sent, so that it can be looked at.
-    pub(in crate::queues) fn keep_copy(&mut self, ask: &Ask, settled: &Settled) {
-        let (Ask::Send { group, form, .. }, Outcome::Sent { sequence, .. }) = (ask, &settled.outcome) else { return };
+    pub(in crate::queues) fn keep_copy(&mut self, ask: &Ask, applied: &Applied) {
+        let (Ask::Send { group, form, .. }, Outcome::Sent { sequence, .. }) = (ask, &applied.outcome) else { return };
         let Some(message) = self.messages.get_mut(*sequence).filter(|message| message.group_id.is_none()) else {
             return;
         };

@@ -20,7 +20,7 @@ fn send(state: &mut State, place: u64, moment: Moment) {
     let form = Form::Whole(format!("{{\"id\":\"{}\"}}\nbody", Uuid::from_u128(7)));
     let (group, dedup) = (GroupId::parse("g").unwrap(), DedupId::parse("d").unwrap());
     state
-        .settle(
+        .apply_reply(
             &Ask::Send { group, dedup, form, cause: Cause::Client },
             StoreReply::Sent(place),
             moment,
@@ -32,7 +32,7 @@ fn send(state: &mut State, place: u64, moment: Moment) {
 fn delete(state: &mut State, sequence: u64, moment: Moment) {
     let receipt = Receipt { sequence, ordinal: 1 };
     let ask = Ask::Delete { receipt, by_client: true };
-    state.settle(&ask, StoreReply::Deleted(true), moment, &Jumps::default()).unwrap();
+    state.apply_reply(&ask, StoreReply::Deleted(true), moment, &Jumps::default()).unwrap();
 }
 
 #[test]
@@ -67,8 +67,8 @@ fn receive(state: &mut State, ordinal: u64, own: bool, moment: Moment) -> (Vec<H
     let ask = Ask::Receive { size: 1, visibility: 5, attempt: None, most: Some(2), own };
     let (group, receipt) = ("g".into(), format!("1-1-{ordinal}"));
     let given = crate::lines::Given { group, receipt, body: "b".into() };
-    let settled = state.settle(&ask, StoreReply::Received(vec![given]), moment, &Jumps::default()).unwrap();
-    match settled.outcome {
+    let applied = state.apply_reply(&ask, StoreReply::Received(vec![given]), moment, &Jumps::default()).unwrap();
+    match applied.outcome {
         Outcome::Received { handed, set_aside, .. } => (handed, set_aside),
         other => panic!("{other:?}"),
     }
@@ -126,13 +126,13 @@ fn send_standard(state: &mut State, place: u64, sent: Moment, cause: Cause, mome
     let id = Uuid::from_u128(u128::from(place));
     let (group, dedup) = (GroupId::of_message(id), DedupId::of_message(id));
     let ask = Ask::Send { group, dedup, form: form(u128::from(place), sent), cause };
-    state.settle(&ask, StoreReply::Sent(place), moment, &Jumps::default()).unwrap().outcome
+    state.apply_reply(&ask, StoreReply::Sent(place), moment, &Jumps::default()).unwrap().outcome
 }
 
 fn delay(state: &mut State, id: u128, due: Moment, moment: Moment) -> bool {
     let form = form(id, moment).into_whole();
     let message = Delayed { id: Uuid::from_u128(id), due, call: None, form };
-    state.apply(&TableChange::Delayed(Arc::new(message)), moment).changed
+    state.apply_change(&TableChange::Delayed(Arc::new(message)), moment).changed
 }
 
 #[test]
@@ -148,7 +148,7 @@ fn a_delayed_message_is_as_old_as_its_send() {
     assert!(!state.is_delayed(id) && state.bytes_in_use() == delayed);
     let four_days = 345_600_000;
     assert!(state.has_old(&Jumps::default(), 1000 + four_days) && !state.has_old(&Jumps::default(), 999 + four_days));
-    state.apply(&TableChange::Purged, 5500);
+    state.apply_change(&TableChange::Purged, 5500);
     assert_eq!((due(&state, 6000), state.counts(1, 0, 6000)), (0, [1, 0, 0]));
     assert!(state.bytes_in_use() < delayed);
 }
@@ -165,12 +165,12 @@ fn a_standard_queue_has_120_000_messages_in_flight_and_a_fifo_queue_more() {
     for (name, is_bounded) in [("standard", true), ("q.fifo", false)] {
         let mut state = state_of(name);
         (1..=most).for_each(|place| drop(send_standard(&mut state, place, 0, Cause::Client, 0)));
-        state.settle(&ask, given(1..=most - 1), 1000, &Jumps::default()).unwrap();
+        state.apply_reply(&ask, given(1..=most - 1), 1000, &Jumps::default()).unwrap();
         let same_end =
             Ask::ChangeVisibility { receipt: Receipt { sequence: 1, ordinal: 1 }, visibility: 5, by: Changer::Client };
-        state.settle(&same_end, StoreReply::Changed, 1000, &Jumps::default()).unwrap();
+        state.apply_reply(&same_end, StoreReply::Changed, 1000, &Jumps::default()).unwrap();
         assert!(!state.has_most_in_flight(1000));
-        state.settle(&ask, given(most..=most), 2000, &Jumps::default()).unwrap();
+        state.apply_reply(&ask, given(most..=most), 2000, &Jumps::default()).unwrap();
         assert_eq!((state.has_most_in_flight(2000), state.has_most_in_flight(5999)), (is_bounded, is_bounded));
         delete(&mut state, 1, 5999);
         assert!(!state.has_most_in_flight(5999));
@@ -184,17 +184,17 @@ fn in_flight(name: &str, count: u64, end: Moment) -> State {
     for place in 1..=count {
         let (group, dedup) = (GroupId::of_message(Uuid::from_u128(place.into())), DedupId::parse("d").unwrap());
         let ask = Ask::Send { group, dedup, form: form(place.into(), 0), cause: Cause::Client };
-        state.settle(&ask, StoreReply::Sent(place), 0, &Jumps::default()).unwrap();
+        state.apply_reply(&ask, StoreReply::Sent(place), 0, &Jumps::default()).unwrap();
     }
     let visibility = (end / 1000) as u32;
     let ask = Ask::Receive { size: 10, visibility, attempt: None, most: None, own: false };
-    state.settle(&ask, given(1..=count - 1), 0, &Jumps::default()).unwrap();
+    state.apply_reply(&ask, given(1..=count - 1), 0, &Jumps::default()).unwrap();
     state
 }
 
 fn set(state: &mut State, name: &str, value: &str) -> bool {
     let given = Given::read(state.kind, &[(name.into(), value.into())]).unwrap();
-    state.apply(&TableChange::Attributes(given), 0).changed
+    state.apply_change(&TableChange::Attributes(given), 0).changed
 }
 
 /// How long 300 calls take behind a first one. Walks of a whole queue would take seconds.
@@ -246,10 +246,10 @@ fn a_sweep_is_found_worth_it_without_a_walk_of_what_was_deleted() {
 fn what_changes_nothing_is_no_change() {
     let mut state = state();
     let tags = |value: &str| TableChange::Tag(BTreeMap::from([("a".to_string(), value.to_string())]));
-    let changes = [tags("1"), tags("1"), tags("2"), tags("2")].map(|change| state.apply(&change, 5).changed);
+    let changes = [tags("1"), tags("1"), tags("2"), tags("2")].map(|change| state.apply_change(&change, 5).changed);
     assert_eq!(changes, [true, false, true, false]);
     let untag = |key: &str| TableChange::Untag(vec![key.into()]);
-    let changes = [untag("b"), untag("a"), untag("a")].map(|change| state.apply(&change, 5).changed);
+    let changes = [untag("b"), untag("a"), untag("a")].map(|change| state.apply_change(&change, 5).changed);
     assert_eq!(changes, [false, true, false]);
     let values = ["30", "31", "31"].map(|value| set(&mut state, "VisibilityTimeout", value));
     assert_eq!(values, [false, true, false]);
@@ -258,8 +258,8 @@ fn what_changes_nothing_is_no_change() {
 fn send_and_keep(state: &mut State, place: u64, moment: Moment) {
     let (group, dedup) = (GroupId::parse("g").unwrap(), DedupId::parse("d").unwrap());
     let ask = Ask::Send { group, dedup, form: form(u128::from(place), moment), cause: Cause::Client };
-    let settled = state.settle(&ask, StoreReply::Sent(place), moment, &Jumps::default()).unwrap();
-    state.keep_copy(&ask, &settled);
+    let applied = state.apply_reply(&ask, StoreReply::Sent(place), moment, &Jumps::default()).unwrap();
+    state.keep_copy(&ask, &applied);
 }
 
 fn peek_at_all(state: &State, at_once: usize, now: Moment) -> Vec<Peeked> {

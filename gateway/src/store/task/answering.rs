@@ -18,7 +18,7 @@ impl Task {
                 Output::Refused(code) => self.refused(code)?,
                 Output::Answer { client, number, reply, text } => self.answered(client, number, reply, text)?,
             }
-            self.settle_ready()?;
+            self.finish_ready()?;
         }
         Ok(())
     }
@@ -45,7 +45,7 @@ impl Task {
             Entry::Asked(asked) if (asked.client, asked.number) == (client, number) => {
                 self.close(&asked);
                 self.ends = 0;
-                let answer = self.settle(&asked, reply, text)?;
+                let answer = self.apply_and_record(&asked, reply, text)?;
                 self.finish(answer, done);
                 Ok(())
             }
@@ -73,13 +73,14 @@ impl Task {
         }
     }
 
-    fn settle(&mut self, asked: &Asked, reply: StoreReply, text: &str) -> Result<Answer, Ended> {
-        let settled = self.queues.settle(&asked.queue, &asked.ask, reply, asked.moment);
+    /// Applies the reply to the tables, and appends its record where something changed.
+    fn apply_and_record(&mut self, asked: &Asked, reply: StoreReply, text: &str) -> Result<Answer, Ended> {
+        let applied = self.queues.apply_reply(&asked.queue, &asked.ask, reply, asked.moment);
         self.give_room_back(asked);
-        Ok(match settled {
+        Ok(match applied {
             Ok((outcome, changed)) => {
                 if changed {
-                    self.keep(|| Record::of_ask(asked.moment, &asked.ask, &asked.raw, text))?;
+                    self.append_record(|| Record::of_ask(asked.moment, &asked.ask, &asked.raw, text))?;
                 }
                 Ok(outcome)
             }
@@ -87,7 +88,8 @@ impl Task {
         })
     }
 
-    fn keep<'r>(&mut self, record: impl FnOnce() -> Record<'r>) -> Result<(), Ended> {
+    /// Adds a record to those that go to the journal next.
+    fn append_record<'r>(&mut self, record: impl FnOnce() -> Record<'r>) -> Result<(), Ended> {
         if let Some(journal) = &self.journal {
             let before = self.batch.records.len();
             record().append(&mut self.batch.records)?;
@@ -119,8 +121,8 @@ impl Task {
         }
     }
 
-    /// Settles what stands at the front and needs no answer of the store.
-    pub(super) fn settle_ready(&mut self) -> Result<(), Ended> {
+    /// Finishes the entries at the front that need no answer of the store.
+    pub(super) fn finish_ready(&mut self) -> Result<(), Ended> {
         loop {
             match self.open.front() {
                 Some(Open { entry: Entry::Noted(_) | Entry::Ready(_), .. }) => {}
@@ -152,9 +154,9 @@ impl Task {
         if removed {
             return Ok(Err(SqsError::QueueDoesNotExist));
         }
-        let (outcome, changed) = self.queues.apply(queue, change, moment);
+        let (outcome, changed) = self.queues.apply_change(queue, change, moment);
         if changed {
-            self.keep(|| Record::of_note(moment, store, change))?;
+            self.append_record(|| Record::of_note(moment, store, change))?;
         }
         Ok(Ok(outcome))
     }
