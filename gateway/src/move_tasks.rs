@@ -69,7 +69,7 @@ pub type Rights = Option<Arc<Keys>>;
 const MOST: usize = 10;
 
 /// Takes up how a task stands. One that has ended stays so.
-pub fn note(tasks: &mut Vec<MoveTask>, task: &MoveTask) {
+pub fn merge(tasks: &mut Vec<MoveTask>, task: &MoveTask) {
     match tasks.iter_mut().find(|known| known.id == task.id) {
         Some(known) => {
             let moved = known.moved.max(task.moved);
@@ -226,11 +226,11 @@ mod tests {
             starter: None,
         };
         let mut tasks = Vec::new();
-        note(&mut tasks, &task(0, 1, Status::Running));
-        note(&mut tasks, &task(0, 2, Status::Cancelled));
-        note(&mut tasks, &task(0, 3, Status::Running));
+        merge(&mut tasks, &task(0, 1, Status::Running));
+        merge(&mut tasks, &task(0, 2, Status::Cancelled));
+        merge(&mut tasks, &task(0, 3, Status::Running));
         assert_eq!(tasks, [task(0, 3, Status::Cancelled)]);
-        (1..12).for_each(|id| note(&mut tasks, &task(id, 0, Status::Running)));
+        (1..12).for_each(|id| merge(&mut tasks, &task(id, 0, Status::Running)));
         assert_eq!((tasks.len(), tasks[0].id, tasks[9].id), (10, Uuid::from_u128(2), Uuid::from_u128(11)));
     }
 }

@@ -52,7 +52,7 @@ impl Copies {
     }
 
     /// The copy is there.
-    pub fn note(&self, origin: Origin) {
+    pub fn mark_copied(&self, origin: Origin) {
         self.progress().insert(origin, Progress::Copied);
     }
 
@@ -290,7 +290,7 @@ async fn delete_copied(store: &Store) {
         let receipt: Option<Receipt> = queue.state().last_receipt_of(origin.sequence);
         if receipt.is_some() {
             // Until it is deleted, nobody copies it again.
-            store.queues().copies().note(origin);
+            store.queues().copies().mark_copied(origin);
             delete(store, queue, origin.sequence).await;
             finished += 1;
         }

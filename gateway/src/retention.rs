@@ -36,7 +36,7 @@ pub struct Jumps(RwLock<Vec<Jump>>);
 impl Jumps {
     /// Of the time before a start at `moment` so many milliseconds make no message older. A jump that is known already
     /// is passed over.
-    pub fn note(&self, moment: Moment, uncounted: u64) {
+    pub fn add(&self, moment: Moment, uncounted: u64) {
         let mut jumps = self.0.write().unwrap_or_else(PoisonError::into_inner);
         if jumps.last().map_or(true, |last| last.moment < moment) {
             jumps.push(Jump { moment, uncounted });
@@ -90,7 +90,7 @@ async fn sweep(store: &Store, queue: &Arc<Queue>) -> Result<(), SqsError> {
             break;
         }
         if !sweep_some(store, queue, &held).await? {
-            queue.state().note_vain_sweep(store.clock().now());
+            queue.state().remember_vain_sweep(store.clock().now());
             break;
         }
     }
@@ -124,9 +124,9 @@ mod tests {
         let jumps = Jumps::default();
         assert_eq!((jumps.horizon(99, 100), jumps.horizon(100, 100)), (None, Some(0)));
         // A start at 1,000 of which 300 don't count, and one at 5,000 of which 1,000 don't.
-        jumps.note(1000, 300);
-        jumps.note(5000, 1000);
-        jumps.note(5000, 1000);
+        jumps.add(1000, 300);
+        jumps.add(5000, 1000);
+        jumps.add(5000, 1000);
         let age = |sent: Moment, now: Moment| {
             let after = |moment: Moment| sent < moment && moment <= now;
             now - sent - if after(1000) { 300 } else { 0 } - if after(5000) { 1000 } else { 0 }

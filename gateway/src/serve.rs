@@ -243,7 +243,7 @@ async fn begin(settings: &Settings, health: &Health, mut cqs: Vec<Cq>) -> Result
             cqs = fed;
             let journal = opened.begin(replayed.records, end_at_once)?;
             if let Some(uncounted) = retention::uncounted(replayed.latest, tables.clock.now()) {
-                note_jump(&journal, &tables, uncounted)?;
+                record_jump(&journal, &tables, uncounted)?;
             }
             (Some(journal), replayed)
         }
@@ -262,13 +262,13 @@ async fn begin(settings: &Settings, health: &Health, mut cqs: Vec<Cq>) -> Result
 }
 
 /// The clock is more than a day ahead of the journal: of that time a day counts for retention, now and at later starts.
-fn note_jump(journal: &Journal, tables: &Tables, uncounted: u64) -> Result<()> {
+fn record_jump(journal: &Journal, tables: &Tables, uncounted: u64) -> Result<()> {
     let now = tables.clock.now();
     tracing::warn!("the clock is far ahead of the last record: {uncounted} ms of it make no message older");
     let mut batch = Batch { count: 1, ..Batch::default() };
     Record::of_jump(now, uncounted).append(&mut batch.records)?;
     journal.write_first(batch);
-    tables.queues.jumps().note(now, uncounted);
+    tables.queues.jumps().add(now, uncounted);
     Ok(())
 }
 

@@ -52,11 +52,11 @@ pub struct Record<'a> {
     /// Of a change for which no client asked.
     #[serde(default, skip_serializing_if = "std::ops::Not::not")]
     pub by_attempt: bool,
-    /// Of a note: the queue's name in the store, and what changed.
+    /// Of a change of which the store knows nothing: the queue's name in the store, and what changed.
     #[serde(borrow, default, skip_serializing_if = "Option::is_none")]
     pub queue: Option<Cow<'a, str>>,
-    #[serde(default, skip_serializing_if = "Option::is_none")]
-    pub note: Option<TableChange>,
+    #[serde(rename = "note", default, skip_serializing_if = "Option::is_none")]
+    pub change: Option<TableChange>,
     /// Of a start: so many milliseconds before it don't count for retention. Such a record is of no queue.
     #[serde(default, skip_serializing_if = "Option::is_none")]
     pub uncounted: Option<u64>,
@@ -78,7 +78,7 @@ impl<'a> Record<'a> {
             own: false,
             by_attempt: false,
             queue: None,
-            note: None,
+            change: None,
             uncounted: None,
         }
     }
@@ -109,9 +109,9 @@ impl<'a> Record<'a> {
         record
     }
 
-    pub fn of_note(clock: Moment, queue: StoreName, change: &TableChange) -> Record<'a> {
+    pub fn of_change(clock: Moment, queue: StoreName, change: &TableChange) -> Record<'a> {
         let queue = Some(queue.text().into());
-        Record { queue, note: Some(change.clone()), ..Record::at(clock) }
+        Record { queue, change: Some(change.clone()), ..Record::at(clock) }
     }
 
     /// The record of a start that found the clock far ahead.
@@ -244,9 +244,9 @@ mod tests {
             assert_eq!(format!("{again:?}"), format!("{ask:?}"));
         }
         let mut line = Vec::new();
-        Record::of_note(5, StoreName(7), &TableChange::Purged).append(&mut line).unwrap();
-        let note = Record::read(&line[..line.len() - 1]).unwrap();
-        assert_eq!((note.note.clone(), note.store_name()), (Some(TableChange::Purged), Some(StoreName(7))));
+        Record::of_change(5, StoreName(7), &TableChange::Purged).append(&mut line).unwrap();
+        let record = Record::read(&line[..line.len() - 1]).unwrap();
+        assert_eq!((record.change.clone(), record.store_name()), (Some(TableChange::Purged), Some(StoreName(7))));
         assert!(Record::read(b"{}").is_none());
     }
 }

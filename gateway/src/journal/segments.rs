@@ -217,7 +217,7 @@ pub fn scan_all<F: Folder>(folder: &F) -> Result<Scanned, JournalError> {
     for number in &numbers {
         let bytes = folder.read(*number)?;
         let span = scan(*number, &bytes)?;
-        note_removed(&span, &bytes, &mut removed)?;
+        collect_removed(&span, &bytes, &mut removed)?;
         spans.push(span);
     }
     let (mut kept, mut replaced) = (Vec::new(), Vec::new());
@@ -254,7 +254,7 @@ pub fn scan_all<F: Folder>(folder: &F) -> Result<Scanned, JournalError> {
 /// The record of a removal has these bytes, and others may have them too: clients choose the keys and values of tags.
 const PERHAPS_REMOVAL: &[u8] = b"\"remove\"";
 
-fn note_removed(span: &Span, bytes: &[u8], removed: &mut HashSet<StoreName>) -> Result<(), JournalError> {
+fn collect_removed(span: &Span, bytes: &[u8], removed: &mut HashSet<StoreName>) -> Result<(), JournalError> {
     for frame in frames(span, bytes) {
         let damaged = JournalError::Damaged { segment: span.segment, place: frame.place };
         removed.extend(removed_by(frame.payload).ok_or(damaged)?);
@@ -382,7 +382,7 @@ mod tests {
     fn what_asks_for_a_removal_removes_and_nothing_that_a_client_wrote() {
         let tags = BTreeMap::from([("kind".to_string(), "remove".to_string())]);
         let mut payload = Vec::new();
-        Record::of_note(1, StoreName(7), &TableChange::Tag(tags.clone())).append(&mut payload).unwrap();
+        Record::of_change(1, StoreName(7), &TableChange::Tag(tags.clone())).append(&mut payload).unwrap();
         let given = Given::read(QueueKind::Standard, &[]).unwrap();
         let attributes = QueueAttributes::for_creation(QueueKind::Standard, &given).unwrap();
         let name = QueueName::parse("q").unwrap();

@@ -294,8 +294,8 @@ impl Act {
     fn line(self) -> Vec<u8> {
         let mut line = Vec::new();
         match self {
-            Act::Send(queue, text) => note(queue, &format!("send {text}"), &mut line),
-            Act::Delete(queue, text) => note(queue, &format!("delete {text}"), &mut line),
+            Act::Send(queue, text) => append_change(queue, &format!("send {text}"), &mut line),
+            Act::Delete(queue, text) => append_change(queue, &format!("delete {text}"), &mut line),
             Act::Remove(queue) => {
                 let ask = format!("{{\"kind\":\"remove\",\"queue\":\"{queue}.fifo\"}}");
                 line = format!("{{\"clock\":1,\"ask\":{ask},\"digest\":\"d\"}}\n").into_bytes();
@@ -305,9 +305,9 @@ impl Act {
     }
 }
 
-fn note(queue: u64, text: &str, line: &mut Vec<u8>) {
+fn append_change(queue: u64, text: &str, line: &mut Vec<u8>) {
     let change = TableChange::Untag(vec![text.to_string()]);
-    Record::of_note(1, StoreName(queue), &change).append(line).unwrap();
+    Record::of_change(1, StoreName(queue), &change).append(line).unwrap();
 }
 
 impl Model {
@@ -338,7 +338,7 @@ impl Model {
                     if scanned.removed.contains(&name) {
                         continue;
                     }
-                    let Some(TableChange::Untag(keys)) = &record.note else { panic!("{line:?}") };
+                    let Some(TableChange::Untag(keys)) = &record.change else { panic!("{line:?}") };
                     let (kind, text) = keys[0].split_once(' ').unwrap();
                     let text = text.parse().unwrap();
                     let act = if kind == "send" { Act::Send(name.0, text) } else { Act::Delete(name.0, text) };

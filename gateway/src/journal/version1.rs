@@ -195,7 +195,7 @@ struct OldQueue {
     sends: u64,
 }
 
-/// An ask that waits for its reply, or a note.
+/// An ask that waits for its reply, or a change.
 struct Asked {
     clock: u64,
     store: StoreName,
@@ -204,7 +204,7 @@ struct Asked {
 
 enum AskedWhat {
     Ask { ask: Ask, raw: Box<RawValue>, number: u64, digest: String, incarnation: u64 },
-    Note(TableChange),
+    Change(TableChange),
 }
 
 #[derive(Default)]
@@ -318,7 +318,7 @@ impl Conversion {
             OldChange::Purged { queue, clock } => (queue, TableChange::Purged, clock),
         };
         let store = self.queues.get(&name)?.store;
-        self.asked.push(Asked { clock, store, what: AskedWhat::Note(change) });
+        self.asked.push(Asked { clock, store, what: AskedWhat::Change(change) });
         Some(())
     }
 
@@ -341,7 +341,7 @@ impl Conversion {
         let mut answers = read.map_err(|error| CqError::Gone(error.to_string()))?.into_iter();
         for one in asked {
             match &one.what {
-                AskedWhat::Note(change) => self.keep(&Record::of_note(one.clock, one.store, change))?,
+                AskedWhat::Change(change) => self.keep(&Record::of_change(one.clock, one.store, change))?,
                 AskedWhat::Ask { ask, raw, number, digest, incarnation } => {
                     let line = answers.next().unwrap_or_default();
                     let Output::Answer { reply, text, .. } = lines::read_output(line.trim_end().as_bytes())? else {

@@ -150,7 +150,7 @@ fn commit(log: &mut Log<Files>, journal: &Journal, batch: &Batch) -> Result<(), 
     Ok(())
 }
 
-/// Writes what the start noted, as soon as there is space for it.
+/// Writes the records of the start, as soon as there is space for them.
 fn write_first(log: &mut Log<Files>, journal: &Journal) -> Result<(), JournalError> {
     let first = locked(&journal.0.first).take();
     match first {

@@ -170,7 +170,7 @@ impl Queues {
         match ask {
             Ask::Create { .. } => self.insert(queue),
             Ask::Remove { name: Some(name), .. } => self.remove(queue, name, moment),
-            Ask::Send { cause: Cause::Move(origin), .. } => self.copies.note(*origin),
+            Ask::Send { cause: Cause::Move(origin), .. } => self.copies.mark_copied(*origin),
             _ => {}
         }
         if applied.opened {
@@ -232,7 +232,7 @@ impl Queues {
         let mut queues = self.by_name.write().unwrap_or_else(PoisonError::into_inner);
         queues.remove(name);
         drop(queues);
-        self.note_removal(name, moment);
+        self.remember_removal(name, moment);
     }
 
     /// This queue isn't there, whatever has the name by now.
@@ -245,7 +245,7 @@ impl Queues {
     }
 
     /// A queue of this name was removed at this moment.
-    pub fn note_removal(&self, name: &QueueName, moment: Moment) {
+    pub fn remember_removal(&self, name: &QueueName, moment: Moment) {
         let mut removed = self.removed.lock().unwrap_or_else(PoisonError::into_inner);
         removed.retain(|_, earlier| moment < *earlier + REMOVAL_PAUSE);
         removed.insert(name.clone(), moment);

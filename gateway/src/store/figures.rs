@@ -42,12 +42,12 @@ pub(super) struct Counters {
 }
 
 impl Counters {
-    pub fn note_restart(&self) {
+    pub fn count_restart(&self) {
         self.restarts.fetch_add(1, Ordering::Relaxed);
     }
 
     /// The number of open requests of a task has become `now`; it was `before`.
-    pub fn note_open(&self, before: usize, now: usize) {
+    pub fn count_open(&self, before: usize, now: usize) {
         // The difference may be below zero: it wraps, and the sum wraps back.
         self.open.fetch_add(now.wrapping_sub(before), Ordering::Relaxed);
     }
@@ -75,9 +75,9 @@ mod tests {
     #[test]
     fn open_requests_of_several_tasks_are_added_up() {
         let counters = Counters::default();
-        counters.note_open(0, 7);
-        counters.note_open(0, 2);
-        counters.note_open(7, 1);
+        counters.count_open(0, 7);
+        counters.count_open(0, 2);
+        counters.count_open(7, 1);
         assert_eq!(counters.open.load(Ordering::Relaxed), 3);
     }
 }

@@ -58,8 +58,8 @@ pub struct Tables {
     pub progress: Arc<AtomicU64>,
 }
 
-/// An ask that is with the program, or a note that waits for the asks before it.
-enum Waiting {
+/// An ask that is with the program, or a change that waits for the asks before it.
+enum Unanswered {
     Ask {
         number: u64,
         digest: String,
@@ -67,7 +67,7 @@ enum Waiting {
         /// The queue and its ask, where there are tables.
         subject: Option<(Arc<Queue>, Ask)>,
     },
-    Note {
+    Change {
         queue: Arc<Queue>,
         change: TableChange,
         clock: Moment,
@@ -87,7 +87,7 @@ struct Replay {
     passed: HashMap<StoreName, u64>,
     gone: HashSet<u64>,
     bases: HashMap<StoreName, u64>,
-    waiting: VecDeque<Waiting>,
+    waiting: VecDeque<Unanswered>,
     out: BytesMut,
     records: u64,
     asked: u64,
@@ -192,7 +192,7 @@ impl Replay {
         let appended = lines::append_moment(&mut lines, self.last_clock);
         appended.map_err(|error| JournalError::Io(error.to_string()))?;
         self.out.extend_from_slice(&lines);
-        self.waiting.push_back(Waiting::Last);
+        self.waiting.push_back(Unanswered::Last);
         Ok(())
     }
 
@@ -214,7 +214,7 @@ impl Replay {
             // It counts from its moment on, so nothing has to wait for its turn.
             if let Some(tables) = &self.tables {
                 tables.clock.go_on_from(record.clock);
-                tables.queues.jumps().note(record.clock, uncounted);
+                tables.queues.jumps().add(record.clock, uncounted);
             }
             return Some(());
         }
@@ -224,10 +224,10 @@ impl Replay {
             tables.queues.saw_store_name(store);
         }
         if self.skipped.contains(&store) {
-            self.note_passed(&record, store);
+            self.remember_passed(&record, store);
             if let (Some(tables), Some(name)) = (&self.tables, &record.removed) {
                 if self.shard.has(name) {
-                    tables.queues.note_removal(name, record.clock);
+                    tables.queues.remember_removal(name, record.clock);
                 }
             }
             return Some(());
@@ -235,13 +235,13 @@ impl Replay {
         if !self.is_own(&record, store)? {
             return Some(());
         }
-        match (record.ask, &record.note) {
+        match (record.ask, &record.change) {
             (Some(raw), None) => {
                 let subject = match self.tables {
                     Some(_) => Some(self.ask_of(&record, record.fields()?, store)?),
                     None => None,
                 };
-                // Only asks move the program's clock. An ask that is still open may be earlier than a note.
+                // Only asks move the program's clock. An ask that is still open may be earlier than a change.
                 self.last_clock = self.last_clock.max(record.clock);
                 self.asked += 1;
                 let number = self.asked;
@@ -250,13 +250,13 @@ impl Replay {
                 let client = 1 + (number % CLIENTS) as u32;
                 lines::append_request(&mut lines, record.clock, client, number, raw).ok()?;
                 self.out.extend_from_slice(&lines);
-                self.waiting.push_back(Waiting::Ask { number, digest, clock: record.clock, subject });
+                self.waiting.push_back(Unanswered::Ask { number, digest, clock: record.clock, subject });
             }
             (None, Some(change)) => {
                 if self.tables.is_some() {
                     let queue = self.queues.get(&store)?.clone();
                     let change = change.clone();
-                    self.waiting.push_back(Waiting::Note { queue, change, clock: record.clock });
+                    self.waiting.push_back(Unanswered::Change { queue, change, clock: record.clock });
                 }
             }
             _ => return None,
@@ -265,7 +265,7 @@ impl Replay {
     }
 
     /// Finds out which queues are gone by records that are passed over.
-    fn note_passed(&mut self, record: &Record<'_>, store: StoreName) {
+    fn remember_passed(&mut self, record: &Record<'_>, store: StoreName) {
         if let Some(creation) = &record.creation {
             self.passed.insert(store, creation.mark);
         }
@@ -307,7 +307,7 @@ impl Replay {
         for line in whole[..end].split(|byte| *byte == b'\n') {
             self.apply_changes();
             let number = match self.waiting.front() {
-                Some(Waiting::Ask { number, .. }) => *number,
+                Some(Unanswered::Ask { number, .. }) => *number,
                 _ => 0,
             };
             let output = lines::read_output(line)?;
@@ -315,8 +315,8 @@ impl Replay {
                 return Err(ReplayError::OtherReply(number));
             };
             let (number, digest, clock, subject) = match self.waiting.pop_front() {
-                Some(Waiting::Ask { number, digest, clock, subject }) => (number, digest, clock, subject),
-                Some(Waiting::Last) => {
+                Some(Unanswered::Ask { number, digest, clock, subject }) => (number, digest, clock, subject),
+                Some(Unanswered::Last) => {
                     self.is_done = true;
                     return Ok(());
                 }
@@ -334,8 +334,8 @@ impl Replay {
     }
 
     fn apply_changes(&mut self) {
-        while let Some(Waiting::Note { .. }) = self.waiting.front() {
-            if let Some(Waiting::Note { queue, change, clock }) = self.waiting.pop_front() {
+        while let Some(Unanswered::Change { .. }) = self.waiting.front() {
+            if let Some(Unanswered::Change { queue, change, clock }) = self.waiting.pop_front() {
                 if let Some(tables) = &self.tables {
                     tables.queues.apply_change(&queue, &change, clock);
                 }

@@ -33,7 +33,7 @@ impl State {
     }
 
     /// A sweep found nothing to delete: what is too old waits behind what is in flight.
-    pub fn note_vain_sweep(&mut self, now: Moment) {
+    pub fn remember_vain_sweep(&mut self, now: Moment) {
         self.vain_sweep = Some((self.openings, self.next_end(now)));
     }
 }

@@ -47,7 +47,7 @@ impl Attempts {
             self.forget_with(handed.receipt.sequence);
             self.by_message.insert(handed.receipt.sequence, id.clone());
         }
-        self.note_end(id, attempt.end());
+        self.remember_end(id, attempt.end());
         self.bytes += attempt.bytes;
         self.by_id.insert(id.clone(), attempt);
     }
@@ -65,11 +65,11 @@ impl Attempts {
         if let Some(attempt) = self.by_id.get_mut(&id).filter(|attempt| attempt.until != until) {
             attempt.until = until;
             let end = attempt.end();
-            self.note_end(&id, end);
+            self.remember_end(&id, end);
         }
     }
 
-    fn note_end(&mut self, id: &AttemptId, end: Moment) {
+    fn remember_end(&mut self, id: &AttemptId, end: Moment) {
         self.ends.push(Reverse((end, id.clone())));
         if self.ends.len() > 64 + 2 * self.by_id.len() {
             let current = |Reverse((end, id)): &Reverse<(Moment, AttemptId)>| is_end(&self.by_id, id, *end);

@@ -86,7 +86,7 @@ impl DelayedMessages {
     }
 
     /// A message of this call went to the store without a delay.
-    pub(super) fn note_call(&mut self, call: &DedupId, id: Uuid, moment: Moment) {
+    pub(super) fn remember_call(&mut self, call: &DedupId, id: Uuid, moment: Moment) {
         if self.calls.find(call, moment).is_none() {
             self.calls.keep(call, First { id, is_delayed: false }, moment);
         }
@@ -276,7 +276,7 @@ mod tests {
     #[test]
     fn a_call_is_known_also_where_it_sent_its_message_without_a_delay() {
         let mut delayed = DelayedMessages::default();
-        delayed.note_call(&call("a"), Uuid::from_u128(1), 10);
+        delayed.remember_call(&call("a"), Uuid::from_u128(1), 10);
         assert_eq!(delayed.add(&message(2, 50, Some("a")), 20), Some(Uuid::from_u128(1)));
         assert_eq!(delayed.add(&message(3, 50, Some("b")), 20), None);
         let firsts = ["a", "b", "c"].map(|name| delayed.first_of(&call(name), 30));

@@ -71,8 +71,8 @@ pub struct State {
     tasks: Vec<MoveTask>,
     pub removed: bool,
     pub last_sequence: u64,
-    /// How many changes were noted since the queue has its name in the store.
-    notes: u64,
+    /// How many changes were applied since the queue has its name in the store.
+    change_count: u64,
     pub last_send: Moment,
     /// How often something happened that can open a group.
     pub openings: u64,
@@ -147,7 +147,7 @@ impl State {
             tasks: before.tasks,
             removed: false,
             last_sequence: before.base,
-            notes: 0,
+            change_count: 0,
             last_send: 0,
             openings: 0,
             messages: Messages::default(),
@@ -195,7 +195,7 @@ impl State {
                 match (cause, &applied.outcome) {
                     (Cause::Due(id), _) => self.delayed.remove(*id),
                     (Cause::Client, Outcome::Sent { id, .. }) if self.kind == QueueKind::Standard => {
-                        self.delayed.note_call(dedup, *id, moment);
+                        self.delayed.remember_call(dedup, *id, moment);
                     }
                     _ => {}
                 }
@@ -420,12 +420,12 @@ impl State {
                 Applied::done(false)
             }
             TableChange::Task(task) => {
-                move_tasks::note(&mut self.tasks, task);
+                move_tasks::merge(&mut self.tasks, task);
                 Applied::done(false)
             }
         };
         self.own_bytes = bytes_of_queue(&self.attributes, &self.tags);
-        self.notes += u64::from(applied.changed);
+        self.change_count += u64::from(applied.changed);
         applied
     }
 
@@ -546,7 +546,7 @@ impl State {
 
     /// How many records the queue has since it has its name in the store, at least.
     pub fn records(&self) -> u64 {
-        self.last_sequence - self.base + self.notes
+        self.last_sequence - self.base + self.change_count
     }
 
     /// Goes over to another name of the store, which counts from 1 again.
@@ -554,7 +554,7 @@ impl State {
         self.earlier.push(self.store);
         self.store = store;
         self.base = self.last_sequence;
-        self.notes = 0;
+        self.change_count = 0;
         self.recent = VecDeque::new();
         self.old = 0;
         self.left_ids = 0;

@@ -1,6 +1,6 @@
 //! Answers: what the program said, what the journal keeps of it, and who is told.
 
-use super::entries::{Asked, Entry, Noted, Open};
+use super::entries::{Entry, Open, OpenAsk, OpenChange};
 use super::{Ended, Task};
 use crate::errors::SqsError;
 use crate::journal::Record;
@@ -24,7 +24,7 @@ impl Task {
     }
 
     fn refused(&mut self, code: u32) -> Result<(), Ended> {
-        let Some(Open { entry: Entry::Asked(asked), done }) = self.open.pop_front() else {
+        let Some(Open { entry: Entry::Ask(asked), done }) = self.open.pop_front() else {
             return Err(Ended::NotNext { client: 0, number: 0 });
         };
         self.close(&asked);
@@ -42,7 +42,7 @@ impl Task {
             return Err(Ended::NotNext { client, number });
         };
         match entry {
-            Entry::Asked(asked) if (asked.client, asked.number) == (client, number) => {
+            Entry::Ask(asked) if (asked.client, asked.number) == (client, number) => {
                 self.close(&asked);
                 self.ends = 0;
                 let answer = self.apply_and_record(&asked, reply, text)?;
@@ -59,7 +59,7 @@ impl Task {
                 self.ends = 0;
                 Ok(())
             }
-            Entry::Counted { tag, .. } if tag == number => {
+            Entry::Count { tag, .. } if tag == number => {
                 self.ends = 0;
                 let answer = match reply {
                     StoreReply::Counts { visible, in_flight } => Ok(Outcome::Counts { visible, in_flight }),
@@ -74,7 +74,7 @@ impl Task {
     }
 
     /// Applies the reply to the tables, and appends its record where something changed.
-    fn apply_and_record(&mut self, asked: &Asked, reply: StoreReply, text: &str) -> Result<Answer, Ended> {
+    fn apply_and_record(&mut self, asked: &OpenAsk, reply: StoreReply, text: &str) -> Result<Answer, Ended> {
         let applied = self.queues.apply_reply(&asked.queue, &asked.ask, reply, asked.moment);
         self.give_room_back(asked);
         Ok(match applied {
@@ -100,7 +100,7 @@ impl Task {
     }
 
     /// The program has answered this one.
-    fn close(&mut self, asked: &Asked) {
+    fn close(&mut self, asked: &OpenAsk) {
         self.free.push(asked.client);
         self.forget_open(&asked.ask);
         self.waits_for_answer = false;
@@ -108,13 +108,13 @@ impl Task {
 
     /// The program doesn't have this one any more.
     pub(super) fn forget_open(&mut self, ask: &Ask) {
-        self.open_changes -= usize::from(matches!(ask, Ask::ChangeVisibility { .. }));
+        self.open_visibility_changes -= usize::from(matches!(ask, Ask::ChangeVisibility { .. }));
         if let Some(id) = ask.due() {
             self.open_due.remove(&id);
         }
     }
 
-    pub(super) fn give_room_back(&self, asked: &Asked) {
+    pub(super) fn give_room_back(&self, asked: &OpenAsk) {
         self.admission.answered(asked.weight);
         if let Some(journal) = &self.journal {
             journal.give_back(asked.room);
@@ -125,13 +125,13 @@ impl Task {
     pub(super) fn finish_ready(&mut self) -> Result<(), Ended> {
         loop {
             match self.open.front() {
-                Some(Open { entry: Entry::Noted(_) | Entry::Ready(_), .. }) => {}
+                Some(Open { entry: Entry::Change(_) | Entry::Ready(_), .. }) => {}
                 _ => return Ok(()),
             }
             let Some(Open { entry, done }) = self.open.pop_front() else { return Ok(()) };
             match entry {
-                Entry::Noted(noted) => {
-                    let answer = self.note(&noted)?;
+                Entry::Change(change) => {
+                    let answer = self.apply_change(&change)?;
                     self.finish(answer, done);
                 }
                 Entry::Ready(Some(answer)) => self.finish(answer, done),
@@ -140,8 +140,8 @@ impl Task {
         }
     }
 
-    fn note(&mut self, noted: &Noted) -> Result<Answer, Ended> {
-        let Noted { queue, change, room, weight } = noted;
+    fn apply_change(&mut self, change: &OpenChange) -> Result<Answer, Ended> {
+        let OpenChange { queue, change, room, weight } = change;
         self.admission.answered(*weight);
         if let Some(journal) = &self.journal {
             journal.give_back(*room);
@@ -156,7 +156,7 @@ impl Task {
         }
         let (outcome, changed) = self.queues.apply_change(queue, change, moment);
         if changed {
-            self.append_record(|| Record::of_note(moment, store, change))?;
+            self.append_record(|| Record::of_change(moment, store, change))?;
         }
         Ok(Ok(outcome))
     }

@@ -5,8 +5,8 @@ use std::sync::Arc;
 use serde_json::value::RawValue;
 use uuid::Uuid;
 
-use super::entries::{Asked, Entry, Noted, Open, Pending, Started};
-use super::room::{bytes_of, bytes_of_note, need_of, need_of_note};
+use super::entries::{Entry, Open, OpenAsk, OpenChange, Pending, Started};
+use super::room::{bytes_of, bytes_of_change, need_of, need_of_change};
 use super::{Ended, Task, PIECE};
 use crate::clock::Moment;
 use crate::errors::SqsError;
@@ -82,7 +82,7 @@ impl Task {
         };
         let raw = serde_json::value::to_raw_value(&Fields::of(store, base, &ask))?;
         match self.ask_admitted(queue, ask, raw, moment, weight)? {
-            started @ Started::Open(Entry::Asked(_)) => Ok(started),
+            started @ Started::Open(Entry::Ask(_)) => Ok(started),
             other => {
                 self.admission.answered(weight);
                 Ok(other)
@@ -111,11 +111,11 @@ impl Task {
             return ready(Err(SqsError::InternalFailure("No client is free.".into())));
         };
         self.last_number += 1;
-        self.open_changes += usize::from(matches!(ask, Ask::ChangeVisibility { .. }));
+        self.open_visibility_changes += usize::from(matches!(ask, Ask::ChangeVisibility { .. }));
         self.open_due.extend(ask.due());
-        let asked = Asked { queue, ask, raw, moment, client, number: self.last_number, room, weight, ends: 0 };
+        let asked = OpenAsk { queue, ask, raw, moment, client, number: self.last_number, room, weight, ends: 0 };
         self.write(&asked)?;
-        Ok(Started::Open(Entry::Asked(Box::new(asked))))
+        Ok(Started::Open(Entry::Ask(Box::new(asked))))
     }
 
     /// Whether this is the send of a due message that the store has by now, that a purge has taken, or that is with the
@@ -124,8 +124,8 @@ impl Task {
         ask.due().is_some_and(|id| self.open_due.contains(&id) || !queue.state().is_delayed(id))
     }
 
-    pub(super) fn write(&mut self, asked: &Asked) -> Result<(), Ended> {
-        let Asked { moment, client, number, raw, .. } = asked;
+    pub(super) fn write(&mut self, asked: &OpenAsk) -> Result<(), Ended> {
+        let OpenAsk { moment, client, number, raw, .. } = asked;
         Ok(lines::append_request(&mut self.out.bytes, *moment, *client, *number, raw)?)
     }
 
@@ -139,7 +139,7 @@ impl Task {
         self.open.push_back(Open { entry, done: None });
         let tag = self.next_tag();
         self.write_count(tag, &queue)?;
-        Ok(Entry::Counted { tag, queue })
+        Ok(Entry::Count { tag, queue })
     }
 
     /// Asks for something that changes nothing, to see whether the program answers it.
@@ -162,7 +162,7 @@ impl Task {
     /// where the message has expired or changes are open.
     fn is_decided_by_others(&self, queue: &Queue, receipt: Receipt, has_expired: bool) -> bool {
         let is_of_message = |open: &Open| match &open.entry {
-            Entry::Asked(asked) => match asked.ask {
+            Entry::Ask(asked) => match asked.ask {
                 Ask::ChangeVisibility { receipt: other, .. } | Ask::Delete { receipt: other, .. } => {
                     asked.queue.mark == queue.mark && other.sequence == receipt.sequence
                 }
@@ -170,7 +170,7 @@ impl Task {
             },
             _ => false,
         };
-        (has_expired || self.open_changes > 0) && self.open.iter().any(is_of_message)
+        (has_expired || self.open_visibility_changes > 0) && self.open.iter().any(is_of_message)
     }
 
     /// Sets space of the journal and memory aside for a change, which is applied when all before it is answered.
@@ -190,10 +190,10 @@ impl Task {
         };
         let room = match &self.journal {
             None => Ok(Some(0)),
-            Some(journal) => journal.set_aside(need_of_note(&change), bytes_of_note(&change)),
+            Some(journal) => journal.set_aside(need_of_change(&change), bytes_of_change(&change)),
         };
         if let Ok(Some(room)) = room {
-            return Started::Open(Entry::Noted(Noted { queue, change, room, weight }));
+            return Started::Open(Entry::Change(OpenChange { queue, change, room, weight }));
         }
         self.admission.answered(weight);
         room.err().map_or_else(|| Started::LacksRoom(queue, change.into()), |error| Started::ready(Err(error)))

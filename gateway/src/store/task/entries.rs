@@ -17,10 +17,10 @@ pub(super) struct Open {
 }
 
 pub(super) enum Entry {
-    Asked(Box<Asked>),
+    Ask(Box<OpenAsk>),
     /// The request that moves the store's moment on before a count.
     Moment,
-    Counted {
+    Count {
         tag: u64,
         queue: Arc<Queue>,
     },
@@ -29,12 +29,12 @@ pub(super) enum Entry {
         tag: u64,
         queue: Arc<Queue>,
     },
-    Noted(Noted),
+    Change(OpenChange),
     Ready(Option<Answer>),
 }
 
-/// A change of which the program isn't told.
-pub(super) struct Noted {
+/// A change of which the program isn't told, and which is applied when all before it is answered.
+pub(super) struct OpenChange {
     pub(super) queue: Arc<Queue>,
     pub(super) change: TableChange,
     /// Bytes that were set aside for its record.
@@ -43,7 +43,8 @@ pub(super) struct Noted {
     pub(super) weight: u64,
 }
 
-pub(super) struct Asked {
+/// An ask that is with the program.
+pub(super) struct OpenAsk {
     pub(super) queue: Arc<Queue>,
     pub(super) ask: Ask,
     pub(super) raw: Box<RawValue>,

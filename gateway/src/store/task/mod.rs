@@ -77,7 +77,7 @@ struct Task {
     admission: Arc<Admission>,
     counters: Arc<Counters>,
     /// How many open requests the counters know of.
-    open_told: usize,
+    open_counted: usize,
     pending: VecDeque<Pending>,
     held: HeldJobs,
     open: VecDeque<Open>,
@@ -92,8 +92,8 @@ struct Task {
     lacks_room: bool,
     /// What waits is not asked before something else is answered.
     waits_for_answer: bool,
-    /// How many changes are with the program.
-    open_changes: usize,
+    /// How many changes of timeouts are with the program.
+    open_visibility_changes: usize,
     /// Due messages whose sends are with the program.
     open_due: HashSet<Uuid>,
     grown: Option<watch::Receiver<()>>,
@@ -136,7 +136,7 @@ pub fn start(start: Start) -> (Store, oneshot::Receiver<Ended>) {
             journal: start.journal.clone(),
             admission: admission.clone(),
             counters: counters.clone(),
-            open_told: 0,
+            open_counted: 0,
             pending: VecDeque::new(),
             held: HeldJobs::new(),
             open: VecDeque::new(),
@@ -149,7 +149,7 @@ pub fn start(start: Start) -> (Store, oneshot::Receiver<Ended>) {
             batch: Batch::default(),
             lacks_room: false,
             waits_for_answer: false,
-            open_changes: 0,
+            open_visibility_changes: 0,
             open_due: HashSet::new(),
             grown: start.journal.as_ref().map(Journal::grown),
             ends: 0,
@@ -202,7 +202,7 @@ impl Task {
         self.start_pending()?;
         self.finish_ready()?;
         self.hand_over();
-        self.tell_open();
+        self.count_open();
         self.cq.output.is_awaited = !self.open.is_empty();
         tokio::select! {
             biased;
@@ -236,10 +236,10 @@ impl Task {
         Ok(())
     }
 
-    fn tell_open(&mut self) {
+    fn count_open(&mut self) {
         let open = self.pending.len() + self.open.len();
-        self.counters.note_open(self.open_told, open);
-        self.open_told = open;
+        self.counters.count_open(self.open_counted, open);
+        self.open_counted = open;
     }
 
     fn take(&mut self, job: Job) {
@@ -294,7 +294,7 @@ impl Task {
     async fn start_again(&mut self) -> Result<(), Ended> {
         let Some(journal) = self.journal.clone() else { return Ok(()) };
         self.ends += 1;
-        self.counters.note_restart();
+        self.counters.count_restart();
         tokio::time::sleep(pause(self.ends)).await;
         self.hand_over();
         self.cq.stop().await;
@@ -310,7 +310,7 @@ impl Task {
         let mut given_up = None;
         for open in std::mem::take(&mut self.open) {
             let entry = match self.ask_again(open.entry)? {
-                Again::Asked(entry) => entry,
+                Again::Open(entry) => entry,
                 Again::GivenUp(queue) => {
                     given_up = Some(queue);
                     let message = "The store ended twice at this request.";
@@ -328,8 +328,8 @@ impl Task {
     }
 
     fn ask_again(&mut self, entry: Entry) -> Result<Again, Ended> {
-        Ok(Again::Asked(match entry {
-            Entry::Asked(mut asked) => {
+        Ok(Again::Open(match entry {
+            Entry::Ask(mut asked) => {
                 asked.ends += 1;
                 if asked.ends >= MOST_ENDS {
                     self.forget_open(&asked.ask);
@@ -341,11 +341,11 @@ impl Task {
                 asked.client = self.free.pop().unwrap_or(1);
                 self.open_due.extend(asked.ask.due());
                 self.write(&asked)?;
-                Entry::Asked(asked)
+                Entry::Ask(asked)
             }
-            Entry::Counted { tag, queue } => {
+            Entry::Count { tag, queue } => {
                 self.write_count(tag, &queue)?;
-                Entry::Counted { tag, queue }
+                Entry::Count { tag, queue }
             }
             Entry::Probe { tag, queue } => {
                 self.write_count(tag, &queue)?;
@@ -359,7 +359,7 @@ impl Task {
 
 /// What comes of an entry that was open when the program ended.
 enum Again {
-    Asked(Entry),
+    Open(Entry),
     /// It was open at an end before, too. It was asked of this queue.
     GivenUp(Arc<Queue>),
 }

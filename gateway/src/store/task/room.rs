@@ -18,7 +18,7 @@ pub(super) fn need_of(ask: &Ask) -> Need {
     }
 }
 
-pub(super) fn need_of_note(change: &TableChange) -> Need {
+pub(super) fn need_of_change(change: &TableChange) -> Need {
     match change {
         TableChange::Delayed(_) => Need::More,
         TableChange::Attributes(_) | TableChange::Tag(_) | TableChange::Task(_) => Need::Same,
@@ -37,7 +37,7 @@ pub(super) fn bytes_of(ask: &Ask, raw: &RawValue) -> u64 {
 }
 
 /// What the record of a change takes at most.
-pub(super) fn bytes_of_note(change: &TableChange) -> u64 {
+pub(super) fn bytes_of_change(change: &TableChange) -> u64 {
     let bytes = match change {
         TableChange::Delayed(message) => length_in_json(&message.form),
         _ => serde_json::to_vec(change).map_or(0, |bytes| bytes.len()),
