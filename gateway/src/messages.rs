@@ -191,9 +191,9 @@ pub fn size_of_attributes(attributes: &MessageAttributes) -> usize {
     attributes.iter().map(|(name, value)| name.len() + value.size()).sum()
 }
 
-/// All that is kept of a message beside its body and its place, and a FIFO queue's beside its group.
+/// The metadata of a message: all beside its body and its place, and in a FIFO queue beside its group.
 #[derive(Clone, Debug, PartialEq, Eq, Serialize, Deserialize)]
-pub struct Kept {
+pub struct Metadata {
     /// The MessageId.
     pub id: Uuid,
     /// When it was sent, in milliseconds.
@@ -227,7 +227,7 @@ struct Elsewhere {
 /// A message as it goes into the store in place of its body.
 #[derive(Clone, Debug, PartialEq, Eq)]
 pub enum Form {
-    /// What is kept as one line of JSON, and behind it the body.
+    /// The metadata as one line of JSON, and behind it the body.
     Whole(String),
     /// The store takes no text so long: it has `stub`, and the gateway and its journal have `whole`.
     Split { stub: String, whole: String },
@@ -235,12 +235,12 @@ pub enum Form {
 
 impl Form {
     /// The form of a message. It is split where it is longer than the store takes.
-    pub fn new(kept: &Kept, body: &Body) -> Result<Form, serde_json::Error> {
-        let mut whole = serde_json::to_string(kept)?;
+    pub fn new(metadata: &Metadata, body: &Body) -> Result<Form, serde_json::Error> {
+        let mut whole = serde_json::to_string(metadata)?;
         whole.reserve_exact(1 + body.as_str().len());
         whole.push('\n');
         whole.push_str(body.as_str());
-        Form::of_whole(kept.id, whole)
+        Form::of_whole(metadata.id, whole)
     }
 
     /// The form of the message of this id whose whole form this is.
@@ -282,13 +282,13 @@ impl Form {
     }
 }
 
-/// What is kept of a message, and its body, read from its whole form. None if the text is no form.
-pub fn read_form(whole: &str) -> Option<(Kept, &str)> {
-    let (kept, body) = whole.split_once('\n')?;
-    Some((serde_json::from_str(kept).ok()?, body))
+/// The metadata of a message and its body, read from its whole form. None if the text is no form.
+pub fn read_form(whole: &str) -> Option<(Metadata, &str)> {
+    let (metadata, body) = whole.split_once('\n')?;
+    Some((serde_json::from_str(metadata).ok()?, body))
 }
 
-/// What the tables need of what is kept.
+/// The metadata that the tables need.
 #[derive(Clone, Copy, Debug, PartialEq, Eq, Deserialize)]
 pub struct Head {
     pub id: Uuid,
@@ -307,8 +307,8 @@ impl Head {
 mod tests {
     use super::*;
 
-    fn kept() -> Kept {
-        Kept {
+    fn metadata() -> Metadata {
+        Metadata {
             id: Uuid::from_u128(7),
             sent: 1_700_000_000_000,
             dedup: DedupId::parse("d").ok(),
@@ -384,20 +384,20 @@ mod tests {
 
     #[test]
     fn a_form_comes_back() {
-        let mut kept = kept();
+        let mut metadata = metadata();
         let value = AttributeValue::new("a", "Binary.x", None, Some("AP8=")).unwrap();
-        kept.attributes.insert("a".into(), value);
-        kept.trace = Some(AttributeValue::new("t", "String", Some("Root=1"), None).unwrap());
-        let form = Form::new(&kept, &Body::parse("one\ntwo").unwrap()).unwrap();
-        assert_eq!(read_form(form.stored()), Some((kept.clone(), "one\ntwo")));
-        assert_eq!(Head::of_form(form.stored()), Some(Head { id: kept.id, sent: Some(kept.sent) }));
+        metadata.attributes.insert("a".into(), value);
+        metadata.trace = Some(AttributeValue::new("t", "String", Some("Root=1"), None).unwrap());
+        let form = Form::new(&metadata, &Body::parse("one\ntwo").unwrap()).unwrap();
+        assert_eq!(read_form(form.stored()), Some((metadata.clone(), "one\ntwo")));
+        assert_eq!(Head::of_form(form.stored()), Some(Head { id: metadata.id, sent: Some(metadata.sent) }));
         assert_eq!(read_form("hello"), None);
     }
 
     #[test]
     fn a_form_above_the_stores_limit_is_split() {
         let body = Body::parse(&"x".repeat(STORE_LIMIT)).unwrap();
-        let form = Form::new(&kept(), &body).unwrap();
+        let form = Form::new(&metadata(), &body).unwrap();
         assert!(matches!(&form, Form::Split { whole, .. } if read_form(whole).unwrap().1 == body.as_str()));
         assert_eq!(Head::of_form(form.stored()), Some(Head { id: Uuid::from_u128(7), sent: None }));
         assert!(read_form(form.stored()).is_none());

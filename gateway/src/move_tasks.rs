@@ -185,7 +185,7 @@ fn by_target(
 ) -> Result<BTreeMap<QueueName, Vec<Handed>>, Failure> {
     let mut by_target: BTreeMap<QueueName, Vec<Handed>> = BTreeMap::new();
     for handed in due {
-        let source = || read_form(&handed.form).and_then(|(kept, _)| kept.source);
+        let source = || read_form(&handed.form).and_then(|(metadata, _)| metadata.source);
         let target = task.destination.clone().or_else(source);
         let target = target.ok_or(Failure::Ends("CouldNotDetermineMessageSource"))?;
         if !may_move_to(rights, task, &target) {

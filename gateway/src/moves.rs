@@ -185,16 +185,16 @@ async fn copy_all(
 /// queue, and of one that leaves a dead-letter queue its id.
 fn copy_of(store: &Store, queue: &Queue, handed: &Handed, kind: Kind) -> Result<Ask, SqsError> {
     let no_form = || SqsError::InternalFailure("The store has a message in no form.".into());
-    let (mut kept, body) = read_form(&handed.form).ok_or_else(no_form)?;
+    let (mut metadata, body) = read_form(&handed.form).ok_or_else(no_form)?;
     // Only in a standard queue a dead letter is as old as it was (Developer Guide, "Amazon SQS dead-letter queues").
     if kind == Kind::Redrive || queue.name.kind() == QueueKind::Fifo {
-        kept.sent = store.clock().now();
+        metadata.sent = store.clock().now();
     }
-    kept.source = (kind == Kind::DeadLetter).then(|| queue.name.clone());
+    metadata.source = (kind == Kind::DeadLetter).then(|| queue.name.clone());
     if kind == Kind::Redrive {
-        kept.id = Builder::from_random_bytes(rand::random()).into_uuid();
+        metadata.id = Builder::from_random_bytes(rand::random()).into_uuid();
     }
-    let form = Form::new(&kept, &Body::parse(body)?).map_err(|_| no_form())?;
+    let form = Form::new(&metadata, &Body::parse(body)?).map_err(|_| no_form())?;
     let group = GroupId::parse(&handed.group)?;
     let dedup = DedupId::parse(&hex(&rand::random::<[u8; 16]>()))?;
     Ok(Ask::Send { group, dedup, form, cause: Cause::Move(origin_of(queue, handed)) })

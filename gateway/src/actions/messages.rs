@@ -8,7 +8,7 @@ use super::{Actions, Caller, Performed};
 use crate::attributes::LONGEST_MESSAGE;
 use crate::digests::{md5_of_attributes, md5_of_text};
 use crate::errors::SqsError;
-use crate::messages::{Form, Kept, MessageAttributes, TRACE_HEADER};
+use crate::messages::{Form, MessageAttributes, Metadata, TRACE_HEADER};
 use crate::queues::ask::{Ask, Cause, Changer, Delayed, Outcome, TableChange};
 use crate::queues::Queue;
 use crate::store::{Answer, Operation};
@@ -65,10 +65,10 @@ impl Actions {
             Sending::Fifo { group, dedup } => self.fifo_send(queue, group, dedup.as_ref(), message, caller),
             Sending::Standard { group, delay } => {
                 let call = caller.call.map(|call| DedupId::of_call(&call, entry));
-                let kept = Kept { group: group.clone(), ..self.kept(message, caller) };
+                let metadata = Metadata { group: group.clone(), ..self.metadata(message, caller) };
                 let own_delay = queue.state().attributes.delay();
                 let delay = delay.map_or(own_delay, |seconds| 1000 * u64::from(seconds));
-                standard_send(&kept, call, delay, &message.body)
+                standard_send(&metadata, call, delay, &message.body)
             }
         }
     }
@@ -91,14 +91,14 @@ impl Actions {
             None => return Err(SqsError::missing_dedup_id()),
         };
         let for_store = if by_group { dedup.within(group) } else { dedup.clone() };
-        let kept = Kept { dedup: Some(dedup), ..self.kept(message, caller) };
-        let form = Form::new(&kept, &message.body).map_err(cannot_be_kept)?;
+        let metadata = Metadata { dedup: Some(dedup), ..self.metadata(message, caller) };
+        let form = Form::new(&metadata, &message.body).map_err(cannot_be_kept)?;
         Ok(Operation::Ask(Ask::Send { group: group.clone(), dedup: for_store, form, cause: Cause::Client }))
     }
 
-    /// What is kept of a message of either kind of queue.
-    fn kept(&self, message: &Message, caller: &Caller) -> Kept {
-        Kept {
+    /// The metadata of a message of either kind of queue.
+    fn metadata(&self, message: &Message, caller: &Caller) -> Metadata {
+        Metadata {
             id: Uuid::new_v4(),
             sent: self.store.clock().now(),
             dedup: None,
@@ -198,14 +198,14 @@ fn cannot_be_kept(error: serde_json::Error) -> SqsError {
 
 /// Sends a message to a standard queue: at once, or into the tables where it is delayed, by `delay` milliseconds. Where
 /// repeats of the call can be told, `call` stands for this message of it.
-fn standard_send(kept: &Kept, call: Option<DedupId>, delay: u64, body: &Body) -> Result<Operation, SqsError> {
-    let form = Form::new(kept, body).map_err(cannot_be_kept)?;
+fn standard_send(metadata: &Metadata, call: Option<DedupId>, delay: u64, body: &Body) -> Result<Operation, SqsError> {
+    let form = Form::new(metadata, body).map_err(cannot_be_kept)?;
     if delay > 0 {
-        let delayed = Delayed { id: kept.id, due: kept.sent + delay, call, form: form.into_whole() };
+        let delayed = Delayed { id: metadata.id, due: metadata.sent + delay, call, form: form.into_whole() };
         return Ok(Operation::Change(TableChange::Delayed(Arc::new(delayed))));
     }
-    let dedup = call.unwrap_or_else(|| DedupId::of_message(kept.id));
-    Ok(Operation::Ask(Ask::Send { group: GroupId::of_message(kept.id), dedup, form, cause: Cause::Client }))
+    let dedup = call.unwrap_or_else(|| DedupId::of_message(metadata.id));
+    Ok(Operation::Ask(Ask::Send { group: GroupId::of_message(metadata.id), dedup, form, cause: Cause::Client }))
 }
 
 fn no_answer() -> SqsError {

@@ -9,7 +9,7 @@ use crate::deliveries::{self, has_most_in_flight, Delivered};
 use crate::digests::{md5_of_attributes, md5_of_text};
 use crate::errors::SqsError;
 use crate::handles::Handle;
-use crate::messages::{read_form, Kept, MessageAttributes};
+use crate::messages::{read_form, MessageAttributes, Metadata};
 use crate::polling::{self, Waiting};
 use crate::queues::ask::{Ask, Changer, Handed};
 use crate::queues::Queue;
@@ -35,8 +35,8 @@ impl Actions {
         };
         let visibility = receive.visibility.unwrap_or(own_visibility);
         let wait = u64::from(receive.wait.unwrap_or(own_wait));
-        let kept = receive.shown.bytes_kept();
-        if !caller.share.try_set(kept + queue.state().most_handed(receive.size)) {
+        let request_bytes = receive.shown.bytes_kept();
+        if !caller.share.try_set(request_bytes + queue.state().most_handed(receive.size)) {
             return Err(SqsError::ServiceUnavailable("Too many requests are being served.".into()));
         }
         if let Some(handed) = self.receive_again(&queue, &receive, visibility).await? {
@@ -51,7 +51,7 @@ impl Actions {
         if handed.is_empty() && wait > 0 {
             let _permit = self.polls.try_acquire().map_err(|_| too_many_polls())?;
             let _counted = self.metrics.poll();
-            caller.share.set(kept);
+            caller.share.set(request_bytes);
             let (presence, time) = (caller.presence.clone(), Duration::from_secs(wait));
             let waiting = Waiting { presence, time, ending: self.ending.clone() };
             // Receives that wait for nothing don't pay for its size.
@@ -86,16 +86,16 @@ impl Actions {
 
 /// A message as it is told: what of it was asked for.
 pub fn show(queue: &Queue, handed: &Handed, shown: &Shown, owner: &Owner) -> Result<ReceivedMessage, SqsError> {
-    let (kept, body) = read_form(&handed.form)
+    let (metadata, body) = read_form(&handed.form)
         .ok_or_else(|| SqsError::InternalFailure("The store has a message in no form.".into()))?;
     let handle = Handle { mark: queue.mark, receipt: handed.receipt, moment: handed.moment };
     let system = shown.system().iter();
-    let told = |one: &SystemAttribute| Some((one.name(), told(*one, queue.name.kind(), handed, &kept, owner)?));
+    let told = |one: &SystemAttribute| Some((one.name(), told(*one, queue.name.kind(), handed, &metadata, owner)?));
     let attributes = system.filter_map(told).collect();
-    let wanted = kept.attributes.into_iter().filter(|(name, _)| shown.has(name));
+    let wanted = metadata.attributes.into_iter().filter(|(name, _)| shown.has(name));
     let message_attributes: MessageAttributes = wanted.collect();
     Ok(ReceivedMessage {
-        message_id: kept.id.to_string(),
+        message_id: metadata.id.to_string(),
         receipt_handle: handle.outward(),
         md5_of_body: md5_of_text(body),
         body: body.into(),
@@ -109,19 +109,25 @@ fn too_many_polls() -> SqsError {
     SqsError::ServiceUnavailable("Too many long polls are open.".into())
 }
 
-fn told(attribute: SystemAttribute, kind: QueueKind, handed: &Handed, kept: &Kept, owner: &Owner) -> Option<String> {
+fn told(
+    attribute: SystemAttribute,
+    kind: QueueKind,
+    handed: &Handed,
+    metadata: &Metadata,
+    owner: &Owner,
+) -> Option<String> {
     Some(match attribute {
-        SystemAttribute::SenderId => kept.sender.as_deref().unwrap_or(SENDER).into(),
-        SystemAttribute::SentTimestamp => kept.sent.to_string(),
+        SystemAttribute::SenderId => metadata.sender.as_deref().unwrap_or(SENDER).into(),
+        SystemAttribute::SentTimestamp => metadata.sent.to_string(),
         SystemAttribute::ApproximateReceiveCount => handed.count.to_string(),
         SystemAttribute::ApproximateFirstReceiveTimestamp => handed.first.to_string(),
-        SystemAttribute::DeadLetterQueueSourceArn => owner.arn(kept.source.as_ref()?.as_str()),
+        SystemAttribute::DeadLetterQueueSourceArn => owner.arn(metadata.source.as_ref()?.as_str()),
         SystemAttribute::SequenceNumber => sequence_number(kind, handed.receipt.sequence)?,
         SystemAttribute::MessageGroupId => match kind {
             QueueKind::Fifo => handed.group.clone(),
-            QueueKind::Standard => kept.group.as_ref()?.as_str().into(),
+            QueueKind::Standard => metadata.group.as_ref()?.as_str().into(),
         },
-        SystemAttribute::MessageDeduplicationId => kept.dedup.as_ref()?.as_str().into(),
-        SystemAttribute::TraceHeader => kept.trace.as_ref()?.text()?.into(),
+        SystemAttribute::MessageDeduplicationId => metadata.dedup.as_ref()?.as_str().into(),
+        SystemAttribute::TraceHeader => metadata.trace.as_ref()?.text()?.into(),
     })
 }

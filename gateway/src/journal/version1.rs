@@ -22,7 +22,7 @@ use super::segments::{Head, JournalError};
 use crate::attributes::{Given, QueueAttributes};
 use crate::cq::{Cq, CqError};
 use crate::lines::{self, read_receipt, Fields, Kind, Output, StoreReply};
-use crate::messages::{read_form, AttributeValue, Form, Kept, MessageAttributes};
+use crate::messages::{read_form, AttributeValue, Form, MessageAttributes, Metadata};
 use crate::queues::ask::{Ask, Cause, Changer, Creation, StoreName, TableChange};
 use crate::queues::shards::Shards;
 use crate::store::ReplayError;
@@ -268,7 +268,7 @@ impl Conversion {
                     Some(dedup) => DedupId::parse(dedup).ok()?,
                     None => DedupId::of_body(body),
                 };
-                let kept = Kept {
+                let metadata = Metadata {
                     id: old_message_id(&queue.mark, queue.sends),
                     sent: clock,
                     dedup: Some(message.dedup),
@@ -278,7 +278,7 @@ impl Conversion {
                     trace: message.trace,
                     source: None,
                 };
-                let form = Form::new(&kept, &Body::parse(body).ok()?).ok()?;
+                let form = Form::new(&metadata, &Body::parse(body).ok()?).ok()?;
                 if let Form::Split { stub, whole } = &form {
                     self.split.insert(stub.clone(), whole.clone());
                 }
