@@ -11,7 +11,7 @@ use tokio::sync::Notify;
 
 use crate::clock::{Clock, Moment};
 use crate::errors::SqsError;
-use crate::messages::Form;
+use crate::messages::Envelope;
 use crate::queues::ask::{Ask, Cause, Delayed};
 use crate::queues::Queue;
 use crate::store::Store;
@@ -177,8 +177,9 @@ fn put_behind(store: &Store, queue: &Queue, message: &Delayed, error: &SqsError)
 }
 
 fn send_of(message: &Delayed) -> Result<Ask, SqsError> {
-    let form = Form::of_whole(message.id, message.form.clone());
-    let form = form.map_err(|error| SqsError::InternalFailure(format!("The message can't be kept: {error}")))?;
+    let envelope = Envelope::of_whole(message.id, message.envelope.clone());
+    let envelope =
+        envelope.map_err(|error| SqsError::InternalFailure(format!("The message can't be kept: {error}")))?;
     let (group, dedup) = (GroupId::of_message(message.id), DedupId::of_message(message.id));
-    Ok(Ask::Send { group, dedup, form, cause: Cause::Due(message.id) })
+    Ok(Ask::Send { group, dedup, envelope, cause: Cause::Due(message.id) })
 }

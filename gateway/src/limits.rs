@@ -8,8 +8,8 @@ const FULL: u64 = 95;
 /// One that was full is so until less than this share is in use, in percent.
 const FREE: u64 = 90;
 
-/// What a message takes in the tables and in the store beside its form, its deduplication id among it, in bytes. With
-/// 50,000 messages in as many groups both processes grew by 1,899 bytes each, and their forms had 214.
+/// What a message takes in the tables and in the store beside its envelope, its deduplication id among it, in bytes. With
+/// 50,000 messages in as many groups both processes grew by 1,899 bytes each, and their envelopes had 214.
 pub const MESSAGE_BYTES: u64 = 1_700;
 
 /// What a queue takes in the tables and in the store beside the texts of its attributes and tags, in bytes.
@@ -26,7 +26,7 @@ pub const CALL_BYTES: u64 = 120;
 /// How much may be in use; none where nobody asks.
 #[derive(Clone, Copy, Debug, Default, PartialEq, Eq)]
 pub struct Bounds {
-    /// Of memory, in bytes: forms of messages, and fixed estimates for messages and for ids that outlive theirs.
+    /// Of memory, in bytes: envelopes of messages, and fixed estimates for messages and for ids that outlive theirs.
     pub memory: Option<u64>,
     /// Of the journal, in bytes that stand in its files. What is allocated ahead comes on top.
     pub journal: Option<u64>,

@@ -62,10 +62,10 @@ impl<'a> Fields<'a> {
                 Fields { visibility: Some(*visibility), ..Fields::new(Kind::Create, *store) }
             }
             Ask::Remove { store, .. } => Fields::new(Kind::Remove, *store),
-            Ask::Send { group, dedup, form, .. } => Fields {
+            Ask::Send { group, dedup, envelope, .. } => Fields {
                 group: Some(group.as_str().into()),
                 dedup: Some(dedup.as_str().into()),
-                body: Some(form.stored().into()),
+                body: Some(envelope.stored().into()),
                 ..Fields::new(Kind::Send, queue)
             },
             Ask::Receive { size, visibility, .. } => {

@@ -1,4 +1,4 @@
-//! What a message has beside its body, and the one form in which all of it stands in the store.
+//! What a message has beside its body, and the envelope in which all of it stands in the store.
 
 use std::collections::BTreeMap;
 
@@ -217,7 +217,7 @@ pub struct Metadata {
     pub source: Option<QueueName>,
 }
 
-/// The head of a form that says that the rest of it stands elsewhere.
+/// The head of a envelope that says that the rest of it stands elsewhere.
 #[derive(Serialize, Deserialize)]
 struct Elsewhere {
     id: Uuid,
@@ -226,80 +226,80 @@ struct Elsewhere {
 
 /// A message as it goes into the store in place of its body.
 #[derive(Clone, Debug, PartialEq, Eq)]
-pub enum Form {
+pub enum Envelope {
     /// The metadata as one line of JSON, and behind it the body.
     Whole(String),
     /// The store takes no text so long: it has `stub`, and the gateway and its journal have `whole`.
     Split { stub: String, whole: String },
 }
 
-impl Form {
-    /// The form of a message. It is split where it is longer than the store takes.
-    pub fn new(metadata: &Metadata, body: &Body) -> Result<Form, serde_json::Error> {
+impl Envelope {
+    /// The envelope of a message. It is split where it is longer than the store takes.
+    pub fn new(metadata: &Metadata, body: &Body) -> Result<Envelope, serde_json::Error> {
         let mut whole = serde_json::to_string(metadata)?;
         whole.reserve_exact(1 + body.as_str().len());
         whole.push('\n');
         whole.push_str(body.as_str());
-        Form::of_whole(metadata.id, whole)
+        Envelope::of_whole(metadata.id, whole)
     }
 
-    /// The form of the message of this id whose whole form this is.
-    pub fn of_whole(id: Uuid, whole: String) -> Result<Form, serde_json::Error> {
+    /// The envelope of the message of this id, by its whole text.
+    pub fn of_whole(id: Uuid, whole: String) -> Result<Envelope, serde_json::Error> {
         if whole.len() <= STORE_LIMIT {
-            return Ok(Form::Whole(whole));
+            return Ok(Envelope::Whole(whole));
         }
         let stub = serde_json::to_string(&Elsewhere { id, elsewhere: true })?;
-        Ok(Form::Split { stub, whole })
+        Ok(Envelope::Split { stub, whole })
     }
 
     /// What the store has.
     pub fn stored(&self) -> &str {
         match self {
-            Form::Whole(whole) => whole,
-            Form::Split { stub, .. } => stub,
+            Envelope::Whole(whole) => whole,
+            Envelope::Split { stub, .. } => stub,
         }
     }
 
     /// All of it.
     pub fn whole(&self) -> &str {
         match self {
-            Form::Whole(whole) | Form::Split { whole, .. } => whole,
+            Envelope::Whole(whole) | Envelope::Split { whole, .. } => whole,
         }
     }
 
     pub fn into_whole(self) -> String {
         match self {
-            Form::Whole(whole) | Form::Split { whole, .. } => whole,
+            Envelope::Whole(whole) | Envelope::Split { whole, .. } => whole,
         }
     }
 
     /// How many bytes it has, in the store and beside it.
     pub fn bytes(&self) -> u64 {
         match self {
-            Form::Whole(whole) => whole.len() as u64,
-            Form::Split { stub, whole } => (stub.len() + whole.len()) as u64,
+            Envelope::Whole(whole) => whole.len() as u64,
+            Envelope::Split { stub, whole } => (stub.len() + whole.len()) as u64,
         }
     }
 }
 
-/// The metadata of a message and its body, read from its whole form. None if the text is no form.
-pub fn read_form(whole: &str) -> Option<(Metadata, &str)> {
+/// The metadata of a message and its body, read from its whole envelope. None if the text is no envelope.
+pub fn read_envelope(whole: &str) -> Option<(Metadata, &str)> {
     let (metadata, body) = whole.split_once('\n')?;
     Some((serde_json::from_str(metadata).ok()?, body))
 }
 
 /// The metadata that the tables need.
 #[derive(Clone, Copy, Debug, PartialEq, Eq, Deserialize)]
-pub struct Head {
+pub struct EnvelopeHead {
     pub id: Uuid,
-    /// In a whole form.
+    /// In a whole envelope.
     pub sent: Option<Moment>,
 }
 
-impl Head {
-    /// The head of a form, whole or not. Takes time in proportion to its first line.
-    pub fn of_form(form: &str) -> Option<Head> {
-        serde_json::from_str(form.split('\n').next()?).ok()
+impl EnvelopeHead {
+    /// The head of a envelope, whole or not. Takes time in proportion to its first line.
+    pub fn of(envelope: &str) -> Option<EnvelopeHead> {
+        serde_json::from_str(envelope.split('\n').next()?).ok()
     }
 }
 
@@ -388,18 +388,21 @@ mod tests {
         let value = AttributeValue::new("a", "Binary.x", None, Some("AP8=")).unwrap();
         metadata.attributes.insert("a".into(), value);
         metadata.trace = Some(AttributeValue::new("t", "String", Some("Root=1"), None).unwrap());
-        let form = Form::new(&metadata, &Body::parse("one\ntwo").unwrap()).unwrap();
-        assert_eq!(read_form(form.stored()), Some((metadata.clone(), "one\ntwo")));
-        assert_eq!(Head::of_form(form.stored()), Some(Head { id: metadata.id, sent: Some(metadata.sent) }));
-        assert_eq!(read_form("hello"), None);
+        let envelope = Envelope::new(&metadata, &Body::parse("one\ntwo").unwrap()).unwrap();
+        assert_eq!(read_envelope(envelope.stored()), Some((metadata.clone(), "one\ntwo")));
+        assert_eq!(
+            EnvelopeHead::of(envelope.stored()),
+            Some(EnvelopeHead { id: metadata.id, sent: Some(metadata.sent) })
+        );
+        assert_eq!(read_envelope("hello"), None);
     }
 
     #[test]
     fn a_form_above_the_stores_limit_is_split() {
         let body = Body::parse(&"x".repeat(STORE_LIMIT)).unwrap();
-        let form = Form::new(&metadata(), &body).unwrap();
-        assert!(matches!(&form, Form::Split { whole, .. } if read_form(whole).unwrap().1 == body.as_str()));
-        assert_eq!(Head::of_form(form.stored()), Some(Head { id: Uuid::from_u128(7), sent: None }));
-        assert!(read_form(form.stored()).is_none());
+        let envelope = Envelope::new(&metadata(), &body).unwrap();
+        assert!(matches!(&envelope, Envelope::Split { whole, .. } if read_envelope(whole).unwrap().1 == body.as_str()));
+        assert_eq!(EnvelopeHead::of(envelope.stored()), Some(EnvelopeHead { id: Uuid::from_u128(7), sent: None }));
+        assert!(read_envelope(envelope.stored()).is_none());
     }
 }

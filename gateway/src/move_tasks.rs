@@ -10,7 +10,7 @@ use uuid::Uuid;
 use crate::access::Keys;
 use crate::clock::Moment;
 use crate::errors::SqsError;
-use crate::messages::read_form;
+use crate::messages::read_envelope;
 use crate::moves::{give_back, move_all, Kind};
 use crate::queues::ask::{Ask, Handed, Outcome, TableChange};
 use crate::queues::Queue;
@@ -185,7 +185,7 @@ fn by_target(
 ) -> Result<BTreeMap<QueueName, Vec<Handed>>, Failure> {
     let mut by_target: BTreeMap<QueueName, Vec<Handed>> = BTreeMap::new();
     for handed in due {
-        let source = || read_form(&handed.form).and_then(|(metadata, _)| metadata.source);
+        let source = || read_envelope(&handed.envelope).and_then(|(metadata, _)| metadata.source);
         let target = task.destination.clone().or_else(source);
         let target = target.ok_or(Failure::Ends("CouldNotDetermineMessageSource"))?;
         if !may_move_to(rights, task, &target) {

@@ -13,7 +13,7 @@ use uuid::Builder;
 
 use crate::errors::SqsError;
 use crate::handles::Receipt;
-use crate::messages::{read_form, Form};
+use crate::messages::{read_envelope, Envelope};
 use crate::queues::ask::{Ask, Cause, Changer, Handed};
 use crate::queues::Queue;
 use crate::store::Store;
@@ -184,8 +184,8 @@ async fn copy_all(
 /// The send of a copy. Clients see the message as it was, but for the moment of its send and what it says of its
 /// queue, and of one that leaves a dead-letter queue its id.
 fn copy_of(store: &Store, queue: &Queue, handed: &Handed, kind: Kind) -> Result<Ask, SqsError> {
-    let no_form = || SqsError::InternalFailure("The store has a message in no form.".into());
-    let (mut metadata, body) = read_form(&handed.form).ok_or_else(no_form)?;
+    let no_envelope = || SqsError::InternalFailure("The store has a message in no form.".into());
+    let (mut metadata, body) = read_envelope(&handed.envelope).ok_or_else(no_envelope)?;
     // Only in a standard queue a dead letter is as old as it was (Developer Guide, "Amazon SQS dead-letter queues").
     if kind == Kind::Redrive || queue.name.kind() == QueueKind::Fifo {
         metadata.sent = store.clock().now();
@@ -194,10 +194,10 @@ fn copy_of(store: &Store, queue: &Queue, handed: &Handed, kind: Kind) -> Result<
     if kind == Kind::Redrive {
         metadata.id = Builder::from_random_bytes(rand::random()).into_uuid();
     }
-    let form = Form::new(&metadata, &Body::parse(body)?).map_err(|_| no_form())?;
+    let envelope = Envelope::new(&metadata, &Body::parse(body)?).map_err(|_| no_envelope())?;
     let group = GroupId::parse(&handed.group)?;
     let dedup = DedupId::parse(&hex(&rand::random::<[u8; 16]>()))?;
-    Ok(Ask::Send { group, dedup, form, cause: Cause::Move(origin_of(queue, handed)) })
+    Ok(Ask::Send { group, dedup, envelope, cause: Cause::Move(origin_of(queue, handed)) })
 }
 
 /// Lets messages be handed out again at once, as far as they are still there and in flight.

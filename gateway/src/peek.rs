@@ -220,11 +220,11 @@ impl Page {
     }
 
     fn add(&mut self, peeked: Peeked, wanted: &Wanted, queue: &Queue, owner: &Owner) -> Result<(), SqsError> {
-        let Peeked { visibility, sequence, group, count, first, form, .. } = peeked;
-        let (first, form) = (first.unwrap_or(0), Arc::<str>::from(form));
-        self.bytes += form.len();
+        let Peeked { visibility, sequence, group, count, first, envelope, .. } = peeked;
+        let (first, envelope) = (first.unwrap_or(0), Arc::<str>::from(envelope));
+        self.bytes += envelope.len();
         let receipt = Receipt { sequence, ordinal: 0 };
-        let handed = Handed { receipt, count, moment: 0, first, group, form };
+        let handed = Handed { receipt, count, moment: 0, first, group, envelope };
         let mut message =
             ReceivedMessage { receipt_handle: HANDLE.into(), ..show(queue, &handed, &Shown::all(), owner)? };
         if wanted.shows_in_flight {

@@ -8,7 +8,7 @@ use super::{Actions, Caller, Performed};
 use crate::attributes::LONGEST_MESSAGE;
 use crate::digests::{md5_of_attributes, md5_of_text};
 use crate::errors::SqsError;
-use crate::messages::{Form, MessageAttributes, Metadata, TRACE_HEADER};
+use crate::messages::{Envelope, MessageAttributes, Metadata, TRACE_HEADER};
 use crate::queues::ask::{Ask, Cause, Changer, Delayed, Outcome, TableChange};
 use crate::queues::Queue;
 use crate::store::{Answer, Operation};
@@ -92,8 +92,8 @@ impl Actions {
         };
         let for_store = if by_group { dedup.within(group) } else { dedup.clone() };
         let metadata = Metadata { dedup: Some(dedup), ..self.metadata(message, caller) };
-        let form = Form::new(&metadata, &message.body).map_err(cannot_be_kept)?;
-        Ok(Operation::Ask(Ask::Send { group: group.clone(), dedup: for_store, form, cause: Cause::Client }))
+        let envelope = Envelope::new(&metadata, &message.body).map_err(cannot_be_kept)?;
+        Ok(Operation::Ask(Ask::Send { group: group.clone(), dedup: for_store, envelope, cause: Cause::Client }))
     }
 
     /// The metadata of a message of either kind of queue.
@@ -199,13 +199,13 @@ fn cannot_be_kept(error: serde_json::Error) -> SqsError {
 /// Sends a message to a standard queue: at once, or into the tables where it is delayed, by `delay` milliseconds. Where
 /// repeats of the call can be told, `call` stands for this message of it.
 fn standard_send(metadata: &Metadata, call: Option<DedupId>, delay: u64, body: &Body) -> Result<Operation, SqsError> {
-    let form = Form::new(metadata, body).map_err(cannot_be_kept)?;
+    let envelope = Envelope::new(metadata, body).map_err(cannot_be_kept)?;
     if delay > 0 {
-        let delayed = Delayed { id: metadata.id, due: metadata.sent + delay, call, form: form.into_whole() };
+        let delayed = Delayed { id: metadata.id, due: metadata.sent + delay, call, envelope: envelope.into_whole() };
         return Ok(Operation::Change(TableChange::Delayed(Arc::new(delayed))));
     }
     let dedup = call.unwrap_or_else(|| DedupId::of_message(metadata.id));
-    Ok(Operation::Ask(Ask::Send { group: GroupId::of_message(metadata.id), dedup, form, cause: Cause::Client }))
+    Ok(Operation::Ask(Ask::Send { group: GroupId::of_message(metadata.id), dedup, envelope, cause: Cause::Client }))
 }
 
 fn no_answer() -> SqsError {

@@ -9,7 +9,7 @@ use crate::deliveries::{self, has_most_in_flight, Delivered};
 use crate::digests::{md5_of_attributes, md5_of_text};
 use crate::errors::SqsError;
 use crate::handles::Handle;
-use crate::messages::{read_form, MessageAttributes, Metadata};
+use crate::messages::{read_envelope, MessageAttributes, Metadata};
 use crate::polling::{self, Waiting};
 use crate::queues::ask::{Ask, Changer, Handed};
 use crate::queues::Queue;
@@ -86,7 +86,7 @@ impl Actions {
 
 /// A message as it is told: what of it was asked for.
 pub fn show(queue: &Queue, handed: &Handed, shown: &Shown, owner: &Owner) -> Result<ReceivedMessage, SqsError> {
-    let (metadata, body) = read_form(&handed.form)
+    let (metadata, body) = read_envelope(&handed.envelope)
         .ok_or_else(|| SqsError::InternalFailure("The store has a message in no form.".into()))?;
     let handle = Handle { mark: queue.mark, receipt: handed.receipt, moment: handed.moment };
     let system = shown.system().iter();

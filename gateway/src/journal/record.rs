@@ -10,7 +10,7 @@ use uuid::Uuid;
 
 use crate::clock::Moment;
 use crate::lines::{read_receipt, Fields, Kind};
-use crate::messages::Form;
+use crate::messages::Envelope;
 use crate::moves::Origin;
 use crate::queues::ask::{Ask, Cause, Changer, Creation, StoreName, TableChange};
 use crate::texts::{hex, AttemptId, DedupId, GroupId, QueueName};
@@ -31,9 +31,9 @@ pub struct Record<'a> {
     /// Of a removal that a client asked for.
     #[serde(default, skip_serializing_if = "Option::is_none")]
     pub removed: Option<QueueName>,
-    /// Of a send whose form the store can't take.
-    #[serde(borrow, default, skip_serializing_if = "Option::is_none")]
-    pub form: Option<Cow<'a, str>>,
+    /// Of a send whose envelope the store can't take.
+    #[serde(borrow, rename = "form", default, skip_serializing_if = "Option::is_none")]
+    pub envelope: Option<Cow<'a, str>>,
     /// Of a send that moves a message.
     #[serde(default, skip_serializing_if = "Option::is_none")]
     pub copies: Option<Origin>,
@@ -70,7 +70,7 @@ impl<'a> Record<'a> {
             digest: None,
             creation: None,
             removed: None,
-            form: None,
+            envelope: None,
             copies: None,
             due: None,
             attempt: None,
@@ -91,11 +91,11 @@ impl<'a> Record<'a> {
         match ask {
             Ask::Create { creation, .. } => record.creation = Some(creation.clone()),
             Ask::Remove { name, .. } => record.removed = name.clone(),
-            Ask::Send { form, cause, .. } => {
+            Ask::Send { envelope, cause, .. } => {
                 record.copies = cause.origin();
                 record.due = cause.due();
-                if let Form::Split { whole, .. } = form {
-                    record.form = Some(whole.into());
+                if let Envelope::Split { whole, .. } = envelope {
+                    record.envelope = Some(whole.into());
                 }
             }
             Ask::Receive { attempt, most, own, .. } => {
@@ -160,7 +160,7 @@ impl<'a> Record<'a> {
             Kind::Send => Ask::Send {
                 group: GroupId::parse(fields.group.as_deref()?).ok()?,
                 dedup: DedupId::parse(fields.dedup.as_deref()?).ok()?,
-                form: self.form_of(fields.body?.into_owned()),
+                envelope: self.envelope_of(fields.body?.into_owned()),
                 cause: self.cause(),
             },
             Kind::Receive => Ask::Receive {
@@ -184,10 +184,10 @@ impl<'a> Record<'a> {
         moved.or(self.due.map(Cause::Due)).unwrap_or(Cause::Client)
     }
 
-    fn form_of(&self, stored: String) -> Form {
-        match &self.form {
-            None => Form::Whole(stored),
-            Some(whole) => Form::Split { stub: stored, whole: whole.to_string() },
+    fn envelope_of(&self, stored: String) -> Envelope {
+        match &self.envelope {
+            None => Envelope::Whole(stored),
+            Some(whole) => Envelope::Split { stub: stored, whole: whole.to_string() },
         }
     }
 }
@@ -219,17 +219,17 @@ mod tests {
 
     #[test]
     fn records_come_back() {
-        let form = Form::Split { stub: "s".into(), whole: "a\nb".into() };
+        let envelope = Envelope::Split { stub: "s".into(), whole: "a\nb".into() };
         let (group, dedup) = (GroupId::parse("g").unwrap(), DedupId::parse("d").unwrap());
         let receipt = Receipt { sequence: 15, ordinal: 1 };
         for ask in [
             Ask::Send {
                 group: group.clone(),
                 dedup: dedup.clone(),
-                form: form.clone(),
+                envelope: envelope.clone(),
                 cause: Cause::Move(Origin { mark: 1, sequence: 2 }),
             },
-            Ask::Send { group, dedup, form, cause: Cause::Due(Uuid::from_u128(7)) },
+            Ask::Send { group, dedup, envelope, cause: Cause::Due(Uuid::from_u128(7)) },
             Ask::Receive { size: 3, visibility: 9, attempt: AttemptId::parse("x").ok(), most: Some(2), own: false },
             Ask::Receive { size: 3, visibility: 0, attempt: None, most: None, own: true },
             Ask::ChangeVisibility { receipt, visibility: 5, by: Changer::Attempt },

@@ -22,7 +22,7 @@ use super::segments::{Head, JournalError};
 use crate::attributes::{Given, QueueAttributes};
 use crate::cq::{Cq, CqError};
 use crate::lines::{self, read_receipt, Fields, Kind, Output, StoreReply};
-use crate::messages::{read_form, AttributeValue, Form, MessageAttributes, Metadata};
+use crate::messages::{read_envelope, AttributeValue, Envelope, MessageAttributes, Metadata};
 use crate::queues::ask::{Ask, Cause, Changer, Creation, StoreName, TableChange};
 use crate::queues::shards::Shards;
 use crate::store::ReplayError;
@@ -216,7 +216,7 @@ struct Conversion {
     records: u64,
     number: u64,
     asked: Vec<Asked>,
-    /// The whole forms of messages of which the store has a stub.
+    /// The whole envelopes of messages of which the store has a stub.
     split: HashMap<String, String>,
     /// The lines of the commit to come.
     out: Vec<u8>,
@@ -278,11 +278,16 @@ impl Conversion {
                     trace: message.trace,
                     source: None,
                 };
-                let form = Form::new(&metadata, &Body::parse(body).ok()?).ok()?;
-                if let Form::Split { stub, whole } = &form {
+                let envelope = Envelope::new(&metadata, &Body::parse(body).ok()?).ok()?;
+                if let Envelope::Split { stub, whole } = &envelope {
                     self.split.insert(stub.clone(), whole.clone());
                 }
-                Ask::Send { group: GroupId::parse(fields.group.as_deref()?).ok()?, dedup, form, cause: Cause::Client }
+                Ask::Send {
+                    group: GroupId::parse(fields.group.as_deref()?).ok()?,
+                    dedup,
+                    envelope,
+                    cause: Cause::Client,
+                }
             }
             Kind::Receive => {
                 let (size, visibility) = (fields.size.unwrap_or(1), fields.visibility?);
@@ -427,7 +432,7 @@ fn old_reply<'a>(reply: &'a StoreReply, incarnation: u64, split: &'a HashMap<Str
                 let receipt = read_receipt(&one.receipt, 0)?;
                 let receipt = format!("{incarnation}-{}-{}", receipt.sequence, receipt.ordinal);
                 let whole = split.get(&one.body).unwrap_or(&one.body);
-                let body = read_form(whole)?.1;
+                let body = read_envelope(whole)?.1;
                 messages.push(OldGiven { body: body.into(), group: &one.group, receipt });
             }
             OldReply { messages: Some(messages), ..plain("received") }

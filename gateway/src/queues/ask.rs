@@ -9,7 +9,7 @@ use uuid::Uuid;
 use crate::attributes::{Given, QueueAttributes};
 use crate::clock::Moment;
 use crate::handles::Receipt;
-use crate::messages::Form;
+use crate::messages::Envelope;
 use crate::move_tasks::MoveTask;
 use crate::moves::Origin;
 use crate::texts::{AttemptId, DedupId, GroupId, QueueName};
@@ -46,7 +46,7 @@ pub enum Ask {
     Send {
         group: GroupId,
         dedup: DedupId,
-        form: Form,
+        envelope: Envelope,
         cause: Cause,
     },
     Receive {
@@ -127,8 +127,9 @@ pub struct Delayed {
     /// What stands for the client's call, where that can be told from others.
     #[serde(default, skip_serializing_if = "Option::is_none")]
     pub call: Option<DedupId>,
-    /// Its whole form.
-    pub form: String,
+    /// Its whole envelope.
+    #[serde(rename = "form")]
+    pub envelope: String,
 }
 
 /// What the gateway keeps of a queue that is created.
@@ -180,8 +181,8 @@ pub struct Handed {
     pub moment: Moment,
     pub first: Moment,
     pub group: String,
-    /// Its whole form.
-    pub form: Arc<str>,
+    /// Its whole envelope.
+    pub envelope: Arc<str>,
 }
 
 /// Why a message that the store handed out isn't for the client that asked.

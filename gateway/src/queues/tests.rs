@@ -14,7 +14,7 @@ use crate::attributes::{Given, QueueAttributes};
 use crate::clock::Moment;
 use crate::handles::Receipt;
 use crate::lines::{self, StoreReply};
-use crate::messages::Form;
+use crate::messages::Envelope;
 use crate::retention::Jumps;
 use crate::seeded::check;
 use crate::texts::{DedupId, GroupId, QueueKind, QueueName};
@@ -118,9 +118,9 @@ impl Both {
         self.list.sent += 1;
         let sequence = self.list.sent;
         self.list.messages.insert(sequence, Message { group, sent: self.now, until: 0, count: 0 });
-        let form = Form::Whole(format!("{{\"id\":\"{}\"}}\nb", Uuid::from_u128(7)));
+        let envelope = Envelope::Whole(format!("{{\"id\":\"{}\"}}\nb", Uuid::from_u128(7)));
         let (group, dedup) = (GroupId::parse(group).unwrap(), DedupId::parse("d").unwrap());
-        self.apply_reply(&Ask::Send { group, dedup, form, cause: Cause::Client }, StoreReply::Sent(sequence));
+        self.apply_reply(&Ask::Send { group, dedup, envelope, cause: Cause::Client }, StoreReply::Sent(sequence));
     }
 
     /// Asks as a receive does that is to hand out only what is due.

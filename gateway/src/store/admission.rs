@@ -41,7 +41,7 @@ impl Admission {
     /// with; they are to be given back to `answered`.
     pub fn admit(&self, ask: &Ask, now: Moment) -> Result<u64, SqsError> {
         let bytes = match ask {
-            Ask::Send { form, cause: Cause::Client, .. } => form.bytes() + MESSAGE_BYTES,
+            Ask::Send { envelope, cause: Cause::Client, .. } => envelope.bytes() + MESSAGE_BYTES,
             // What is moved goes from where it was, and what is due was counted before.
             Ask::Send { .. } => return Ok(0),
             Ask::Create { creation, .. } if creation.before.is_none() => {
@@ -55,7 +55,7 @@ impl Admission {
     /// Lets a change pass that the gateway alone keeps, as `admit` does an ask.
     pub fn admit_change(&self, queue: &Queue, change: &TableChange, now: Moment) -> Result<u64, SqsError> {
         match change {
-            TableChange::Delayed(message) => self.admit_bytes(message.form.len() as u64 + MESSAGE_BYTES, now),
+            TableChange::Delayed(message) => self.admit_bytes(message.envelope.len() as u64 + MESSAGE_BYTES, now),
             // A queue of ordinary size stays what operators can change, so that memory comes free by other attributes.
             TableChange::Tag(_) | TableChange::Attributes(_) => match queue.state().growth(change) {
                 (_, whole) if whole <= ORDINARY => Ok(0),
@@ -100,7 +100,7 @@ impl Admission {
 #[cfg(test)]
 mod tests {
     use super::*;
-    use crate::messages::Form;
+    use crate::messages::Envelope;
     use crate::texts::{DedupId, GroupId};
 
     #[test]
@@ -108,7 +108,7 @@ mod tests {
         let send = Ask::Send {
             group: GroupId::parse("g").unwrap(),
             dedup: DedupId::parse("d").unwrap(),
-            form: Form::Whole("x".repeat(1000)),
+            envelope: Envelope::Whole("x".repeat(1000)),
             cause: Cause::Client,
         };
         let one = 1000 + MESSAGE_BYTES;

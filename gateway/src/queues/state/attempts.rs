@@ -15,7 +15,7 @@ pub(super) struct Attempt {
     /// When the timeouts of what it was given end.
     pub(super) until: Moment,
     pub(super) handed: Vec<Handed>,
-    /// What the forms take that nobody else keeps.
+    /// What the envelopes take that nobody else keeps.
     pub(super) bytes: u64,
 }
 
@@ -126,7 +126,7 @@ mod tests {
             moment,
             first: moment,
             group: "g".into(),
-            form: "form".into(),
+            envelope: "form".into(),
         };
         Attempt { moment, until, handed: sequences.iter().map(handed).collect(), bytes: 4 * sequences.len() as u64 }
     }

@@ -28,8 +28,8 @@ pub(super) struct DelayedMessages {
     /// Those that aren't tried any more.
     set_aside: Vec<Arc<Delayed>>,
     added: u64,
-    /// What their forms take.
-    form_bytes: u64,
+    /// What their envelopes take.
+    envelope_bytes: u64,
     /// The alarm that is set.
     alarm: Option<Moment>,
     calls: Calls,
@@ -47,7 +47,7 @@ impl DelayedMessages {
         }
         self.added += 1;
         let place = (message.due, self.added);
-        self.form_bytes += message.form.len() as u64;
+        self.envelope_bytes += message.envelope.len() as u64;
         self.places.insert(message.id, place);
         self.in_order.insert(place, message.clone());
         None
@@ -56,7 +56,7 @@ impl DelayedMessages {
     /// The store has the message of this id.
     pub(super) fn remove(&mut self, id: Uuid) {
         self.tries.remove(&id);
-        self.form_bytes -= self.take(id).map_or(0, |message| message.form.len() as u64);
+        self.envelope_bytes -= self.take(id).map_or(0, |message| message.envelope.len() as u64);
     }
 
     fn take(&mut self, id: Uuid) -> Option<Arc<Delayed>> {
@@ -144,7 +144,7 @@ impl DelayedMessages {
         self.places.clear();
         self.tries.clear();
         self.set_aside.clear();
-        self.form_bytes = 0;
+        self.envelope_bytes = 0;
     }
 
     pub(super) fn forget_old_calls(&mut self, now: Moment) {
@@ -154,7 +154,7 @@ impl DelayedMessages {
     /// What all of it takes of memory, in bytes.
     pub(super) fn bytes(&self) -> u64 {
         let messages = MESSAGE_BYTES * (self.in_order.len() + self.set_aside.len()) as u64;
-        self.form_bytes + messages + CALL_BYTES * self.calls.by_age.len() as u64
+        self.envelope_bytes + messages + CALL_BYTES * self.calls.by_age.len() as u64
     }
 }
 
@@ -202,7 +202,7 @@ mod tests {
 
     fn message(id: u128, due: Moment, call: Option<&str>) -> Arc<Delayed> {
         let call = call.map(self::call);
-        Arc::new(Delayed { id: Uuid::from_u128(id), due, call, form: "{}\nbody".into() })
+        Arc::new(Delayed { id: Uuid::from_u128(id), due, call, envelope: "{}\nbody".into() })
     }
 
     fn ids(messages: &[Arc<Delayed>]) -> Vec<u128> {

@@ -23,18 +23,29 @@ pub(super) struct Message {
     pub(super) is_own: bool,
     /// It is hidden until then.
     until: Moment,
-    /// Its whole form, where the store has a stub in its place, or where operators look at messages.
-    pub(super) form: Option<Arc<str>>,
+    /// Its whole envelope, where the store has a stub in its place, or where operators look at messages.
+    pub(super) envelope: Option<Arc<str>>,
     /// The id of its group, where operators look at messages.
     pub(super) group_id: Option<Box<str>>,
-    /// What its form takes, here and in the store.
+    /// What its envelope takes, here and in the store.
     pub(super) bytes: u64,
 }
 
 impl Message {
     /// A message that nobody was handed yet.
-    pub(super) fn new(sent: Moment, group: Group, form: Option<Arc<str>>, bytes: u64) -> Message {
-        Message { sent, group, last: None, own: 0, own_since: 0, is_own: false, until: 0, form, group_id: None, bytes }
+    pub(super) fn new(sent: Moment, group: Group, envelope: Option<Arc<str>>, bytes: u64) -> Message {
+        Message {
+            sent,
+            group,
+            last: None,
+            own: 0,
+            own_since: 0,
+            is_own: false,
+            until: 0,
+            envelope,
+            group_id: None,
+            bytes,
+        }
     }
 
     pub(super) fn until(&self) -> Moment {

@@ -24,7 +24,7 @@ use crate::errors::SqsError;
 use crate::handles::Receipt;
 use crate::limits::{ID_BYTES, MESSAGE_BYTES, QUEUE_BYTES};
 use crate::lines::{read_receipt, Given, StoreReply};
-use crate::messages::{Form, Head};
+use crate::messages::{Envelope, EnvelopeHead};
 use crate::move_tasks::{self, MoveTask, Status};
 use crate::redrive::RedrivePolicy;
 use crate::retention::Jumps;
@@ -83,10 +83,10 @@ pub struct State {
     old: usize,
     /// How many of those that count are of messages that were deleted.
     left_ids: u64,
-    /// What the forms of the messages take.
-    form_bytes: u64,
-    /// The longest form since the queue was empty.
-    longest_form: u64,
+    /// What the envelopes of the messages take.
+    envelope_bytes: u64,
+    /// The longest envelope since the queue was empty.
+    longest_envelope: u64,
     attempts: Attempts,
     /// What the attributes say of dead letters.
     redrive: Option<RedrivePolicy>,
@@ -154,8 +154,8 @@ impl State {
             recent: VecDeque::new(),
             old: 0,
             left_ids: 0,
-            form_bytes: 0,
-            longest_form: 0,
+            envelope_bytes: 0,
+            longest_envelope: 0,
             attempts: Attempts::default(),
             redrive: creation.attributes.redrive(),
             delay,
@@ -190,8 +190,8 @@ impl State {
                 self.earlier.retain(|name| name != store);
                 Ok(Applied::done(true))
             }
-            (Ask::Send { group, dedup, form, cause }, StoreReply::Sent(place)) => {
-                let applied = self.sent(group, form, place, moment)?;
+            (Ask::Send { group, dedup, envelope, cause }, StoreReply::Sent(place)) => {
+                let applied = self.sent(group, envelope, place, moment)?;
                 match (cause, &applied.outcome) {
                     (Cause::Due(id), _) => self.delayed.remove(*id),
                     (Cause::Client, Outcome::Sent { id, .. }) if self.kind == QueueKind::Standard => {
@@ -219,7 +219,7 @@ impl State {
         self.openings += 1;
     }
 
-    fn sent(&mut self, group: &GroupId, form: &Form, place: u64, moment: Moment) -> Result<Applied, SqsError> {
+    fn sent(&mut self, group: &GroupId, envelope: &Envelope, place: u64, moment: Moment) -> Result<Applied, SqsError> {
         let sequence = self.base + place;
         if sequence <= self.last_sequence {
             let id = self.recent_id(sequence).ok_or_else(misfit)?;
@@ -228,7 +228,7 @@ impl State {
         if sequence != self.last_sequence + 1 {
             return Err(misfit());
         }
-        let Head { id, sent } = Head::of_form(form.whole()).ok_or_else(misfit)?;
+        let EnvelopeHead { id, sent } = EnvelopeHead::of(envelope.whole()).ok_or_else(misfit)?;
         let sent = match self.kind {
             QueueKind::Fifo => moment,
             // It may have been delayed, or be moved with the age that it has.
@@ -237,18 +237,18 @@ impl State {
         self.remember(moment, id);
         self.last_sequence = sequence;
         self.last_send = moment;
-        let bytes = form.bytes();
-        let form = match form {
-            Form::Whole(_) => None,
-            Form::Split { whole, .. } => Some(whole.as_str().into()),
+        let bytes = envelope.bytes();
+        let envelope = match envelope {
+            Envelope::Whole(_) => None,
+            Envelope::Split { whole, .. } => Some(whole.as_str().into()),
         };
-        self.form_bytes += bytes;
-        self.longest_form = self.longest_form.max(bytes);
+        self.envelope_bytes += bytes;
+        self.longest_envelope = self.longest_envelope.max(bytes);
         let group = Group::of(group.as_str());
         if let Some(groups) = &mut self.groups {
             groups.add(group, sequence, 0);
         }
-        self.messages.add(sequence, Message::new(sent, group, form, bytes));
+        self.messages.add(sequence, Message::new(sent, group, envelope, bytes));
         self.open();
         Ok(Applied { outcome: Outcome::Sent { sequence, id }, changed: true, opened: true })
     }
@@ -297,8 +297,9 @@ impl State {
         }
         if let (Some(attempt), false) = (attempt, handed.is_empty()) {
             // What the store has no room for is kept with its message.
-            let is_copy = |one: &&Handed| self.messages.get(one.receipt.sequence).is_some_and(|own| own.form.is_none());
-            let bytes = handed.iter().filter(is_copy).map(|one| one.form.len() as u64).sum();
+            let is_copy =
+                |one: &&Handed| self.messages.get(one.receipt.sequence).is_some_and(|own| own.envelope.is_none());
+            let bytes = handed.iter().filter(is_copy).map(|one| one.envelope.len() as u64).sum();
             self.attempts.keep(attempt, Attempt { moment, until, handed: handed.clone(), bytes });
         }
         if opened {
@@ -331,8 +332,8 @@ impl State {
             message.last = Some(Handing { ordinal: receipt.ordinal, moment, first, touched: is_own });
             message.own_since = 0;
         }
-        let form = message.form.clone().unwrap_or_else(|| given.body.into());
-        Ok((Handed { receipt, count, moment, first, group: given.group, form }, fate))
+        let envelope = message.envelope.clone().unwrap_or_else(|| given.body.into());
+        Ok((Handed { receipt, count, moment, first, group: given.group, envelope }, fate))
     }
 
     fn deleted(&mut self, receipt: Receipt, removed: bool) -> Applied {
@@ -344,9 +345,9 @@ impl State {
                 groups.remove(message.group, receipt.sequence, message.until());
             }
             self.attempts.forget_with(receipt.sequence);
-            self.form_bytes -= message.bytes;
+            self.envelope_bytes -= message.bytes;
             if self.messages.is_empty() {
-                self.longest_form = 0;
+                self.longest_envelope = 0;
             }
             if self.place_of(receipt.sequence).is_some_and(|place| place >= self.old) {
                 self.left_ids += 1;
@@ -492,20 +493,20 @@ impl State {
         (more as u64, self.own_bytes + more as u64)
     }
 
-    /// What its messages take of memory, in bytes: forms, and estimates for messages and ids that outlive theirs.
+    /// What its messages take of memory, in bytes: envelopes, and estimates for messages and ids that outlive theirs.
     pub fn bytes_in_use(&self) -> u64 {
         if self.removed {
             return 0;
         }
         let messages = MESSAGE_BYTES * self.messages.len() as u64;
-        self.form_bytes + self.attempts.bytes() + self.delayed.bytes() + messages + ID_BYTES * self.left_ids
+        self.envelope_bytes + self.attempts.bytes() + self.delayed.bytes() + messages + ID_BYTES * self.left_ids
     }
 
-    /// How many bytes a receive of `size` messages takes at most until it is answered: their forms, what is shown of
+    /// How many bytes a receive of `size` messages takes at most until it is answered: their envelopes, what is shown of
     /// them, and the answer.
     pub fn most_handed(&self, size: u8) -> usize {
-        let forms = self.form_bytes.min(self.longest_form * u64::from(size));
-        usize::try_from(3 * forms).unwrap_or(usize::MAX)
+        let envelopes = self.envelope_bytes.min(self.longest_envelope * u64::from(size));
+        usize::try_from(3 * envelopes).unwrap_or(usize::MAX)
     }
 
     /// What the attempt was given, if that is still all in the hands of who asked
@@ -560,8 +561,8 @@ impl State {
         self.left_ids = 0;
         self.messages = Messages::default();
         self.groups = (self.delay > 0).then(Groups::default);
-        self.form_bytes = 0;
-        self.longest_form = 0;
+        self.envelope_bytes = 0;
+        self.longest_envelope = 0;
         self.attempts.clear();
     }
 }

@@ -27,18 +27,18 @@ pub enum Visibility {
     Delayed,
 }
 
-/// The whole form of a message.
+/// The whole envelope of a message.
 #[derive(Clone, Debug)]
-pub enum PeekedForm {
+pub enum PeekedEnvelope {
     Stored(Arc<str>),
     Delayed(Arc<Delayed>),
 }
 
-impl From<PeekedForm> for Arc<str> {
-    fn from(form: PeekedForm) -> Arc<str> {
-        match form {
-            PeekedForm::Stored(form) => form,
-            PeekedForm::Delayed(message) => message.form.as_str().into(),
+impl From<PeekedEnvelope> for Arc<str> {
+    fn from(envelope: PeekedEnvelope) -> Arc<str> {
+        match envelope {
+            PeekedEnvelope::Stored(envelope) => envelope,
+            PeekedEnvelope::Delayed(message) => message.envelope.as_str().into(),
         }
     }
 }
@@ -55,7 +55,7 @@ pub struct Peeked {
     /// How often it was handed out to clients, and when for the first time.
     pub count: u64,
     pub first: Option<Moment>,
-    pub form: PeekedForm,
+    pub envelope: PeekedEnvelope,
 }
 
 /// A part of a queue's messages.
@@ -69,18 +69,20 @@ pub struct Step {
 impl State {
     /// Keeps what was sent, so that it can be looked at.
     pub(in crate::queues) fn keep_copy(&mut self, ask: &Ask, applied: &Applied) {
-        let (Ask::Send { group, form, .. }, Outcome::Sent { sequence, .. }) = (ask, &applied.outcome) else { return };
+        let (Ask::Send { group, envelope, .. }, Outcome::Sent { sequence, .. }) = (ask, &applied.outcome) else {
+            return;
+        };
         let Some(message) = self.messages.get_mut(*sequence).filter(|message| message.group_id.is_none()) else {
             return;
         };
         let mut bytes = group.as_str().len() as u64;
-        if message.form.is_none() {
-            message.form = Some(form.whole().into());
-            bytes += form.whole().len() as u64;
+        if message.envelope.is_none() {
+            message.envelope = Some(envelope.whole().into());
+            bytes += envelope.whole().len() as u64;
         }
         message.group_id = Some(group.as_str().into());
         message.bytes += bytes;
-        self.form_bytes += bytes;
+        self.envelope_bytes += bytes;
     }
 
     /// The next messages behind a place, at most so many. Takes time in proportion to their number.
@@ -115,7 +117,7 @@ impl State {
             group: message.group_id.as_deref()?.into(),
             count: message.last_ordinal().saturating_sub(u64::from(message.own)),
             first: message.last.map(|last| last.first),
-            form: PeekedForm::Stored(message.form.clone()?),
+            envelope: PeekedEnvelope::Stored(message.envelope.clone()?),
         })
     }
 
@@ -129,7 +131,7 @@ impl State {
             group: String::new(),
             count: 0,
             first: None,
-            form: PeekedForm::Delayed(message.clone()),
+            envelope: PeekedEnvelope::Delayed(message.clone()),
         });
         Step { peeked: peeked.collect(), next }
     }

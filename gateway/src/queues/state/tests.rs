@@ -17,11 +17,11 @@ fn state_of(name: &str) -> State {
 }
 
 fn send(state: &mut State, place: u64, moment: Moment) {
-    let form = Form::Whole(format!("{{\"id\":\"{}\"}}\nbody", Uuid::from_u128(7)));
+    let envelope = Envelope::Whole(format!("{{\"id\":\"{}\"}}\nbody", Uuid::from_u128(7)));
     let (group, dedup) = (GroupId::parse("g").unwrap(), DedupId::parse("d").unwrap());
     state
         .apply_reply(
-            &Ask::Send { group, dedup, form, cause: Cause::Client },
+            &Ask::Send { group, dedup, envelope, cause: Cause::Client },
             StoreReply::Sent(place),
             moment,
             &Jumps::default(),
@@ -118,20 +118,20 @@ fn what_is_too_old_is_set_aside() {
     assert_eq!((handed.len(), set_aside[0].1), (0, Fate::Old));
 }
 
-fn form(id: u128, sent: Moment) -> Form {
-    Form::Whole(format!("{{\"id\":\"{}\",\"sent\":{sent}}}\nbody", Uuid::from_u128(id)))
+fn envelope(id: u128, sent: Moment) -> Envelope {
+    Envelope::Whole(format!("{{\"id\":\"{}\",\"sent\":{sent}}}\nbody", Uuid::from_u128(id)))
 }
 
 fn send_standard(state: &mut State, place: u64, sent: Moment, cause: Cause, moment: Moment) -> Outcome {
     let id = Uuid::from_u128(u128::from(place));
     let (group, dedup) = (GroupId::of_message(id), DedupId::of_message(id));
-    let ask = Ask::Send { group, dedup, form: form(u128::from(place), sent), cause };
+    let ask = Ask::Send { group, dedup, envelope: envelope(u128::from(place), sent), cause };
     state.apply_reply(&ask, StoreReply::Sent(place), moment, &Jumps::default()).unwrap().outcome
 }
 
 fn delay(state: &mut State, id: u128, due: Moment, moment: Moment) -> bool {
-    let form = form(id, moment).into_whole();
-    let message = Delayed { id: Uuid::from_u128(id), due, call: None, form };
+    let envelope = envelope(id, moment).into_whole();
+    let message = Delayed { id: Uuid::from_u128(id), due, call: None, envelope };
     state.apply_change(&TableChange::Delayed(Arc::new(message)), moment).changed
 }
 
@@ -183,7 +183,7 @@ fn in_flight(name: &str, count: u64, end: Moment) -> State {
     let mut state = state_of(name);
     for place in 1..=count {
         let (group, dedup) = (GroupId::of_message(Uuid::from_u128(place.into())), DedupId::parse("d").unwrap());
-        let ask = Ask::Send { group, dedup, form: form(place.into(), 0), cause: Cause::Client };
+        let ask = Ask::Send { group, dedup, envelope: envelope(place.into(), 0), cause: Cause::Client };
         state.apply_reply(&ask, StoreReply::Sent(place), 0, &Jumps::default()).unwrap();
     }
     let visibility = (end / 1000) as u32;
@@ -257,7 +257,7 @@ fn what_changes_nothing_is_no_change() {
 
 fn send_and_keep(state: &mut State, place: u64, moment: Moment) {
     let (group, dedup) = (GroupId::parse("g").unwrap(), DedupId::parse("d").unwrap());
-    let ask = Ask::Send { group, dedup, form: form(u128::from(place), moment), cause: Cause::Client };
+    let ask = Ask::Send { group, dedup, envelope: envelope(u128::from(place), moment), cause: Cause::Client };
     let applied = state.apply_reply(&ask, StoreReply::Sent(place), moment, &Jumps::default()).unwrap();
     state.keep_copy(&ask, &applied);
 }
@@ -287,7 +287,8 @@ fn looks_come_to_each_message_once_and_change_nothing() {
     let bytes = state.bytes_in_use();
     for at_once in 1..9 {
         let seen = peek_at_all(&state, at_once, 55);
-        let ids = seen.iter().map(|one| Head::of_form(&Arc::<str>::from(one.form.clone())).unwrap().id.as_u128());
+        let ids =
+            seen.iter().map(|one| EnvelopeHead::of(&Arc::<str>::from(one.envelope.clone())).unwrap().id.as_u128());
         assert_eq!(ids.collect::<Vec<_>>(), [1, 3, 4, 5, 7, 6, 8], "{at_once} at once");
         let seen: Vec<_> = seen.iter().map(|one| (one.visibility, one.count, one.first)).collect();
         let (visible, delayed) = ((Visibility::Visible, 0, None), (Visibility::Delayed, 0, None));
@@ -302,7 +303,7 @@ fn what_is_kept_for_looks_counts_and_goes_with_its_message() {
     let (mut plain, mut kept) = (state(), state());
     send_standard(&mut plain, 1, 0, Cause::Client, 0);
     send_and_keep(&mut kept, 1, 0);
-    let bytes = form(1, 0).bytes() + 1;
+    let bytes = envelope(1, 0).bytes() + 1;
     assert_eq!(kept.bytes_in_use(), plain.bytes_in_use() + bytes);
     // A send that is repeated adds nothing.
     send_and_keep(&mut kept, 1, 0);

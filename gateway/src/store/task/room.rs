@@ -3,7 +3,7 @@
 use serde_json::value::RawValue;
 
 use crate::journal::Need;
-use crate::messages::Form;
+use crate::messages::Envelope;
 use crate::queues::ask::{Ask, Cause, Changer, TableChange};
 
 pub(super) fn need_of(ask: &Ask) -> Need {
@@ -30,7 +30,7 @@ pub(super) fn need_of_change(change: &TableChange) -> Need {
 pub(super) fn bytes_of(ask: &Ask, raw: &RawValue) -> u64 {
     let beside = match ask {
         Ask::Create { creation, .. } => serde_json::to_vec(creation.as_ref()).map_or(0, |bytes| bytes.len()),
-        Ask::Send { form: Form::Split { whole, .. }, .. } => length_in_json(whole),
+        Ask::Send { envelope: Envelope::Split { whole, .. }, .. } => length_in_json(whole),
         _ => 0,
     };
     (raw.get().len() + beside + 512) as u64
@@ -39,7 +39,7 @@ pub(super) fn bytes_of(ask: &Ask, raw: &RawValue) -> u64 {
 /// What the record of a change takes at most.
 pub(super) fn bytes_of_change(change: &TableChange) -> u64 {
     let bytes = match change {
-        TableChange::Delayed(message) => length_in_json(&message.form),
+        TableChange::Delayed(message) => length_in_json(&message.envelope),
         _ => serde_json::to_vec(change).map_or(0, |bytes| bytes.len()),
     };
     (bytes + 512) as u64
