@@ -15,7 +15,7 @@ use crate::budget::{Budget, Share};
 use crate::errors::SqsError;
 use crate::handles::Receipt;
 use crate::queues::ask::Handed;
-use crate::queues::{Peeked, Place, Queue, Step, Visibility};
+use crate::queues::{Chunk, Cursor, Peeked, Queue, Visibility};
 use crate::store::Store;
 use crate::texts::QueueName;
 use crate::wire::requests::Shown;
@@ -29,7 +29,7 @@ pub const PATH: &str = "/_aws/sqs/messages";
 const HANDLE: &str = "SQS/BACKDOOR/ACCESS";
 
 /// So many messages are looked at before others may use the queue again.
-const STEP: usize = 100;
+const CHUNK: usize = 100;
 
 /// An answer has at most so many messages, ends with the one with which they have so many bytes, and comes of so many.
 const MOST_MESSAGES: usize = 1_000;
@@ -41,61 +41,61 @@ const MOST_LOOKED_AT: usize = 100_000;
 const MEMORY: usize = 64 << 20;
 const LONGEST_ANSWER: usize = 16 << 20;
 
-/// The form of an answer.
+/// The format of an answer.
 #[derive(Clone, Copy, Debug, PartialEq, Eq)]
-enum Form {
+enum Format {
     Xml,
     Json,
 }
 
-impl Form {
-    fn of(headers: &HeaderMap) -> Form {
+impl Format {
+    fn of(headers: &HeaderMap) -> Format {
         let accepts = headers.get_all(ACCEPT).iter().filter_map(|value| value.to_str().ok());
         let mut kinds = accepts.flat_map(|accept| accept.split(',')).map(|kind| kind.split(';').next().unwrap_or(kind));
         if kinds.any(|kind| kind.trim().eq_ignore_ascii_case("application/json")) {
-            Form::Json
+            Format::Json
         } else {
-            Form::Xml
+            Format::Xml
         }
     }
 }
 
-impl fmt::Display for Place {
+impl fmt::Display for Cursor {
     fn fmt(&self, formatter: &mut fmt::Formatter<'_>) -> fmt::Result {
         match self {
-            Place::Stored(sequence) => write!(formatter, "stored-{sequence}"),
-            Place::Delayed(due, added) => write!(formatter, "delayed-{due}-{added}"),
+            Cursor::Stored(sequence) => write!(formatter, "stored-{sequence}"),
+            Cursor::Delayed(due, added) => write!(formatter, "delayed-{due}-{added}"),
         }
     }
 }
 
-impl FromStr for Place {
+impl FromStr for Cursor {
     type Err = SqsError;
 
-    fn from_str(text: &str) -> Result<Place, SqsError> {
+    fn from_str(text: &str) -> Result<Cursor, SqsError> {
         let parts: Vec<_> = text.split('-').collect();
-        let place = match parts[..] {
-            ["stored", sequence] => sequence.parse().ok().map(Place::Stored),
+        let cursor = match parts[..] {
+            ["stored", sequence] => sequence.parse().ok().map(Cursor::Stored),
             ["delayed", due, added] => {
-                due.parse().ok().zip(added.parse().ok()).map(|(due, added)| Place::Delayed(due, added))
+                due.parse().ok().zip(added.parse().ok()).map(|(due, added)| Cursor::Delayed(due, added))
             }
             _ => None,
         };
-        place.ok_or_else(|| SqsError::InvalidParameterValue("NextToken is none that was given out.".into()))
+        cursor.ok_or_else(|| SqsError::InvalidParameterValue("NextToken is none that was given out.".into()))
     }
 }
 
 /// What is asked for.
 #[derive(Clone, Debug, PartialEq, Eq)]
-struct Wanted {
+struct PeekRequest {
     queue: QueueName,
     shows_in_flight: bool,
     shows_delayed: bool,
-    after: Place,
+    after: Cursor,
 }
 
-impl Wanted {
-    fn read(uri: &Uri) -> Result<Wanted, SqsError> {
+impl PeekRequest {
+    fn read(uri: &Uri) -> Result<PeekRequest, SqsError> {
         let fields: Vec<_> = form_urlencoded::parse(uri.query().unwrap_or_default().as_bytes()).collect();
         let field = |name: &str| fields.iter().find(|(found, _)| found == name).map(|(_, value)| &**value);
         let is_said = |name: &str| field(name).is_some_and(|value| value == "1" || value.eq_ignore_ascii_case("true"));
@@ -106,11 +106,11 @@ impl Wanted {
             ["", _, _, queue] => queue,
             _ => return Err(SqsError::InvalidAddress(uri.path().into())),
         };
-        Ok(Wanted {
+        Ok(PeekRequest {
             queue: QueueName::of_url(url)?,
             shows_in_flight: is_said("ShowInvisible"),
             shows_delayed: is_said("ShowDelayed"),
-            after: field("NextToken").map_or(Ok(Place::FIRST), str::parse)?,
+            after: field("NextToken").map_or(Ok(Cursor::FIRST), str::parse)?,
         })
     }
 
@@ -136,28 +136,29 @@ impl Peeks {
 
     /// The answer to a request below `PATH`, and what it counts.
     pub async fn answer(&self, store: &Store, uri: &Uri, headers: &HeaderMap) -> (Response<Bytes>, Arc<Share>) {
-        let form = Form::of(headers);
+        let format = Format::of(headers);
         let share = Arc::new(self.budget.share());
-        let told = if share.try_set(LONGEST_ANSWER) {
-            self.page(store, uri, form).await
+        let reply = if share.try_set(LONGEST_ANSWER) {
+            self.page(store, uri, format).await
         } else {
             Err(SqsError::ServiceUnavailable("Too many messages are being shown.".into()))
         };
-        (told.unwrap_or_else(|error| Told::refusal(form, &error)).into_response(), share)
+        (reply.unwrap_or_else(|error| PeekReply::refusal(format, &error)).into_response(), share)
     }
 
-    /// A page in a form. It is made on a thread beside those that serve clients, so that these wait for nothing.
-    async fn page(&self, store: &Store, uri: &Uri, form: Form) -> Result<Told, SqsError> {
-        let wanted = Wanted::read(uri)?;
+    /// A page in a format. It is made on a thread beside those that serve clients, so that these wait for nothing.
+    async fn page(&self, store: &Store, uri: &Uri, format: Format) -> Result<PeekReply, SqsError> {
+        let wanted = PeekRequest::read(uri)?;
         let queue = store.queues().get(&wanted.queue)?;
         let (name, owner, shared) = (wanted.queue.clone(), self.owner.clone(), store.clone());
-        let making =
-            tokio::task::spawn_blocking(move || Page::of(&shared, &queue, &wanted, &owner).map(|page| page.told(form)));
+        let making = tokio::task::spawn_blocking(move || {
+            Page::of(&shared, &queue, &wanted, &owner).map(|page| page.reply(format))
+        });
         let gone = || SqsError::ServiceUnavailable("The store is gone.".into());
-        let told = making.await.unwrap_or_else(|_| Err(gone()))?;
+        let reply = making.await.unwrap_or_else(|_| Err(gone()))?;
         // What is shown is on disk, as all that clients are told.
         if store.wait_until_durable(&name).await {
-            Ok(told)
+            Ok(reply)
         } else {
             Err(gone())
         }
@@ -175,28 +176,28 @@ struct Page {
 }
 
 impl Page {
-    fn of(store: &Store, queue: &Queue, wanted: &Wanted, owner: &Owner) -> Result<Page, SqsError> {
+    fn of(store: &Store, queue: &Queue, wanted: &PeekRequest, owner: &Owner) -> Result<Page, SqsError> {
         let mut page = Page::default();
-        let mut place = Some(wanted.after);
-        while let (Some(after), false) = (place, page.is_full()) {
-            let step = {
+        let mut cursor = Some(wanted.after);
+        while let (Some(after), false) = (cursor, page.is_full()) {
+            let chunk = {
                 let state = queue.state();
                 if state.removed {
                     return Err(SqsError::QueueDoesNotExist);
                 }
-                state.peek(after, STEP, store.clock().now())
+                state.peek(after, CHUNK, store.clock().now())
             };
-            place = page.take(step, wanted, queue, owner)?;
+            cursor = page.take(chunk, wanted, queue, owner)?;
         }
-        page.next = place.map(|place| place.to_string());
+        page.next = cursor.map(|cursor| cursor.to_string());
         Ok(page)
     }
 
-    fn told(&self, form: Form) -> Told {
+    fn reply(&self, format: Format) -> PeekReply {
         let id = Uuid::new_v4().to_string();
-        match form {
-            Form::Xml => wire::peeked(&self.messages, self.next.as_ref(), id).into(),
-            Form::Json => Told::in_json(200, &in_json(self, id)),
+        match format {
+            Format::Xml => wire::peeked(&self.messages, self.next.as_ref(), id).into(),
+            Format::Json => PeekReply::in_json(200, &in_json(self, id)),
         }
     }
 
@@ -205,21 +206,27 @@ impl Page {
     }
 
     /// Takes up messages until it is full, and tells where to go on.
-    fn take(&mut self, step: Step, wanted: &Wanted, queue: &Queue, owner: &Owner) -> Result<Option<Place>, SqsError> {
-        for peeked in step.peeked {
-            let place = peeked.place;
+    fn take(
+        &mut self,
+        chunk: Chunk,
+        wanted: &PeekRequest,
+        queue: &Queue,
+        owner: &Owner,
+    ) -> Result<Option<Cursor>, SqsError> {
+        for peeked in chunk.peeked {
+            let cursor = peeked.cursor;
             self.looked_at += 1;
             if wanted.has(peeked.visibility) {
                 self.add(peeked, wanted, queue, owner)?;
             }
             if self.is_full() {
-                return Ok(Some(place));
+                return Ok(Some(cursor));
             }
         }
-        Ok(step.next)
+        Ok(chunk.next)
     }
 
-    fn add(&mut self, peeked: Peeked, wanted: &Wanted, queue: &Queue, owner: &Owner) -> Result<(), SqsError> {
+    fn add(&mut self, peeked: Peeked, wanted: &PeekRequest, queue: &Queue, owner: &Owner) -> Result<(), SqsError> {
         let Peeked { visibility, sequence, group, count, first, envelope, .. } = peeked;
         let (first, envelope) = (first.unwrap_or(0), Arc::<str>::from(envelope));
         self.bytes += envelope.len();
@@ -239,22 +246,22 @@ impl Page {
 }
 
 /// An answer before it is sent.
-struct Told {
+struct PeekReply {
     status: u16,
     content_type: &'static str,
     body: Vec<u8>,
 }
 
-impl Told {
-    fn in_json(status: u16, value: &Value) -> Told {
-        Told { status, content_type: JSON, body: value.to_string().into_bytes() }
+impl PeekReply {
+    fn in_json(status: u16, value: &Value) -> PeekReply {
+        PeekReply { status, content_type: JSON, body: value.to_string().into_bytes() }
     }
 
-    fn refusal(form: Form, error: &SqsError) -> Told {
+    fn refusal(format: Format, error: &SqsError) -> PeekReply {
         let id = Uuid::new_v4().to_string();
-        match form {
-            Form::Xml => Protocol::Query.refuse(error, id).into(),
-            Form::Json => Told::in_json(error.coded().status, &refusal_in_json(error, id)),
+        match format {
+            Format::Xml => Protocol::Query.refuse(error, id).into(),
+            Format::Json => PeekReply::in_json(error.coded().status, &refusal_in_json(error, id)),
         }
     }
 
@@ -266,9 +273,9 @@ impl Told {
     }
 }
 
-impl From<Reply> for Told {
-    fn from(reply: Reply) -> Told {
-        Told { status: reply.status, content_type: reply.content_type, body: reply.body }
+impl From<Reply> for PeekReply {
+    fn from(reply: Reply) -> PeekReply {
+        PeekReply { status: reply.status, content_type: reply.content_type, body: reply.body }
     }
 }
 
@@ -296,46 +303,46 @@ fn insert_each(map: &mut Map<String, Value>, name: &str, mut values: Vec<Value>)
 }
 
 fn message_in_json(message: &ReceivedMessage) -> Value {
-    let mut told = Map::new();
+    let mut reply = Map::new();
     for (name, value) in [
         ("MessageId", &message.message_id),
         ("ReceiptHandle", &message.receipt_handle),
         ("MD5OfBody", &message.md5_of_body),
         ("Body", &message.body),
     ] {
-        told.insert(name.into(), json!(value));
+        reply.insert(name.into(), json!(value));
     }
     let attributes = message.attributes.iter().map(|(name, value)| json!({"Name": name, "Value": value}));
-    insert_each(&mut told, "Attribute", attributes.collect());
+    insert_each(&mut reply, "Attribute", attributes.collect());
     if let Some(md5) = &message.md5_of_attributes {
-        told.insert("MD5OfMessageAttributes".into(), json!(md5));
+        reply.insert("MD5OfMessageAttributes".into(), json!(md5));
     }
     let attributes = message.message_attributes.iter().map(|(name, value)| json!({"Name": name, "Value": value}));
-    insert_each(&mut told, "MessageAttribute", attributes.collect());
-    Value::Object(told)
+    insert_each(&mut reply, "MessageAttribute", attributes.collect());
+    Value::Object(reply)
 }
 
 fn refusal_in_json(error: &SqsError, id: String) -> Value {
     let fault = if error.is_sender_fault() { "Sender" } else { "Receiver" };
-    let told = json!({"Type": fault, "Code": error.coded().code, "Message": error.told(), "Detail": null});
-    json!({"ErrorResponse": {"Error": told, "RequestId": id}})
+    let reply = json!({"Type": fault, "Code": error.coded().code, "Message": error.told(), "Detail": null});
+    json!({"ErrorResponse": {"Error": reply, "RequestId": id}})
 }
 
 #[cfg(test)]
 mod tests {
     use super::*;
 
-    fn read(uri: &str) -> Result<Wanted, SqsError> {
-        Wanted::read(&uri.parse().unwrap())
+    fn read(uri: &str) -> Result<PeekRequest, SqsError> {
+        PeekRequest::read(&uri.parse().unwrap())
     }
 
     #[test]
     fn what_is_asked_for() {
-        let plain = Wanted {
+        let plain = PeekRequest {
             queue: QueueName::parse("q.fifo").unwrap(),
             shows_in_flight: false,
             shows_delayed: false,
-            after: Place::FIRST,
+            after: Cursor::FIRST,
         };
         for url in ["http%3A%2F%2Flocalhost%3A9324%2F000000000000%2Fq.fifo", "http://any/eu-west-1/1/q.fifo/", "q.fifo"]
         {
@@ -348,11 +355,14 @@ mod tests {
         assert_eq!(read("/_aws/sqs/messages/us-east-1/000000000000/q.fifo"), Ok(plain.clone()));
         let all =
             read("/_aws/sqs/messages/r/1/q.fifo/?ShowInvisible=True&ShowDelayed=1&NextToken=delayed-5-7").unwrap();
-        assert_eq!(all, Wanted { shows_in_flight: true, shows_delayed: true, after: Place::Delayed(5, 7), ..plain });
+        assert_eq!(
+            all,
+            PeekRequest { shows_in_flight: true, shows_delayed: true, after: Cursor::Delayed(5, 7), ..plain }
+        );
     }
 
     #[test]
-    fn what_names_no_queue_or_no_place_is_refused() {
+    fn what_names_no_queue_or_no_cursor_is_refused() {
         for (uri, code) in [
             ("/_aws/sqs/messages", "MissingParameter"),
             ("/_aws/sqs/messages?QueueUrl=", "InvalidAddress"),
@@ -369,24 +379,24 @@ mod tests {
     }
 
     #[test]
-    fn a_place_comes_back() {
-        for place in [Place::FIRST, Place::Stored(u64::MAX), Place::Delayed(1_700_000_000_000, 3)] {
-            assert_eq!(place.to_string().parse(), Ok(place));
+    fn a_cursor_comes_back() {
+        for cursor in [Cursor::FIRST, Cursor::Stored(u64::MAX), Cursor::Delayed(1_700_000_000_000, 3)] {
+            assert_eq!(cursor.to_string().parse(), Ok(cursor));
         }
     }
 
     #[test]
     fn json_is_told_to_those_who_accept_it() {
-        let form = |accepted: &[&str]| {
-            Form::of(&accepted.iter().map(|value| (ACCEPT, value.parse().unwrap())).collect::<HeaderMap>())
+        let format = |accepted: &[&str]| {
+            Format::of(&accepted.iter().map(|value| (ACCEPT, value.parse().unwrap())).collect::<HeaderMap>())
         };
         for json in
             [&["application/json"][..], &["text/html, Application/JSON;q=0.9"], &["text/xml", "application/json"]]
         {
-            assert_eq!(form(json), Form::Json, "{json:?}");
+            assert_eq!(format(json), Format::Json, "{json:?}");
         }
         for xml in [&[][..], &["*/*"], &["application/jsonp"], &["text/xml"]] {
-            assert_eq!(form(xml), Form::Xml, "{xml:?}");
+            assert_eq!(format(xml), Format::Xml, "{xml:?}");
         }
     }
 }

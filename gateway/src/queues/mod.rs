@@ -23,7 +23,7 @@ use crate::polling::Polls;
 use crate::retention::Jumps;
 use crate::texts::QueueName;
 use ask::{Ask, Cause, Creation, Outcome, StoreName, TableChange};
-pub use state::{bytes_of_queue, Peeked, Place, State, Step, Visibility, WINDOW};
+pub use state::{bytes_of_queue, Chunk, Cursor, Peeked, State, Visibility, WINDOW};
 
 /// So long a name isn't free after its queue was removed, in milliseconds
 /// (API Reference, CreateQueue, `QueueDeletedRecently`).

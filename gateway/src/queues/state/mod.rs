@@ -32,7 +32,7 @@ use crate::texts::{AttemptId, GroupId, QueueKind};
 use attempts::{Attempt, Attempts};
 use delayed::DelayedMessages;
 use message::{Handing, Message, Messages};
-pub use peek::{Peeked, Place, Step, Visibility};
+pub use peek::{Chunk, Cursor, Peeked, Visibility};
 
 /// So long a deduplication id counts, in milliseconds. A repeated attempt id is given the same messages as long.
 pub const WINDOW: u64 = 300_000;

@@ -10,13 +10,13 @@ use crate::queues::ask::{Ask, Delayed, Outcome};
 /// Where a look goes on: behind a message that the store has, by its sequence number, or behind a delayed one that it
 /// doesn't have yet, by when that is due and which one it was of those that were added.
 #[derive(Clone, Copy, Debug, PartialEq, Eq)]
-pub enum Place {
+pub enum Cursor {
     Stored(u64),
     Delayed(Moment, u64),
 }
 
-impl Place {
-    pub const FIRST: Place = Place::Stored(0);
+impl Cursor {
+    pub const FIRST: Cursor = Cursor::Stored(0);
 }
 
 /// Why a receive can't be handed a message, or that it can, if nothing before the message is in its way.
@@ -46,7 +46,7 @@ impl From<PeekedEnvelope> for Arc<str> {
 /// A message as it stands in its queue.
 #[derive(Clone, Debug)]
 pub struct Peeked {
-    pub place: Place,
+    pub cursor: Cursor,
     pub visibility: Visibility,
     /// 0 where the store doesn't have it yet.
     pub sequence: u64,
@@ -59,11 +59,11 @@ pub struct Peeked {
 }
 
 /// A part of a queue's messages.
-pub struct Step {
+pub struct Chunk {
     /// In the order of their sends, and behind these delayed ones in the order in which they are due.
     pub peeked: Vec<Peeked>,
     /// Where to go on; nowhere where these were the last ones.
-    pub next: Option<Place>,
+    pub next: Option<Cursor>,
 }
 
 impl State {
@@ -85,22 +85,22 @@ impl State {
         self.envelope_bytes += bytes;
     }
 
-    /// The next messages behind a place, at most so many. Takes time in proportion to their number.
-    pub fn peek(&self, after: Place, most: usize, now: Moment) -> Step {
+    /// The next messages behind a cursor, at most `most`. Takes time in proportion to their number.
+    pub fn peek(&self, after: Cursor, most: usize, now: Moment) -> Chunk {
         match after {
-            Place::Stored(sequence) => self.peek_at_stored(sequence, most, now),
-            Place::Delayed(due, added) => self.peek_at_delayed((due, added), most, now),
+            Cursor::Stored(sequence) => self.peek_at_stored(sequence, most, now),
+            Cursor::Delayed(due, added) => self.peek_at_delayed((due, added), most, now),
         }
     }
 
-    fn peek_at_stored(&self, after: u64, most: usize, now: Moment) -> Step {
+    fn peek_at_stored(&self, after: u64, most: usize, now: Moment) -> Chunk {
         let found: Vec<_> = self.messages.from(after.saturating_add(1)).take(most).collect();
         let next = match found.last() {
-            Some((sequence, _)) if found.len() == most => Place::Stored(*sequence),
-            _ => Place::Delayed(0, 0),
+            Some((sequence, _)) if found.len() == most => Cursor::Stored(*sequence),
+            _ => Cursor::Delayed(0, 0),
         };
         let peeked = found.into_iter().filter_map(|(sequence, message)| self.stored(sequence, message, now)).collect();
-        Step { peeked, next: Some(next) }
+        Chunk { peeked, next: Some(next) }
     }
 
     /// None where it isn't kept.
@@ -111,7 +111,7 @@ impl State {
             () => Visibility::Visible,
         };
         Some(Peeked {
-            place: Place::Stored(sequence),
+            cursor: Cursor::Stored(sequence),
             visibility,
             sequence,
             group: message.group_id.as_deref()?.into(),
@@ -121,11 +121,11 @@ impl State {
         })
     }
 
-    fn peek_at_delayed(&self, after: (Moment, u64), most: usize, now: Moment) -> Step {
+    fn peek_at_delayed(&self, after: (Moment, u64), most: usize, now: Moment) -> Chunk {
         let found: Vec<_> = self.delayed.behind(after).take(most).collect();
-        let next = found.last().filter(|_| found.len() == most).map(|((due, added), _)| Place::Delayed(*due, *added));
+        let next = found.last().filter(|_| found.len() == most).map(|((due, added), _)| Cursor::Delayed(*due, *added));
         let peeked = found.into_iter().map(|((due, added), message)| Peeked {
-            place: Place::Delayed(due, added),
+            cursor: Cursor::Delayed(due, added),
             visibility: if due <= now { Visibility::Visible } else { Visibility::Delayed },
             sequence: 0,
             group: String::new(),
@@ -133,6 +133,6 @@ impl State {
             first: None,
             envelope: PeekedEnvelope::Delayed(message.clone()),
         });
-        Step { peeked: peeked.collect(), next }
+        Chunk { peeked: peeked.collect(), next }
     }
 }

@@ -263,7 +263,7 @@ fn send_and_keep(state: &mut State, place: u64, moment: Moment) {
 }
 
 fn peek_at_all(state: &State, at_once: usize, now: Moment) -> Vec<Peeked> {
-    let (mut seen, mut place) = (Vec::new(), Some(Place::FIRST));
+    let (mut seen, mut place) = (Vec::new(), Some(Cursor::FIRST));
     while let Some(after) = place {
         let step = state.peek(after, at_once, now);
         assert!(step.peeked.len() <= at_once);
