@@ -18,7 +18,7 @@ use tokio::time::{timeout, Instant};
 
 use super::places::Places;
 use super::watched::{Progress, Watched};
-use super::{answers, Arrival, Connection, Service, Taken, LONGEST_HEAD};
+use super::{answers, Admitted, Arrival, Connection, Service, LONGEST_HEAD};
 use crate::ending::Ending;
 use crate::tls::Certificate;
 
@@ -155,8 +155,8 @@ async fn handle(connection: Arc<Connection>, request: Request<Body>, is_served: 
     if !is_served {
         return Ok(Box::pin(connection.turn_away(arrival, request)).await.map(Body::from));
     }
-    let taken = connection.clone().take_in(arrival, request).await;
-    let mut response = answer(taken, &connection.progress).await?;
+    let admitted = connection.clone().admit(arrival, request).await;
+    let mut response = answer(admitted, &connection.progress).await?;
     let must_close = connection.progress.answers(response.body().len() as u64);
     if must_close {
         response.headers_mut().insert(CONNECTION, HeaderValue::from_static("close"));
@@ -165,13 +165,13 @@ async fn handle(connection: Arc<Connection>, request: Request<Body>, is_served: 
 }
 
 /// The answer, unless the client goes before it is there. What it asked for is given up then.
-async fn answer(taken: Taken, progress: &Progress) -> io::Result<Response<Bytes>> {
-    if !taken.may_wait() {
-        return Ok(taken.answer().await);
+async fn answer(admitted: Admitted, progress: &Progress) -> io::Result<Response<Bytes>> {
+    if !admitted.may_wait() {
+        return Ok(admitted.answer().await);
     }
     tokio::select! {
         biased;
-        response = taken.answer() => Ok(response),
+        response = admitted.answer() => Ok(response),
         () = progress.leaves() => Err(io::ErrorKind::ConnectionAborted.into()),
     }
 }

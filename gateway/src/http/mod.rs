@@ -96,8 +96,8 @@ struct Tried {
     is_again: bool,
 }
 
-/// What is told of a request when it has been answered.
-struct Told {
+/// What is logged of a request, and counted, when it has been answered.
+struct AccessLog {
     arrival: Arrival,
     request_id: Uuid,
     action: Option<Action>,
@@ -106,14 +106,14 @@ struct Told {
     identity: Option<Arc<Identity>>,
 }
 
-/// A request that was taken in. A long poll keeps this and no more: what was read of its connection goes before.
-struct Taken {
+/// A request that was admitted. A long poll keeps this and no more: what was read of its connection goes before.
+struct Admitted {
     connection: Arc<Connection>,
-    told: Told,
+    log: AccessLog,
     next: Next,
 }
 
-/// What comes of a request that was taken in.
+/// What comes of a request that was admitted.
 enum Next {
     Perform(Box<Call>, Option<Box<Tried>>),
     Answered(Box<Response<Bytes>>),
@@ -161,30 +161,30 @@ impl Service {
 }
 
 impl Connection {
-    /// Takes in a request: its body is read, and what it asks for. Whatever comes in, there is an answer, in the protocol
+    /// Admits a request: its body is read, and what it asks for. Whatever comes in, there is an answer, in the protocol
     /// that the request speaks.
-    async fn take_in(self: Arc<Connection>, arrival: Arrival, request: Request<Body>) -> Taken {
+    async fn admit(self: Arc<Connection>, arrival: Arrival, request: Request<Body>) -> Admitted {
         let (head, body) = request.into_parts();
         let body = bodies::read(body, &self.share, arrival.deadline).await;
         if body.is_ok() {
             self.progress.is_read();
         }
-        let mut told = Told { arrival, request_id: Uuid::new_v4(), action: None, queue: None, identity: None };
+        let mut log = AccessLog { arrival, request_id: Uuid::new_v4(), action: None, queue: None, identity: None };
         let protocol = protocol_of(&head.headers);
         let read = match body {
             _ if length_of_head(&head) > LONGEST_HEAD => Err(Unread::LongHead),
-            Ok(bytes) => self.clone().read(protocol, &head, &bytes, &mut told),
+            Ok(bytes) => self.clone().read(protocol, &head, &bytes, &mut log),
             Err(error) => Err(Unread::Refused { error, closes: true }),
         };
         let next = read.unwrap_or_else(|unread| {
             let response = match unread {
                 Unread::LongHead => too_long_a_head(),
                 Unread::NotFound => not_found(),
-                Unread::Refused { error, closes } => refused(protocol, &error, told.request_id, closes),
+                Unread::Refused { error, closes } => refused(protocol, &error, log.request_id, closes),
             };
             Next::Answered(Box::new(response))
         });
-        Taken { connection: self, told, next }
+        Admitted { connection: self, log, next }
     }
 
     /// Finds out who asks, reads what is asked for, and whether that one may.
@@ -193,7 +193,7 @@ impl Connection {
         protocol: Protocol,
         head: &Parts,
         body: &Bytes,
-        told: &mut Told,
+        log: &mut AccessLog,
     ) -> Result<Next, Unread> {
         let path_queue = address::queue_of_path(head.uri.path()).map_err(|_| Unread::NotFound)?;
         let incoming = Incoming {
@@ -204,12 +204,12 @@ impl Connection {
         };
         let service = &self.service;
         let identity = service.identify(head, body, incoming.service(), &self.host)?;
-        told.identity = identity.clone();
+        log.identity = identity.clone();
         let request = protocol.read(&incoming)?;
         let action = request.action();
-        told.action = Some(action);
+        log.action = Some(action);
         if tracing::enabled!(tracing::Level::DEBUG) {
-            told.queue = request.queue().cloned();
+            log.queue = request.queue().cloned();
         }
         if let Some(identity) = identity.as_ref().filter(|identity| !identity.may(action, request.queue())) {
             return Err(service.actions.denied(identity, action, request.queue()).into());
@@ -217,7 +217,7 @@ impl Connection {
         let base_url =
             if action.tells_urls() { service.addresses.base_url(&head.headers, self.peer) } else { String::new() };
         self.share.set(request.bytes_kept(body.len()));
-        let (request, request_id) = (Box::new(request), told.request_id);
+        let (request, request_id) = (Box::new(request), log.request_id);
         let mut call =
             Call { connection: self, protocol, action, request, request_id, identity, base_url, digest: None };
         if call.request.is_told_by_its_call() {
@@ -238,23 +238,23 @@ impl Connection {
         refused(protocol_of(&head.headers), &error, Uuid::new_v4(), true)
     }
 
-    fn tell(&self, told: &Told, status: StatusCode) {
-        let time = told.arrival.began.elapsed();
-        self.service.metrics.answered(told.action, status.as_u16(), time);
+    fn log(&self, log: &AccessLog, status: StatusCode) {
+        let time = log.arrival.began.elapsed();
+        self.service.metrics.answered(log.action, status.as_u16(), time);
         tracing::debug!(
-            request = %told.request_id,
-            action = told.action.map_or("none", Action::name),
-            queue = told.queue.as_ref().map(QueueName::as_str),
+            request = %log.request_id,
+            action = log.action.map_or("none", Action::name),
+            queue = log.queue.as_ref().map(QueueName::as_str),
             status = status.as_u16(),
             milliseconds = time.as_secs_f64() * 1e3,
-            key = told.identity.as_ref().map(|identity| identity.name()),
+            key = log.identity.as_ref().map(|identity| identity.name()),
             peer = %self.peer,
             "answered"
         );
     }
 }
 
-impl Taken {
+impl Admitted {
     /// Whether it may wait for longer than the store takes.
     fn may_wait(&self) -> bool {
         matches!(&self.next, Next::Perform(call, _) if call.action == Action::ReceiveMessage)
@@ -265,7 +265,7 @@ impl Taken {
             Next::Perform(call, tried) => response(call.answer(tried).await),
             Next::Answered(response) => *response,
         };
-        self.connection.tell(&self.told, response.status());
+        self.connection.log(&self.log, response.status());
         response
     }
 }
