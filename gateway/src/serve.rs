@@ -22,7 +22,7 @@ use crate::cq::{test_built, test_version, Cq};
 use crate::delays;
 use crate::ending::End;
 use crate::http::{is_of_this_machine, listen, Addresses, Door, Hosts, Places, Service};
-use crate::journal::{self, Batch, Journal, Record, Taken};
+use crate::journal::{self, Batch, Journal, LockedJournal, Record};
 use crate::limits::Bounds;
 use crate::metrics::Metrics;
 use crate::move_tasks;
@@ -232,11 +232,11 @@ async fn begin(settings: &Settings, health: &Health, mut cqs: Vec<Cq>) -> Result
         None => Clock::new(),
     });
     let queues = Arc::new(Queues::new(settings.peek));
-    let taken = take_journal(settings).await?;
+    let locked = lock_journal(settings).await?;
     let shards = settings.shards;
-    let (journal, replayed) = match taken {
-        Some(taken) => {
-            let opened = taken.open(shards)?;
+    let (journal, replayed) = match locked {
+        Some(locked) => {
+            let opened = locked.open(shards)?;
             let (queues, clock, progress) = (queues.clone(), clock.clone(), health.replayed.clone());
             let tables = Tables { queues, clock, progress };
             let (fed, replayed) = store::replay_all(cqs, shards, &opened, &tables).await?;
@@ -272,11 +272,11 @@ fn record_jump(journal: &Journal, tables: &Tables, uncounted: u64) -> Result<()>
     Ok(())
 }
 
-async fn take_journal(settings: &Settings) -> Result<Option<Taken>> {
+async fn lock_journal(settings: &Settings) -> Result<Option<LockedJournal>> {
     let Some(path) = &settings.journal else { return Ok(None) };
-    let taken = Taken::new(path)?;
+    let locked = LockedJournal::new(path)?;
     journal::convert(&settings.program, path, settings.shards).await?;
-    Ok(Some(taken))
+    Ok(Some(locked))
 }
 
 /// What a queue left in the store that was going over to another name when the gateway ended. What can't be removed now,

@@ -280,7 +280,7 @@ mod tests {
     use std::sync::Arc;
 
     use super::super::log::{Log, Sizes};
-    use super::super::Taken;
+    use super::super::LockedJournal;
     use super::*;
     use crate::queues::shards::Shards;
 
@@ -302,7 +302,7 @@ mod tests {
     }
 
     fn refusal_of(path: &Path) -> String {
-        match Taken::new(path).and_then(|taken| taken.open(Shards::ONE)) {
+        match LockedJournal::new(path).and_then(|locked| locked.open(Shards::ONE)) {
             Ok(_) => panic!("{} has two writers", path.display()),
             Err(error) => error.to_string(),
         }
@@ -312,7 +312,7 @@ mod tests {
     fn what_is_written_has_one_writer_by_whichever_name() {
         let room = Room::new("writers");
         let path = room.0.join("journal");
-        let first = Taken::new(&path).unwrap().open(Shards::ONE).unwrap();
+        let first = LockedJournal::new(&path).unwrap().open(Shards::ONE).unwrap();
         std::fs::remove_file(path.with_file_name("journal.lock")).unwrap();
         let segment = path.with_file_name("journal.1");
         assert_eq!(refusal_of(&path), format!("{} is in use by another process", segment.display()));
@@ -325,7 +325,7 @@ mod tests {
         std::fs::remove_file(other.join("journal.1")).unwrap();
         symlink(&segment, other.join("journal.1")).unwrap();
         assert!(refusal_of(&other.join("journal")).ends_with("journal.1 is a symbolic link"));
-        Taken::new(&path).unwrap().open(Shards::ONE).unwrap();
+        LockedJournal::new(&path).unwrap().open(Shards::ONE).unwrap();
     }
 
     #[test]

@@ -150,19 +150,19 @@ fn locked<T>(mutex: &Mutex<T>) -> MutexGuard<'_, T> {
 }
 
 /// A journal that no other gateway has, before it is read.
-pub struct Taken {
+pub struct LockedJournal {
     files: Files,
     path: PathBuf,
     lock: File,
 }
 
-impl Taken {
+impl LockedJournal {
     /// Keeps other gateways from the journal named by a path.
-    pub fn new(path: &Path) -> Result<Taken, JournalError> {
+    pub fn new(path: &Path) -> Result<LockedJournal, JournalError> {
         test_place(path)?;
         let files = Files::new(path);
         let lock = lock(&files, path)?;
-        Ok(Taken { files, path: path.into(), lock })
+        Ok(LockedJournal { files, path: path.into(), lock })
     }
 
     /// Opens the journal, or begins one, for so many programs. One of version 1 must have been converted before.
