@@ -22,7 +22,7 @@ const MOST_BYTES: usize = 64 << 20;
 
 /// What makes two requests the same call.
 #[derive(Clone, Debug)]
-pub struct Sameness<'a> {
+pub struct CallFields<'a> {
     pub action: Action,
     /// `amz-sdk-invocation-id`.
     pub invocation: &'a str,
@@ -34,21 +34,21 @@ pub struct Sameness<'a> {
 
 /// The digest of what makes two requests the same call. Whatever a client says, it takes as many bytes.
 #[derive(Clone, Copy, Debug, PartialEq, Eq, Hash)]
-pub struct Key(pub [u8; 32]);
+pub struct IdempotencyKey(pub [u8; 32]);
 
-impl Key {
-    pub fn of(same: &Sameness<'_>) -> Key {
+impl IdempotencyKey {
+    pub fn of(fields: &CallFields<'_>) -> IdempotencyKey {
         let mut digest = Sha256::new();
-        for text in [same.action.name(), same.invocation, same.access_key, same.path] {
+        for text in [fields.action.name(), fields.invocation, fields.access_key, fields.path] {
             digest.update((text.len() as u64).to_be_bytes());
             digest.update(text.as_bytes());
         }
-        digest.update(Sha256::digest(same.body));
-        Key(digest.finalize().into())
+        digest.update(Sha256::digest(fields.body));
+        IdempotencyKey(digest.finalize().into())
     }
 
     /// Whether a lost answer of this action does harm, so that it is kept.
-    pub fn is_of(action: Action) -> bool {
+    pub fn applies_to(action: Action) -> bool {
         matches!(action, Action::ReceiveMessage | Action::DeleteQueue | Action::PurgeQueue)
     }
 }
@@ -61,50 +61,50 @@ pub fn is_repeat(header: &str) -> bool {
 
 /// An answer that was made, and what it handed out.
 #[derive(Clone)]
-pub struct Made {
+pub struct CallResult {
     pub reply: Reply,
     pub handed: Option<(Arc<Queue>, Vec<Receipt>)>,
     /// It is worth to be given again: it handed something out, or removed or purged a queue.
     pub is_worth_keeping: bool,
 }
 
-type Answered = Option<Arc<Made>>;
+type Finished = Option<Arc<CallResult>>;
 
-struct Call {
+struct KnownCall {
     presence: Presence,
-    answer: watch::Receiver<Answered>,
+    answer: watch::Receiver<Finished>,
     answered: Option<Instant>,
     bytes: usize,
     number: u64,
 }
 
 #[derive(Default)]
-struct Kept {
-    calls: HashMap<Key, Call>,
+struct KnownCalls {
+    calls: HashMap<IdempotencyKey, KnownCall>,
     /// Calls that were answered, in the order of their answers.
-    by_age: VecDeque<(Instant, u64, Key)>,
+    by_age: VecDeque<(Instant, u64, IdempotencyKey)>,
     bytes: usize,
     last_number: u64,
 }
 
 /// Calls of the last minute, and those that go on.
 #[derive(Default)]
-pub struct Repeats(Mutex<Kept>);
+pub struct Repeats(Mutex<KnownCalls>);
 
 /// What a request finds.
-pub enum Found {
+pub enum Lookup {
     /// It is the first of its call. The answer goes to what this has.
-    First(Presence, Present, Begun),
+    First(Presence, Present, OpenCall),
     /// It repeats one whose answer this gives, perhaps later.
-    Again(Present, Answer),
+    Again(Present, PendingAnswer),
 }
 
 /// The answer to a call, when it is there.
-pub struct Answer(watch::Receiver<Answered>);
+pub struct PendingAnswer(watch::Receiver<Finished>);
 
-impl Answer {
+impl PendingAnswer {
     /// Waits for the answer. None if the call came to nothing.
-    pub async fn wait(mut self) -> Option<Arc<Made>> {
+    pub async fn wait(mut self) -> Option<Arc<CallResult>> {
         loop {
             let answer = self.0.borrow().clone();
             if answer.is_some() {
@@ -116,69 +116,69 @@ impl Answer {
 }
 
 /// A call that goes on.
-pub struct Begun {
-    key: Key,
+pub struct OpenCall {
+    key: IdempotencyKey,
     number: u64,
-    answer: watch::Sender<Answered>,
+    answer: watch::Sender<Finished>,
 }
 
 impl Repeats {
-    fn kept(&self) -> MutexGuard<'_, Kept> {
+    fn known(&self) -> MutexGuard<'_, KnownCalls> {
         self.0.lock().unwrap_or_else(PoisonError::into_inner)
     }
 
     /// Takes up a request. A repeat is one only while what its call handed out is still in flight.
-    pub fn enter(&self, key: Key, is_repeat: bool, clock: &Clock) -> Found {
-        let mut kept = self.kept();
-        kept.forget_old();
+    pub fn enter(&self, key: IdempotencyKey, is_repeat: bool, clock: &Clock) -> Lookup {
+        let mut known = self.known();
+        known.forget_old();
         if is_repeat {
-            if let Some(call) = kept.calls.get(&key).filter(|call| call.is_good(clock)) {
-                return Found::Again(call.presence.enter(), Answer(call.answer.clone()));
+            if let Some(call) = known.calls.get(&key).filter(|call| call.is_good(clock)) {
+                return Lookup::Again(call.presence.enter(), PendingAnswer(call.answer.clone()));
             }
         }
-        kept.last_number += 1;
-        let number = kept.last_number;
+        known.last_number += 1;
+        let number = known.last_number;
         let (answer, watched) = watch::channel(None);
         let presence = Presence::default();
         let present = presence.enter();
-        let call = Call { presence: presence.clone(), answer: watched, answered: None, bytes: 0, number };
-        if let Some(earlier) = kept.calls.insert(key, call) {
-            kept.bytes -= earlier.bytes;
+        let call = KnownCall { presence: presence.clone(), answer: watched, answered: None, bytes: 0, number };
+        if let Some(earlier) = known.calls.insert(key, call) {
+            known.bytes -= earlier.bytes;
         }
-        Found::First(presence, present, Begun { key, number, answer })
+        Lookup::First(presence, present, OpenCall { key, number, answer })
     }
 
     /// The answer to a call that goes on, for the request that began it.
-    pub fn answer_of(&self, begun: &Begun) -> Answer {
-        Answer(begun.answer.subscribe())
+    pub fn answer_of(&self, open: &OpenCall) -> PendingAnswer {
+        PendingAnswer(open.answer.subscribe())
     }
 
     /// Keeps the answer of a call, if it is worth it, and gives it to all who wait.
-    pub fn end(&self, begun: Begun, made: Made) {
-        let mut kept = self.kept();
-        let (now, size) = (Instant::now(), made.reply.body.len() + 768);
-        let own = kept.calls.get_mut(&begun.key).filter(|call| call.number == begun.number);
+    pub fn end(&self, open: OpenCall, result: CallResult) {
+        let mut known = self.known();
+        let (now, size) = (Instant::now(), result.reply.body.len() + 768);
+        let own = known.calls.get_mut(&open.key).filter(|call| call.number == open.number);
         if let Some(call) = own {
-            if made.is_worth_keeping {
+            if result.is_worth_keeping {
                 call.answered = Some(now);
                 call.bytes = size;
-                kept.bytes += size;
-                kept.by_age.push_back((now, begun.number, begun.key));
+                known.bytes += size;
+                known.by_age.push_back((now, open.number, open.key));
             } else {
-                kept.calls.remove(&begun.key);
+                known.calls.remove(&open.key);
             }
         }
-        kept.forget_old();
-        drop(kept);
-        begun.answer.send_replace(Some(Arc::new(made)));
+        known.forget_old();
+        drop(known);
+        open.answer.send_replace(Some(Arc::new(result)));
     }
 }
 
-impl Call {
+impl KnownCall {
     /// It goes on, or what it handed out is all still in flight by the same receipts.
     fn is_good(&self, clock: &Clock) -> bool {
         let answer = self.answer.borrow();
-        match answer.as_ref().and_then(|made| made.handed.as_ref()) {
+        match answer.as_ref().and_then(|result| result.handed.as_ref()) {
             Some((queue, receipts)) => {
                 let state = queue.state();
                 !state.removed && state.are_in_flight(receipts, clock.now())
@@ -188,7 +188,7 @@ impl Call {
     }
 }
 
-impl Kept {
+impl KnownCalls {
     fn forget_old(&mut self) {
         while let Some((answered, number, key)) = self.by_age.front() {
             if answered.elapsed() < KEPT && self.bytes <= MOST_BYTES {
@@ -208,13 +208,19 @@ impl Kept {
 mod tests {
     use super::*;
 
-    fn key(invocation: &str) -> Key {
-        Key::of(&Sameness { action: Action::PurgeQueue, invocation, access_key: "a", path: "/", body: b"" })
+    fn key(invocation: &str) -> IdempotencyKey {
+        IdempotencyKey::of(&CallFields {
+            action: Action::PurgeQueue,
+            invocation,
+            access_key: "a",
+            path: "/",
+            body: b"",
+        })
     }
 
-    fn made(is_worth_keeping: bool) -> Made {
+    fn result(is_worth_keeping: bool) -> CallResult {
         let reply = Reply { status: 200, content_type: "", query_error: None, request_id: "r".into(), body: vec![1] };
-        Made { reply, handed: None, is_worth_keeping }
+        CallResult { reply, handed: None, is_worth_keeping }
     }
 
     #[test]
@@ -234,14 +240,14 @@ mod tests {
     #[tokio::test]
     async fn a_repeat_is_given_the_first_answer_and_a_first_try_is_not() {
         let (repeats, clock) = (Repeats::default(), Clock::new());
-        let Found::First(_, _present, begun) = repeats.enter(key("1"), true, &clock) else { panic!() };
-        let Found::Again(_again, waiting) = repeats.enter(key("1"), true, &clock) else { panic!() };
-        repeats.end(begun, made(true));
+        let Lookup::First(_, _present, open) = repeats.enter(key("1"), true, &clock) else { panic!() };
+        let Lookup::Again(_again, waiting) = repeats.enter(key("1"), true, &clock) else { panic!() };
+        repeats.end(open, result(true));
         assert_eq!(waiting.wait().await.unwrap().reply.request_id, "r");
-        assert!(matches!(repeats.enter(key("1"), true, &clock), Found::Again(..)));
-        assert!(matches!(repeats.enter(key("2"), true, &clock), Found::First(..)));
-        let Found::First(_, _present, begun) = repeats.enter(key("1"), false, &clock) else { panic!() };
-        repeats.end(begun, made(false));
-        assert!(matches!(repeats.enter(key("1"), true, &clock), Found::First(..)));
+        assert!(matches!(repeats.enter(key("1"), true, &clock), Lookup::Again(..)));
+        assert!(matches!(repeats.enter(key("2"), true, &clock), Lookup::First(..)));
+        let Lookup::First(_, _present, open) = repeats.enter(key("1"), false, &clock) else { panic!() };
+        repeats.end(open, result(false));
+        assert!(matches!(repeats.enter(key("1"), true, &clock), Lookup::First(..)));
     }
 }

@@ -26,7 +26,7 @@ use crate::budget::{Budget, Share};
 use crate::errors::SqsError;
 use crate::metrics::Metrics;
 use crate::presence::Presence;
-use crate::repeats::{is_repeat, Begun, Found, Key, Made, Repeats, Sameness};
+use crate::repeats::{is_repeat, CallFields, CallResult, IdempotencyKey, Lookup, OpenCall, Repeats};
 use crate::texts::QueueName;
 use crate::wire::requests::Action;
 use crate::wire::{self, Incoming, Protocol, Reply};
@@ -91,8 +91,8 @@ struct Call {
 }
 
 /// A call of which there may be repeats, and whether it says that it is one.
-struct Tried {
-    key: Key,
+struct Repeatable {
+    key: IdempotencyKey,
     is_again: bool,
 }
 
@@ -115,7 +115,7 @@ struct Admitted {
 
 /// What comes of a request that was admitted.
 enum Next {
-    Perform(Box<Call>, Option<Box<Tried>>),
+    Perform(Box<Call>, Option<Box<Repeatable>>),
     Answered(Box<Response<Bytes>>),
 }
 
@@ -223,9 +223,9 @@ impl Connection {
         if call.request.is_told_by_its_call() {
             call.digest = call.key(head, body).map(|key| key.0);
         }
-        let key = if Key::is_of(action) { call.key(head, body) } else { None };
+        let key = if IdempotencyKey::applies_to(action) { call.key(head, body) } else { None };
         let is_again = || text_of(&head.headers, &SDK_REQUEST).is_some_and(is_repeat);
-        Ok(Next::Perform(Box::new(call), key.map(|key| Box::new(Tried { key, is_again: is_again() }))))
+        Ok(Next::Perform(Box::new(call), key.map(|key| Box::new(Repeatable { key, is_again: is_again() }))))
     }
 
     /// Refuses a request of a connection that is one too many.
@@ -262,7 +262,7 @@ impl Admitted {
 
     async fn answer(self) -> Response<Bytes> {
         let response = match self.next {
-            Next::Perform(call, tried) => response(call.answer(tried).await),
+            Next::Perform(call, repeatable) => response(call.answer(repeatable).await),
             Next::Answered(response) => *response,
         };
         self.connection.log(&self.log, response.status());
@@ -288,36 +288,36 @@ impl From<SqsError> for Unread {
 }
 
 impl Call {
-    async fn answer(self: Box<Call>, tried: Option<Box<Tried>>) -> Reply {
-        let Some(tried) = tried else {
+    async fn answer(self: Box<Call>, repeatable: Option<Box<Repeatable>>) -> Reply {
+        let Some(repeatable) = repeatable else {
             return self.answer_once().await;
         };
         let service = self.connection.service.clone();
         let (protocol, request_id) = (self.protocol, self.request_id);
-        let Tried { key, is_again } = *tried;
+        let Repeatable { key, is_again } = *repeatable;
         let (_present, answer) = match service.repeats.enter(key, is_again, service.actions.store().clock()) {
-            Found::Again(present, answer) => (present, answer),
-            Found::First(presence, present, begun) => {
-                let answer = service.repeats.answer_of(&begun);
-                tokio::spawn(self.perform_kept(presence, begun));
+            Lookup::Again(present, answer) => (present, answer),
+            Lookup::First(presence, present, open) => {
+                let answer = service.repeats.answer_of(&open);
+                tokio::spawn(self.perform_repeatable(presence, open));
                 (present, answer)
             }
         };
         match answer.wait().await {
-            Some(made) => Arc::try_unwrap(made).map_or_else(|made| made.reply.clone(), |made| made.reply),
+            Some(result) => Arc::try_unwrap(result).map_or_else(|result| result.reply.clone(), |result| result.reply),
             None => protocol.refuse(&SqsError::InternalFailure("The gateway failed.".into()), request_id.to_string()),
         }
     }
 
     /// What makes a repeat of this call one.
-    fn key(&self, head: &Parts, body: &[u8]) -> Option<Key> {
+    fn key(&self, head: &Parts, body: &[u8]) -> Option<IdempotencyKey> {
         let invocation = text_of(&head.headers, &INVOCATION)?;
         let access_key = match &self.identity {
             Some(identity) => identity.name(),
             None => claimed_key(&head.headers),
         };
         let path = &head.uri.to_string();
-        Some(Key::of(&Sameness { action: self.action, invocation, access_key, path, body }))
+        Some(IdempotencyKey::of(&CallFields { action: self.action, invocation, access_key, path, body }))
     }
 
     /// Performs a call of which there are no repeats.
@@ -329,29 +329,29 @@ impl Call {
         }
         let (protocol, request_id) = (self.protocol, self.request_id);
         match tokio::spawn(self.perform(presence)).await {
-            Ok(made) => made.reply,
+            Ok(result) => result.reply,
             Err(_) => protocol.refuse(&SqsError::InternalFailure("The gateway failed.".into()), request_id.to_string()),
         }
     }
 
-    async fn perform_kept(self: Box<Call>, presence: Presence, begun: Begun) {
+    async fn perform_repeatable(self: Box<Call>, presence: Presence, open: OpenCall) {
         let connection = self.connection.clone();
-        let made = self.perform(presence).await;
-        connection.service.repeats.end(begun, made);
+        let result = self.perform(presence).await;
+        connection.service.repeats.end(open, result);
     }
 
-    async fn perform(self: Box<Call>, presence: Presence) -> Made {
+    async fn perform(self: Box<Call>, presence: Presence) -> CallResult {
         let Call { connection, protocol, action, request, request_id, identity, base_url, digest } = *self;
         let caller = Caller { base_url, presence, identity, call: digest, share: connection.share.clone() };
         match connection.service.actions.perform(request, &caller).await {
             Ok(performed) => {
                 let is_worth_keeping = !performed.response.is_empty_receive();
                 let reply = protocol.answer(action, &performed.response, request_id.to_string());
-                Made { reply, handed: performed.handed, is_worth_keeping }
+                CallResult { reply, handed: performed.handed, is_worth_keeping }
             }
             Err(error) => {
                 let reply = protocol.refuse(&error, request_id.to_string());
-                Made { reply, handed: None, is_worth_keeping: false }
+                CallResult { reply, handed: None, is_worth_keeping: false }
             }
         }
     }
