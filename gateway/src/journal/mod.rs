@@ -26,7 +26,7 @@ use crate::errors::SqsError;
 use crate::limits::Bound;
 use crate::queues::ask::StoreName;
 use crate::queues::shards::Shards;
-use crate::store::{Answers, Done, JournalFigures};
+use crate::store::{AnswerSender, Answers, JournalFigures};
 pub use backup::back_up;
 pub use disk::Files;
 use disk::{open_file, Folder};
@@ -42,14 +42,14 @@ pub struct Batch {
     /// Lines.
     pub records: Vec<u8>,
     pub count: u64,
-    pub finished: Vec<(Done, Answers)>,
+    pub finished: Vec<(AnswerSender, Answers)>,
 }
 
 impl Batch {
     /// Gives the answers.
-    pub fn tell(&mut self) {
-        for (done, answers) in self.finished.drain(..) {
-            done.tell(answers);
+    pub fn send_answers(&mut self) {
+        for (sender, answers) in self.finished.drain(..) {
+            sender.send(answers);
         }
     }
 
@@ -362,8 +362,8 @@ impl Journal {
 
     /// Waits until all that was handed over is on disk.
     pub async fn wait_until_durable(&self) {
-        let (done, answers) = oneshot::channel();
-        let mut batch = Batch { finished: vec![(done.into(), Vec::new())], ..Batch::default() };
+        let (sender, answers) = oneshot::channel();
+        let mut batch = Batch { finished: vec![(sender.into(), Vec::new())], ..Batch::default() };
         self.hand_over(&mut batch);
         let _ = answers.await;
     }

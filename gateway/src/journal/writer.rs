@@ -64,7 +64,7 @@ fn keep_writing(mut log: Log<Files>, journal: &Journal, failed: fn(&str)) -> Res
                     commit(&mut log, journal, &batch)?;
                     is_quiet = false;
                 }
-                batch.tell();
+                batch.send_answers();
             }
             Next::Quiet => {
                 commit_nothing(&mut log, journal)?;
@@ -75,7 +75,7 @@ fn keep_writing(mut log: Log<Files>, journal: &Journal, failed: fn(&str)) -> Res
                     commit(&mut log, journal, &batch)?;
                 }
                 commit_nothing(&mut log, journal)?;
-                batch.tell();
+                batch.send_answers();
                 journal.0.ended.notify_one();
                 return Ok(());
             }

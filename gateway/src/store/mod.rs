@@ -31,25 +31,25 @@ struct Job {
     operations: Vec<Operation>,
     /// It doesn't wait where its queue is held.
     ignores_hold: bool,
-    done: Done,
+    sender: AnswerSender,
 }
 
 /// Where the answers to a job go, and what its request counts until they are there, also where its client has gone.
-pub struct Done {
+pub struct AnswerSender {
     answers: oneshot::Sender<Answers>,
     _share: Option<Arc<Share>>,
 }
 
-impl Done {
-    pub fn tell(self, answers: Answers) {
+impl AnswerSender {
+    pub fn send(self, answers: Answers) {
         // A client that has gone hears nothing.
         let _ = self.answers.send(answers);
     }
 }
 
-impl From<oneshot::Sender<Answers>> for Done {
-    fn from(answers: oneshot::Sender<Answers>) -> Done {
-        Done { answers, _share: None }
+impl From<oneshot::Sender<Answers>> for AnswerSender {
+    fn from(answers: oneshot::Sender<Answers>) -> AnswerSender {
+        AnswerSender { answers, _share: None }
     }
 }
 
@@ -126,9 +126,9 @@ impl Store {
         share: Option<&Arc<Share>>,
     ) -> Answers {
         let count = operations.len();
-        let (done, answers) = oneshot::channel();
-        let done = Done { answers: done, _share: share.cloned() };
-        let job = Job { queue: Some(queue.clone()), operations, ignores_hold, done };
+        let (sender, answers) = oneshot::channel();
+        let sender = AnswerSender { answers: sender, _share: share.cloned() };
+        let job = Job { queue: Some(queue.clone()), operations, ignores_hold, sender };
         let answered = match self.jobs_of(&queue.name).send(job) {
             Ok(()) => answers.await.ok(),
             Err(_) => None,
@@ -207,9 +207,9 @@ impl Store {
 
 /// Submits operations that are of no queue.
 fn submit_beside(jobs: &mpsc::UnboundedSender<Job>, operations: Vec<Operation>) -> oneshot::Receiver<Answers> {
-    let (done, answers) = oneshot::channel();
+    let (sender, answers) = oneshot::channel();
     // Where the task is gone, no answer comes.
-    let _ = jobs.send(Job { queue: None, operations, ignores_hold: true, done: done.into() });
+    let _ = jobs.send(Job { queue: None, operations, ignores_hold: true, sender: sender.into() });
     answers
 }
 
@@ -236,11 +236,12 @@ impl Held {
 
 impl Drop for Held {
     fn drop(&mut self) {
-        let (done, _) = oneshot::channel();
+        let (sender, _) = oneshot::channel();
         let queue = Some(self.queue.clone());
         // Where the task is gone, nothing waits any more.
         let jobs = self.store.jobs_of(&self.queue.name);
-        let _ = jobs.send(Job { queue, operations: vec![Operation::Release], ignores_hold: true, done: done.into() });
+        let _ =
+            jobs.send(Job { queue, operations: vec![Operation::Release], ignores_hold: true, sender: sender.into() });
     }
 }
 

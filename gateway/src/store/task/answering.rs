@@ -6,7 +6,7 @@ use crate::errors::SqsError;
 use crate::journal::Record;
 use crate::lines::{self, Output, StoreReply};
 use crate::queues::ask::{Ask, Outcome};
-use crate::store::{Answer, Done};
+use crate::store::{Answer, AnswerSender};
 
 impl Task {
     pub(super) fn read_answers(&mut self) -> Result<(), Ended> {
@@ -24,7 +24,7 @@ impl Task {
     }
 
     fn refused(&mut self, code: u32) -> Result<(), Ended> {
-        let Some(Open { entry: Entry::Ask(asked), done }) = self.open.pop_front() else {
+        let Some(Open { entry: Entry::Ask(asked), sender }) = self.open.pop_front() else {
             return Err(Ended::NotNext { client: 0, number: 0 });
         };
         self.close(&asked);
@@ -33,12 +33,12 @@ impl Task {
         let start: String = asked.raw.get().chars().take(200).collect();
         // A client may have said what stands in it.
         tracing::warn!("cq refused a line ({code}): {start:?}");
-        self.finish(Err(SqsError::of_refusal(code)), done);
+        self.finish(Err(SqsError::of_refusal(code)), sender);
         Ok(())
     }
 
     fn answered(&mut self, client: u32, number: u64, reply: StoreReply, text: &str) -> Result<(), Ended> {
-        let Some(Open { entry, done }) = self.open.pop_front() else {
+        let Some(Open { entry, sender }) = self.open.pop_front() else {
             return Err(Ended::NotNext { client, number });
         };
         match entry {
@@ -46,12 +46,12 @@ impl Task {
                 self.close(&asked);
                 self.ends = 0;
                 let answer = self.apply_and_record(&asked, reply, text)?;
-                self.finish(answer, done);
+                self.finish(answer, sender);
                 Ok(())
             }
             Entry::Moment if number == 0 => {
-                if done.is_some() {
-                    self.finish(Ok(Outcome::Done), done);
+                if sender.is_some() {
+                    self.finish(Ok(Outcome::Done), sender);
                 }
                 Ok(())
             }
@@ -66,7 +66,7 @@ impl Task {
                     StoreReply::Refused(code) => Err(SqsError::of_refusal(code)),
                     _ => Err(SqsError::InternalFailure("The store gave no counts.".into())),
                 };
-                self.finish(answer, done);
+                self.finish(answer, sender);
                 Ok(())
             }
             _ => Err(Ended::NotNext { client, number }),
@@ -128,14 +128,14 @@ impl Task {
                 Some(Open { entry: Entry::Change(_) | Entry::Ready(_), .. }) => {}
                 _ => return Ok(()),
             }
-            let Some(Open { entry, done }) = self.open.pop_front() else { return Ok(()) };
+            let Some(Open { entry, sender }) = self.open.pop_front() else { return Ok(()) };
             match entry {
                 Entry::Change(change) => {
                     let answer = self.apply_change(&change)?;
-                    self.finish(answer, done);
+                    self.finish(answer, sender);
                 }
-                Entry::Ready(Some(answer)) => self.finish(answer, done),
-                _ => self.finish_job(done),
+                Entry::Ready(Some(answer)) => self.finish(answer, sender),
+                _ => self.finish_job(sender),
             }
         }
     }
@@ -161,16 +161,16 @@ impl Task {
         Ok(Ok(outcome))
     }
 
-    fn finish(&mut self, answer: Answer, done: Option<Done>) {
+    fn finish(&mut self, answer: Answer, sender: Option<AnswerSender>) {
         self.answers.push(answer);
-        if done.is_some() {
-            self.finish_job(done);
+        if sender.is_some() {
+            self.finish_job(sender);
         }
     }
 
-    fn finish_job(&mut self, done: Option<Done>) {
-        if let Some(done) = done {
-            self.batch.finished.push((done, std::mem::take(&mut self.answers)));
+    fn finish_job(&mut self, sender: Option<AnswerSender>) {
+        if let Some(sender) = sender {
+            self.batch.finished.push((sender, std::mem::take(&mut self.answers)));
         }
     }
 
@@ -181,7 +181,7 @@ impl Task {
         }
         match &self.journal {
             Some(journal) => journal.hand_over(&mut self.batch),
-            None => self.batch.tell(),
+            None => self.batch.send_answers(),
         }
     }
 }

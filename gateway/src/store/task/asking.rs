@@ -14,14 +14,14 @@ use crate::handles::Receipt;
 use crate::lines::{self, Fields};
 use crate::queues::ask::{Ask, Cause, Outcome, TableChange};
 use crate::queues::{Queue, State};
-use crate::store::{Answer, Done, Operation};
+use crate::store::{Answer, AnswerSender, Operation};
 use crate::texts::QueueKind;
 
 impl Task {
     /// Starts the operations that wait, as long as there are free clients.
     pub(super) fn start_pending(&mut self) -> Result<(), Ended> {
         while !self.lacks_room && !self.waits_for_answer && !self.free.is_empty() && self.out.bytes.len() < PIECE {
-            let Some(Pending { queue, operation, done }) = self.pending.pop_front() else { break };
+            let Some(Pending { queue, operation, sender }) = self.pending.pop_front() else { break };
             let started = match (queue, operation) {
                 (Some(queue), Some(Operation::Ask(ask))) => self.start_ask(queue, ask)?,
                 (Some(queue), Some(Operation::Change(change))) => self.start_change(queue, change),
@@ -31,13 +31,13 @@ impl Task {
                 _ => Started::Open(Entry::Ready(None)),
             };
             match started {
-                Started::Open(entry) => self.open.push_back(Open { entry, done }),
+                Started::Open(entry) => self.open.push_back(Open { entry, sender }),
                 Started::LacksRoom(queue, operation) => {
-                    self.put_back(queue, operation, done);
+                    self.put_back(queue, operation, sender);
                     self.lacks_room = true;
                 }
                 Started::WaitsForAnswer(queue, operation) => {
-                    self.put_back(queue, operation, done);
+                    self.put_back(queue, operation, sender);
                     self.waits_for_answer = true;
                 }
             }
@@ -45,8 +45,8 @@ impl Task {
         Ok(())
     }
 
-    fn put_back(&mut self, queue: Arc<Queue>, operation: Operation, done: Option<Done>) {
-        self.pending.push_front(Pending { queue: Some(queue), operation: Some(operation), done });
+    fn put_back(&mut self, queue: Arc<Queue>, operation: Operation, sender: Option<AnswerSender>) {
+        self.pending.push_front(Pending { queue: Some(queue), operation: Some(operation), sender });
     }
 
     fn start_ask(&mut self, queue: Arc<Queue>, ask: Ask) -> Result<Started, Ended> {
@@ -136,7 +136,7 @@ impl Task {
 
     fn count(&mut self, queue: Arc<Queue>) -> Result<Entry, Ended> {
         let entry = self.moment()?;
-        self.open.push_back(Open { entry, done: None });
+        self.open.push_back(Open { entry, sender: None });
         let tag = self.next_tag();
         self.write_count(tag, &queue)?;
         Ok(Entry::Count { tag, queue })

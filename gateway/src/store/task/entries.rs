@@ -7,13 +7,13 @@ use serde_json::value::RawValue;
 use crate::clock::Moment;
 use crate::queues::ask::{Ask, TableChange};
 use crate::queues::Queue;
-use crate::store::{Answer, Done, Operation};
+use crate::store::{Answer, AnswerSender, Operation};
 
 /// Something whose answer is due. Answers are given in the order of the requests.
 pub(super) struct Open {
     pub(super) entry: Entry,
     /// In the last entry of a job.
-    pub(super) done: Option<Done>,
+    pub(super) sender: Option<AnswerSender>,
 }
 
 pub(super) enum Entry {
@@ -80,5 +80,5 @@ pub(super) struct Pending {
     pub(super) queue: Option<Arc<Queue>>,
     /// None where only the answers to earlier operations are waited for.
     pub(super) operation: Option<Operation>,
-    pub(super) done: Option<Done>,
+    pub(super) sender: Option<AnswerSender>,
 }

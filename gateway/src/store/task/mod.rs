@@ -245,7 +245,7 @@ impl Task {
     fn take(&mut self, job: Job) {
         let Some(queue) = &job.queue else {
             let operation = job.operations.into_iter().next();
-            self.pending.push_back(Pending { queue: None, operation, done: Some(job.done) });
+            self.pending.push_back(Pending { queue: None, operation, sender: Some(job.sender) });
             return;
         };
         if !job.ignores_hold {
@@ -259,7 +259,7 @@ impl Task {
 
     fn append(&mut self, job: Job) {
         let Some(queue) = job.queue else { return };
-        let mut done = Some(job.done);
+        let mut sender = Some(job.sender);
         let count = job.operations.len();
         for (place, operation) in job.operations.into_iter().enumerate() {
             match operation {
@@ -272,8 +272,8 @@ impl Task {
                 }
                 _ => {}
             }
-            let done = if place + 1 == count { done.take() } else { None };
-            self.pending.push_back(Pending { queue: Some(queue.clone()), operation: Some(operation), done });
+            let sender = if place + 1 == count { sender.take() } else { None };
+            self.pending.push_back(Pending { queue: Some(queue.clone()), operation: Some(operation), sender });
         }
     }
 
@@ -317,11 +317,11 @@ impl Task {
                     Entry::Ready(Some(Err(SqsError::InternalFailure(message.into()))))
                 }
             };
-            self.open.push_back(Open { entry, done: open.done });
+            self.open.push_back(Open { entry, sender: open.sender });
         }
         if let Some(queue) = given_up {
             let entry = self.probe(queue)?;
-            self.open.push_back(Open { entry, done: None });
+            self.open.push_back(Open { entry, sender: None });
         }
         tracing::warn!("cq was started again, and is where the journal is");
         Ok(())
