@@ -54,7 +54,7 @@ impl Health {
     }
 
     /// A word for probes, and the status: 200 while it serves, else 503.
-    fn told(&self) -> (StatusCode, String) {
+    fn status(&self) -> (StatusCode, String) {
         match self.phase.load(Ordering::Relaxed) {
             STARTING => {
                 let replayed = self.replayed.load(Ordering::Relaxed);
@@ -125,19 +125,19 @@ impl Admin {
         if is_read && request.uri().path().starts_with(peek::PATH) {
             return self.answer_peek(request.uri(), request.headers()).await;
         }
-        (self.tell(request).await, None)
+        (self.answer_get(request).await, None)
     }
 
-    async fn tell(&self, request: &Request<Body>) -> Response<Bytes> {
+    async fn answer_get(&self, request: &Request<Body>) -> Response<Bytes> {
         if !matches!(*request.method(), Method::GET | Method::HEAD) {
             return text(StatusCode::METHOD_NOT_ALLOWED, "There is only GET here.\n".into());
         }
         match request.uri().path() {
-            "/health" => match self.health.told() {
+            "/health" => match self.health.status() {
                 (StatusCode::OK, _) if !self.is_answering().await => {
                     text(StatusCode::SERVICE_UNAVAILABLE, "waiting: cq doesn't answer\n".into())
                 }
-                (status, told) => text(status, told),
+                (status, word) => text(status, word),
             },
             "/metrics" => self.answer_metrics().await,
             _ => text(StatusCode::NOT_FOUND, "There are /health and /metrics here.\n".into()),
@@ -212,10 +212,10 @@ mod tests {
     fn health_is_good_while_it_serves() {
         let health = Health::default();
         health.replayed.store(12, Ordering::Relaxed);
-        assert_eq!(health.told(), (StatusCode::SERVICE_UNAVAILABLE, "starting: 12 records replayed\n".into()));
+        assert_eq!(health.status(), (StatusCode::SERVICE_UNAVAILABLE, "starting: 12 records replayed\n".into()));
         health.serves();
-        assert_eq!(health.told(), (StatusCode::OK, "serving\n".into()));
+        assert_eq!(health.status(), (StatusCode::OK, "serving\n".into()));
         health.ends();
-        assert_eq!(health.told().0, StatusCode::SERVICE_UNAVAILABLE);
+        assert_eq!(health.status().0, StatusCode::SERVICE_UNAVAILABLE);
     }
 }

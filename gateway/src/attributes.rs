@@ -21,7 +21,8 @@ const LONGEST_KEY: usize = 2_048;
 /// The counts of messages, which are the store's.
 pub const COUNTS: [&str; 3] =
     ["ApproximateNumberOfMessages", "ApproximateNumberOfMessagesNotVisible", "ApproximateNumberOfMessagesDelayed"];
-const TOLD: [&str; 3] = ["CreatedTimestamp", "LastModifiedTimestamp", "QueueArn"];
+/// The gateway sets these itself.
+const READ_ONLY: [&str; 3] = ["CreatedTimestamp", "LastModifiedTimestamp", "QueueArn"];
 
 /// Which values an attribute may have.
 enum Rule {
@@ -380,12 +381,12 @@ impl Wanted {
     /// Tests the names; `All` stands for each. One that queues of this kind don't have is `InvalidAttributeName`.
     pub fn read(kind: QueueKind, names: &[String]) -> Result<Wanted, SqsError> {
         for name in names {
-            if name != "All" && find(kind, name).is_none() && !is_told(name) {
+            if name != "All" && find(kind, name).is_none() && !is_read_only(name) {
                 return Err(SqsError::InvalidAttributeName(name.clone()));
             }
         }
         if names.iter().any(|name| name == "All") {
-            let all = of_kind(kind).map(|attribute| attribute.name).chain(COUNTS).chain(TOLD);
+            let all = of_kind(kind).map(|attribute| attribute.name).chain(COUNTS).chain(READ_ONLY);
             return Ok(Wanted(all.map(String::from).collect()));
         }
         Ok(Wanted(names.iter().cloned().collect()))
@@ -403,11 +404,11 @@ impl Wanted {
 
 /// Whether there is an attribute of queues of whichever kind with this name.
 pub fn is_known(name: &str) -> bool {
-    find(QueueKind::Fifo, name).is_some() || is_told(name)
+    find(QueueKind::Fifo, name).is_some() || is_read_only(name)
 }
 
-fn is_told(name: &str) -> bool {
-    COUNTS.contains(&name) || TOLD.contains(&name)
+fn is_read_only(name: &str) -> bool {
+    COUNTS.contains(&name) || READ_ONLY.contains(&name)
 }
 
 #[cfg(test)]

@@ -15,7 +15,7 @@ impl End {
         (End(sender), Ending(receiver))
     }
 
-    pub fn tell(&self) {
+    pub fn announce(&self) {
         self.0.send_replace(true);
     }
 }
@@ -45,7 +45,7 @@ mod tests {
         let mut late = early.clone();
         let waiting = tokio::spawn(async move { early.comes().await });
         assert!(!late.has_come());
-        end.tell();
+        end.announce();
         waiting.await.unwrap();
         late.comes().await;
         assert!(late.has_come());

@@ -213,7 +213,7 @@ impl SqsError {
     }
 
     /// The text as clients are told it: what they sent may stand in it, and a refusal isn't as long as what it refuses.
-    pub fn told(&self) -> String {
+    pub fn client_message(&self) -> String {
         let mut text = self.to_string();
         if let Some((end, _)) = text.char_indices().nth(MOST_TOLD) {
             text.truncate(end);
@@ -317,7 +317,7 @@ mod tests {
         );
         assert_eq!(SqsError::of_refusal(99).coded().status, 500);
         assert!(!SqsError::of_refusal(99).is_sender_fault());
-        let long = SqsError::InvalidParameterValue("é".repeat(5_000)).told();
+        let long = SqsError::InvalidParameterValue("é".repeat(5_000)).client_message();
         assert_eq!(long.chars().count(), 1_025);
         let error = SqsError::attribute_value("DelaySeconds", "It must be 0.");
         assert_eq!(error.to_string(), "Invalid value for the parameter DelaySeconds. It must be 0.");

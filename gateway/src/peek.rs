@@ -324,7 +324,7 @@ fn message_in_json(message: &ReceivedMessage) -> Value {
 
 fn refusal_in_json(error: &SqsError, id: String) -> Value {
     let fault = if error.is_sender_fault() { "Sender" } else { "Receiver" };
-    let reply = json!({"Type": fault, "Code": error.coded().code, "Message": error.told(), "Detail": null});
+    let reply = json!({"Type": fault, "Code": error.coded().code, "Message": error.client_message(), "Detail": null});
     json!({"ErrorResponse": {"Error": reply, "RequestId": id}})
 }
 

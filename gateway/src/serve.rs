@@ -197,13 +197,13 @@ impl Entrance {
     fn read_again(keys: &Option<Arc<Keys>>, certificate: &Option<Arc<Certificate>>) {
         let (keys, certificate) = (keys.clone(), certificate.clone());
         tokio::task::spawn_blocking(move || {
-            tell_read_again("keys", keys.as_deref().map(Keys::read_again));
-            tell_read_again("certificate", certificate.as_deref().map(Certificate::read_again));
+            log_read_again("keys", keys.as_deref().map(Keys::read_again));
+            log_read_again("certificate", certificate.as_deref().map(Certificate::read_again));
         });
     }
 }
 
-fn tell_read_again(what: &str, read: Option<Result<()>>) {
+fn log_read_again(what: &str, read: Option<Result<()>>) {
     match read {
         None => {}
         Some(Ok(())) => tracing::info!("the {what} were read again"),
@@ -327,7 +327,7 @@ async fn answer(settings: &Settings, started: Started, signals: &mut Signals) ->
     admin.health.ends();
     notify_supervisor(sd_notify::NotifyState::Stopping);
     tracing::info!("ending");
-    end.tell();
+    end.announce();
     if tokio::time::timeout(LAST_ANSWERS, served).await.is_err() {
         tracing::warn!("some requests were cut off");
     }

@@ -1,4 +1,4 @@
-//! Queues: creating, removing, purging, and what is told of them.
+//! Queues: creating, removing and purging them, and their attributes and tags.
 
 use std::sync::Arc;
 
@@ -79,14 +79,14 @@ impl Actions {
         let queue = self.queue(name)?;
         let counts = if wanted.has_counts() { Some(self.count(&queue).await?) } else { None };
         let is_durable = counts.is_some();
-        let mut told = self.told(&queue);
+        let mut attributes = self.attributes_of(&queue);
         if let Some(Outcome::Counts { visible, in_flight }) = counts {
             let counts = queue.state().counts(visible, in_flight, self.store.clock().now());
-            told.extend(COUNTS.iter().zip(counts).map(|(name, count)| (name.to_string(), count.to_string())));
+            attributes.extend(COUNTS.iter().zip(counts).map(|(name, count)| (name.to_string(), count.to_string())));
         }
-        told.retain(|(name, _)| wanted.has(name));
-        told.sort_unstable();
-        Ok(Performed { is_durable, ..Performed::of_tables(Response::Attributes(told)) })
+        attributes.retain(|(name, _)| wanted.has(name));
+        attributes.sort_unstable();
+        Ok(Performed { is_durable, ..Performed::of_tables(Response::Attributes(attributes)) })
     }
 
     async fn count(&self, queue: &Arc<Queue>) -> Answer {
@@ -94,14 +94,14 @@ impl Actions {
         self.store.count(queue).await
     }
 
-    fn told(&self, queue: &Queue) -> Vec<(String, String)> {
+    fn attributes_of(&self, queue: &Queue) -> Vec<(String, String)> {
         let state = queue.state();
         let own = state.attributes.iter().map(|(name, value)| (name.to_string(), value.to_string()));
-        let mut told: Vec<_> = own.collect();
-        told.push(("CreatedTimestamp".into(), (state.created / 1000).to_string()));
-        told.push(("LastModifiedTimestamp".into(), (state.modified / 1000).to_string()));
-        told.push(("QueueArn".into(), self.owner.arn(queue.name.as_str())));
-        told
+        let mut attributes: Vec<_> = own.collect();
+        attributes.push(("CreatedTimestamp".into(), (state.created / 1000).to_string()));
+        attributes.push(("LastModifiedTimestamp".into(), (state.modified / 1000).to_string()));
+        attributes.push(("QueueArn".into(), self.owner.arn(queue.name.as_str())));
+        attributes
     }
 
     pub(super) async fn set_attributes(

@@ -90,8 +90,9 @@ pub fn show(queue: &Queue, handed: &Handed, shown: &Shown, owner: &Owner) -> Res
         .ok_or_else(|| SqsError::InternalFailure("The store has a message in no form.".into()))?;
     let handle = Handle { mark: queue.mark, receipt: handed.receipt, moment: handed.moment };
     let system = shown.system().iter();
-    let told = |one: &SystemAttribute| Some((one.name(), told(*one, queue.name.kind(), handed, &metadata, owner)?));
-    let attributes = system.filter_map(told).collect();
+    let with_name =
+        |one: &SystemAttribute| Some((one.name(), value_of(*one, queue.name.kind(), handed, &metadata, owner)?));
+    let attributes = system.filter_map(with_name).collect();
     let wanted = metadata.attributes.into_iter().filter(|(name, _)| shown.has(name));
     let message_attributes: MessageAttributes = wanted.collect();
     Ok(ReceivedMessage {
@@ -109,7 +110,7 @@ fn too_many_polls() -> SqsError {
     SqsError::ServiceUnavailable("Too many long polls are open.".into())
 }
 
-fn told(
+fn value_of(
     attribute: SystemAttribute,
     kind: QueueKind,
     handed: &Handed,

@@ -99,7 +99,7 @@ mod tests {
         }
     }
 
-    fn told(addresses: &Addresses, peer: &str, headers: &[(&'static str, &str)]) -> String {
+    fn base_url(addresses: &Addresses, peer: &str, headers: &[(&'static str, &str)]) -> String {
         let headers = headers.iter().map(|(name, value)| (name.parse().unwrap(), value.parse().unwrap())).collect();
         addresses.base_url(&headers, peer.parse().unwrap())
     }
@@ -108,17 +108,17 @@ mod tests {
     fn urls_have_the_host_that_the_client_names() {
         let mut addresses = Addresses { url: None, local: "127.0.0.1:9324".parse().unwrap(), has_tls: false };
         let (near, far) = ("127.0.0.1:5", "10.1.2.3:5");
-        assert_eq!(told(&addresses, near, &[]), "http://127.0.0.1:9324");
-        assert_eq!(told(&addresses, far, &[("host", "queues:80")]), "http://queues:80");
-        assert_eq!(told(&addresses, far, &[("host", "a\"b")]), "http://127.0.0.1:9324");
+        assert_eq!(base_url(&addresses, near, &[]), "http://127.0.0.1:9324");
+        assert_eq!(base_url(&addresses, far, &[("host", "queues:80")]), "http://queues:80");
+        assert_eq!(base_url(&addresses, far, &[("host", "a\"b")]), "http://127.0.0.1:9324");
         let proxied = [("host", "queues"), ("x-forwarded-proto", "https, http")];
-        assert_eq!(told(&addresses, near, &proxied), "https://queues");
-        assert_eq!(told(&addresses, "[::ffff:127.0.0.1]:5", &proxied), "https://queues");
-        assert_eq!(told(&addresses, far, &proxied), "http://queues");
-        assert_eq!(told(&addresses, near, &[("host", "queues"), ("x-forwarded-proto", "ftp")]), "http://queues");
+        assert_eq!(base_url(&addresses, near, &proxied), "https://queues");
+        assert_eq!(base_url(&addresses, "[::ffff:127.0.0.1]:5", &proxied), "https://queues");
+        assert_eq!(base_url(&addresses, far, &proxied), "http://queues");
+        assert_eq!(base_url(&addresses, near, &[("host", "queues"), ("x-forwarded-proto", "ftp")]), "http://queues");
         addresses.has_tls = true;
-        assert_eq!(told(&addresses, far, &[("host", "[::1]:9324")]), "https://[::1]:9324");
+        assert_eq!(base_url(&addresses, far, &[("host", "[::1]:9324")]), "https://[::1]:9324");
         addresses.url = Some("https://known".into());
-        assert_eq!(told(&addresses, near, &proxied), "https://known");
+        assert_eq!(base_url(&addresses, near, &proxied), "https://known");
     }
 }

@@ -215,12 +215,12 @@ impl Connection {
             return Err(service.actions.denied(identity, action, request.queue()).into());
         }
         let base_url =
-            if action.tells_urls() { service.addresses.base_url(&head.headers, self.peer) } else { String::new() };
+            if action.returns_urls() { service.addresses.base_url(&head.headers, self.peer) } else { String::new() };
         self.share.set(request.bytes_kept(body.len()));
         let (request, request_id) = (Box::new(request), log.request_id);
         let mut call =
             Call { connection: self, protocol, action, request, request_id, identity, base_url, digest: None };
-        if call.request.is_told_by_its_call() {
+        if call.request.is_deduplicated_by_call() {
             call.digest = call.key(head, body).map(|key| key.0);
         }
         let key = if IdempotencyKey::applies_to(action) { call.key(head, body) } else { None };

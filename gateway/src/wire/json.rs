@@ -165,7 +165,7 @@ pub fn refuse(error: &SqsError, request_id: String) -> Reply {
         content_type: CONTENT_TYPE,
         query_error: Some(format!("{};{}", coded.code, fault(error))),
         request_id,
-        body: to_bytes(&Refusal { type_name: coded.type_name, message: error.told() }),
+        body: to_bytes(&Refusal { type_name: coded.type_name, message: error.client_message() }),
     }
 }
 

@@ -357,7 +357,7 @@ pub fn refuse(error: &SqsError, request_id: String) -> Reply {
         xml.element("Error", |xml| {
             xml.leaf("Type", fault(error));
             xml.leaf("Code", coded.code);
-            xml.leaf("Message", &error.told());
+            xml.leaf("Message", &error.client_message());
             xml.event(Event::Empty(BytesStart::new("Detail")));
         });
         xml.leaf("RequestId", &request_id);

@@ -106,7 +106,7 @@ impl Action {
     }
 
     /// Whether its answers have URLs of queues.
-    pub fn tells_urls(self) -> bool {
+    pub fn returns_urls(self) -> bool {
         matches!(
             self,
             Action::CreateQueue | Action::GetQueueUrl | Action::ListDeadLetterSourceQueues | Action::ListQueues
@@ -232,7 +232,7 @@ impl Request {
     }
 
     /// Whether it sends to a standard queue, where nothing but the call itself tells its repeats.
-    pub fn is_told_by_its_call(&self) -> bool {
+    pub fn is_deduplicated_by_call(&self) -> bool {
         match self {
             Request::SendMessage { queue, .. } | Request::SendMessageBatch { queue, .. } => {
                 queue.kind() == QueueKind::Standard

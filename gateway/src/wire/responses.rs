@@ -120,7 +120,7 @@ pub struct Failed {
 
 impl Failed {
     pub fn new(id: String, error: &SqsError) -> Failed {
-        let (code, message) = (error.coded().code, error.told());
+        let (code, message) = (error.coded().code, error.client_message());
         Failed { id, sender_fault: error.is_sender_fault(), code, message }
     }
 }
