@@ -95,15 +95,16 @@ impl Owner {
 /// The longest page of a list of queues.
 const LONGEST_PAGE: u32 = 1000;
 
-/// So many creations and removals can go on side by side.
-const TURNS: usize = 64;
+/// How many locks all names share.
+const LOCKS: usize = 64;
 
 /// Performs the actions.
 pub struct Actions {
     store: Store,
     owner: Owner,
-    /// Creations and removals of one name come one after the other. No other action takes a turn.
-    turns: Vec<Mutex<()>>,
+    /// Locks of queues by their names. An action that reads a queue's attributes, tags or tasks, or whether it is there,
+    /// and writes by what it read, holds the lock of the name meanwhile.
+    locks: Vec<Mutex<()>>,
     /// A permit for each receive that may wait.
     polls: Semaphore,
     pauses: Pauses,
@@ -123,8 +124,8 @@ impl Actions {
         ending: Ending,
         rights: Rights,
     ) -> Actions {
-        let turns = (0..TURNS).map(|_| Mutex::new(())).collect();
-        Actions { store, owner, turns, polls: Semaphore::new(polls as usize), pauses, metrics, ending, rights }
+        let locks = (0..LOCKS).map(|_| Mutex::new(())).collect();
+        Actions { store, owner, locks, polls: Semaphore::new(polls as usize), pauses, metrics, ending, rights }
     }
 
     pub fn store(&self) -> &Store {
@@ -136,10 +137,10 @@ impl Actions {
         identity.refusal(action, &self.owner.arn(queue.map_or("*", QueueName::as_str)))
     }
 
-    fn turn_of(&self, name: &QueueName) -> &Mutex<()> {
+    fn lock_of(&self, name: &QueueName) -> &Mutex<()> {
         let mut hasher = std::collections::hash_map::DefaultHasher::new();
         name.hash(&mut hasher);
-        &self.turns[hasher.finish() as usize % TURNS]
+        &self.locks[hasher.finish() as usize % LOCKS]
     }
 
     fn queue(&self, name: &QueueName) -> Result<Arc<Queue>, SqsError> {

@@ -28,7 +28,7 @@ impl Actions {
     /// Starts a task, unless one of the queue runs (API Reference, StartMessageMoveTask).
     pub(super) async fn start_move(&self, start: StartMove, caller: &Caller) -> Result<Performed, SqsError> {
         let queue = self.queue_of_arn(start.source.as_ref(), "SourceArn")?;
-        let _turn = self.turn_of(&queue.name).lock().await;
+        let _locked = self.lock_of(&queue.name).lock().await;
         let names_it =
             |other: &Arc<Queue>| other.state().redrive().is_some_and(|policy| policy.target.name == queue.name);
         let sources: Vec<_> = self.store.queues().all().into_iter().filter(names_it).collect();
@@ -103,7 +103,7 @@ impl Actions {
     pub(super) async fn cancel_move(&self, handle: Option<&TaskHandle>) -> Result<Performed, SqsError> {
         let no_task = || no_resource("TaskHandle");
         let TaskHandle { id, queue: name } = handle.ok_or_else(no_task)?;
-        let _turn = self.turn_of(name).lock().await;
+        let _locked = self.lock_of(name).lock().await;
         let queue = self.store.queues().find(name).ok_or_else(no_task)?;
         let mut task = find(&queue, *id).ok_or_else(no_task)?;
         if task.status != Status::Running {

@@ -27,7 +27,7 @@ impl Actions {
         name: &QueueName,
         change: impl FnOnce(&mut Policy) -> Result<(), SqsError>,
     ) -> Result<Performed, SqsError> {
-        let _turn = self.turn_of(name).lock().await;
+        let _locked = self.lock_of(name).lock().await;
         let queue = self.queue(name)?;
         let mut policy = Policy::of_queue(queue.state().attributes.policy())?;
         change(&mut policy)?;

@@ -30,7 +30,7 @@ impl Actions {
         tags: Tags,
         caller: &Caller,
     ) -> Result<Performed, SqsError> {
-        let _turn = self.turn_of(&name).lock().await;
+        let _locked = self.lock_of(&name).lock().await;
         let url = Response::QueueUrl(self.url(&name, caller));
         if let Some(queue) = self.store.queues().find(&name) {
             queue.state().attributes.test_same(&given)?;
@@ -51,7 +51,7 @@ impl Actions {
     }
 
     pub(super) async fn remove(&self, name: &QueueName) -> Result<Performed, SqsError> {
-        let _turn = self.turn_of(name).lock().await;
+        let _locked = self.lock_of(name).lock().await;
         let queue = self.queue(name)?;
         let held = self.store.hold(&queue).await?;
         remove_earlier(&queue, &held).await?;
@@ -110,7 +110,7 @@ impl Actions {
         given: Given,
         caller: &Caller,
     ) -> Result<Performed, SqsError> {
-        let _turn = self.turn_of(name).lock().await;
+        let _locked = self.lock_of(name).lock().await;
         let queue = self.queue(name)?;
         queue.state().attributes.test_change(&given)?;
         self.test_redrive(name, &given, caller)?;
@@ -119,7 +119,7 @@ impl Actions {
     }
 
     pub(super) async fn tag(&self, name: &QueueName, tags: Tags) -> Result<Performed, SqsError> {
-        let _turn = self.turn_of(name).lock().await;
+        let _locked = self.lock_of(name).lock().await;
         let queue = self.queue(name)?;
         let mut whole = queue.state().tags.clone();
         whole.extend(tags.clone());
