@@ -12,7 +12,7 @@ use crate::queues::ask::{Ask, StoreName};
 /// The kinds of asks.
 #[derive(Clone, Copy, Debug, PartialEq, Eq, Serialize, Deserialize)]
 #[serde(rename_all = "lowercase")]
-pub enum Kind {
+pub enum AskKind {
     Create,
     Remove,
     Send,
@@ -23,8 +23,8 @@ pub enum Kind {
 
 /// What stands under `ask` in a line. The journal keeps the same.
 #[derive(Clone, Debug, PartialEq, Eq, Serialize, Deserialize)]
-pub struct Fields<'a> {
-    pub kind: Kind,
+pub struct AskFields<'a> {
+    pub kind: AskKind,
     #[serde(borrow)]
     pub queue: Cow<'a, str>,
     #[serde(borrow, default, skip_serializing_if = "Option::is_none")]
@@ -41,9 +41,9 @@ pub struct Fields<'a> {
     pub receipt: Option<Cow<'a, str>>,
 }
 
-impl<'a> Fields<'a> {
-    fn new(kind: Kind, queue: StoreName) -> Fields<'a> {
-        Fields {
+impl<'a> AskFields<'a> {
+    fn new(kind: AskKind, queue: StoreName) -> AskFields<'a> {
+        AskFields {
             kind,
             queue: queue.text().into(),
             group: None,
@@ -56,29 +56,29 @@ impl<'a> Fields<'a> {
     }
 
     /// The fields of an ask. The store counts the queue's messages from the one behind `base`.
-    pub fn of(queue: StoreName, base: u64, ask: &'a Ask) -> Fields<'a> {
+    pub fn of(queue: StoreName, base: u64, ask: &'a Ask) -> AskFields<'a> {
         match ask {
             Ask::Create { store, visibility, .. } => {
-                Fields { visibility: Some(*visibility), ..Fields::new(Kind::Create, *store) }
+                AskFields { visibility: Some(*visibility), ..AskFields::new(AskKind::Create, *store) }
             }
-            Ask::Remove { store, .. } => Fields::new(Kind::Remove, *store),
-            Ask::Send { group, dedup, envelope, .. } => Fields {
+            Ask::Remove { store, .. } => AskFields::new(AskKind::Remove, *store),
+            Ask::Send { group, dedup, envelope, .. } => AskFields {
                 group: Some(group.as_str().into()),
                 dedup: Some(dedup.as_str().into()),
                 body: Some(envelope.stored().into()),
-                ..Fields::new(Kind::Send, queue)
+                ..AskFields::new(AskKind::Send, queue)
             },
             Ask::Receive { size, visibility, .. } => {
-                let kind = Kind::Receive;
-                Fields { size: Some(*size), visibility: Some(*visibility), ..Fields::new(kind, queue) }
+                let kind = AskKind::Receive;
+                AskFields { size: Some(*size), visibility: Some(*visibility), ..AskFields::new(kind, queue) }
             }
             Ask::Delete { receipt, .. } => {
-                Fields { receipt: Some(receipt_text(*receipt, base)), ..Fields::new(Kind::Delete, queue) }
+                AskFields { receipt: Some(receipt_text(*receipt, base)), ..AskFields::new(AskKind::Delete, queue) }
             }
-            Ask::ChangeVisibility { receipt, visibility, .. } => Fields {
+            Ask::ChangeVisibility { receipt, visibility, .. } => AskFields {
                 receipt: Some(receipt_text(*receipt, base)),
                 visibility: Some(*visibility),
-                ..Fields::new(Kind::Change, queue)
+                ..AskFields::new(AskKind::Change, queue)
             },
         }
     }
@@ -101,7 +101,7 @@ pub fn read_receipt(text: &str, base: u64) -> Option<Receipt> {
 }
 
 #[derive(Serialize)]
-struct Query<'a> {
+struct CountQuery<'a> {
     op: &'static str,
     at: u32,
     client: u32,
@@ -152,17 +152,17 @@ fn append_number(out: &mut Vec<u8>, name: &str, number: u64) -> Result<(), serde
 
 /// Appends a request that does nothing but move the store's moment on. A count is of the moment of the last request.
 pub fn append_moment(out: &mut Vec<u8>, clock: u64) -> Result<(), serde_json::Error> {
-    let ask = serde_json::value::to_raw_value(&Fields {
+    let ask = serde_json::value::to_raw_value(&AskFields {
         size: Some(1),
         queue: NO_QUEUE.into(),
-        ..Fields::new(Kind::Receive, StoreName(0))
+        ..AskFields::new(AskKind::Receive, StoreName(0))
     })?;
     append_request(out, clock, COUNTER, 0, &ask)
 }
 
 /// Appends the two lines of a query for the counts of a queue.
 pub fn append_count(out: &mut Vec<u8>, tag: u64, queue: StoreName) -> Result<(), serde_json::Error> {
-    append(out, &Query { op: "ask", at: SERVER, client: COUNTER, tag, queue: &queue.text() })
+    append(out, &CountQuery { op: "ask", at: SERVER, client: COUNTER, tag, queue: &queue.text() })
 }
 
 /// A reply of the store.
@@ -172,7 +172,7 @@ pub enum StoreReply {
     Removed,
     /// The store's sequence number.
     Sent(u64),
-    Received(Vec<Given>),
+    Received(Vec<StoreMessage>),
     /// Whether anything was deleted.
     Deleted(bool),
     Changed,
@@ -185,7 +185,7 @@ pub enum StoreReply {
 
 /// A message as the store hands it out.
 #[derive(Clone, Debug, PartialEq, Eq, Deserialize)]
-pub struct Given {
+pub struct StoreMessage {
     pub body: String,
     pub group: String,
     pub receipt: String,
@@ -193,7 +193,7 @@ pub struct Given {
 
 /// One line of output that matters.
 #[derive(Debug)]
-pub enum Output<'a> {
+pub enum OutputLine<'a> {
     /// The answer to the request or query of this client and number.
     Answer { client: u32, number: u64, reply: StoreReply, text: &'a str },
     /// The request's own line was refused, by this number.
@@ -222,7 +222,7 @@ struct ReplyFields<'a> {
     #[serde(borrow)]
     kind: Cow<'a, str>,
     sequence: Option<u64>,
-    messages: Option<Vec<Given>>,
+    messages: Option<Vec<StoreMessage>>,
     removed: Option<bool>,
     visible: Option<u64>,
     in_flight: Option<u64>,
@@ -232,18 +232,18 @@ struct ReplyFields<'a> {
 const OUTBOX_EMPTY: u32 = 34;
 
 /// Reads a line of output, without its line feed.
-pub fn read_output(line: &[u8]) -> Result<Output<'_>, BadOutput> {
+pub fn read_output(line: &[u8]) -> Result<OutputLine<'_>, BadOutput> {
     let bad = || BadOutput(String::from_utf8_lossy(&line[..line.len().min(200)]).into_owned());
     let text = std::str::from_utf8(line).map_err(|_| bad())?;
     let fields: OutputFields<'_> = serde_json::from_str(text).map_err(|_| bad())?;
     if let Some(code) = fields.refused {
-        return Ok(if code == OUTBOX_EMPTY { Output::Nothing } else { Output::Refused(code) });
+        return Ok(if code == OUTBOX_EMPTY { OutputLine::Nothing } else { OutputLine::Refused(code) });
     }
     let (Some(client), Some(number), Some(raw)) = (fields.client, fields.number.or(fields.tag), fields.reply) else {
         return Err(bad());
     };
     let reply = read_reply(raw.get()).ok_or_else(bad)?;
-    Ok(Output::Answer { client, number, reply, text: raw.get() })
+    Ok(OutputLine::Answer { client, number, reply, text: raw.get() })
 }
 
 fn read_reply(text: &str) -> Option<StoreReply> {
@@ -271,7 +271,7 @@ mod tests {
     use crate::seeded::{check, edits, spoilt};
 
     fn line_of(ask: &Ask) -> String {
-        let raw = serde_json::value::to_raw_value(&Fields::of(StoreName(7), 10, ask)).unwrap();
+        let raw = serde_json::value::to_raw_value(&AskFields::of(StoreName(7), 10, ask)).unwrap();
         let mut out = Vec::new();
         append_request(&mut out, 5, 2, 3, &raw).unwrap();
         String::from_utf8(out).unwrap()
@@ -289,16 +289,17 @@ mod tests {
     #[test]
     fn answers_are_read() {
         let line = br#"{"client":1,"length":3,"line":6,"number":9,"reply":{"kind":"received","messages":[{"body":"a\n","group":"g","receipt":"1-2-1"}]}}"#;
-        let Ok(Output::Answer { client: 1, number: 9, reply: StoreReply::Received(given), text }) = read_output(line)
+        let Ok(OutputLine::Answer { client: 1, number: 9, reply: StoreReply::Received(given), text }) =
+            read_output(line)
         else {
             panic!()
         };
         assert!(text.starts_with("{\"kind\"") && given[0].body == "a\n");
         assert_eq!(read_receipt(&given[0].receipt, 10), Some(Receipt { sequence: 12, ordinal: 1 }));
         let refused = br#"{"line":3,"name":"BadLine","refused":61}"#;
-        assert!(matches!(read_output(refused), Ok(Output::Refused(61))));
+        assert!(matches!(read_output(refused), Ok(OutputLine::Refused(61))));
         let put = br#"{"line":4,"name":"OutboxEmpty","refused":34}"#;
-        assert!(matches!(read_output(put), Ok(Output::Nothing)));
+        assert!(matches!(read_output(put), Ok(OutputLine::Nothing)));
         for bad in [&b"hello"[..], b"{}", b"{\"client\":1,\"number\":1,\"reply\":{\"kind\":\"x\"}}"] {
             assert!(read_output(bad).is_err());
         }
@@ -309,7 +310,7 @@ mod tests {
         let line = br#"{"client":1,"length":3,"line":6,"number":9,"reply":{"kind":"received","messages":[{"body":"a","group":"g","receipt":"1-2-1"}]}}"#;
         check(2000, edits(), |edits| {
             let spoilt = spoilt(line, &edits);
-            if let Ok(Output::Answer { reply: StoreReply::Received(given), .. }) = read_output(&spoilt) {
+            if let Ok(OutputLine::Answer { reply: StoreReply::Received(given), .. }) = read_output(&spoilt) {
                 prop_assert!(given.iter().all(|given| read_receipt(&given.receipt, u64::MAX).is_none()));
             }
             Ok(())

@@ -9,7 +9,7 @@ use sha2::{Digest, Sha256};
 use uuid::Uuid;
 
 use crate::clock::Moment;
-use crate::lines::{read_receipt, Fields, Kind};
+use crate::lines::{read_receipt, AskFields, AskKind};
 use crate::messages::Envelope;
 use crate::moves::Origin;
 use crate::queues::ask::{Ask, Cause, Changer, Creation, StoreName, TableChange};
@@ -131,7 +131,7 @@ impl<'a> Record<'a> {
         serde_json::from_slice(line).ok()
     }
 
-    pub fn fields(&self) -> Option<Fields<'a>> {
+    pub fn fields(&self) -> Option<AskFields<'a>> {
         self.ask.and_then(|raw| serde_json::from_str(raw.get()).ok())
     }
 
@@ -147,31 +147,31 @@ impl<'a> Record<'a> {
     /// The name that goes from the store with this record, if it asks for a removal.
     pub fn removes(&self) -> Option<StoreName> {
         let (kind, name) = Subject::of(self.ask?)?;
-        (kind == Kind::Remove).then_some(name)
+        (kind == AskKind::Remove).then_some(name)
     }
 
     /// The ask of this record. `base` is where the store's count of the queue's messages begins.
-    pub fn to_ask(&self, fields: Fields<'_>, base: u64) -> Option<Ask> {
+    pub fn to_ask(&self, fields: AskFields<'_>, base: u64) -> Option<Ask> {
         let store = StoreName::parse(&fields.queue)?;
         let receipt = || read_receipt(fields.receipt.as_deref()?, base);
         Some(match fields.kind {
-            Kind::Create => Ask::Create { store, visibility: fields.visibility?, creation: self.creation.clone()? },
-            Kind::Remove => Ask::Remove { store, name: self.removed.clone() },
-            Kind::Send => Ask::Send {
+            AskKind::Create => Ask::Create { store, visibility: fields.visibility?, creation: self.creation.clone()? },
+            AskKind::Remove => Ask::Remove { store, name: self.removed.clone() },
+            AskKind::Send => Ask::Send {
                 group: GroupId::parse(fields.group.as_deref()?).ok()?,
                 dedup: DedupId::parse(fields.dedup.as_deref()?).ok()?,
                 envelope: self.envelope_of(fields.body?.into_owned()),
                 cause: self.cause(),
             },
-            Kind::Receive => Ask::Receive {
+            AskKind::Receive => Ask::Receive {
                 size: fields.size?,
                 visibility: fields.visibility?,
                 attempt: self.attempt.clone(),
                 most: self.most,
                 own: self.own,
             },
-            Kind::Delete => Ask::Delete { receipt: receipt()?, by_client: false },
-            Kind::Change => {
+            AskKind::Delete => Ask::Delete { receipt: receipt()?, by_client: false },
+            AskKind::Change => {
                 // Those of the gateway and those of clients do the same.
                 let by = if self.by_attempt { Changer::Attempt } else { Changer::Client };
                 Ask::ChangeVisibility { receipt: receipt()?, visibility: fields.visibility?, by }
@@ -195,13 +195,13 @@ impl<'a> Record<'a> {
 /// What an ask is about.
 #[derive(Deserialize)]
 struct Subject<'a> {
-    kind: Kind,
+    kind: AskKind,
     #[serde(borrow)]
     queue: Cow<'a, str>,
 }
 
 impl Subject<'_> {
-    fn of(ask: &RawValue) -> Option<(Kind, StoreName)> {
+    fn of(ask: &RawValue) -> Option<(AskKind, StoreName)> {
         let Subject { kind, queue } = serde_json::from_str(ask.get()).ok()?;
         Some((kind, StoreName::parse(&queue)?))
     }
@@ -235,7 +235,7 @@ mod tests {
             Ask::ChangeVisibility { receipt, visibility: 5, by: Changer::Attempt },
             Ask::Remove { store: StoreName(7), name: QueueName::parse("q.fifo") },
         ] {
-            let raw = serde_json::value::to_raw_value(&Fields::of(StoreName(7), 10, &ask)).unwrap();
+            let raw = serde_json::value::to_raw_value(&AskFields::of(StoreName(7), 10, &ask)).unwrap();
             let mut line = Vec::new();
             Record::of_ask(5, &ask, &raw, "{}").append(&mut line).unwrap();
             let record = Record::read(&line[..line.len() - 1]).unwrap();

@@ -369,12 +369,12 @@ mod tests {
 
     use super::*;
     use crate::attributes::{Given, QueueAttributes};
-    use crate::lines::Fields;
+    use crate::lines::AskFields;
     use crate::queues::ask::{Ask, Creation, TableChange};
     use crate::texts::{QueueKind, QueueName};
 
     fn append(payload: &mut Vec<u8>, ask: &Ask) {
-        let raw = serde_json::value::to_raw_value(&Fields::of(StoreName(8), 0, ask)).unwrap();
+        let raw = serde_json::value::to_raw_value(&AskFields::of(StoreName(8), 0, ask)).unwrap();
         Record::of_ask(1, ask, &raw, "{}").append(payload).unwrap();
     }
 

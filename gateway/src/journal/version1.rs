@@ -21,7 +21,7 @@ use super::record::Record;
 use super::segments::{Head, JournalError};
 use crate::attributes::{Given, QueueAttributes};
 use crate::cq::{Cq, CqError};
-use crate::lines::{self, read_receipt, Fields, Kind, Output, StoreReply};
+use crate::lines::{self, read_receipt, AskFields, AskKind, OutputLine, StoreReply};
 use crate::messages::{read_envelope, AttributeValue, Envelope, MessageAttributes, Metadata};
 use crate::queues::ask::{Ask, Cause, Changer, Creation, StoreName, TableChange};
 use crate::queues::shards::Shards;
@@ -233,16 +233,16 @@ impl Conversion {
         }
         let clock = old.clock?;
         self.last_clock = clock;
-        let fields: Fields<'_> = serde_json::from_str(old.ask?.get()).ok()?;
+        let fields: AskFields<'_> = serde_json::from_str(old.ask?.get()).ok()?;
         let kept = old.kept.map_or("{}", RawValue::get);
         let name = QueueName::parse(&fields.queue)?;
         let ask = self.translate(&fields, &name, kept, clock)?;
         let queue = self.queues.get(&name)?;
         let (store, incarnation) = (queue.store, queue.incarnation);
-        if fields.kind == Kind::Remove {
+        if fields.kind == AskKind::Remove {
             self.queues.remove(&name);
         }
-        let raw = serde_json::value::to_raw_value(&Fields::of(store, 0, &ask)).ok()?;
+        let raw = serde_json::value::to_raw_value(&AskFields::of(store, 0, &ask)).ok()?;
         self.number += 1;
         let digest = old.digest?.into_owned();
         let what = AskedWhat::Ask { ask, raw, number: self.number, digest, incarnation };
@@ -250,17 +250,17 @@ impl Conversion {
         Some(())
     }
 
-    fn translate(&mut self, fields: &Fields<'_>, name: &QueueName, kept: &str, clock: u64) -> Option<Ask> {
-        if fields.kind == Kind::Create {
+    fn translate(&mut self, fields: &AskFields<'_>, name: &QueueName, kept: &str, clock: u64) -> Option<Ask> {
+        if fields.kind == AskKind::Create {
             return self.translate_creation(fields, name, kept);
         }
         let beside: OldBeside = serde_json::from_str(kept).ok()?;
         let queue = self.queues.get_mut(name)?;
         let receipt = || read_receipt(fields.receipt.as_deref()?, 0);
         Some(match fields.kind {
-            Kind::Create => return None,
-            Kind::Remove => Ask::Remove { store: queue.store, name: Some(name.clone()) },
-            Kind::Send => {
+            AskKind::Create => return None,
+            AskKind::Remove => Ask::Remove { store: queue.store, name: Some(name.clone()) },
+            AskKind::Send => {
                 queue.sends += 1;
                 let message: OldMessage = serde_json::from_str(kept).ok()?;
                 let body = fields.body.as_deref()?;
@@ -289,19 +289,19 @@ impl Conversion {
                     cause: Cause::Client,
                 }
             }
-            Kind::Receive => {
+            AskKind::Receive => {
                 let (size, visibility) = (fields.size.unwrap_or(1), fields.visibility?);
                 Ask::Receive { size, visibility, attempt: beside.attempt, most: None, own: false }
             }
-            Kind::Delete => Ask::Delete { receipt: receipt()?, by_client: false },
-            Kind::Change => {
+            AskKind::Delete => Ask::Delete { receipt: receipt()?, by_client: false },
+            AskKind::Change => {
                 let by = if beside.by_attempt { Changer::Attempt } else { Changer::Client };
                 Ask::ChangeVisibility { receipt: receipt()?, visibility: fields.visibility?, by }
             }
         })
     }
 
-    fn translate_creation(&mut self, fields: &Fields<'_>, name: &QueueName, kept: &str) -> Option<Ask> {
+    fn translate_creation(&mut self, fields: &AskFields<'_>, name: &QueueName, kept: &str) -> Option<Ask> {
         let old: OldCreation = serde_json::from_str(kept).ok()?;
         self.last_store += 1;
         let store = StoreName(self.last_store);
@@ -349,7 +349,7 @@ impl Conversion {
                 AskedWhat::Change(change) => self.keep(&Record::of_change(one.clock, one.store, change))?,
                 AskedWhat::Ask { ask, raw, number, digest, incarnation } => {
                     let line = answers.next().unwrap_or_default();
-                    let Output::Answer { reply, text, .. } = lines::read_output(line.trim_end().as_bytes())? else {
+                    let OutputLine::Answer { reply, text, .. } = lines::read_output(line.trim_end().as_bytes())? else {
                         return Err(ReplayError::OtherReply(*number));
                     };
                     let old = old_reply(&reply, *incarnation, &self.split).ok_or(ReplayError::OtherReply(*number))?;

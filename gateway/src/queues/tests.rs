@@ -57,14 +57,14 @@ impl List {
         self.messages[&sequence].sent + self.delay <= now
     }
 
-    fn hand(&mut self, size: usize, visibility: u32, now: Moment) -> Vec<lines::Given> {
+    fn hand(&mut self, size: usize, visibility: u32, now: Moment) -> Vec<lines::StoreMessage> {
         let mut given = Vec::new();
         for sequence in self.in_turn(now).into_iter().take(size) {
             let message = self.messages.get_mut(&sequence).unwrap();
             message.count += 1;
             message.until = now + 1000 * u64::from(visibility);
             let receipt = format!("1-{sequence}-{}", message.count);
-            given.push(lines::Given { body: "b".into(), group: message.group.into(), receipt });
+            given.push(lines::StoreMessage { body: "b".into(), group: message.group.into(), receipt });
         }
         given
     }

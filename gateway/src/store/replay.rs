@@ -18,7 +18,7 @@ use tokio::sync::mpsc;
 use crate::clock::{Clock, Moment};
 use crate::cq::{Cq, CqError};
 use crate::journal::{digest_of_reply, JournalError, Opened, Record, Records};
-use crate::lines::{self, BadOutput, Fields, Kind, Output};
+use crate::lines::{self, AskFields, AskKind, BadOutput, OutputLine};
 use crate::queues::ask::{Ask, StoreName, TableChange};
 use crate::queues::shards::{Shard, Shards};
 use crate::queues::{Queue, Queues};
@@ -287,8 +287,8 @@ impl Replay {
         }
     }
 
-    fn ask_of(&mut self, record: &Record<'_>, fields: Fields<'_>, store: StoreName) -> Option<(Arc<Queue>, Ask)> {
-        if fields.kind == Kind::Create {
+    fn ask_of(&mut self, record: &Record<'_>, fields: AskFields<'_>, store: StoreName) -> Option<(Arc<Queue>, Ask)> {
+        if fields.kind == AskKind::Create {
             let creation = record.creation.as_ref()?;
             let base = creation.before.as_ref().map_or(0, |before| before.base);
             self.bases.insert(store, base);
@@ -311,7 +311,7 @@ impl Replay {
                 _ => 0,
             };
             let output = lines::read_output(line)?;
-            let Output::Answer { number: answered, reply, text, .. } = output else {
+            let OutputLine::Answer { number: answered, reply, text, .. } = output else {
                 return Err(ReplayError::OtherReply(number));
             };
             let (number, digest, clock, subject) = match self.waiting.pop_front() {

@@ -23,7 +23,7 @@ use crate::clock::Moment;
 use crate::errors::SqsError;
 use crate::handles::Receipt;
 use crate::limits::{ID_BYTES, MESSAGE_BYTES, QUEUE_BYTES};
-use crate::lines::{read_receipt, Given, StoreReply};
+use crate::lines::{read_receipt, StoreMessage, StoreReply};
 use crate::messages::{Envelope, EnvelopeHead};
 use crate::move_tasks::{self, MoveTask, Status};
 use crate::redrive::RedrivePolicy;
@@ -282,7 +282,7 @@ impl State {
 
     fn received(
         &mut self,
-        given: Vec<Given>,
+        given: Vec<StoreMessage>,
         attempt: Option<&AttemptId>,
         receiving: &Receiving,
     ) -> Result<Applied, SqsError> {
@@ -309,7 +309,7 @@ impl State {
         Ok(Applied { outcome, changed, opened })
     }
 
-    fn hand(&mut self, given: Given, receiving: &Receiving) -> Result<(Handed, Option<Fate>), SqsError> {
+    fn hand(&mut self, given: StoreMessage, receiving: &Receiving) -> Result<(Handed, Option<Fate>), SqsError> {
         let moment = receiving.moment;
         let receipt = read_receipt(&given.receipt, self.base).ok_or_else(misfit)?;
         self.hide(receipt.sequence, receiving.until);

@@ -66,7 +66,7 @@ fn what_is_deleted_counts_by_its_id_until_that_is_too_old() {
 fn receive(state: &mut State, ordinal: u64, own: bool, moment: Moment) -> (Vec<Handed>, Vec<(Handed, Fate)>) {
     let ask = Ask::Receive { size: 1, visibility: 5, attempt: None, most: Some(2), own };
     let (group, receipt) = ("g".into(), format!("1-1-{ordinal}"));
-    let given = crate::lines::Given { group, receipt, body: "b".into() };
+    let given = crate::lines::StoreMessage { group, receipt, body: "b".into() };
     let applied = state.apply_reply(&ask, StoreReply::Received(vec![given]), moment, &Jumps::default()).unwrap();
     match applied.outcome {
         Outcome::Received { handed, set_aside, .. } => (handed, set_aside),
@@ -154,7 +154,8 @@ fn a_delayed_message_is_as_old_as_its_send() {
 }
 
 fn given(places: std::ops::RangeInclusive<u64>) -> StoreReply {
-    let given = |place| crate::lines::Given { group: "g".into(), receipt: format!("1-{place}-1"), body: "b".into() };
+    let given =
+        |place| crate::lines::StoreMessage { group: "g".into(), receipt: format!("1-{place}-1"), body: "b".into() };
     StoreReply::Received(places.map(given).collect())
 }
 

@@ -4,7 +4,7 @@ use super::entries::{Entry, Open, OpenAsk, OpenChange};
 use super::{Ended, Task};
 use crate::errors::SqsError;
 use crate::journal::Record;
-use crate::lines::{self, Output, StoreReply};
+use crate::lines::{self, OutputLine, StoreReply};
 use crate::queues::ask::{Ask, Outcome};
 use crate::store::{Answer, AnswerSender};
 
@@ -14,9 +14,9 @@ impl Task {
         let whole = self.incoming.split_to(end + 1);
         for line in whole[..end].split(|byte| *byte == b'\n') {
             match lines::read_output(line)? {
-                Output::Nothing => {}
-                Output::Refused(code) => self.refused(code)?,
-                Output::Answer { client, number, reply, text } => self.answered(client, number, reply, text)?,
+                OutputLine::Nothing => {}
+                OutputLine::Refused(code) => self.refused(code)?,
+                OutputLine::Answer { client, number, reply, text } => self.answered(client, number, reply, text)?,
             }
             self.finish_ready()?;
         }

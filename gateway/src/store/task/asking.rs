@@ -11,7 +11,7 @@ use super::{Ended, Task, PIECE};
 use crate::clock::Moment;
 use crate::errors::SqsError;
 use crate::handles::Receipt;
-use crate::lines::{self, Fields};
+use crate::lines::{self, AskFields};
 use crate::queues::ask::{Ask, Cause, Outcome, TableChange};
 use crate::queues::{Queue, State};
 use crate::store::{Answer, AnswerSender, Operation};
@@ -80,7 +80,7 @@ impl Task {
             Ok(weight) => weight,
             Err(error) => return ready(Err(error)),
         };
-        let raw = serde_json::value::to_raw_value(&Fields::of(store, base, &ask))?;
+        let raw = serde_json::value::to_raw_value(&AskFields::of(store, base, &ask))?;
         match self.ask_admitted(queue, ask, raw, moment, weight)? {
             started @ Started::Open(Entry::Ask(_)) => Ok(started),
             other => {
