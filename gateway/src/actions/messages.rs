@@ -13,7 +13,7 @@ use crate::queues::ask::{Ask, Cause, Changer, Delayed, Outcome, TableChange};
 use crate::queues::Queue;
 use crate::store::{Answer, Operation};
 use crate::texts::{Body, DedupId, GroupId, QueueKind, QueueName};
-use crate::wire::requests::{Batch, Message, Sending, VisibilityChange};
+use crate::wire::requests::{Batch, NewMessage, Sending, VisibilityChange};
 use crate::wire::responses::{Done, Failed, Sent};
 use crate::wire::Response;
 
@@ -21,7 +21,7 @@ impl Actions {
     pub(super) async fn send(
         &self,
         name: &QueueName,
-        message: Message,
+        message: NewMessage,
         caller: &Caller,
     ) -> Result<Performed, SqsError> {
         let queue = self.queue(name)?;
@@ -33,7 +33,7 @@ impl Actions {
     pub(super) async fn send_batch(
         &self,
         name: &QueueName,
-        batch: Batch<Message>,
+        batch: Batch<NewMessage>,
         caller: &Caller,
     ) -> Result<Performed, SqsError> {
         let queue = self.queue(name)?;
@@ -42,8 +42,8 @@ impl Actions {
         if size > LONGEST_MESSAGE {
             return Err(SqsError::BatchRequestTooLong { limit: LONGEST_MESSAGE, sent: size });
         }
-        let operation_of = |id: &str, message: &Message| self.sending(&queue, Some(id), message, caller);
-        let result_of = |message: &Message, answer: Answer| sent(&queue, message, &answer?).map(Some);
+        let operation_of = |id: &str, message: &NewMessage| self.sending(&queue, Some(id), message, caller);
+        let result_of = |message: &NewMessage, answer: Answer| sent(&queue, message, &answer?).map(Some);
         self.answer_each(&queue, batch, operation_of, result_of, caller).await
     }
 
@@ -52,7 +52,7 @@ impl Actions {
         &self,
         queue: &Queue,
         entry: Option<&str>,
-        message: &Message,
+        message: &NewMessage,
         caller: &Caller,
     ) -> Result<Operation, SqsError> {
         let limit = queue.state().attributes.maximum_message_size();
@@ -78,7 +78,7 @@ impl Actions {
         queue: &Queue,
         group: &GroupId,
         dedup: Option<&DedupId>,
-        message: &Message,
+        message: &NewMessage,
         caller: &Caller,
     ) -> Result<Operation, SqsError> {
         let (by_content, by_group) = {
@@ -97,7 +97,7 @@ impl Actions {
     }
 
     /// The metadata of a message of either kind of queue.
-    fn metadata(&self, message: &Message, caller: &Caller) -> Metadata {
+    fn metadata(&self, message: &NewMessage, caller: &Caller) -> Metadata {
         Metadata {
             id: Uuid::new_v4(),
             sent: self.store.clock().now(),
@@ -228,7 +228,7 @@ fn change_ask(queue: &Queue, change: &VisibilityChange) -> Result<Ask, SqsError>
 }
 
 /// The MD5s are of what this send carried, also where the message is one that was sent before.
-fn sent(queue: &Queue, message: &Message, outcome: &Outcome) -> Result<Sent, SqsError> {
+fn sent(queue: &Queue, message: &NewMessage, outcome: &Outcome) -> Result<Sent, SqsError> {
     let (id, number) = match outcome {
         Outcome::Sent { sequence, id } => (id, sequence_number(queue.name.kind(), *sequence)),
         Outcome::Delayed { id } => (id, None),

@@ -177,7 +177,7 @@ fn to_bytes<T: Serialize>(value: &T) -> Vec<u8> {
 #[cfg(test)]
 mod tests {
     use super::*;
-    use crate::wire::requests::{Message, Sending};
+    use crate::wire::requests::{NewMessage, Sending};
     use crate::wire::responses::Sent;
 
     fn read_body(action: &str, body: &[u8]) -> Result<Request, SqsError> {
@@ -193,7 +193,7 @@ mod tests {
     #[test]
     fn a_send_is_read() {
         let Ok(Request::SendMessage { queue, message }) = read_body("SendMessage", SEND) else { panic!() };
-        let Message { body, sending: Sending::Fifo { group, dedup }, attributes, trace } = message else { panic!() };
+        let NewMessage { body, sending: Sending::Fifo { group, dedup }, attributes, trace } = message else { panic!() };
         assert_eq!((queue.as_str(), body.as_str(), group.as_str()), ("q.fifo", "héllo", "g"));
         assert_eq!((dedup.unwrap().as_str(), attributes["a"].data(), trace), ("d", &b"\0\xff"[..], None));
     }

@@ -179,8 +179,8 @@ pub enum Request {
     PurgeQueue { queue: QueueName },
     ReceiveMessage { queue: QueueName, receive: Receive },
     RemovePermission { queue: QueueName, label: String },
-    SendMessage { queue: QueueName, message: Message },
-    SendMessageBatch { queue: QueueName, batch: Batch<Message> },
+    SendMessage { queue: QueueName, message: NewMessage },
+    SendMessageBatch { queue: QueueName, batch: Batch<NewMessage> },
     SetQueueAttributes { queue: QueueName, attributes: Given },
     StartMessageMoveTask { start: StartMove },
     TagQueue { queue: QueueName, tags: Tags },
@@ -220,7 +220,7 @@ impl Request {
     /// About how many bytes it keeps in memory until it is answered, if it came as so many. A message is kept as it came
     /// and as it is stored.
     pub fn bytes_kept(&self, came: usize) -> usize {
-        let of_message = |message: &Message| 2 * message.size();
+        let of_message = |message: &NewMessage| 2 * message.size();
         match self {
             Request::SendMessage { message, .. } => of_message(message),
             Request::SendMessageBatch { batch, .. } => {
@@ -284,7 +284,7 @@ pub struct VisibilityChange {
 
 /// A message to send. Its size isn't tested yet, since the limit is its queue's.
 #[derive(Clone, Debug, PartialEq, Eq)]
-pub struct Message {
+pub struct NewMessage {
     pub body: Body,
     pub sending: Sending,
     pub attributes: MessageAttributes,
@@ -305,7 +305,7 @@ pub enum Sending {
     },
 }
 
-impl Message {
+impl NewMessage {
     /// What it counts against `MaximumMessageSize`, in bytes.
     pub fn size(&self) -> usize {
         let of_trace = self.trace.as_ref().map_or(0, AttributeValue::size);
@@ -618,14 +618,14 @@ fn receive(kind: QueueKind, members: Members<'_, '_>) -> Result<Receive, SqsErro
     })
 }
 
-fn message(kind: QueueKind, members: Members<'_, '_>) -> Result<Message, SqsError> {
+fn message(kind: QueueKind, members: Members<'_, '_>) -> Result<NewMessage, SqsError> {
     let body = Body::parse(members.required_text("MessageBody")?)?;
     let delay = members.number("DelaySeconds", 0, 900)?;
     let sending = match kind {
         QueueKind::Fifo => fifo_sending(delay, members)?,
         QueueKind::Standard => standard_sending(delay, members)?,
     };
-    Ok(Message { body, sending, attributes: members.message_attributes()?, trace: members.trace_header()? })
+    Ok(NewMessage { body, sending, attributes: members.message_attributes()?, trace: members.trace_header()? })
 }
 
 fn fifo_sending(delay: Option<u32>, members: Members<'_, '_>) -> Result<Sending, SqsError> {
