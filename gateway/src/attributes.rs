@@ -133,18 +133,18 @@ fn whole(text: &str) -> Option<u64> {
 /// Attributes that a client wants to set, each known and with a good value.
 #[derive(Clone, Debug, PartialEq, Eq, Serialize, Deserialize)]
 #[serde(transparent)]
-pub struct Given(BTreeMap<String, String>);
+pub struct GivenAttributes(BTreeMap<String, String>);
 
-impl Given {
+impl GivenAttributes {
     /// Tests names and values. A name that queues of this kind don't have is `InvalidAttributeName`, a bad value
     /// `InvalidAttributeValue`.
-    pub fn read(kind: QueueKind, given: &[(String, String)]) -> Result<Given, SqsError> {
+    pub fn read(kind: QueueKind, given: &[(String, String)]) -> Result<GivenAttributes, SqsError> {
         let mut good = BTreeMap::new();
         for (name, value) in given {
             let attribute = find(kind, name).ok_or_else(|| SqsError::InvalidAttributeName(name.clone()))?;
             good.insert(name.clone(), attribute.read(value)?);
         }
-        let given = Given(good);
+        let given = GivenAttributes(good);
         if given.names_key() && given.names_managed_keys() {
             let reason =
                 "You can use one type of server-side encryption (SSE) at one time. You can either enable KMS SSE \
@@ -164,7 +164,7 @@ impl Given {
 
     /// The same with what it ends: of the two ways to encrypt the one that is named ends the other (Developer Guide,
     /// "Encryption at rest in Amazon SQS").
-    pub fn with_what_it_ends(mut self) -> Given {
+    pub fn with_what_it_ends(mut self) -> GivenAttributes {
         if self.names_key() {
             self.0.insert(MANAGED_KEYS.into(), "false".into());
         } else if self.names_managed_keys() {
@@ -235,7 +235,7 @@ impl From<QueueAttributes> for BTreeMap<String, String> {
 
 impl QueueAttributes {
     /// Those of a new queue: what is given, and defaults.
-    pub fn for_creation(kind: QueueKind, given: &Given) -> Result<QueueAttributes, SqsError> {
+    pub fn for_creation(kind: QueueKind, given: &GivenAttributes) -> Result<QueueAttributes, SqsError> {
         let mut whole = BTreeMap::new();
         for attribute in of_kind(kind) {
             if let Some(default) = attribute.default {
@@ -250,7 +250,7 @@ impl QueueAttributes {
 
     /// A queue that lives is created again only with the values that it has; those left out don't count
     /// (API Reference, CreateQueue, `QueueNameExists`).
-    pub fn test_same(&self, given: &Given) -> Result<(), SqsError> {
+    pub fn test_same(&self, given: &GivenAttributes) -> Result<(), SqsError> {
         for (name, value) in &given.0 {
             if !is_same(name, self.value(name), value) {
                 return Err(SqsError::QueueNameExists { attribute: name.clone() });
@@ -260,7 +260,7 @@ impl QueueAttributes {
     }
 
     /// Whether these attributes may be changed so.
-    pub fn test_change(&self, given: &Given) -> Result<(), SqsError> {
+    pub fn test_change(&self, given: &GivenAttributes) -> Result<(), SqsError> {
         if given.0.get("FifoQueue").is_some_and(|value| value != "true") {
             return Err(SqsError::attribute_value("FifoQueue", "It can't be changed."));
         }
@@ -270,7 +270,7 @@ impl QueueAttributes {
     }
 
     /// Takes over values; the empty text removes an attribute.
-    pub fn set(&mut self, given: &Given) {
+    pub fn set(&mut self, given: &GivenAttributes) {
         for (name, value) in &given.0 {
             if value.is_empty() {
                 self.texts.remove(name);
@@ -282,9 +282,9 @@ impl QueueAttributes {
     }
 
     /// What of these changes anything.
-    pub fn news_of(&self, given: &Given) -> Given {
+    pub fn news_of(&self, given: &GivenAttributes) -> GivenAttributes {
         let is_new = |(name, value): &(&String, &String)| self.value(name) != value.as_str();
-        Given(given.0.iter().filter(is_new).map(|(name, value)| (name.clone(), value.clone())).collect())
+        GivenAttributes(given.0.iter().filter(is_new).map(|(name, value)| (name.clone(), value.clone())).collect())
     }
 
     /// The throughput can be a group's only where deduplication is
@@ -375,11 +375,11 @@ fn is_same(name: &str, one: &str, other: &str) -> bool {
 
 /// Which attributes a client wants to be told.
 #[derive(Clone, Debug, PartialEq, Eq)]
-pub struct Wanted(BTreeSet<String>);
+pub struct WantedAttributes(BTreeSet<String>);
 
-impl Wanted {
+impl WantedAttributes {
     /// Tests the names; `All` stands for each. One that queues of this kind don't have is `InvalidAttributeName`.
-    pub fn read(kind: QueueKind, names: &[String]) -> Result<Wanted, SqsError> {
+    pub fn read(kind: QueueKind, names: &[String]) -> Result<WantedAttributes, SqsError> {
         for name in names {
             if name != "All" && find(kind, name).is_none() && !is_read_only(name) {
                 return Err(SqsError::InvalidAttributeName(name.clone()));
@@ -387,9 +387,9 @@ impl Wanted {
         }
         if names.iter().any(|name| name == "All") {
             let all = of_kind(kind).map(|attribute| attribute.name).chain(COUNTS).chain(READ_ONLY);
-            return Ok(Wanted(all.map(String::from).collect()));
+            return Ok(WantedAttributes(all.map(String::from).collect()));
         }
-        Ok(Wanted(names.iter().cloned().collect()))
+        Ok(WantedAttributes(names.iter().cloned().collect()))
     }
 
     pub fn has(&self, name: &str) -> bool {
@@ -415,9 +415,9 @@ fn is_read_only(name: &str) -> bool {
 mod tests {
     use super::*;
 
-    fn given(pairs: &[(&str, &str)]) -> Result<Given, SqsError> {
+    fn given(pairs: &[(&str, &str)]) -> Result<GivenAttributes, SqsError> {
         let pairs: Vec<_> = pairs.iter().map(|(a, b)| (a.to_string(), b.to_string())).collect();
-        Given::read(QueueKind::Fifo, &pairs)
+        GivenAttributes::read(QueueKind::Fifo, &pairs)
     }
 
     #[test]
@@ -489,13 +489,13 @@ mod tests {
         let standard = QueueKind::Standard;
         for name in ["ContentBasedDeduplication", "DeduplicationScope", "FifoQueue", "FifoThroughputLimit"] {
             let unknown = SqsError::InvalidAttributeName(name.into());
-            assert_eq!(Given::read(standard, &[(name.into(), "false".into())]), Err(unknown.clone()));
-            assert_eq!(Wanted::read(standard, &[name.into()]), Err(unknown));
-            assert!(Wanted::read(QueueKind::Fifo, &[name.into()]).is_ok() && is_known(name));
+            assert_eq!(GivenAttributes::read(standard, &[(name.into(), "false".into())]), Err(unknown.clone()));
+            assert_eq!(WantedAttributes::read(standard, &[name.into()]), Err(unknown));
+            assert!(WantedAttributes::read(QueueKind::Fifo, &[name.into()]).is_ok() && is_known(name));
         }
-        let made = QueueAttributes::for_creation(standard, &Given::read(standard, &[]).unwrap()).unwrap();
+        let made = QueueAttributes::for_creation(standard, &GivenAttributes::read(standard, &[]).unwrap()).unwrap();
         assert_eq!((made.text("FifoQueue"), made.text("DelaySeconds")), (None, Some("0")));
-        let all = Wanted::read(standard, &["All".into()]).unwrap();
+        let all = WantedAttributes::read(standard, &["All".into()]).unwrap();
         assert!(all.has("DelaySeconds") && !all.has("FifoQueue") && all.has_counts());
     }
 }

@@ -1,7 +1,7 @@
 //! Which queues are whose dead-letter queues.
 
 use super::{Actions, Caller, Performed};
-use crate::attributes::Given;
+use crate::attributes::GivenAttributes;
 use crate::errors::SqsError;
 use crate::redrive::{refusal, QueueArn, RedriveAllowPolicy, RedrivePolicy, REDRIVE_ALLOW_POLICY, REDRIVE_POLICY};
 use crate::texts::QueueName;
@@ -12,7 +12,12 @@ impl Actions {
     /// Tests a policy that is given for the queue of this name: its target has to be another queue of the same kind that
     /// is there, that the caller's key allows, and that lets itself be named (API Reference, SetQueueAttributes,
     /// `RedrivePolicy`).
-    pub(super) fn test_redrive(&self, name: &QueueName, given: &Given, caller: &Caller) -> Result<(), SqsError> {
+    pub(super) fn test_redrive(
+        &self,
+        name: &QueueName,
+        given: &GivenAttributes,
+        caller: &Caller,
+    ) -> Result<(), SqsError> {
         let Some(text) = given.text(REDRIVE_POLICY).filter(|text| !text.is_empty()) else { return Ok(()) };
         let QueueArn { account, name: target } = RedrivePolicy::parse(text)?.target;
         if let Some(identity) = caller.identity.as_ref().filter(|identity| !identity.sees(&target)) {

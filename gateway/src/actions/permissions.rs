@@ -1,7 +1,7 @@
 //! Permissions, which are statements in the policy of a queue.
 
 use super::{Actions, Performed};
-use crate::attributes::Given;
+use crate::attributes::GivenAttributes;
 use crate::errors::SqsError;
 use crate::policy::{Permission, Policy};
 use crate::queues::ask::TableChange;
@@ -31,7 +31,7 @@ impl Actions {
         let queue = self.queue(name)?;
         let mut policy = Policy::of_queue(queue.state().attributes.policy())?;
         change(&mut policy)?;
-        let given = Given::read(name.kind(), &[("Policy".into(), policy.text())])?;
+        let given = GivenAttributes::read(name.kind(), &[("Policy".into(), policy.text())])?;
         self.store.change(&queue, TableChange::Attributes(given)).await?;
         Ok(Response::Nothing.into())
     }

@@ -3,7 +3,7 @@
 use std::sync::Arc;
 
 use super::{Actions, Caller, Pauses, Performed, LONGEST_PAGE};
-use crate::attributes::{Given, QueueAttributes, Wanted, COUNTS};
+use crate::attributes::{GivenAttributes, QueueAttributes, WantedAttributes, COUNTS};
 use crate::delays::bring_up_to_date;
 use crate::errors::SqsError;
 use crate::handles::Receipt;
@@ -26,7 +26,7 @@ impl Actions {
     pub(super) async fn create(
         &self,
         name: QueueName,
-        given: Given,
+        given: GivenAttributes,
         tags: Tags,
         caller: &Caller,
     ) -> Result<Performed, SqsError> {
@@ -75,7 +75,11 @@ impl Actions {
         Performed::of_tables(Response::Queues { urls, next })
     }
 
-    pub(super) async fn get_attributes(&self, name: &QueueName, wanted: &Wanted) -> Result<Performed, SqsError> {
+    pub(super) async fn get_attributes(
+        &self,
+        name: &QueueName,
+        wanted: &WantedAttributes,
+    ) -> Result<Performed, SqsError> {
         let queue = self.queue(name)?;
         let counts = if wanted.has_counts() { Some(self.count(&queue).await?) } else { None };
         let is_durable = counts.is_some();
@@ -107,7 +111,7 @@ impl Actions {
     pub(super) async fn set_attributes(
         &self,
         name: &QueueName,
-        given: Given,
+        given: GivenAttributes,
         caller: &Caller,
     ) -> Result<Performed, SqsError> {
         let _locked = self.lock_of(name).lock().await;

@@ -368,7 +368,7 @@ mod tests {
     use std::sync::Arc;
 
     use super::*;
-    use crate::attributes::{Given, QueueAttributes};
+    use crate::attributes::{GivenAttributes, QueueAttributes};
     use crate::lines::AskFields;
     use crate::queues::ask::{Ask, Creation, TableChange};
     use crate::texts::{QueueKind, QueueName};
@@ -383,7 +383,7 @@ mod tests {
         let tags = BTreeMap::from([("kind".to_string(), "remove".to_string())]);
         let mut payload = Vec::new();
         Record::of_change(1, StoreName(7), &TableChange::Tag(tags.clone())).append(&mut payload).unwrap();
-        let given = Given::read(QueueKind::Standard, &[]).unwrap();
+        let given = GivenAttributes::read(QueueKind::Standard, &[]).unwrap();
         let attributes = QueueAttributes::for_creation(QueueKind::Standard, &given).unwrap();
         let name = QueueName::parse("q").unwrap();
         let creation = Arc::new(Creation { name: name.clone(), mark: 1, attributes, tags, before: None });

@@ -19,7 +19,7 @@ use super::disk::{open_file, read_file, Files, Folder, Segment};
 use super::frame::{self, MARK};
 use super::record::Record;
 use super::segments::{Head, JournalError};
-use crate::attributes::{Given, QueueAttributes};
+use crate::attributes::{GivenAttributes, QueueAttributes};
 use crate::cq::{Cq, CqError};
 use crate::lines::{self, read_receipt, AskFields, AskKind, OutputLine, StoreReply};
 use crate::messages::{read_envelope, AttributeValue, Envelope, MessageAttributes, Metadata};
@@ -75,7 +75,7 @@ struct OldBeside {
 #[derive(Deserialize)]
 #[serde(tag = "kind", rename_all = "lowercase")]
 enum OldChange {
-    Attributes { queue: QueueName, attributes: Given, clock: u64 },
+    Attributes { queue: QueueName, attributes: GivenAttributes, clock: u64 },
     Tag { queue: QueueName, tags: BTreeMap<String, String> },
     Untag { queue: QueueName, keys: Vec<String> },
     Purged { queue: QueueName, clock: u64 },

@@ -6,7 +6,7 @@ use std::sync::Arc;
 use serde::{Deserialize, Serialize};
 use uuid::Uuid;
 
-use crate::attributes::{Given, QueueAttributes};
+use crate::attributes::{GivenAttributes, QueueAttributes};
 use crate::clock::Moment;
 use crate::handles::Receipt;
 use crate::messages::Envelope;
@@ -160,7 +160,7 @@ pub struct Before {
 #[derive(Clone, Debug, PartialEq, Eq, Serialize, Deserialize)]
 #[serde(rename_all = "lowercase")]
 pub enum TableChange {
-    Attributes(Given),
+    Attributes(GivenAttributes),
     Tag(BTreeMap<String, String>),
     Untag(Vec<String>),
     /// Delayed messages of a standard queue go with this.

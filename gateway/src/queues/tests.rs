@@ -10,7 +10,7 @@ use uuid::Uuid;
 
 use super::ask::{Ask, Cause, Changer, Creation, Outcome, StoreName, TableChange};
 use super::State;
-use crate::attributes::{Given, QueueAttributes};
+use crate::attributes::{GivenAttributes, QueueAttributes};
 use crate::clock::Moment;
 use crate::handles::Receipt;
 use crate::lines::{self, StoreReply};
@@ -103,7 +103,8 @@ struct Both {
 impl Both {
     fn new() -> Both {
         let attributes =
-            QueueAttributes::for_creation(QueueKind::Fifo, &Given::read(QueueKind::Fifo, &[]).unwrap()).unwrap();
+            QueueAttributes::for_creation(QueueKind::Fifo, &GivenAttributes::read(QueueKind::Fifo, &[]).unwrap())
+                .unwrap();
         let name = QueueName::parse("q.fifo").unwrap();
         let creation = Creation { name, mark: 1, attributes, tags: BTreeMap::new(), before: None };
         let now = 1_700_000_000_000;
@@ -192,7 +193,8 @@ impl Both {
             }
             Step::Delay(seconds) => {
                 self.list.delay = 1000 * u64::from(*seconds);
-                let given = Given::read(QueueKind::Fifo, &[("DelaySeconds".into(), seconds.to_string())]).unwrap();
+                let given =
+                    GivenAttributes::read(QueueKind::Fifo, &[("DelaySeconds".into(), seconds.to_string())]).unwrap();
                 self.state.apply_change(&TableChange::Attributes(given), self.now);
             }
         }

@@ -6,7 +6,7 @@ use uuid::Uuid;
 
 use super::members::Members;
 use super::value::Map;
-use crate::attributes::{Given, Wanted};
+use crate::attributes::{GivenAttributes, WantedAttributes};
 use crate::errors::SqsError;
 use crate::messages::{AttributeValue, MessageAttributes};
 use crate::policy::{read_label, Permission};
@@ -165,12 +165,12 @@ pub enum Request {
     CancelMessageMoveTask { handle: Option<TaskHandle> },
     ChangeMessageVisibility { queue: QueueName, change: VisibilityChange },
     ChangeMessageVisibilityBatch { queue: QueueName, batch: Batch<VisibilityChange> },
-    CreateQueue { queue: QueueName, attributes: Given, tags: Tags },
+    CreateQueue { queue: QueueName, attributes: GivenAttributes, tags: Tags },
     DeleteMessage { queue: QueueName, handle: String },
     DeleteMessageBatch { queue: QueueName, batch: Batch<String> },
     DeleteQueue { queue: QueueName },
     GetCallerIdentity,
-    GetQueueAttributes { queue: QueueName, wanted: Wanted },
+    GetQueueAttributes { queue: QueueName, wanted: WantedAttributes },
     GetQueueUrl { queue: Option<QueueName> },
     ListDeadLetterSourceQueues { queue: QueueName, most: Option<u32>, after: String },
     ListMessageMoveTasks { source: Option<QueueArn>, most: u32 },
@@ -181,7 +181,7 @@ pub enum Request {
     RemovePermission { queue: QueueName, label: String },
     SendMessage { queue: QueueName, message: NewMessage },
     SendMessageBatch { queue: QueueName, batch: Batch<NewMessage> },
-    SetQueueAttributes { queue: QueueName, attributes: Given },
+    SetQueueAttributes { queue: QueueName, attributes: GivenAttributes },
     StartMessageMoveTask { start: StartMove },
     TagQueue { queue: QueueName, tags: Tags },
     UntagQueue { queue: QueueName, keys: Vec<String> },
@@ -523,7 +523,7 @@ pub fn read(action: Action, members: &Map<'_>) -> Result<Request, SqsError> {
         Action::GetCallerIdentity => Request::GetCallerIdentity,
         Action::GetQueueAttributes => {
             let queue = queue()?;
-            let wanted = Wanted::read(queue.kind(), &members.texts("AttributeNames", MOST_NAMES)?)?;
+            let wanted = WantedAttributes::read(queue.kind(), &members.texts("AttributeNames", MOST_NAMES)?)?;
             Request::GetQueueAttributes { queue, wanted }
         }
         Action::GetQueueUrl => Request::GetQueueUrl { queue: QueueName::parse(members.required_text("QueueName")?) },
@@ -563,7 +563,7 @@ pub fn read(action: Action, members: &Map<'_>) -> Result<Request, SqsError> {
         }
         Action::SetQueueAttributes => {
             let queue = queue()?;
-            let attributes = Given::read(queue.kind(), &members.texts_by_name("Attributes")?)?;
+            let attributes = GivenAttributes::read(queue.kind(), &members.texts_by_name("Attributes")?)?;
             if attributes.is_empty() {
                 return Err(SqsError::MissingParameter("Attributes".into()));
             }
@@ -600,7 +600,7 @@ fn create(members: Members<'_, '_>) -> Result<Request, SqsError> {
     let kind = if says_fifo { QueueKind::Fifo } else { QueueKind::Standard };
     let queue = QueueName::parse(name).filter(|queue| queue.kind() == kind).ok_or_else(|| QueueName::refusal(kind))?;
     let tags = tags(members, "tags")?;
-    Ok(Request::CreateQueue { queue, attributes: Given::read(kind, &given)?, tags })
+    Ok(Request::CreateQueue { queue, attributes: GivenAttributes::read(kind, &given)?, tags })
 }
 
 fn receive(kind: QueueKind, members: Members<'_, '_>) -> Result<Receive, SqsError> {

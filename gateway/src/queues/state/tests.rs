@@ -1,7 +1,7 @@
 //! The tables of a queue by themselves.
 
 use super::*;
-use crate::attributes::Given;
+use crate::attributes::GivenAttributes;
 use crate::handles::Handle;
 use crate::texts::{DedupId, QueueName};
 
@@ -11,7 +11,7 @@ fn state() -> State {
 
 fn state_of(name: &str) -> State {
     let name = QueueName::parse(name).unwrap();
-    let given = Given::read(name.kind(), &[]).unwrap();
+    let given = GivenAttributes::read(name.kind(), &[]).unwrap();
     let attributes = QueueAttributes::for_creation(name.kind(), &given).unwrap();
     State::new(StoreName(1), &Creation { name, mark: 1, attributes, tags: BTreeMap::new(), before: None }, 0)
 }
@@ -194,7 +194,7 @@ fn in_flight(name: &str, count: u64, end: Moment) -> State {
 }
 
 fn set(state: &mut State, name: &str, value: &str) -> bool {
-    let given = Given::read(state.kind, &[(name.into(), value.into())]).unwrap();
+    let given = GivenAttributes::read(state.kind, &[(name.into(), value.into())]).unwrap();
     state.apply_change(&TableChange::Attributes(given), 0).changed
 }
 
