@@ -14,7 +14,7 @@ use crate::queues::Queue;
 use crate::store::{Answer, Operation};
 use crate::texts::{Body, DedupId, GroupId, QueueKind, QueueName};
 use crate::wire::requests::{Batch, NewMessage, Sending, VisibilityChange};
-use crate::wire::responses::{Done, Failed, Sent};
+use crate::wire::responses::{Failed, Sent, Succeeded};
 use crate::wire::Response;
 
 impl Actions {
@@ -183,7 +183,7 @@ impl Actions {
             let answered =
                 entry.and_then(|entry| result_of(&entry, answers.next().unwrap_or_else(|| Err(no_answer()))));
             match answered {
-                Ok(sent) => successful.push(Done { id, sent }),
+                Ok(sent) => successful.push(Succeeded { id, sent }),
                 Err(error) => failed.push(Failed::new(id, &error)),
             }
         }

@@ -142,7 +142,7 @@ impl Service {
         &self,
         head: &Parts,
         body: &Bytes,
-        service: wire::Service,
+        service: wire::AwsService,
         host: &KnownHost,
     ) -> Result<Option<Arc<Identity>>, SqsError> {
         let Some(keys) = &self.keys else {

@@ -3,7 +3,7 @@
 use serde::Serialize;
 
 use super::requests::{self, Action, Request};
-use super::responses::{as_map, Done, Failed, ListedTask, Pairs, ReceivedMessage, Response};
+use super::responses::{as_map, Failed, ListedTask, Pairs, ReceivedMessage, Response, Succeeded};
 use super::value::{Map, Value, MOST_VALUES};
 use super::{fault, Incoming, Reply};
 use crate::errors::SqsError;
@@ -52,7 +52,7 @@ struct Url<'a> {
 
 #[derive(Serialize)]
 #[serde(rename_all = "PascalCase")]
-struct Caller<'a> {
+struct CallerIdentity<'a> {
     account: &'a str,
     arn: &'a str,
     user_id: &'a str,
@@ -85,34 +85,34 @@ struct Attributes<'a> {
 
 #[derive(Serialize)]
 #[serde(rename_all = "PascalCase")]
-struct Tags<'a> {
+struct TagsResult<'a> {
     #[serde(skip_serializing_if = "<[_]>::is_empty", serialize_with = "pairs")]
     tags: &'a [(String, String)],
 }
 
 #[derive(Serialize)]
 #[serde(rename_all = "PascalCase")]
-struct Messages<'a> {
+struct ReceiveResult<'a> {
     #[serde(skip_serializing_if = "<[_]>::is_empty")]
     messages: &'a [ReceivedMessage],
 }
 
 #[derive(Serialize)]
 #[serde(rename_all = "PascalCase")]
-struct Batch<'a> {
-    successful: &'a [Done],
+struct BatchResult<'a> {
+    successful: &'a [Succeeded],
     failed: &'a [Failed],
 }
 
 #[derive(Serialize)]
 #[serde(rename_all = "PascalCase")]
-struct Task<'a> {
+struct StartedMoveTask<'a> {
     task_handle: &'a str,
 }
 
 #[derive(Serialize)]
 #[serde(rename_all = "PascalCase")]
-struct Moved {
+struct CancelledMoveTask {
     approximate_number_of_messages_moved: u64,
 }
 
@@ -142,13 +142,13 @@ pub fn answer(response: &Response, request_id: String) -> Reply {
             to_bytes(&SourceUrls { queue_urls: urls, next_token: next.as_deref() })
         }
         Response::Attributes(attributes) => to_bytes(&Attributes { attributes: slice(attributes) }),
-        Response::Tags(tags) => to_bytes(&Tags { tags: slice(tags) }),
-        Response::Caller { account, arn, user } => to_bytes(&Caller { account, arn, user_id: user }),
+        Response::Tags(tags) => to_bytes(&TagsResult { tags: slice(tags) }),
+        Response::Caller { account, arn, user } => to_bytes(&CallerIdentity { account, arn, user_id: user }),
         Response::Sent(sent) => to_bytes(sent),
-        Response::Messages(messages) => to_bytes(&Messages { messages }),
-        Response::Batch { successful, failed } => to_bytes(&Batch { successful, failed }),
-        Response::TaskHandle(task_handle) => to_bytes(&Task { task_handle }),
-        Response::Moved(moved) => to_bytes(&Moved { approximate_number_of_messages_moved: *moved }),
+        Response::Messages(messages) => to_bytes(&ReceiveResult { messages }),
+        Response::Batch { successful, failed } => to_bytes(&BatchResult { successful, failed }),
+        Response::TaskHandle(task_handle) => to_bytes(&StartedMoveTask { task_handle }),
+        Response::Moved(moved) => to_bytes(&CancelledMoveTask { approximate_number_of_messages_moved: *moved }),
         Response::MoveTasks(results) => to_bytes(&MoveTasks { results }),
     };
     Reply { status: 200, content_type: CONTENT_TYPE, query_error: None, request_id, body }
@@ -232,7 +232,7 @@ mod tests {
         };
         let reply = answer(&Response::Sent(sent.clone()), "r".into());
         assert_eq!(reply.body, br#"{"MessageId":"i","MD5OfMessageBody":"m","SequenceNumber":"1"}"#);
-        let successful = vec![Done { id: "1".into(), sent: Some(sent) }, Done { id: "2".into(), sent: None }];
+        let successful = vec![Succeeded { id: "1".into(), sent: Some(sent) }, Succeeded { id: "2".into(), sent: None }];
         let failed = vec![Failed::new("3".into(), &SqsError::InvalidMessageContents)];
         let batch = answer(&Response::Batch { successful, failed }, "r".into());
         let text = String::from_utf8(batch.body).unwrap();

@@ -17,26 +17,26 @@ use crate::errors::SqsError;
 
 /// Whose action a request asks for.
 #[derive(Clone, Copy, Debug, PartialEq, Eq)]
-pub enum Service {
+pub enum AwsService {
     Sqs,
     /// The Security Token Service, of which there is one action.
     Sts,
 }
 
-impl Service {
+impl AwsService {
     /// The name that signatures have.
     pub fn name(self) -> &'static str {
         match self {
-            Service::Sqs => "sqs",
-            Service::Sts => "sts",
+            AwsService::Sqs => "sqs",
+            AwsService::Sts => "sts",
         }
     }
 
     /// The XML namespace of the query protocol's answers.
     fn namespace(self) -> &'static str {
         match self {
-            Service::Sqs => "http://queue.amazonaws.com/doc/2012-11-05/",
-            Service::Sts => "https://sts.amazonaws.com/doc/2011-06-15/",
+            AwsService::Sqs => "http://queue.amazonaws.com/doc/2012-11-05/",
+            AwsService::Sts => "https://sts.amazonaws.com/doc/2011-06-15/",
         }
     }
 }
@@ -62,11 +62,11 @@ pub struct Incoming<'a> {
 
 impl Incoming<'_> {
     /// Whose action it asks for, as far as that can be seen before it is read.
-    pub fn service(&self) -> Service {
+    pub fn service(&self) -> AwsService {
         if Protocol::of(self) == Protocol::Query && query::asks_who(self) {
-            Service::Sts
+            AwsService::Sts
         } else {
-            Service::Sqs
+            AwsService::Sqs
         }
     }
 }

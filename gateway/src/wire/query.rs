@@ -7,9 +7,9 @@ use quick_xml::events::{BytesDecl, BytesEnd, BytesStart, BytesText, Event};
 use quick_xml::Writer;
 
 use super::requests::{self, Action, Request};
-use super::responses::{Done, Failed, ListedTask, ReceivedMessage, Response, Sent};
+use super::responses::{Failed, ListedTask, ReceivedMessage, Response, Sent, Succeeded};
 use super::value::{Map, Value};
-use super::{fault, Incoming, Reply, Service};
+use super::{fault, AwsService, Incoming, Reply};
 use crate::errors::SqsError;
 use crate::messages::AttributeValue;
 use crate::texts::{is_of_xml, is_xml_character};
@@ -287,7 +287,7 @@ impl Xml {
     }
 
     /// The outermost element, which names the namespace.
-    fn root(&mut self, name: &str, service: Service, inner: impl FnOnce(&mut Xml)) {
+    fn root(&mut self, name: &str, service: AwsService, inner: impl FnOnce(&mut Xml)) {
         let mut start = BytesStart::new(name);
         start.push_attribute(("xmlns", service.namespace()));
         self.event(Event::Start(start));
@@ -327,7 +327,7 @@ impl Xml {
 
 pub fn answer(action: Action, response: &Response, request_id: String) -> Reply {
     let mut xml = Xml::new();
-    let service = if action == Action::GetCallerIdentity { Service::Sts } else { Service::Sqs };
+    let service = if action == Action::GetCallerIdentity { AwsService::Sts } else { AwsService::Sqs };
     xml.root(&format!("{}Response", action.name()), service, |xml| {
         if action.has_result() {
             xml.element(&format!("{}Result", action.name()), |xml| result(xml, action, response));
@@ -340,7 +340,7 @@ pub fn answer(action: Action, response: &Response, request_id: String) -> Reply 
 /// Messages that nobody received, in the form of a receive, and where a list of them goes on.
 pub fn peeked(messages: &[ReceivedMessage], next: Option<&String>, request_id: String) -> Reply {
     let mut xml = Xml::new();
-    xml.root("ReceiveMessageResponse", Service::Sqs, |xml| {
+    xml.root("ReceiveMessageResponse", AwsService::Sqs, |xml| {
         xml.element("ReceiveMessageResult", |xml| {
             messages.iter().for_each(|message| xml.element("Message", |xml| received(xml, message)));
             xml.optional("NextToken", next);
@@ -353,7 +353,7 @@ pub fn peeked(messages: &[ReceivedMessage], next: Option<&String>, request_id: S
 pub fn refuse(error: &SqsError, request_id: String) -> Reply {
     let coded = error.coded();
     let mut xml = Xml::new();
-    xml.root("ErrorResponse", Service::Sqs, |xml| {
+    xml.root("ErrorResponse", AwsService::Sqs, |xml| {
         xml.element("Error", |xml| {
             xml.leaf("Type", fault(error));
             xml.leaf("Code", coded.code);
@@ -402,7 +402,7 @@ fn result(xml: &mut Xml, action: Action, response: &Response) {
         }
         Response::Batch { successful, failed } => {
             let entry = format!("{}ResultEntry", action.name());
-            successful.iter().for_each(|done| xml.element(&entry, |xml| done_entry(xml, done)));
+            successful.iter().for_each(|one| xml.element(&entry, |xml| succeeded_entry(xml, one)));
             failed.iter().for_each(|one| xml.element("BatchResultErrorEntry", |xml| failed_entry(xml, one)));
         }
         Response::TaskHandle(handle) => xml.leaf("TaskHandle", handle),
@@ -458,9 +458,9 @@ fn attribute_value(xml: &mut Xml, value: &AttributeValue) {
     xml.leaf("DataType", value.data_type());
 }
 
-fn done_entry(xml: &mut Xml, done: &Done) {
-    xml.leaf("Id", &done.id);
-    if let Some(sent) = &done.sent {
+fn succeeded_entry(xml: &mut Xml, succeeded: &Succeeded) {
+    xml.leaf("Id", &succeeded.id);
+    if let Some(sent) = &succeeded.sent {
         sent_message(xml, sent);
     }
 }
@@ -617,7 +617,7 @@ mod tests {
             (
                 Action::SendMessageBatch,
                 Response::Batch {
-                    successful: vec![Done { id: text(), sent: Some(sent) }],
+                    successful: vec![Succeeded { id: text(), sent: Some(sent) }],
                     failed: vec![Failed::new(text(), &error)],
                 },
             ),

@@ -30,7 +30,7 @@ pub enum Response {
     Sent(Sent),
     Messages(Vec<ReceivedMessage>),
     Batch {
-        successful: Vec<Done>,
+        successful: Vec<Succeeded>,
         failed: Vec<Failed>,
     },
     TaskHandle(String),
@@ -99,10 +99,10 @@ pub struct ListedTask {
     pub started: u64,
 }
 
-/// An entry of a batch that was done. What its action tells of it stands beside its id.
+/// An entry of a batch that succeeded. What its action tells of it stands beside its id.
 #[derive(Clone, Debug, PartialEq, Eq, Serialize)]
 #[serde(rename_all = "PascalCase")]
-pub struct Done {
+pub struct Succeeded {
     pub id: String,
     #[serde(flatten)]
     pub sent: Option<Sent>,
