@@ -5,7 +5,7 @@ use std::time::Duration;
 
 use crate::delays::bring_up_to_date;
 use crate::errors::SqsError;
-use crate::moves::{give_back, move_to_target, Moved};
+use crate::moves::{give_back, move_to_target, MoveOutcome};
 use crate::queues::ask::{Ask, Fate, Handed, Outcome};
 use crate::queues::Queue;
 use crate::store::{Answer, Store};
@@ -172,7 +172,7 @@ pub async fn see_to(
     let (store, queue) = (store.clone(), queue.clone());
     let seen = tokio::spawn(async move {
         match see_to_all(&store, &queue, set_aside).await {
-            Ok(Moved { is_by_others, staying }) => {
+            Ok(MoveOutcome { is_by_others, staying }) => {
                 // What is behind a message that stays must not go out before it.
                 let is_behind = |handed: &Handed| staying.contains(&handed.group);
                 let (behind, handed): (Vec<_>, Vec<_>) = handed.into_iter().partition(is_behind);
@@ -192,7 +192,11 @@ pub async fn see_to(
     seen.await.unwrap_or_else(|_| Err(gone()))
 }
 
-async fn see_to_all(store: &Store, queue: &Arc<Queue>, set_aside: Vec<(Handed, Fate)>) -> Result<Moved, SqsError> {
+async fn see_to_all(
+    store: &Store,
+    queue: &Arc<Queue>,
+    set_aside: Vec<(Handed, Fate)>,
+) -> Result<MoveOutcome, SqsError> {
     let (mut old, mut dead, mut early) = (Vec::new(), Vec::new(), Vec::new());
     for (handed, fate) in set_aside {
         match fate {
@@ -203,7 +207,7 @@ async fn see_to_all(store: &Store, queue: &Arc<Queue>, set_aside: Vec<(Handed, F
     }
     give_back(store, queue, &early).await;
     let is_all = old.is_empty() && early.is_empty();
-    let mut moved = if dead.is_empty() { Moved::default() } else { move_to_target(store, queue, dead).await? };
+    let mut moved = if dead.is_empty() { MoveOutcome::default() } else { move_to_target(store, queue, dead).await? };
     moved.is_by_others &= is_all;
     moved.staying.extend(early.into_iter().map(|handed| handed.group));
     let deleted = if old.is_empty() { Vec::new() } else { store.ask_all(queue, old).await };

@@ -11,7 +11,7 @@ use crate::access::Keys;
 use crate::clock::Moment;
 use crate::errors::SqsError;
 use crate::messages::read_envelope;
-use crate::moves::{give_back, move_all, Kind};
+use crate::moves::{give_back, move_all, MoveKind};
 use crate::queues::ask::{Ask, Handed, Outcome, TableChange};
 use crate::queues::Queue;
 use crate::store::Store;
@@ -168,7 +168,7 @@ async fn move_some(
     for (target, messages) in by_target {
         match store.queues().find(&target) {
             Some(target) if result.is_ok() => {
-                result = move_all(store, queue, &target, messages, Kind::Redrive).await.map(drop);
+                result = move_all(store, queue, &target, messages, MoveKind::Redrive).await.map(drop);
             }
             _ => give_back(store, queue, &messages).await,
         }

@@ -27,7 +27,7 @@ pub struct Origin {
 }
 
 #[derive(Clone, Copy, Debug, PartialEq, Eq)]
-enum Progress {
+enum CopyProgress {
     /// Somebody sends the copy.
     Begun,
     /// The copy is there, and the message may be.
@@ -36,24 +36,24 @@ enum Progress {
 
 /// Messages that are being moved, and those that a journal has copies of.
 #[derive(Default)]
-pub struct Copies(Mutex<HashMap<Origin, Progress>>);
+pub struct Copies(Mutex<HashMap<Origin, CopyProgress>>);
 
 impl Copies {
-    fn progress(&self) -> MutexGuard<'_, HashMap<Origin, Progress>> {
+    fn progress(&self) -> MutexGuard<'_, HashMap<Origin, CopyProgress>> {
         self.0.lock().unwrap_or_else(PoisonError::into_inner)
     }
 
     /// Says that the copy is to be sent now. If somebody has begun it, tells how far that is.
-    fn begin(&self, origin: Origin) -> Option<Progress> {
+    fn begin(&self, origin: Origin) -> Option<CopyProgress> {
         let mut progress = self.progress();
         let found = progress.get(&origin).copied();
-        progress.entry(origin).or_insert(Progress::Begun);
+        progress.entry(origin).or_insert(CopyProgress::Begun);
         found
     }
 
     /// The copy is there.
     pub fn mark_copied(&self, origin: Origin) {
-        self.progress().insert(origin, Progress::Copied);
+        self.progress().insert(origin, CopyProgress::Copied);
     }
 
     /// The copy couldn't be sent, or what it is of isn't there any more.
@@ -71,7 +71,7 @@ const PAUSE: Duration = Duration::from_secs(1);
 
 /// What came of a move.
 #[derive(Debug, Default)]
-pub struct Moved {
+pub struct MoveOutcome {
     /// Nothing was done: others are about to move the messages.
     pub is_by_others: bool,
     /// The groups of those that are in the queue still: they were given back, or others have them.
@@ -80,7 +80,7 @@ pub struct Moved {
 
 /// Why messages are moved.
 #[derive(Clone, Copy, Debug, PartialEq, Eq)]
-pub enum Kind {
+pub enum MoveKind {
     DeadLetter,
     /// Out of a dead-letter queue. They are new messages with ids of their own
     /// (API Reference, StartMessageMoveTask).
@@ -89,13 +89,13 @@ pub enum Kind {
 
 /// Moves messages that a receive set aside to the target of their queue. Where there is none any more they are given
 /// back.
-pub async fn move_to_target(store: &Store, queue: &Arc<Queue>, dead: Vec<Handed>) -> Result<Moved, SqsError> {
+pub async fn move_to_target(store: &Store, queue: &Arc<Queue>, dead: Vec<Handed>) -> Result<MoveOutcome, SqsError> {
     let policy = queue.state().redrive().cloned();
     let Some(target) = policy.and_then(|policy| store.queues().find(&policy.target.name)) else {
         give_back(store, queue, &dead).await;
-        return Ok(Moved { is_by_others: false, staying: groups_of(&dead) });
+        return Ok(MoveOutcome { is_by_others: false, staying: groups_of(&dead) });
     };
-    move_all(store, queue, &target, dead, Kind::DeadLetter).await
+    move_all(store, queue, &target, dead, MoveKind::DeadLetter).await
 }
 
 /// Moves messages that nobody else is handed meanwhile. With an error those that couldn't be moved are given back.
@@ -104,8 +104,8 @@ pub async fn move_all(
     queue: &Arc<Queue>,
     target: &Arc<Queue>,
     messages: Vec<Handed>,
-    kind: Kind,
-) -> Result<Moved, SqsError> {
+    kind: MoveKind,
+) -> Result<MoveOutcome, SqsError> {
     let copies = store.queues().copies();
     let (mut to_copy, mut copied, mut is_done) = (Vec::new(), Vec::new(), false);
     let mut staying = HashSet::new();
@@ -115,8 +115,8 @@ pub async fn move_all(
             // Others that were handed it as well may have moved it before this one began.
             None if queue.state().last_receipt_of(origin.sequence).is_none() => copies.forget(origin),
             None => to_copy.push(handed),
-            Some(Progress::Copied) => copied.push(handed.receipt.sequence),
-            Some(Progress::Begun) => {
+            Some(CopyProgress::Copied) => copied.push(handed.receipt.sequence),
+            Some(CopyProgress::Begun) => {
                 staying.insert(handed.group);
                 continue;
             }
@@ -128,7 +128,7 @@ pub async fn move_all(
         delete(store, queue, sequence).await;
     }
     staying.extend(sent?);
-    Ok(Moved { is_by_others: !is_done, staying })
+    Ok(MoveOutcome { is_by_others: !is_done, staying })
 }
 
 fn groups_of(messages: &[Handed]) -> HashSet<String> {
@@ -145,7 +145,7 @@ async fn copy_all(
     queue: &Arc<Queue>,
     target: &Arc<Queue>,
     to_copy: Vec<Handed>,
-    kind: Kind,
+    kind: MoveKind,
     copied: &mut Vec<u64>,
 ) -> Result<HashSet<String>, SqsError> {
     let (mut asks, mut asked, mut failed, mut result) = (Vec::new(), Vec::new(), Vec::new(), Ok(()));
@@ -183,15 +183,15 @@ async fn copy_all(
 
 /// The send of a copy. Clients see the message as it was, but for the moment of its send and what it says of its
 /// queue, and of one that leaves a dead-letter queue its id.
-fn copy_of(store: &Store, queue: &Queue, handed: &Handed, kind: Kind) -> Result<Ask, SqsError> {
+fn copy_of(store: &Store, queue: &Queue, handed: &Handed, kind: MoveKind) -> Result<Ask, SqsError> {
     let no_envelope = || SqsError::InternalFailure("The store has a message in no form.".into());
     let (mut metadata, body) = read_envelope(&handed.envelope).ok_or_else(no_envelope)?;
     // Only in a standard queue a dead letter is as old as it was (Developer Guide, "Amazon SQS dead-letter queues").
-    if kind == Kind::Redrive || queue.name.kind() == QueueKind::Fifo {
+    if kind == MoveKind::Redrive || queue.name.kind() == QueueKind::Fifo {
         metadata.sent = store.clock().now();
     }
-    metadata.source = (kind == Kind::DeadLetter).then(|| queue.name.clone());
-    if kind == Kind::Redrive {
+    metadata.source = (kind == MoveKind::DeadLetter).then(|| queue.name.clone());
+    if kind == MoveKind::Redrive {
         metadata.id = Builder::from_random_bytes(rand::random()).into_uuid();
     }
     let envelope = Envelope::new(&metadata, &Body::parse(body)?).map_err(|_| no_envelope())?;
