@@ -6,7 +6,7 @@ use std::path::Path;
 
 use anyhow::{bail, Result};
 
-use crate::journal::{self, Found, Record, Records};
+use crate::journal::{self, Record, Records, SegmentSummary};
 use crate::lines;
 
 /// Writes the journal as a script: two lines for each request of a queue that lives.
@@ -44,7 +44,7 @@ pub fn back_up(path: &Path, target: &Path, out: &mut impl Write) -> Result<()> {
     write_segments(&journal::back_up(path, target)?, out)
 }
 
-fn write_segments(found: &[Found], out: &mut impl Write) -> Result<()> {
+fn write_segments(found: &[SegmentSummary], out: &mut impl Write) -> Result<()> {
     for segment in found {
         let (number, bytes, last) = (segment.segment, segment.bytes, segment.last_commit);
         writeln!(out, "segment {number}: {bytes} bytes, commits up to {last}")?;

@@ -22,7 +22,7 @@ use crate::cq::{test_built, test_version, Cq};
 use crate::delays;
 use crate::ending::End;
 use crate::http::{is_of_this_machine, listen, Addresses, Door, Hosts, Places, Service};
-use crate::journal::{self, Batch, Journal, LockedJournal, Record};
+use crate::journal::{self, CommitBatch, Journal, LockedJournal, Record};
 use crate::limits::Bounds;
 use crate::metrics::Metrics;
 use crate::move_tasks;
@@ -265,7 +265,7 @@ async fn begin(settings: &Settings, health: &Health, mut cqs: Vec<Cq>) -> Result
 fn record_jump(journal: &Journal, tables: &Tables, uncounted: u64) -> Result<()> {
     let now = tables.clock.now();
     tracing::warn!("the clock is far ahead of the last record: {uncounted} ms of it make no message older");
-    let mut batch = Batch { count: 1, ..Batch::default() };
+    let mut batch = CommitBatch { count: 1, ..CommitBatch::default() };
     Record::of_jump(now, uncounted).append(&mut batch.records)?;
     journal.write_first(batch);
     tables.queues.jumps().add(now, uncounted);

@@ -6,7 +6,7 @@ use std::time::Duration;
 
 use super::disk::{Files, Folder, Segment};
 use super::segments::{scan_all, scan_front, JournalError};
-use super::{test_place, Found};
+use super::{test_place, SegmentSummary};
 
 /// So often a copy is begun anew where segments were written anew meanwhile, with a pause before each.
 const MOST_TRIES: u32 = 20;
@@ -15,7 +15,7 @@ const PAUSE: Duration = Duration::from_millis(100);
 /// Copies the journal named by a path to other files, named by another one, and tells what they hold. Segments are copied
 /// in order and the last one last, so that each removal is in the copy that another segment rests on; what wasn't told to
 /// anybody isn't copied. Of the target there must be nothing.
-pub fn back_up(from: &Path, to: &Path) -> Result<Vec<Found>, JournalError> {
+pub fn back_up(from: &Path, to: &Path) -> Result<Vec<SegmentSummary>, JournalError> {
     test_place(to)?;
     let (source, target) = (Files::new(from), Files::new(to));
     if let Some(number) = target.list()?.first() {
@@ -42,7 +42,7 @@ fn is_worth_another_try(error: &JournalError) -> bool {
     matches!(error, JournalError::Missing(_) | JournalError::Damaged { .. } | JournalError::Lacking { .. })
 }
 
-fn copy(source: &Files, target: &Files) -> Result<Vec<Found>, JournalError> {
+fn copy(source: &Files, target: &Files) -> Result<Vec<SegmentSummary>, JournalError> {
     let mut last = 0;
     // Others may be begun meanwhile.
     while let Some(number) = source.list()?.into_iter().filter(|number| *number > last).min() {
@@ -54,7 +54,7 @@ fn copy(source: &Files, target: &Files) -> Result<Vec<Found>, JournalError> {
     if scanned.spans.is_empty() {
         return Err(JournalError::Io(format!("{}: there is no journal", source.path().display())));
     }
-    Ok(scanned.spans.iter().map(Found::of).collect())
+    Ok(scanned.spans.iter().map(SegmentSummary::of).collect())
 }
 
 fn copy_segment(source: &Files, target: &Files, number: u64) -> Result<(), JournalError> {

@@ -5,7 +5,7 @@ use std::sync::Arc;
 
 use super::disk::{Folder, Segment};
 use super::frame;
-use super::segments::{scan_all, Head, JournalError, Scanned, Span};
+use super::segments::{scan_all, JournalError, Scanned, SegmentHead, Span};
 use crate::queues::shards::Shards;
 
 /// How large files get, and how much space is kept ahead.
@@ -118,7 +118,7 @@ impl<F: Folder> Log<F> {
         shards: Shards,
         mut scanned: Scanned,
     ) -> Result<(Log<F>, Scanned), JournalError> {
-        let (file, active) = prepare(folder.as_ref(), Head::new(shards, 1, 1, 0), sizes.piece)?;
+        let (file, active) = prepare(folder.as_ref(), SegmentHead::new(shards, 1, 1, 0), sizes.piece)?;
         publish(folder.as_ref(), 1)?;
         let allocated = active.end + sizes.piece;
         scanned.spans.push(active.clone());
@@ -220,7 +220,7 @@ impl<F: Folder> Log<F> {
     /// closed. A disk that is full leaves things as they are; another failure ends the log.
     pub fn close(&mut self, room: u64) -> Result<Option<Span>, JournalError> {
         let segment = self.active.segment + 1;
-        let head = Head::new(self.shards, segment, segment, self.active.last);
+        let head = SegmentHead::new(self.shards, segment, segment, self.active.last);
         let Ok((file, active)) = prepare(self.folder.as_ref(), head, room) else {
             return Ok(None);
         };
@@ -254,7 +254,7 @@ fn cut_off<S: Segment>(file: &S, bytes: &[u8], end: u64) -> io::Result<()> {
 }
 
 /// A segment that is whole on the disk, and has no name yet.
-fn prepare<F: Folder>(folder: &F, head: Head, room: u64) -> Result<(F::File, Span), JournalError> {
+fn prepare<F: Folder>(folder: &F, head: SegmentHead, room: u64) -> Result<(F::File, Span), JournalError> {
     let (segment, previous) = (head.segment, head.previous);
     let bytes = head.encode()?;
     let file = folder.create(segment)?;

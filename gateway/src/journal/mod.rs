@@ -38,14 +38,14 @@ pub use version1::{convert, count as count_version1, dump as dump_version1};
 
 /// Records that go to the disk together, and the answers that may leave when they are there.
 #[derive(Default)]
-pub struct Batch {
+pub struct CommitBatch {
     /// Lines.
     pub records: Vec<u8>,
     pub count: u64,
     pub finished: Vec<(AnswerSender, Answers)>,
 }
 
-impl Batch {
+impl CommitBatch {
     /// Gives the answers.
     pub fn send_answers(&mut self) {
         for (sender, answers) in self.finished.drain(..) {
@@ -82,9 +82,9 @@ const LAST_PART: i64 = 4 << 20;
 
 struct Shared {
     files: Files,
-    waiting: Mutex<Waiting>,
+    inbox: Mutex<Inbox>,
     /// What is written before all that waits, as soon as there is space.
-    first: Mutex<Option<Batch>>,
+    first: Mutex<Option<CommitBatch>>,
     more: Condvar,
     /// Told when the thread has ended well.
     ended: Notify,
@@ -126,9 +126,10 @@ struct Rewriting {
     next: Option<Instant>,
 }
 
+/// Where the writing thread finds its work.
 #[derive(Default)]
-struct Waiting {
-    batch: Batch,
+struct Inbox {
+    batch: CommitBatch,
     wants_room: bool,
     /// There may be something to do beside what waits.
     looks_again: bool,
@@ -172,7 +173,7 @@ impl LockedJournal {
         let Scanned { spans, removed, .. } = scanned;
         let shared = Shared {
             files: self.files,
-            waiting: Mutex::default(),
+            inbox: Mutex::default(),
             first: Mutex::default(),
             more: Condvar::new(),
             ended: Notify::new(),
@@ -263,16 +264,16 @@ fn network(kind: u64) -> Option<&'static str> {
 }
 
 impl Journal {
-    fn waiting(&self) -> MutexGuard<'_, Waiting> {
-        locked(&self.0.waiting)
+    fn inbox(&self) -> MutexGuard<'_, Inbox> {
+        locked(&self.0.inbox)
     }
 
     /// Gives records and answers over to the writing thread, and leaves `batch` empty.
-    pub fn hand_over(&self, batch: &mut Batch) {
-        let mut waiting = self.waiting();
-        waiting.batch.records.extend_from_slice(&batch.records);
-        waiting.batch.count += batch.count;
-        waiting.batch.finished.append(&mut batch.finished);
+    pub fn hand_over(&self, batch: &mut CommitBatch) {
+        let mut inbox = self.inbox();
+        inbox.batch.records.extend_from_slice(&batch.records);
+        inbox.batch.count += batch.count;
+        inbox.batch.finished.append(&mut batch.finished);
         batch.records.clear();
         batch.count = 0;
         self.0.more.notify_one();
@@ -280,12 +281,12 @@ impl Journal {
 
     /// Has records written before all that are handed over from now on, as soon as there is space for them. Until then
     /// there is none for others.
-    pub fn write_first(&self, batch: Batch) {
+    pub fn write_first(&self, batch: CommitBatch) {
         let promised = batch.promised();
         self.0.promised.fetch_add(promised, Ordering::Relaxed);
         self.0.room.fetch_sub(promised as i64, Ordering::Relaxed);
         *locked(&self.0.first) = Some(batch);
-        self.waiting().looks_again = true;
+        self.inbox().looks_again = true;
         self.0.more.notify_one();
     }
 
@@ -334,7 +335,7 @@ impl Journal {
         }
         self.give_back(bytes);
         let was_full = self.0.is_full.load(Ordering::Relaxed);
-        self.waiting().wants_room = true;
+        self.inbox().wants_room = true;
         self.0.more.notify_one();
         match need {
             _ if !was_full => Ok(None),
@@ -363,7 +364,7 @@ impl Journal {
     /// Waits until all that was handed over is on disk.
     pub async fn wait_until_durable(&self) {
         let (sender, answers) = oneshot::channel();
-        let mut batch = Batch { finished: vec![(sender.into(), Vec::new())], ..Batch::default() };
+        let mut batch = CommitBatch { finished: vec![(sender.into(), Vec::new())], ..CommitBatch::default() };
         self.hand_over(&mut batch);
         let _ = answers.await;
     }
@@ -376,12 +377,12 @@ impl Journal {
     /// What is on disk by now.
     pub fn records(&self) -> Result<Records, JournalError> {
         let removed = locked(&self.0.removed).clone();
-        Ok(Records { source: Source::Journal(self.clone()), removed, is_counted: true })
+        Ok(Records { source: RecordSource::Journal(self.clone()), removed, is_counted: true })
     }
 
     /// Writes what waits and an empty commit, and ends the thread.
     pub async fn close(&self) {
-        self.waiting().is_closed = true;
+        self.inbox().is_closed = true;
         self.0.more.notify_one();
         self.0.ended.notified().await;
     }
@@ -391,14 +392,14 @@ fn bytes_of(spans: &[Span]) -> u64 {
     spans.iter().map(|span| span.end).sum()
 }
 
-enum Source {
+enum RecordSource {
     Journal(Journal),
     Files(Files, Vec<Span>),
 }
 
 /// The records of a journal, in order.
 pub struct Records {
-    source: Source,
+    source: RecordSource,
     removed: HashSet<StoreName>,
     /// It is known how many there must be.
     is_counted: bool,
@@ -406,14 +407,14 @@ pub struct Records {
 
 impl Records {
     /// The records of a journal, or of a copy of one, that nobody opens to write.
-    pub fn of_files(path: &Path) -> Result<(Records, Vec<Found>), JournalError> {
+    pub fn of_files(path: &Path) -> Result<(Records, Vec<SegmentSummary>), JournalError> {
         let files = Files::new(path);
         let Scanned { spans, removed, .. } = scan_all(&files)?;
         if spans.is_empty() {
             return Err(JournalError::Io(format!("{}: there is no journal", path.display())));
         }
-        let found = spans.iter().map(Found::of).collect();
-        Ok((Records { source: Source::Files(files, spans), removed, is_counted: false }, found))
+        let found = spans.iter().map(SegmentSummary::of).collect();
+        Ok((Records { source: RecordSource::Files(files, spans), removed, is_counted: false }, found))
     }
 
     /// Names of the store that were removed. A replay passes their records over.
@@ -425,13 +426,13 @@ impl Records {
     pub fn read(self, mut take: impl FnMut(Vec<u8>) -> bool) -> Result<u64, JournalError> {
         let _kept;
         let (files, spans, written) = match &self.source {
-            Source::Journal(journal) => {
+            RecordSource::Journal(journal) => {
                 _kept = journal.0.replacing.read().unwrap_or_else(PoisonError::into_inner);
                 // Others go on writing behind what is there by now.
                 let spans = locked(&journal.0.spans);
                 (&journal.0.files, spans.clone(), Some(journal.count()).filter(|_| self.is_counted))
             }
-            Source::Files(files, spans) => (files, spans.clone(), None),
+            RecordSource::Files(files, spans) => (files, spans.clone(), None),
         };
         let mut count = 0;
         for span in spans {
@@ -452,7 +453,7 @@ impl Records {
 
 /// A segment as `verify` tells of it.
 #[derive(Clone, Copy, Debug, PartialEq, Eq)]
-pub struct Found {
+pub struct SegmentSummary {
     pub segment: u64,
     pub bytes: u64,
     pub last_commit: u64,
@@ -460,9 +461,9 @@ pub struct Found {
     pub shards: u32,
 }
 
-impl Found {
-    fn of(span: &Span) -> Found {
-        Found { segment: span.segment, bytes: span.end, last_commit: span.last, shards: span.head.shards }
+impl SegmentSummary {
+    fn of(span: &Span) -> SegmentSummary {
+        SegmentSummary { segment: span.segment, bytes: span.end, last_commit: span.last, shards: span.head.shards }
     }
 }
 

@@ -75,7 +75,7 @@ const RULES: u32 = 1;
 
 /// What the first frame of a segment says.
 #[derive(Clone, Debug, PartialEq, Eq, Serialize, Deserialize)]
-pub struct Head {
+pub struct SegmentHead {
     /// The version of the journal, once more: here it is under a checksum. Version 2 says nothing.
     #[serde(default = "oldest")]
     pub version: u32,
@@ -98,10 +98,10 @@ fn is_zero(number: &u64) -> bool {
     *number == 0
 }
 
-impl Head {
-    pub fn new(shards: Shards, segment: u64, from: u64, previous: u64) -> Head {
+impl SegmentHead {
+    pub fn new(shards: Shards, segment: u64, from: u64, previous: u64) -> SegmentHead {
         let (shards, hash) = (shards.count(), HASH.into());
-        Head { version: VERSION, rules: RULES, shards, hash, segment, from, previous, rests_on: 0 }
+        SegmentHead { version: VERSION, rules: RULES, shards, hash, segment, from, previous, rests_on: 0 }
     }
 
     fn is_readable(&self) -> bool {
@@ -126,7 +126,7 @@ impl Head {
 #[derive(Clone, Debug, PartialEq, Eq)]
 pub struct Span {
     pub segment: u64,
-    pub head: Head,
+    pub head: SegmentHead,
     /// Where its commits begin and end.
     pub start: u64,
     pub end: u64,
@@ -151,7 +151,7 @@ pub fn scan_front(segment: u64, bytes: &[u8]) -> Result<Span, JournalError> {
     let place = MAGIC.len() as u64;
     let damaged = JournalError::Damaged { segment, place };
     let first = frame::read(bytes, place).ok_or(damaged.clone())?;
-    let head: Head = serde_json::from_slice(first.payload).map_err(|_| damaged.clone())?;
+    let head: SegmentHead = serde_json::from_slice(first.payload).map_err(|_| damaged.clone())?;
     if head.version != version {
         return Err(damaged);
     }
@@ -315,7 +315,7 @@ pub fn rewrite<F: Folder>(
     }
     let last = &spans[consumed - 1];
     let rests_on = spans[..consumed].iter().map(|span| span.head.rests_on).fold(rests_on, u64::max);
-    let mut bytes = Head { version: VERSION, segment: last.segment, rests_on, ..first.head.clone() }.encode()?;
+    let mut bytes = SegmentHead { version: VERSION, segment: last.segment, rests_on, ..first.head.clone() }.encode()?;
     for (number, payload) in kept {
         let again = frame::encode(number, bytes.len() as u64, &payload);
         bytes.extend(again.map_err(|error| JournalError::Io(error.to_string()))?);

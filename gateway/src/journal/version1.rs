@@ -18,7 +18,7 @@ use uuid::Uuid;
 use super::disk::{open_file, read_file, Files, Folder, Segment};
 use super::frame::{self, MARK};
 use super::record::Record;
-use super::segments::{Head, JournalError};
+use super::segments::{JournalError, SegmentHead};
 use crate::attributes::{GivenAttributes, QueueAttributes};
 use crate::cq::{Cq, CqError};
 use crate::lines::{self, read_receipt, AskFields, AskKind, OutputLine, StoreReply};
@@ -164,7 +164,7 @@ pub async fn convert(program: &str, path: &Path, shards: Shards) -> Result<(), R
     }
     let bytes = std::fs::read(path).map_err(JournalError::from)?;
     let mut cq = Cq::start(program)?;
-    let segment = Head::new(shards, 1, 1, 0).encode().map_err(JournalError::from)?;
+    let segment = SegmentHead::new(shards, 1, 1, 0).encode().map_err(JournalError::from)?;
     let mut conversion = Conversion { segment, ..Conversion::default() };
     for text in texts(&bytes)? {
         conversion.records += 1;

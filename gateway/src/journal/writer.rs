@@ -8,7 +8,7 @@ use std::time::{Duration, Instant};
 use super::disk::Files;
 use super::log::{halves_of, Log};
 use super::segments::{removed_by, rewrite, JournalError};
-use super::{bytes_of, locked, Batch, Journal};
+use super::{bytes_of, locked, CommitBatch, Journal};
 use crate::queues::ask::StoreName;
 
 /// After so long without a commit an empty one is written, so that damage of the last real one is seen.
@@ -43,12 +43,12 @@ pub fn start(log: Log<Files>, journal: Journal, failed: fn(&str)) -> Result<(), 
 }
 
 /// What there is to do next.
-enum Next {
+enum Work {
     Grow,
     LookAgain,
-    Write(Batch),
+    Write(CommitBatch),
     Quiet,
-    Close(Batch),
+    Close(CommitBatch),
 }
 
 fn keep_writing(mut log: Log<Files>, journal: &Journal, failed: fn(&str)) -> Result<(), JournalError> {
@@ -57,20 +57,20 @@ fn keep_writing(mut log: Log<Files>, journal: &Journal, failed: fn(&str)) -> Res
         rewrite_aside(&mut log, journal, failed)?;
         write_first(&mut log, journal)?;
         match wait(journal, is_quiet) {
-            Next::Grow => grow(&mut log, journal)?,
-            Next::LookAgain => {}
-            Next::Write(mut batch) => {
+            Work::Grow => grow(&mut log, journal)?,
+            Work::LookAgain => {}
+            Work::Write(mut batch) => {
                 if !batch.records.is_empty() {
                     commit(&mut log, journal, &batch)?;
                     is_quiet = false;
                 }
                 batch.send_answers();
             }
-            Next::Quiet => {
+            Work::Quiet => {
                 commit_nothing(&mut log, journal)?;
                 is_quiet = true;
             }
-            Next::Close(mut batch) => {
+            Work::Close(mut batch) => {
                 if !batch.records.is_empty() {
                     commit(&mut log, journal, &batch)?;
                 }
@@ -83,36 +83,36 @@ fn keep_writing(mut log: Log<Files>, journal: &Journal, failed: fn(&str)) -> Res
     }
 }
 
-fn wait(journal: &Journal, is_quiet: bool) -> Next {
+fn wait(journal: &Journal, is_quiet: bool) -> Work {
     let since = Instant::now();
-    let mut waiting = journal.waiting();
+    let mut inbox = journal.inbox();
     loop {
-        if waiting.is_closed {
-            return Next::Close(std::mem::take(&mut waiting.batch));
+        if inbox.is_closed {
+            return Work::Close(std::mem::take(&mut inbox.batch));
         }
-        if std::mem::take(&mut waiting.wants_room) {
-            return Next::Grow;
+        if std::mem::take(&mut inbox.wants_room) {
+            return Work::Grow;
         }
-        if std::mem::take(&mut waiting.looks_again) {
-            return Next::LookAgain;
+        if std::mem::take(&mut inbox.looks_again) {
+            return Work::LookAgain;
         }
-        if !waiting.batch.is_empty() {
-            return Next::Write(std::mem::take(&mut waiting.batch));
+        if !inbox.batch.is_empty() {
+            return Work::Write(std::mem::take(&mut inbox.batch));
         }
         let left = QUIET.saturating_sub(since.elapsed());
         if !is_quiet && left.is_zero() {
-            return Next::Quiet;
+            return Work::Quiet;
         }
         let more = &journal.0.more;
-        waiting = if is_quiet {
-            more.wait(waiting).unwrap_or_else(PoisonError::into_inner)
+        inbox = if is_quiet {
+            more.wait(inbox).unwrap_or_else(PoisonError::into_inner)
         } else {
-            more.wait_timeout(waiting, left).unwrap_or_else(PoisonError::into_inner).0
+            more.wait_timeout(inbox, left).unwrap_or_else(PoisonError::into_inner).0
         };
     }
 }
 
-fn commit(log: &mut Log<Files>, journal: &Journal, batch: &Batch) -> Result<(), JournalError> {
+fn commit(log: &mut Log<Files>, journal: &Journal, batch: &CommitBatch) -> Result<(), JournalError> {
     let shared = &journal.0;
     let before = log.room();
     let mut rest = batch.records.as_slice();
@@ -250,7 +250,7 @@ fn commit_nothing(log: &mut Log<Files>, journal: &Journal) -> Result<(), Journal
     if log.room() < super::frame::HEAD as u64 {
         return Ok(());
     }
-    commit(log, journal, &Batch::default())
+    commit(log, journal, &CommitBatch::default())
 }
 
 /// Allocates space, or finds that there is none.
@@ -305,7 +305,7 @@ fn rewrite_aside(log: &mut Log<Files>, journal: &Journal, failed: fn(&str)) -> R
         rewriting.has_failed = !is_done;
         rewriting.next = Some(Instant::now() + REST.max(REST_SHARE * took));
         drop(rewriting);
-        journal.waiting().looks_again = true;
+        journal.inbox().looks_again = true;
         journal.0.more.notify_one();
     })?;
     Ok(())

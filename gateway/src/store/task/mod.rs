@@ -24,7 +24,7 @@ use super::{Answers, HeldJobs, Job, Operation, Store};
 use crate::clock::Clock;
 use crate::cq::{Cq, CqError};
 use crate::errors::SqsError;
-use crate::journal::{Batch, Journal, JournalError};
+use crate::journal::{CommitBatch, Journal, JournalError};
 use crate::limits::Bounds;
 use crate::lines::BadOutput;
 use crate::queues::shards::{Shard, Shards};
@@ -87,7 +87,7 @@ struct Task {
     incoming: BytesMut,
     /// The answers of the job at the front that are there.
     answers: Answers,
-    batch: Batch,
+    batch: CommitBatch,
     /// What waits is not asked before the journal has found space.
     lacks_room: bool,
     /// What waits is not asked before something else is answered.
@@ -146,7 +146,7 @@ pub fn start(start: Start) -> (Store, oneshot::Receiver<Ended>) {
             out: Outgoing::default(),
             incoming: BytesMut::new(),
             answers: Vec::new(),
-            batch: Batch::default(),
+            batch: CommitBatch::default(),
             lacks_room: false,
             waits_for_answer: false,
             open_visibility_changes: 0,
