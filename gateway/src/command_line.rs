@@ -8,7 +8,7 @@ use anyhow::{anyhow, Result};
 use clap::{CommandFactory, Parser, Subcommand};
 use clap_complete::Shell;
 
-use crate::config::{Log, LogForm, LogLevel, Misuse, Options};
+use crate::config::{LogFormat, LogLevel, LogSettings, Misuse, Options};
 use crate::inspect;
 use crate::log;
 use crate::serve::{self, serve};
@@ -111,7 +111,7 @@ fn serve_by(options: Options) -> Result<()> {
 }
 
 /// The log goes to standard error.
-fn begin_log(how: Log) -> Result<()> {
+fn begin_log(how: LogSettings) -> Result<()> {
     let level = match how.level {
         LogLevel::Error => tracing::Level::ERROR,
         LogLevel::Warn => tracing::Level::WARN,
@@ -119,9 +119,9 @@ fn begin_log(how: Log) -> Result<()> {
         LogLevel::Debug => tracing::Level::DEBUG,
     };
     let lines = tracing_subscriber::fmt().with_writer(log::begin()?).with_ansi(false).with_max_level(level);
-    match how.form {
-        LogForm::Text => lines.with_target(false).init(),
-        LogForm::Json => lines.json().flatten_event(true).with_target(false).init(),
+    match how.format {
+        LogFormat::Text => lines.with_target(false).init(),
+        LogFormat::Json => lines.json().flatten_event(true).with_target(false).init(),
     }
     Ok(())
 }

@@ -99,7 +99,7 @@ pub struct Options {
     peek: Option<bool>,
     /// How lines of the log look [default: text]
     #[arg(long, value_name = "FORM", env = "HOBBYCHAIR_LOG")]
-    log: Option<LogForm>,
+    log: Option<LogFormat>,
     /// What is logged; each request at debug [default: info]
     #[arg(long, value_name = "LEVEL", env = "HOBBYCHAIR_LOG_LEVEL")]
     log_level: Option<LogLevel>,
@@ -124,7 +124,7 @@ pub struct DeclaredQueue {
 
 #[derive(Clone, Copy, Debug, PartialEq, Eq, ValueEnum, Deserialize)]
 #[serde(rename_all = "lowercase")]
-pub enum LogForm {
+pub enum LogFormat {
     Text,
     Json,
 }
@@ -140,8 +140,8 @@ pub enum LogLevel {
 
 /// What is logged, and how.
 #[derive(Clone, Copy, Debug)]
-pub struct Log {
-    pub form: LogForm,
+pub struct LogSettings {
+    pub format: LogFormat,
     pub level: LogLevel,
 }
 
@@ -366,8 +366,8 @@ impl Options {
         }
     }
 
-    pub fn log(&self) -> Log {
-        Log { form: self.log.unwrap_or(LogForm::Text), level: self.log_level.unwrap_or(LogLevel::Info) }
+    pub fn log(&self) -> LogSettings {
+        LogSettings { format: self.log.unwrap_or(LogFormat::Text), level: self.log_level.unwrap_or(LogLevel::Info) }
     }
 
     /// The threads that serve. The other processors are left to the programs cq and to the system: more threads serve

@@ -15,7 +15,7 @@ use crate::queues::ask::{Ask, Handed, Outcome};
 use crate::queues::Queue;
 use crate::store::Store;
 
-type Found = Result<Vec<Handed>, SqsError>;
+type PollResult = Result<Vec<Handed>, SqsError>;
 
 /// A receive that waits.
 struct Poll {
@@ -23,7 +23,7 @@ struct Poll {
     ask: Ask,
     presence: Presence,
     deadline: Instant,
-    done: oneshot::Sender<Found>,
+    done: oneshot::Sender<PollResult>,
 }
 
 impl Poll {
@@ -35,10 +35,10 @@ impl Poll {
 
 /// Those who wait at one queue.
 #[derive(Default)]
-pub struct Polls(Mutex<Line>);
+pub struct Polls(Mutex<WaitingPolls>);
 
 #[derive(Default)]
-struct Line {
+struct WaitingPolls {
     polls: VecDeque<Poll>,
     last_number: u64,
     /// A task serves them.
@@ -46,7 +46,7 @@ struct Line {
 }
 
 /// How long somebody waits, and who it is.
-pub struct Waiting {
+pub struct Waiter {
     pub presence: Presence,
     pub time: Duration,
     /// The end of the gateway is the end of the wait.
@@ -63,7 +63,7 @@ const LOOK_AGAIN: Duration = Duration::from_millis(20);
 const LONGEST_WATCH: Duration = Duration::from_secs(20);
 
 impl Polls {
-    fn waiting(&self) -> MutexGuard<'_, Line> {
+    fn waiting(&self) -> MutexGuard<'_, WaitingPolls> {
         self.0.lock().unwrap_or_else(PoisonError::into_inner)
     }
 
@@ -107,8 +107,8 @@ impl Polls {
 ///
 /// `seen` is how many openings the receive had seen that came back empty. A queue that is removed meanwhile is
 /// `QueueDoesNotExist`.
-pub async fn wait(store: &Store, queue: &Arc<Queue>, ask: Ask, waiting: Waiting, seen: u64) -> Found {
-    let Waiting { presence, time, ending } = waiting;
+pub async fn wait(store: &Store, queue: &Arc<Queue>, ask: Ask, waiter: Waiter, seen: u64) -> PollResult {
+    let Waiter { presence, time, ending } = waiter;
     if ending.has_come() {
         return Ok(Vec::new());
     }

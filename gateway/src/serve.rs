@@ -96,7 +96,7 @@ pub async fn serve(settings: Settings) -> Result<()> {
     if wants_reading.get() {
         Entrance::read_again(&started.entrance.keys, &started.entrance.certificate);
     }
-    let journal = started.begun.journal.clone();
+    let journal = started.running.journal.clone();
     let served = answer(&settings, started, &mut signals).await;
     if let Some(journal) = journal {
         journal.close().await;
@@ -131,7 +131,7 @@ struct Started {
     entrance: Entrance,
     places: Places,
     admin: Arc<Admin>,
-    begun: Begun,
+    running: RunningStore,
 }
 
 async fn prepare(settings: Arc<Settings>) -> Result<Prepared> {
@@ -155,15 +155,15 @@ async fn prepare(settings: Arc<Settings>) -> Result<Prepared> {
 
 async fn start(settings: Arc<Settings>, prepared: Prepared, cqs: Vec<Cq>) -> Result<Started> {
     let Prepared { entrance, places, admin } = prepared;
-    let begun = begin(&settings, &admin.health, cqs).await?;
+    let running = begin(&settings, &admin.health, cqs).await?;
     // Only one store is ever set.
-    let _ = admin.store.set(begun.store.clone());
-    tokio::spawn(retention::keep_sweeping(begun.store.clone()));
-    tokio::spawn(delays::keep_sending(begun.store.clone()));
-    if begun.journal.is_some() {
-        tokio::spawn(crate::rolling::keep_rolling(begun.store.clone()));
+    let _ = admin.store.set(running.store.clone());
+    tokio::spawn(retention::keep_sweeping(running.store.clone()));
+    tokio::spawn(delays::keep_sending(running.store.clone()));
+    if running.journal.is_some() {
+        tokio::spawn(crate::rolling::keep_rolling(running.store.clone()));
     }
-    Ok(Started { entrance, places, admin, begun })
+    Ok(Started { entrance, places, admin, running })
 }
 
 /// Who may come in, and by what.
@@ -219,14 +219,14 @@ fn listen_for_operators(address: &Address) -> Result<TcpListener> {
 }
 
 /// What goes on from the start to the end.
-struct Begun {
+struct RunningStore {
     store: Store,
     ended: oneshot::Receiver<Ended>,
     journal: Option<Journal>,
 }
 
 /// Brings the programs to where the journal is.
-async fn begin(settings: &Settings, health: &Health, mut cqs: Vec<Cq>) -> Result<Begun> {
+async fn begin(settings: &Settings, health: &Health, mut cqs: Vec<Cq>) -> Result<RunningStore> {
     let clock = Arc::new(match &settings.clock_file {
         Some(path) => Clock::of_file(path),
         None => Clock::new(),
@@ -258,7 +258,7 @@ async fn begin(settings: &Settings, health: &Health, mut cqs: Vec<Cq>) -> Result
         store::start(Start { program, patience, shards, cqs, queues, clock, journal: journals, bounds });
     remove_left_over(&store, &replayed).await;
     moves::finish(&store).await;
-    Ok(Begun { store, ended, journal })
+    Ok(RunningStore { store, ended, journal })
 }
 
 /// The clock is more than a day ahead of the journal: of that time a day counts for retention, now and at later starts.
@@ -290,9 +290,9 @@ async fn remove_left_over(store: &Store, replayed: &Replayed) {
 }
 
 async fn answer(settings: &Settings, started: Started, signals: &mut Signals) -> Result<()> {
-    let Started { entrance, places, admin, begun } = started;
+    let Started { entrance, places, admin, running } = started;
     let Entrance { listener, keys, certificate } = entrance;
-    let Begun { store, ended, .. } = begun;
+    let RunningStore { store, ended, .. } = running;
     // The program has to answer before anybody is told that there is something to ask.
     let is_answering = tokio::select! {
         is_answering = store.is_answering() => is_answering,

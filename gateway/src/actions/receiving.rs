@@ -10,7 +10,7 @@ use crate::digests::{md5_of_attributes, md5_of_text};
 use crate::errors::SqsError;
 use crate::handles::Handle;
 use crate::messages::{read_envelope, MessageAttributes, Metadata};
-use crate::polling::{self, Waiting};
+use crate::polling::{self, Waiter};
 use crate::queues::ask::{Ask, Changer, Handed};
 use crate::queues::Queue;
 use crate::texts::{QueueKind, QueueName};
@@ -53,9 +53,9 @@ impl Actions {
             let _counted = self.metrics.poll();
             caller.share.set(request_bytes);
             let (presence, time) = (caller.presence.clone(), Duration::from_secs(wait));
-            let waiting = Waiting { presence, time, ending: self.ending.clone() };
+            let waiter = Waiter { presence, time, ending: self.ending.clone() };
             // Receives that wait for nothing don't pay for its size.
-            handed = Box::pin(polling::wait(&self.store, &queue, ask, waiting, openings)).await?;
+            handed = Box::pin(polling::wait(&self.store, &queue, ask, waiter, openings)).await?;
         }
         self.received(&queue, handed, &receive.shown)
     }

@@ -19,13 +19,13 @@ impl Group {
 }
 
 #[derive(Debug, Default)]
-struct Members {
+struct GroupMembers {
     sequences: BTreeSet<u64>,
     /// Until when messages are hidden. While the group is among the open ones, none is.
     hidden: BTreeSet<(Moment, u64)>,
 }
 
-impl Members {
+impl GroupMembers {
     /// None of them is hidden from this moment on.
     fn end(&self) -> Option<Moment> {
         self.hidden.last().map(|(until, _)| *until)
@@ -36,7 +36,7 @@ impl Members {
 /// next, each in order (`docs/QUEUES.md`, Receive).
 #[derive(Debug, Default)]
 pub struct Groups {
-    members: HashMap<Group, Members>,
+    members: HashMap<Group, GroupMembers>,
     /// By their oldest message.
     open: BTreeMap<u64, Group>,
     /// Those of which a message is hidden, by the last end of a timeout.
@@ -71,7 +71,7 @@ impl Groups {
     }
 
     /// Changes a group, and finds its place anew.
-    fn change(&mut self, group: Group, change: impl FnOnce(&mut Members)) {
+    fn change(&mut self, group: Group, change: impl FnOnce(&mut GroupMembers)) {
         let members = self.members.entry(group).or_default();
         match (members.end(), members.sequences.first()) {
             (Some(end), _) => drop(self.closed.remove(&(end, group))),
