@@ -36,10 +36,10 @@ pub struct Progress {
     idle: Option<Duration>,
     /// The socket, where it is one.
     socket: Option<RawFd>,
-    state: Arc<Mutex<State>>,
+    state: Arc<Mutex<ProgressState>>,
 }
 
-struct State {
+struct ProgressState {
     framing: Framing,
     /// When the request began of which a part is there.
     begun: Option<Instant>,
@@ -58,7 +58,7 @@ struct State {
 
 impl Progress {
     pub fn new(longest: Duration) -> Progress {
-        let state = State {
+        let state = ProgressState {
             framing: Framing::default(),
             begun: None,
             is_begun: false,
@@ -80,7 +80,7 @@ impl Progress {
         Progress { socket: Some(socket), ..self }
     }
 
-    fn state(&self) -> MutexGuard<'_, State> {
+    fn state(&self) -> MutexGuard<'_, ProgressState> {
         self.state.lock().unwrap_or_else(PoisonError::into_inner)
     }
 

@@ -169,7 +169,7 @@ pub async fn convert(program: &str, path: &Path, shards: Shards) -> Result<(), R
     for text in texts(&bytes)? {
         conversion.records += 1;
         conversion.take(text).ok_or(ReplayError::BadRecord(conversion.records))?;
-        if conversion.asked.len() == PIECE {
+        if conversion.converted.len() == PIECE {
             conversion.put(&mut cq).await?;
         }
     }
@@ -196,13 +196,13 @@ struct OldQueue {
 }
 
 /// An ask that waits for its reply, or a change.
-struct Asked {
+struct Converted {
     clock: u64,
     store: StoreName,
-    what: AskedWhat,
+    kind: ConvertedKind,
 }
 
-enum AskedWhat {
+enum ConvertedKind {
     Ask { ask: Ask, raw: Box<RawValue>, number: u64, digest: String, incarnation: u64 },
     Change(TableChange),
 }
@@ -215,7 +215,7 @@ struct Conversion {
     last_clock: u64,
     records: u64,
     number: u64,
-    asked: Vec<Asked>,
+    converted: Vec<Converted>,
     /// The whole envelopes of messages of which the store has a stub.
     split: HashMap<String, String>,
     /// The lines of the commit to come.
@@ -245,8 +245,8 @@ impl Conversion {
         let raw = serde_json::value::to_raw_value(&AskFields::of(store, 0, &ask)).ok()?;
         self.number += 1;
         let digest = old.digest?.into_owned();
-        let what = AskedWhat::Ask { ask, raw, number: self.number, digest, incarnation };
-        self.asked.push(Asked { clock, store, what });
+        let kind = ConvertedKind::Ask { ask, raw, number: self.number, digest, incarnation };
+        self.converted.push(Converted { clock, store, kind });
         Some(())
     }
 
@@ -323,17 +323,17 @@ impl Conversion {
             OldChange::Purged { queue, clock } => (queue, TableChange::Purged, clock),
         };
         let store = self.queues.get(&name)?.store;
-        self.asked.push(Asked { clock, store, what: AskedWhat::Change(change) });
+        self.converted.push(Converted { clock, store, kind: ConvertedKind::Change(change) });
         Some(())
     }
 
     /// Puts what was gathered to the program, and keeps the records of this version.
     async fn put(&mut self, cq: &mut Cq) -> Result<(), ReplayError> {
-        let asked = std::mem::take(&mut self.asked);
+        let converted = std::mem::take(&mut self.converted);
         let mut lines = Vec::new();
         let mut count = 0;
-        for one in &asked {
-            if let AskedWhat::Ask { raw, number, .. } = &one.what {
+        for one in &converted {
+            if let ConvertedKind::Ask { raw, number, .. } = &one.kind {
                 count += 1;
                 let appended = lines::append_request(&mut lines, one.clock, 1, *number, raw);
                 appended.map_err(|error| JournalError::Io(error.to_string()))?;
@@ -344,10 +344,12 @@ impl Conversion {
         let (written, read) = tokio::join!(input.write_all(&lines), read_lines(&mut reader, count));
         written.and(Ok(())).map_err(|error| CqError::Gone(error.to_string()))?;
         let mut answers = read.map_err(|error| CqError::Gone(error.to_string()))?.into_iter();
-        for one in asked {
-            match &one.what {
-                AskedWhat::Change(change) => self.keep(&Record::of_change(one.clock, one.store, change))?,
-                AskedWhat::Ask { ask, raw, number, digest, incarnation } => {
+        for one in converted {
+            match &one.kind {
+                ConvertedKind::Change(change) => {
+                    self.append_record(&Record::of_change(one.clock, one.store, change))?
+                }
+                ConvertedKind::Ask { ask, raw, number, digest, incarnation } => {
                     let line = answers.next().unwrap_or_default();
                     let OutputLine::Answer { reply, text, .. } = lines::read_output(line.trim_end().as_bytes())? else {
                         return Err(ReplayError::OtherReply(*number));
@@ -357,7 +359,7 @@ impl Conversion {
                         return Err(ReplayError::OtherReply(*number));
                     }
                     drop(old);
-                    self.keep(&Record::of_ask(one.clock, ask, raw, text))?;
+                    self.append_record(&Record::of_ask(one.clock, ask, raw, text))?;
                 }
             }
         }
@@ -372,7 +374,7 @@ impl Conversion {
         Ok(())
     }
 
-    fn keep(&mut self, record: &Record<'_>) -> Result<(), JournalError> {
+    fn append_record(&mut self, record: &Record<'_>) -> Result<(), JournalError> {
         record.append(&mut self.out).map_err(|error| JournalError::Io(error.to_string()))
     }
 }

@@ -40,7 +40,7 @@ pub(super) struct Attempts {
 
 impl Attempts {
     /// Keeps what an attempt was given. What its messages were in before is over.
-    pub(super) fn keep(&mut self, id: &AttemptId, attempt: Attempt) {
+    pub(super) fn insert(&mut self, id: &AttemptId, attempt: Attempt) {
         self.forget_old(attempt.moment);
         self.forget(id);
         for handed in &attempt.handed {
@@ -138,23 +138,23 @@ mod tests {
     #[test]
     fn an_attempt_is_over_with_the_first_of_its_messages() {
         let mut attempts = Attempts::default();
-        attempts.keep(&id("a"), attempt(0, 30_000, &[1, 2]));
-        attempts.keep(&id("b"), attempt(1, 30_001, &[3]));
+        attempts.insert(&id("a"), attempt(0, 30_000, &[1, 2]));
+        attempts.insert(&id("b"), attempt(1, 30_001, &[3]));
         assert_eq!(attempts.bytes(), 12);
         attempts.forget_with(2);
         assert!(attempts.find(&id("a"), 2).is_none() && attempts.find(&id("b"), 2).is_some());
         assert_eq!((attempts.bytes(), attempts.by_message.len()), (4, 1));
         // The same message by another attempt: it is handed out again.
-        attempts.keep(&id("c"), attempt(40_000, 70_000, &[3]));
+        attempts.insert(&id("c"), attempt(40_000, 70_000, &[3]));
         assert!(attempts.find(&id("b"), 40_000).is_none() && attempts.find(&id("c"), 40_000).is_some());
-        attempts.keep(&id("c"), attempt(80_000, 90_000, &[1]));
+        attempts.insert(&id("c"), attempt(80_000, 90_000, &[1]));
         assert_eq!((attempts.bytes(), attempts.by_message.len()), (4, 1));
     }
 
     #[test]
     fn an_attempt_ends_with_its_timeouts_or_after_five_minutes() {
         let mut attempts = Attempts::default();
-        attempts.keep(&id("a"), attempt(0, 30_000, &[1]));
+        attempts.insert(&id("a"), attempt(0, 30_000, &[1]));
         attempts.put_off(1, 2 * WINDOW);
         attempts.forget_old(WINDOW - 1);
         assert!(attempts.find(&id("a"), WINDOW - 1).is_some() && attempts.find(&id("a"), WINDOW).is_none());
@@ -162,7 +162,7 @@ mod tests {
         attempts.forget_old(50_000);
         assert_eq!((attempts.bytes(), attempts.by_id.len(), attempts.by_message.len()), (0, 0, 0));
         for place in 0..10_000 {
-            attempts.keep(&id("b"), attempt(place, 60_000 + place, &[2]));
+            attempts.insert(&id("b"), attempt(place, 60_000 + place, &[2]));
         }
         assert!(attempts.ends.len() < 100);
     }

@@ -43,7 +43,7 @@ impl DelayedMessages {
             if let Some(first) = self.calls.find(call, moment) {
                 return Some(first.id);
             }
-            self.calls.keep(call, First { id: message.id, is_delayed: true }, moment);
+            self.calls.insert(call, First { id: message.id, is_delayed: true }, moment);
         }
         self.added += 1;
         let place = (message.due, self.added);
@@ -88,7 +88,7 @@ impl DelayedMessages {
     /// A message of this call went to the store without a delay.
     pub(super) fn remember_call(&mut self, call: &DedupId, id: Uuid, moment: Moment) {
         if self.calls.find(call, moment).is_none() {
-            self.calls.keep(call, First { id, is_delayed: false }, moment);
+            self.calls.insert(call, First { id, is_delayed: false }, moment);
         }
     }
 
@@ -173,7 +173,7 @@ struct Calls {
 }
 
 impl Calls {
-    fn keep(&mut self, call: &DedupId, first: First, moment: Moment) {
+    fn insert(&mut self, call: &DedupId, first: First, moment: Moment) {
         let Some(key) = call.call_key() else { return };
         self.by_age.push_back((moment, key));
         self.firsts.insert(key, first);

@@ -300,7 +300,7 @@ impl State {
             let is_copy =
                 |one: &&Handed| self.messages.get(one.receipt.sequence).is_some_and(|own| own.envelope.is_none());
             let bytes = handed.iter().filter(is_copy).map(|one| one.envelope.len() as u64).sum();
-            self.attempts.keep(attempt, Attempt { moment, until, handed: handed.clone(), bytes });
+            self.attempts.insert(attempt, Attempt { moment, until, handed: handed.clone(), bytes });
         }
         if opened {
             self.open();

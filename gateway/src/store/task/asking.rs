@@ -5,7 +5,7 @@ use std::sync::Arc;
 use serde_json::value::RawValue;
 use uuid::Uuid;
 
-use super::entries::{Entry, Open, OpenAsk, OpenChange, Pending, Started};
+use super::entries::{Entry, Open, OpenAsk, OpenChange, Pending, StartOutcome};
 use super::room::{bytes_of, bytes_of_change, need_of, need_of_change};
 use super::{Ended, Task, PIECE};
 use crate::clock::Moment;
@@ -25,18 +25,18 @@ impl Task {
             let started = match (queue, operation) {
                 (Some(queue), Some(Operation::Ask(ask))) => self.start_ask(queue, ask)?,
                 (Some(queue), Some(Operation::Change(change))) => self.start_change(queue, change),
-                (Some(queue), Some(Operation::Count)) => Started::Open(self.count(queue)?),
-                (Some(_), Some(Operation::Hold | Operation::Release)) => Started::ready(Ok(Outcome::Done)),
-                (_, Some(Operation::Moment)) => Started::Open(self.moment()?),
-                _ => Started::Open(Entry::Ready(None)),
+                (Some(queue), Some(Operation::Count)) => StartOutcome::Open(self.count(queue)?),
+                (Some(_), Some(Operation::Hold | Operation::Release)) => StartOutcome::ready(Ok(Outcome::Done)),
+                (_, Some(Operation::Moment)) => StartOutcome::Open(self.moment()?),
+                _ => StartOutcome::Open(Entry::Ready(None)),
             };
             match started {
-                Started::Open(entry) => self.open.push_back(Open { entry, sender }),
-                Started::LacksRoom(queue, operation) => {
+                StartOutcome::Open(entry) => self.open.push_back(Open { entry, sender }),
+                StartOutcome::LacksRoom(queue, operation) => {
                     self.put_back(queue, operation, sender);
                     self.lacks_room = true;
                 }
-                Started::WaitsForAnswer(queue, operation) => {
+                StartOutcome::WaitsForAnswer(queue, operation) => {
                     self.put_back(queue, operation, sender);
                     self.waits_for_answer = true;
                 }
@@ -49,8 +49,8 @@ impl Task {
         self.pending.push_front(Pending { queue: Some(queue), operation: Some(operation), sender });
     }
 
-    fn start_ask(&mut self, queue: Arc<Queue>, ask: Ask) -> Result<Started, Ended> {
-        let ready = |answer| Ok(Started::ready(answer));
+    fn start_ask(&mut self, queue: Arc<Queue>, ask: Ask) -> Result<StartOutcome, Ended> {
+        let ready = |answer| Ok(StartOutcome::ready(answer));
         let (store, base, ask) = {
             let state = queue.state();
             (state.store, state.base, with_last_receipt(ask, &state))
@@ -69,7 +69,7 @@ impl Task {
             let receipt = *receipt;
             let has_expired = queue.state().has_expired(receipt, moment);
             if self.is_decided_by_others(&queue, receipt, has_expired) {
-                return Ok(Started::WaitsForAnswer(queue, ask.into()));
+                return Ok(StartOutcome::WaitsForAnswer(queue, ask.into()));
             }
             // A receive that is open and hands the message out again counts as later than this.
             if has_expired {
@@ -82,7 +82,7 @@ impl Task {
         };
         let raw = serde_json::value::to_raw_value(&AskFields::of(store, base, &ask))?;
         match self.ask_admitted(queue, ask, raw, moment, weight)? {
-            started @ Started::Open(Entry::Ask(_)) => Ok(started),
+            started @ StartOutcome::Open(Entry::Ask(_)) => Ok(started),
             other => {
                 self.admission.answered(weight);
                 Ok(other)
@@ -97,13 +97,13 @@ impl Task {
         raw: Box<RawValue>,
         moment: Moment,
         weight: u64,
-    ) -> Result<Started, Ended> {
-        let ready = |answer| Ok(Started::ready(answer));
+    ) -> Result<StartOutcome, Ended> {
+        let ready = |answer| Ok(StartOutcome::ready(answer));
         let room = match &self.journal {
             None => 0,
             Some(journal) => match journal.set_aside(need_of(&ask), bytes_of(&ask, &raw)) {
                 Ok(Some(room)) => room,
-                Ok(None) => return Ok(Started::LacksRoom(queue, ask.into())),
+                Ok(None) => return Ok(StartOutcome::LacksRoom(queue, ask.into())),
                 Err(error) => return ready(Err(error)),
             },
         };
@@ -115,7 +115,7 @@ impl Task {
         self.open_due.extend(ask.due());
         let asked = OpenAsk { queue, ask, raw, moment, client, number: self.last_number, room, weight, ends: 0 };
         self.write(&asked)?;
-        Ok(Started::Open(Entry::Ask(Box::new(asked))))
+        Ok(StartOutcome::Open(Entry::Ask(Box::new(asked))))
     }
 
     /// Whether this is the send of a due message that the store has by now, that a purge has taken, or that is with the
@@ -174,29 +174,30 @@ impl Task {
     }
 
     /// Sets space of the journal and memory aside for a change, which is applied when all before it is answered.
-    fn start_change(&self, queue: Arc<Queue>, change: TableChange) -> Started {
+    fn start_change(&self, queue: Arc<Queue>, change: TableChange) -> StartOutcome {
         let (effect, removed) = {
             let state = queue.state();
             (state.effect_of(change), state.removed)
         };
         let change = match effect {
-            _ if removed => return Started::ready(Err(SqsError::QueueDoesNotExist)),
+            _ if removed => return StartOutcome::ready(Err(SqsError::QueueDoesNotExist)),
             Some(change) => change,
-            None => return Started::ready(Ok(Outcome::Done)),
+            None => return StartOutcome::ready(Ok(Outcome::Done)),
         };
         let weight = match self.admission.admit_change(&queue, &change, self.clock.now()) {
             Ok(weight) => weight,
-            Err(error) => return Started::ready(Err(error)),
+            Err(error) => return StartOutcome::ready(Err(error)),
         };
         let room = match &self.journal {
             None => Ok(Some(0)),
             Some(journal) => journal.set_aside(need_of_change(&change), bytes_of_change(&change)),
         };
         if let Ok(Some(room)) = room {
-            return Started::Open(Entry::Change(OpenChange { queue, change, room, weight }));
+            return StartOutcome::Open(Entry::Change(OpenChange { queue, change, room, weight }));
         }
         self.admission.answered(weight);
-        room.err().map_or_else(|| Started::LacksRoom(queue, change.into()), |error| Started::ready(Err(error)))
+        room.err()
+            .map_or_else(|| StartOutcome::LacksRoom(queue, change.into()), |error| StartOutcome::ready(Err(error)))
     }
 }
 

@@ -59,7 +59,7 @@ pub(super) struct OpenAsk {
 }
 
 /// What came of trying to start an operation.
-pub(super) enum Started {
+pub(super) enum StartOutcome {
     /// Its answer is due.
     Open(Entry),
     /// The journal has to find space first.
@@ -68,10 +68,10 @@ pub(super) enum Started {
     WaitsForAnswer(Arc<Queue>, Operation),
 }
 
-impl Started {
+impl StartOutcome {
     /// It is answered without the program.
-    pub(super) fn ready(answer: Answer) -> Started {
-        Started::Open(Entry::Ready(Some(answer)))
+    pub(super) fn ready(answer: Answer) -> StartOutcome {
+        StartOutcome::Open(Entry::Ready(Some(answer)))
     }
 }
 
