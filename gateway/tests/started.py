@@ -97,8 +97,9 @@ class Started:
         return boto3_client(self.url)
 
 
-def children(gateway: Started) -> list[int]:
-    """The programs, by their places. Each thread has a list of the children that it started."""
+def programs_of(gateway: Started) -> list[int]:
+    """The processes of cq in the order of their starts, which is that of their shards. Each thread of the gateway has a
+    list of the children that it started."""
     lists = list(Path(f"/proc/{gateway.process.pid}/task").glob("*/children"))
     return sorted(int(child) for child in " ".join(one.read_text() for one in lists).split())
 

@@ -11,7 +11,7 @@ import urllib.error
 
 import pytest
 
-from started import TOP, ByJson, Started, command, environment
+from started import TOP, ByJson, Started, command, environment, programs_of
 
 
 def run(*words: str, **variables: str) -> subprocess.CompletedProcess:
@@ -84,16 +84,11 @@ def test_a_port_that_is_taken_is_told():
     assert gateway.stop() == 0
 
 
-def children(pid: int) -> list[int]:
-    with open(f"/proc/{pid}/task/{pid}/children") as file:
-        return [int(word) for word in file.read().split()]
-
-
 def test_a_gateway_whose_cq_is_gone_ends_and_says_so():
     gateway = Started()
     call = ByJson(gateway.url)
     call("CreateQueue", QueueName="q.fifo", Attributes={"FifoQueue": "true"})
-    (cq,) = children(gateway.process.pid)
+    (cq,) = programs_of(gateway)
     os.kill(cq, signal.SIGKILL)
     assert gateway.process.wait(20) == 1
     with pytest.raises(urllib.error.URLError):
@@ -102,7 +97,7 @@ def test_a_gateway_whose_cq_is_gone_ends_and_says_so():
 
 def test_cq_ends_with_the_gateway():
     gateway = Started()
-    (cq,) = children(gateway.process.pid)
+    (cq,) = programs_of(gateway)
     gateway.kill()
     for _ in range(100):
         if not os.path.exists(f"/proc/{cq}") or open(f"/proc/{cq}/stat").read().split()[2] == "Z":

@@ -15,7 +15,7 @@ import pytest
 from botocore.config import Config
 
 from conftest import Rules, new_name
-from started import ByBoto3, ByJson, Refused, Started, children
+from started import ByBoto3, ByJson, Refused, Started, programs_of
 
 KILLS = max(20, int(os.environ.get("HOBBYCHAIR_TEST_KILLS", "50")))
 CLIENTS = 6
@@ -355,7 +355,7 @@ def test_a_move_that_was_cut_off_keeps_nobody_waiting(tmp_path):
     rules.send(queue, "2", body="two")
     assert len(rules.receive(queue, 1, VisibilityTimeout=0)) == 1
     # The program of the other queue stands still, so the message is handed out and its copy isn't sent.
-    stopped = children(gateway)[zlib.crc32(dead.encode()) % 2]
+    stopped = programs_of(gateway)[zlib.crc32(dead.encode()) % 2]
     os.kill(stopped, signal.SIGSTOP)
     receive = threading.Thread(target=lambda: pytest.raises(Exception, rules.receive, queue, 1, VisibilityTimeout=43_200))
     receive.start()
@@ -457,7 +457,7 @@ def run(gateway: Started, load: Load, kills_cq: bool) -> None:
         thread.start()
     time.sleep(load.random.uniform(0.1, 0.6))
     if kills_cq:
-        for child in children(gateway):
+        for child in programs_of(gateway):
             os.kill(child, signal.SIGKILL)
         time.sleep(0.2)
         stop.set()

@@ -9,9 +9,8 @@ import subprocess
 import threading
 import time
 import zlib
-from pathlib import Path
 
-from started import ByBoto3, Refused, Started, command, environment, program
+from started import ByBoto3, Refused, Started, command, environment, program, programs_of
 
 KILLS = int(os.environ.get("HOBBYCHAIR_TEST_KILLS", "50"))
 CLIENTS = 6
@@ -186,10 +185,8 @@ def test_no_client_sees_that_cq_was_killed(tmp_path):
         time.sleep(0.05)
         # An answer of the store says that the program runs again.
         observer("GetQueueAttributes", QueueUrl="q.fifo", AttributeNames=["All"])
-        # Each thread has a list of the children that it started.
-        lists = list(Path(f"/proc/{gateway.process.pid}/task").glob("*/children"))
-        for child in " ".join(children.read_text() for children in lists).split():
-            os.kill(int(child), signal.SIGKILL)
+        for child in programs_of(gateway):
+            os.kill(child, signal.SIGKILL)
             kills += 1
     for thread in threads:
         thread.join()

@@ -15,9 +15,8 @@ import threading
 import time
 import zlib
 from dataclasses import dataclass, field
-from pathlib import Path
 
-from started import ByJson, Refused, Started
+from started import ByJson, Refused, Started, programs_of
 
 KILLS = int(os.environ.get("HOBBYCHAIR_TEST_KILLS", "50"))
 SEED = int(os.environ.get("HOBBYCHAIR_TEST_SEED") or random.randrange(1 << 30))
@@ -211,10 +210,9 @@ class Load:
         self.gateway.start()
 
     def kill_programs(self) -> None:
-        """No client sees this. Each thread of the gateway has a list of the children that it started."""
-        lists = Path(f"/proc/{self.gateway.process.pid}/task").glob("*/children")
-        for child in " ".join(children.read_text() for children in lists).split():
-            os.kill(int(child), signal.SIGKILL)
+        """No client sees this."""
+        for child in programs_of(self.gateway):
+            os.kill(child, signal.SIGKILL)
             self.kills_of_cq += 1
 
     def replace_some(self, number: int) -> None:

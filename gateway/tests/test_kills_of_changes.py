@@ -16,7 +16,7 @@ import time
 from collections.abc import Callable
 from dataclasses import dataclass, field
 
-from started import ByJson, Refused, Started, children
+from started import ByJson, Refused, Started, programs_of
 
 KILLS = int(os.environ.get("HOBBYCHAIR_TEST_KILLS", "50"))
 SEED = int(os.environ.get("HOBBYCHAIR_TEST_SEED") or random.randrange(1 << 30))
@@ -227,7 +227,7 @@ def run(gateway: Started, clients: list[Client], chance: random.Random) -> int:
         thread.start()
     time.sleep(chance.uniform(0.05, 0.8))
     if chance.random() < 0.3:
-        for program in children(gateway):
+        for program in programs_of(gateway):
             os.kill(program, signal.SIGKILL)
         time.sleep(chance.uniform(0, 0.2))
     is_over.set()

@@ -12,7 +12,7 @@ import time
 import urllib.parse
 from typing import Any
 
-from started import ByJson, Refused, Started, children, command
+from started import ByJson, Refused, Started, command, programs_of
 from test_operations import admin_url, get, metric
 
 REQUESTS = int(os.environ.get("HOBBYCHAIR_TEST_REQUESTS", "2000"))
@@ -241,7 +241,7 @@ def test_made_requests_end_nothing_and_others_are_served(monkeypatch, tmp_path):
     gateway = Started("--memory", "256MiB", "--journal", str(tmp_path / "journal"), "--journal-size", "1GiB", "--admin", "0",
                       "--no-pauses")
     try:
-        programs = children(gateway)
+        programs = programs_of(gateway)
         ended = threading.Event()
         ordinary = [Ordinary(gateway, f"ordinary-{place}.fifo", ended) for place in range(2)]
         attacks = [threading.Thread(target=attack, args=(gateway, SEED + place, REQUESTS // CLIENTS)) for place in range(CLIENTS)]
@@ -257,7 +257,7 @@ def test_made_requests_end_nothing_and_others_are_served(monkeypatch, tmp_path):
         assert [one.failures for one in ordinary] == [[], []], (SEED, log)
         assert all(one.done > 0 and one.slowest < 30 for one in ordinary)
         print([(one.done, round(one.slowest, 2)) for one in ordinary])
-        assert gateway.process.poll() is None and children(gateway) == programs, (SEED, log)
+        assert gateway.process.poll() is None and programs_of(gateway) == programs, (SEED, log)
         assert "ERROR" not in log
         assert metric(get(admin_url(gateway) + "/metrics")[1], "hobbychair_cq_restarts_total") == 0
         assert get(admin_url(gateway) + "/health") == (200, "serving\n")

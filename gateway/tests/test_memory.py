@@ -16,7 +16,7 @@ from typing import Any
 
 import pytest
 
-from started import TOP, ByJson, Refused, Started, children, command, environment, post
+from started import TOP, ByJson, Refused, Started, command, environment, post, programs_of
 from test_operations import admin_url, get, metric
 
 MEBIBYTE = 1 << 20
@@ -86,7 +86,7 @@ def try_requests(gateway: Started) -> None:
     call = ByJson(gateway.url)
     call("CreateQueue", QueueName="q", Attributes={"VisibilityTimeout": "0"})
     call("CreateQueue", QueueName="small.fifo", Attributes=FIFO)
-    (cq,) = children(gateway)
+    (cq,) = programs_of(gateway)
     send = json.dumps({"QueueUrl": "q", "MessageBody": "x" * MEBIBYTE}).encode()
     os.kill(cq, signal.SIGSTOP)
     try:

@@ -19,7 +19,7 @@ from pathlib import Path
 import boto3
 import pytest
 
-from started import START, ByBoto3, ByJson, ByQuery, Refused, Started, children, command, environment
+from started import START, ByBoto3, ByJson, ByQuery, Refused, Started, command, environment, programs_of
 
 FIFO = {"FifoQueue": "true"}
 
@@ -346,7 +346,7 @@ def test_a_gateway_that_nobody_asks_takes_no_processor_time(tmp_path):
         with ThreadPoolExecutor(1) as pool:
             poll = pool.submit(call, "ReceiveMessage", QueueUrl="empty", WaitTimeSeconds=8)
             time.sleep(2)
-            programs = [gateway.process.pid, *children(gateway)]
+            programs = [gateway.process.pid, *programs_of(gateway)]
             before = ticks(programs)
             time.sleep(5)
             assert ticks(programs) - before <= 5, "a hundredth of a processor"
@@ -379,7 +379,7 @@ def test_connections_leave_the_files_that_the_gateway_needs(monkeypatch, tmp_pat
             idle += [socket.create_connection((host, int(port)), timeout=20) for _ in range(200)]
         time.sleep(0.5)
         for place in range(5):
-            (cq,) = children(gateway)
+            (cq,) = programs_of(gateway)
             os.kill(cq, signal.SIGKILL)
             call("SendMessage", QueueUrl="q.fifo", MessageBody="b", MessageGroupId="g", MessageDeduplicationId=f"{place}")
         for connection in idle:

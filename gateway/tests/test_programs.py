@@ -12,7 +12,7 @@ from pathlib import Path
 
 import pytest
 
-from started import ByJson, Refused, Started, children, command, environment, program
+from started import ByJson, Refused, Started, command, environment, program, programs_of
 from steered import SteeredCq
 from test_operations import admin_url, get, metric
 
@@ -84,7 +84,7 @@ def test_a_program_that_answers_no_more_is_started_anew(tmp_path, stand_in, what
         call("CreateQueue", QueueName="q.fifo", Attributes=FIFO)
         send(call, 1)
         assert get(admin_url(gateway) + "/health") == (200, "serving\n")
-        (first,) = children(gateway)
+        (first,) = programs_of(gateway)
         stand_in.tell(f"once-{what}")
         sending = threading.Thread(target=send, args=(call, 2))
         sending.start()
@@ -145,7 +145,7 @@ def test_a_program_that_ends_at_whatever_it_is_asked_ends_the_gateway(tmp_path):
 def test_no_program_outlives_the_gateway(tmp_path, stand_in, number, what):
     gateway = Started("--cq", str(stand_in.path), "--cq-timeout", "60", "--journal", str(tmp_path / "journal"))
     call = ByJson(gateway.url)
-    (stood_in,) = children(gateway)
+    (stood_in,) = programs_of(gateway)
     stand_in.tell(what)
     lost = (OSError, Refused)
     sending = threading.Thread(target=lambda: pytest.raises(lost, call, "CreateQueue", QueueName="q", Attributes={}))

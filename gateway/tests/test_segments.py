@@ -253,11 +253,6 @@ def test_the_version_is_told():
     assert told.returncode == 0 and told.stdout.startswith("hobbychair ")
 
 
-def children(pid: int) -> list[int]:
-    with open(f"/proc/{pid}/task/{pid}/children") as file:
-        return [int(word) for word in file.read().split()]
-
-
 def test_cq_that_ends_at_every_request_ends_no_gateway(tmp_path):
     """It is asked twice, and then the request is an InternalFailure, and others are served."""
     wrapped = tmp_path / "cq"

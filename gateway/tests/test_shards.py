@@ -11,7 +11,7 @@ import time
 import zlib
 from pathlib import Path
 
-from started import ByJson, Started, command, environment, program
+from started import ByJson, Started, command, environment, program, programs_of
 
 COUNT = 3
 NAMES = [f"queue{number}.fifo" for number in range(12)]
@@ -34,13 +34,6 @@ def bodies(call, name: str) -> list[str]:
     return [message["Body"] for message in messages]
 
 
-def programs(gateway: Started) -> list[int]:
-    """The processes of cq, in the order of their starts, which is that of their shards."""
-    parents = f"/proc/{gateway.process.pid}/task/*/children"
-    found = subprocess.run(f"cat {parents}", shell=True, capture_output=True, text=True, check=True).stdout
-    return sorted(map(int, found.split()))
-
-
 def fill(call) -> None:
     for name in NAMES:
         call("CreateQueue", QueueName=name, Attributes={"FifoQueue": "true", "VisibilityTimeout": "0"})
@@ -59,7 +52,7 @@ def test_the_names_are_of_all_shards():
 
 def test_all_is_there_after_a_kill(tmp_path):
     gateway = started(tmp_path / "journal", tmp_path)
-    assert len(programs(gateway)) == COUNT
+    assert len(programs_of(gateway)) == COUNT
     fill(ByJson(gateway.url))
     gateway.kill()
     gateway.start()
@@ -97,7 +90,7 @@ def test_the_others_go_on_while_a_program_is_started_again(tmp_path):
     gateway = started(tmp_path / "journal")
     call = ByJson(gateway.url)
     fill(call)
-    stopped = programs(gateway)[0]
+    stopped = programs_of(gateway)[0]
     os.kill(stopped, signal.SIGSTOP)
     waiting = next(name for name in NAMES if shard_of(name) == 0)
     sender = threading.Thread(target=send, args=(call, waiting, f"{waiting}-3"))
@@ -114,7 +107,7 @@ def test_the_others_go_on_while_a_program_is_started_again(tmp_path):
     os.kill(stopped, signal.SIGKILL)
     sender.join(30)
     assert not sender.is_alive()
-    assert stopped not in programs(gateway) and len(programs(gateway)) == COUNT
+    assert stopped not in programs_of(gateway) and len(programs_of(gateway)) == COUNT
     for name in NAMES:
         if shard_of(name) != 0 or name == waiting:
             assert bodies(call, name) == [*expected(name), f"{name}-3"]
@@ -137,7 +130,7 @@ def test_programs_that_are_killed_under_load_lose_nothing(tmp_path):
     senders = [threading.Thread(target=keep_sending, args=(name,)) for name in NAMES]
     for sender in senders:
         sender.start()
-    for running in programs(gateway):
+    for running in programs_of(gateway):
         os.kill(running, signal.SIGKILL)
         time.sleep(0.2)
     for sender in senders:

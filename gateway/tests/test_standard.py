@@ -12,7 +12,7 @@ from typing import Any
 import pytest
 
 from conftest import Rules
-from started import ByBoto3, ByJson, ByQuery, Refused, Started, children, post
+from started import ByBoto3, ByJson, ByQuery, Refused, Started, post, programs_of
 
 WAYS = {"boto3": lambda gateway: ByBoto3(gateway.client()), "json": lambda gateway: ByJson(gateway.url),
         "query": lambda gateway: ByQuery(gateway.url)}
@@ -379,7 +379,7 @@ def test_a_due_message_is_sent_once_however_long_the_store_takes(tmp_path):
     rules.send(queue, "b", DelaySeconds=5)
     found: list[str] = []
     polls = [threading.Thread(target=lambda: found.extend(rules_of(gateway, "json").bodies(queue))) for _ in range(3)]
-    (stopped,) = children(gateway)
+    (stopped,) = programs_of(gateway)
     os.kill(stopped, signal.SIGSTOP)
     # After five minutes a deduplication id doesn't count.
     for step, poll in zip((5000, 300_000, 300_000), polls):
