@@ -40,6 +40,13 @@ def environment() -> dict[str, str]:
     return {**os.environ, "HOBBYCHAIR_CQ": program()}
 
 
+def run(*words: str, timeout: float = 60, **variables: str) -> subprocess.CompletedProcess:
+    """Runs the command to its end, with what is said in variables of the environment."""
+    return subprocess.run(
+        command(*words), env={**environment(), **variables}, timeout=timeout, capture_output=True, text=True
+    )
+
+
 class Refused(Exception):
     """An error of SQS, whichever way it came."""
 

@@ -3,18 +3,13 @@
 from __future__ import annotations
 
 import itertools
-import subprocess
 import threading
 import time
 from pathlib import Path
 
-from started import ByJson, Refused, Started, command, environment
+from started import ByJson, Refused, Started, run
 
 FIFO = {"FifoQueue": "true"}
-
-
-def run(*words: str) -> subprocess.CompletedProcess:
-    return subprocess.run(command(*words), env=environment(), timeout=120, capture_output=True, text=True)
 
 
 def kept_of(copy: Path) -> list[str]:
@@ -64,7 +59,7 @@ def test_a_copy_of_a_gateway_that_writes_is_good(tmp_path):
     for number in range(8):
         time.sleep(0.5)
         copy = tmp_path / f"copy-{number}"
-        told = run("backup", str(journal), str(copy))
+        told = run("backup", str(journal), str(copy), timeout=120)
         assert told.returncode == 0, told.stderr
         assert "commits up to" in told.stdout
         copies.append(copy)
@@ -76,7 +71,7 @@ def test_a_copy_of_a_gateway_that_writes_is_good(tmp_path):
         "segments were written anew")
     assert gateway.stop() == 0
     for copy in copies:
-        told = run("verify", str(copy))
+        told = run("verify", str(copy), timeout=120)
         assert told.returncode == 0 and told.stdout.endswith("undamaged\n"), told.stderr
         assert kept_of(copy) == ["0", "1", "2"]
 
@@ -84,19 +79,19 @@ def test_a_copy_of_a_gateway_that_writes_is_good(tmp_path):
 def test_a_copy_needs_a_free_name_and_a_journal(tmp_path):
     journal = tmp_path / "journal"
     gateway = Started("--journal", str(journal))
-    assert run("backup", str(journal), str(tmp_path / "copy")).returncode == 0
-    again = run("backup", str(journal), str(tmp_path / "copy"))
+    assert run("backup", str(journal), str(tmp_path / "copy"), timeout=120).returncode == 0
+    again = run("backup", str(journal), str(tmp_path / "copy"), timeout=120)
     assert again.returncode == 1
     assert again.stderr == f"hobbychair: {tmp_path}/copy.1 is there: a copy needs a name that nothing has\n"
-    none = run("backup", str(tmp_path / "none"), str(tmp_path / "other"))
+    none = run("backup", str(tmp_path / "none"), str(tmp_path / "other"), timeout=120)
     assert none.returncode == 1 and "there is no journal" in none.stderr
     assert list(tmp_path.glob("other*")) == []
     folder = tmp_path / "folder"
-    missing = run("backup", str(journal), str(folder / "copy"))
+    missing = run("backup", str(journal), str(folder / "copy"), timeout=120)
     assert missing.returncode == 1
     assert missing.stderr == f"hobbychair: there is no folder {folder} for the journal {folder / 'copy'}\n"
     folder.mkdir()
-    named = run("backup", str(journal), str(folder))
+    named = run("backup", str(journal), str(folder), timeout=120)
     assert named.returncode == 1
     assert named.stderr == f"hobbychair: {folder} is a folder: a journal is named by a file in one, as {folder}/journal\n"
     assert sorted(tmp_path.glob("folder*")) == [folder] and list(folder.iterdir()) == []

@@ -11,11 +11,7 @@ import urllib.error
 
 import pytest
 
-from started import TOP, ByJson, Started, command, environment, programs_of
-
-
-def run(*words: str, **variables: str) -> subprocess.CompletedProcess:
-    return subprocess.run(command(*words), env={**environment(), **variables}, capture_output=True, text=True, timeout=60)
+from started import TOP, ByJson, Started, environment, programs_of, run
 
 
 @pytest.mark.parametrize("words", [

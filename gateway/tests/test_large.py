@@ -8,14 +8,10 @@ from concurrent.futures import ThreadPoolExecutor
 
 import pytest
 
-from started import ByJson, ByQuery, Refused, Started, command, environment
+from started import ByJson, ByQuery, Refused, Started, run
 
 LONGEST = 1_048_576
 STORE_LIMIT = 262_144
-
-
-def run(*words: str) -> subprocess.CompletedProcess:
-    return subprocess.run(command(*words), env=environment(), timeout=60, capture_output=True, text=True)
 
 
 def create(call, name: str = "q.fifo", **attributes: str) -> None:

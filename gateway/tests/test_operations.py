@@ -19,13 +19,9 @@ from pathlib import Path
 import boto3
 import pytest
 
-from started import START, ByBoto3, ByJson, ByQuery, Refused, Started, command, environment, programs_of
+from started import START, ByBoto3, ByJson, ByQuery, Refused, Started, command, environment, programs_of, run
 
 FIFO = {"FifoQueue": "true"}
-
-
-def run(*words: str, **variables: str) -> subprocess.CompletedProcess:
-    return subprocess.run(command(*words), env={**environment(), **variables}, capture_output=True, text=True, timeout=60)
 
 
 def get(url: str) -> tuple[int, str]:

@@ -18,7 +18,7 @@ import pytest
 
 from conftest import new_queue
 from frames import HEAD, MARK, places
-from started import START, ByBoto3, ByJson, Refused, Started, command, environment, program
+from started import START, ByBoto3, ByJson, Refused, Started, program, run
 
 def begun(path: Path, room: Path, messages: int = 3) -> Started:
     """A gateway with a journal of a queue with messages."""
@@ -36,10 +36,6 @@ def bodies(path: Path, room: Path) -> list[str]:
     messages = ByJson(gateway.url)("ReceiveMessage", QueueUrl="q.fifo", MaxNumberOfMessages=10)["Messages"]
     assert gateway.stop() == 0
     return [message["Body"] for message in messages]
-
-
-def run(*words: str, **variables: str) -> subprocess.CompletedProcess:
-    return subprocess.run(command(*words), env={**environment(), **variables}, timeout=60, capture_output=True, text=True)
 
 
 def start(path: Path) -> subprocess.CompletedProcess:
