@@ -5,7 +5,9 @@ from __future__ import annotations
 import itertools
 import re
 import shutil
-from collections.abc import Callable
+import subprocess
+from collections.abc import Callable, Iterator
+from pathlib import Path
 from typing import Any
 
 import pytest
@@ -41,6 +43,25 @@ def call(request, gateway) -> Callable[..., dict[str, Any]]:
     if request.param == "boto3":
         return ByBoto3(gateway.client())
     return ByJson(gateway.url) if request.param == "json" else ByQuery(gateway.url)
+
+
+@pytest.fixture
+def small_disk(tmp_path) -> Iterator[Callable[[str], Path]]:
+    """Mounts a disk of so many bytes, as `24m`, that is gone behind the test."""
+    disks: list[Path] = []
+
+    def mount(size: str) -> Path:
+        room = tmp_path / "small"
+        room.mkdir()
+        mounted = subprocess.run(["mount", "-t", "tmpfs", "-o", f"size={size}", "tmpfs", str(room)], capture_output=True)
+        if mounted.returncode != 0:
+            pytest.skip("no tmpfs can be mounted here")
+        disks.append(room)
+        return room
+
+    yield mount
+    for room in disks:
+        subprocess.run(["umount", str(room)], check=True)
 
 
 def new_name() -> str:

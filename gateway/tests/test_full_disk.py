@@ -4,10 +4,8 @@ from __future__ import annotations
 
 import json
 import os
-import subprocess
 import threading
 import time
-from collections.abc import Iterator
 from pathlib import Path
 
 import pytest
@@ -22,15 +20,9 @@ DAY = 24 * 3_600_000
 
 
 @pytest.fixture
-def disk(tmp_path) -> Iterator[Path]:
+def disk(small_disk) -> Path:
     """A disk of 24 MiB."""
-    room = tmp_path / "small"
-    room.mkdir()
-    mounted = subprocess.run(["mount", "-t", "tmpfs", "-o", "size=24m", "tmpfs", str(room)], capture_output=True)
-    if mounted.returncode != 0:
-        pytest.skip("no tmpfs can be mounted here")
-    yield room
-    subprocess.run(["umount", str(room)], check=True)
+    return small_disk("24m")
 
 
 def fill(disk: Path) -> Path:

@@ -2,7 +2,6 @@
 
 from __future__ import annotations
 
-import subprocess
 import time
 from concurrent.futures import ThreadPoolExecutor
 
@@ -74,43 +73,36 @@ def test_a_batch_that_is_large_together_outlives_a_kill(tmp_path, way):
     assert gateway.stop() == 0
 
 
-def test_a_disk_that_large_bodies_fill_refuses_them_and_ends_no_gateway(tmp_path):
+def test_a_disk_that_large_bodies_fill_refuses_them_and_ends_no_gateway(small_disk):
     """Eight clients send across the ends of segments until the disk is full."""
-    room = tmp_path / "small"
-    room.mkdir()
-    mounted = subprocess.run(["mount", "-t", "tmpfs", "-o", "size=120m", "tmpfs", str(room)], capture_output=True)
-    if mounted.returncode != 0:
-        pytest.skip("no tmpfs can be mounted here")
-    try:
-        gateway = Started("--journal", str(room / "journal"))
-        create(ByJson(gateway.url))
+    room = small_disk("120m")
+    gateway = Started("--journal", str(room / "journal"))
+    create(ByJson(gateway.url))
 
-        def send(client: int) -> int:
-            call, sent = ByJson(gateway.url), 0
-            try:
-                while sent < 200:
-                    call("SendMessage", QueueUrl="q.fifo", MessageBody="\"" * LONGEST, MessageGroupId=f"{client}-{sent}",
-                         MessageDeduplicationId=f"{client}-{sent}")
-                    sent += 1
-            except Refused as refused:
-                assert (refused.code, refused.status) == ("OverLimit", 403)
-            return sent
+    def send(client: int) -> int:
+        call, sent = ByJson(gateway.url), 0
+        try:
+            while sent < 200:
+                call("SendMessage", QueueUrl="q.fifo", MessageBody="\"" * LONGEST, MessageGroupId=f"{client}-{sent}",
+                     MessageDeduplicationId=f"{client}-{sent}")
+                sent += 1
+        except Refused as refused:
+            assert (refused.code, refused.status) == ("OverLimit", 403)
+        return sent
 
-        with ThreadPoolExecutor(8) as pool:
-            sent = sum(pool.map(send, range(8)))
-        assert sent > 20
-        call = ByJson(gateway.url)
-        (message, *_) = receive(call)
-        assert message["Body"] == "\"" * LONGEST
-        call("DeleteMessage", QueueUrl="q.fifo", ReceiptHandle=message["ReceiptHandle"])
-        gateway.kill()
-        gateway.start()
-        counts = ByJson(gateway.url)("GetQueueAttributes", QueueUrl="q.fifo", AttributeNames=["All"])["Attributes"]
-        there = int(counts["ApproximateNumberOfMessages"]) + int(counts["ApproximateNumberOfMessagesNotVisible"])
-        assert there == sent - 1
-        assert gateway.stop() == 0
-    finally:
-        subprocess.run(["umount", str(room)], check=True)
+    with ThreadPoolExecutor(8) as pool:
+        sent = sum(pool.map(send, range(8)))
+    assert sent > 20
+    call = ByJson(gateway.url)
+    (message, *_) = receive(call)
+    assert message["Body"] == "\"" * LONGEST
+    call("DeleteMessage", QueueUrl="q.fifo", ReceiptHandle=message["ReceiptHandle"])
+    gateway.kill()
+    gateway.start()
+    counts = ByJson(gateway.url)("GetQueueAttributes", QueueUrl="q.fifo", AttributeNames=["All"])["Attributes"]
+    there = int(counts["ApproximateNumberOfMessages"]) + int(counts["ApproximateNumberOfMessagesNotVisible"])
+    assert there == sent - 1
+    assert gateway.stop() == 0
 
 
 def test_a_journal_that_large_bodies_fill_is_free_again_when_they_go(tmp_path):

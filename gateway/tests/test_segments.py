@@ -276,65 +276,51 @@ def test_cq_that_ends_at_every_request_ends_no_gateway(tmp_path):
     assert gateway.stop() == 0
 
 
-def test_a_full_disk_refuses_sends_and_takes_deletes(tmp_path):
-    room = tmp_path / "small"
-    room.mkdir()
-    mounted = subprocess.run(["mount", "-t", "tmpfs", "-o", "size=24m", "tmpfs", str(room)], capture_output=True)
-    if mounted.returncode != 0:
-        pytest.skip("no tmpfs can be mounted here")
-    try:
-        gateway = Started("--journal", str(room / "journal"))
-        call = ByJson(gateway.url)
-        call("CreateQueue", QueueName="q.fifo", Attributes={"FifoQueue": "true", "VisibilityTimeout": "600"})
-        sent = 0
-        with pytest.raises(Refused) as refused:
-            while sent < 1000:
-                call("SendMessage", QueueUrl="q.fifo", MessageBody="x" * 100_000, MessageGroupId=str(sent),
-                     MessageDeduplicationId=str(sent))
-                sent += 1
-        assert (refused.value.code, refused.value.status) == ("OverLimit", 403)
-        (message,) = call("ReceiveMessage", QueueUrl="q.fifo")["Messages"]
-        call("DeleteMessage", QueueUrl="q.fifo", ReceiptHandle=message["ReceiptHandle"])
-        gateway.kill()
-        gateway.start()
-        call = ByJson(gateway.url)
-        counts = call("GetQueueAttributes", QueueUrl="q.fifo", AttributeNames=["All"])["Attributes"]
-        assert int(counts["ApproximateNumberOfMessages"]) == sent - 1
-        call("PurgeQueue", QueueUrl="q.fifo")
-        assert gateway.stop() == 0
-    finally:
-        subprocess.run(["umount", str(room)], check=True)
+def test_a_full_disk_refuses_sends_and_takes_deletes(small_disk):
+    room = small_disk("24m")
+    gateway = Started("--journal", str(room / "journal"))
+    call = ByJson(gateway.url)
+    call("CreateQueue", QueueName="q.fifo", Attributes={"FifoQueue": "true", "VisibilityTimeout": "600"})
+    sent = 0
+    with pytest.raises(Refused) as refused:
+        while sent < 1000:
+            call("SendMessage", QueueUrl="q.fifo", MessageBody="x" * 100_000, MessageGroupId=str(sent),
+                 MessageDeduplicationId=str(sent))
+            sent += 1
+    assert (refused.value.code, refused.value.status) == ("OverLimit", 403)
+    (message,) = call("ReceiveMessage", QueueUrl="q.fifo")["Messages"]
+    call("DeleteMessage", QueueUrl="q.fifo", ReceiptHandle=message["ReceiptHandle"])
+    gateway.kill()
+    gateway.start()
+    call = ByJson(gateway.url)
+    counts = call("GetQueueAttributes", QueueUrl="q.fifo", AttributeNames=["All"])["Attributes"]
+    assert int(counts["ApproximateNumberOfMessages"]) == sent - 1
+    call("PurgeQueue", QueueUrl="q.fifo")
+    assert gateway.stop() == 0
 
 
-def test_tags_leave_the_last_part_of_a_full_disk_to_purges(tmp_path):
+def test_tags_leave_the_last_part_of_a_full_disk_to_purges(small_disk):
     """The queue's tags have 36 KB, and each change of them is a record."""
-    room = tmp_path / "small"
-    room.mkdir()
-    mounted = subprocess.run(["mount", "-t", "tmpfs", "-o", "size=24m", "tmpfs", str(room)], capture_output=True)
-    if mounted.returncode != 0:
-        pytest.skip("no tmpfs can be mounted here")
-    try:
-        gateway = Started("--journal", str(room / "journal"))
-        call = ByJson(gateway.url)
-        call("CreateQueue", QueueName="q.fifo", Attributes={"FifoQueue": "true"})
-        for name in ("a", "b"):
-            call("SendMessage", QueueUrl="q.fifo", MessageBody=name, MessageGroupId=name, MessageDeduplicationId=name)
-        call("ReceiveMessage", QueueUrl="q.fifo")
-        tags = [{f"{place}" + "é" * 100: value * 256 for place in range(50)} for value in "éü"]
-        with pytest.raises(Refused, match="ServiceUnavailable 503"):
-            for turn in range(1000):
-                call("TagQueue", QueueUrl="q.fifo", Tags=tags[turn % 2])
-        call("UntagQueue", QueueUrl="q.fifo", TagKeys=list(tags[0]))
-        call("PurgeQueue", QueueUrl="q.fifo")
-        gateway.kill()
-        gateway.start()
-        call = ByJson(gateway.url)
-        assert call("ListQueueTags", QueueUrl="q.fifo") == {}
-        counts = call("GetQueueAttributes", QueueUrl="q.fifo", AttributeNames=["All"])["Attributes"]
-        assert counts["ApproximateNumberOfMessages"] == counts["ApproximateNumberOfMessagesNotVisible"] == "0"
-        assert gateway.stop() == 0
-    finally:
-        subprocess.run(["umount", str(room)], check=True)
+    room = small_disk("24m")
+    gateway = Started("--journal", str(room / "journal"))
+    call = ByJson(gateway.url)
+    call("CreateQueue", QueueName="q.fifo", Attributes={"FifoQueue": "true"})
+    for name in ("a", "b"):
+        call("SendMessage", QueueUrl="q.fifo", MessageBody=name, MessageGroupId=name, MessageDeduplicationId=name)
+    call("ReceiveMessage", QueueUrl="q.fifo")
+    tags = [{f"{place}" + "é" * 100: value * 256 for place in range(50)} for value in "éü"]
+    with pytest.raises(Refused, match="ServiceUnavailable 503"):
+        for turn in range(1000):
+            call("TagQueue", QueueUrl="q.fifo", Tags=tags[turn % 2])
+    call("UntagQueue", QueueUrl="q.fifo", TagKeys=list(tags[0]))
+    call("PurgeQueue", QueueUrl="q.fifo")
+    gateway.kill()
+    gateway.start()
+    call = ByJson(gateway.url)
+    assert call("ListQueueTags", QueueUrl="q.fifo") == {}
+    counts = call("GetQueueAttributes", QueueUrl="q.fifo", AttributeNames=["All"])["Attributes"]
+    assert counts["ApproximateNumberOfMessages"] == counts["ApproximateNumberOfMessagesNotVisible"] == "0"
+    assert gateway.stop() == 0
 
 
 def test_the_python_gateways_journal_is_read(tmp_path):
