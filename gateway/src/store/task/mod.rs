@@ -2,10 +2,10 @@
 //! and hands each to who asked, when the journal has what it rests on.
 
 mod answering;
-mod asking;
 mod entries;
 mod outgoing;
 mod room;
+mod starting;
 
 use std::collections::{HashSet, VecDeque};
 use std::sync::Arc;
