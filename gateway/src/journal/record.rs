@@ -216,6 +216,7 @@ pub fn digest_of_reply(reply: &str) -> String {
 mod tests {
     use super::*;
     use crate::handles::Receipt;
+    use crate::queues::ask::Delayed;
 
     #[test]
     fn records_come_back() {
@@ -248,5 +249,17 @@ mod tests {
         let record = Record::read(&line[..line.len() - 1]).unwrap();
         assert_eq!((record.change.clone(), record.store_name()), (Some(TableChange::Purged), Some(StoreName(7))));
         assert!(Record::read(b"{}").is_none());
+    }
+
+    #[test]
+    fn records_have_the_names_that_journals_have() {
+        let delayed = Delayed { id: Uuid::from_u128(7), due: 9, call: None, envelope: "{}\nb".into() };
+        let mut lines = Vec::new();
+        Record::of_change(5, StoreName(7), &TableChange::Delayed(Arc::new(delayed))).append(&mut lines).unwrap();
+        Record { envelope: Some("{}\nb".into()), ..Record::at(6) }.append(&mut lines).unwrap();
+        let expected = "{\"clock\":5,\"queue\":\"7.fifo\",\"note\":{\"delayed\":{\
+            \"id\":\"00000000-0000-0000-0000-000000000007\",\"due\":9,\"form\":\"{}\\nb\"}}}\n\
+            {\"clock\":6,\"form\":\"{}\\nb\"}\n";
+        assert_eq!(String::from_utf8(lines).unwrap(), expected);
     }
 }
