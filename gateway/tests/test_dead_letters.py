@@ -2,19 +2,21 @@
 
 from __future__ import annotations
 
+import itertools
 import json
 import os
-import random
 import signal
 import threading
 import time
 import zlib
+from collections.abc import Callable
 
 import boto3
 import pytest
 from botocore.config import Config
 
 from conftest import Rules, new_name
+from loads import Load
 from started import ByBoto3, ByJson, Refused, Started, programs_of
 
 KILLS = max(20, int(os.environ.get("HOBBYCHAIR_TEST_KILLS", "50")))
@@ -270,19 +272,41 @@ def test_a_target_is_within_what_a_key_allows(tmp_path):
     assert gateway.stop() == 0
 
 
-class Load:
+class DeadLetterLoad(Load):
     """Clients that send, receive and delete in a queue and its dead-letter queue, and note what they were told."""
 
     def __init__(self, queue: str, dead: str, seed: int) -> None:
+        super().__init__(seed)
         self.queue, self.dead = queue, dead
-        self.random = random.Random(seed)
         self.sent: dict[str, str] = {}
         self.maybe_deleted: set[str] = set()
         self.deleted: set[str] = set()
         self.moved: set[str] = set()
         self.round = 0
 
-    def work(self, call: ByBoto3, client: int, place: int) -> None:
+    def run(self, gateway: Started, kills_cq: bool) -> None:
+        """Lets clients work for a moment, and kills the gateway or its programs."""
+        self.round += 1
+        self.gateway = gateway
+
+        def end(stop: threading.Event) -> None:
+            time.sleep(self.random.uniform(0.1, 0.6))
+            if kills_cq:
+                for child in programs_of(gateway):
+                    os.kill(child, signal.SIGKILL)
+                time.sleep(0.2)
+                stop.set()
+            else:
+                stop.set()
+                gateway.kill()
+
+        self.work(CLIENTS, end, breaks_off=not kills_cq)
+
+    def begin(self, client: int) -> Callable[[], None]:
+        call, places = ByBoto3(self.gateway.client()), itertools.count(1)
+        return lambda: self.act(call, client, next(places))
+
+    def act(self, call: ByBoto3, client: int, place: int) -> None:
         body = f"{self.round}-{client}-{place}"
         self.sent[body] = call("SendMessage", QueueUrl=self.queue, MessageBody=body, MessageGroupId=f"g{client}-{place % 3}",
                                MessageDeduplicationId=body)["MessageId"]
@@ -412,7 +436,7 @@ def test_a_group_stays_in_order_while_its_target_goes_and_comes():
 
 @pytest.mark.parametrize("shards", [1, 2])
 def test_each_message_moves_once_whatever_is_killed(tmp_path, shards):
-    load = Load(*names_of_two_programs(), seed=shards)
+    load = DeadLetterLoad(*names_of_two_programs(), seed=shards)
     gateway = Started("--journal", str(tmp_path / "journal"), "--shards", str(shards), room=tmp_path)
     call = ByBoto3(gateway.client())
     call("CreateQueue", QueueName=load.dead, Attributes={"FifoQueue": "true"})
@@ -421,7 +445,7 @@ def test_each_message_moves_once_whatever_is_killed(tmp_path, shards):
     call("CreateQueue", QueueName=load.queue, Attributes={
         "FifoQueue": "true", "RedrivePolicy": policy(load.dead, 1), "DelaySeconds": delay})
     for kill in range(1, -(-KILLS // 2) + 1):
-        run(gateway, load, kills_cq=kill % 3 == 0)
+        load.run(gateway, kills_cq=kill % 3 == 0)
         # What is in flight and its ids are over, at the one time or the other.
         gateway.set_clock(gateway.moment + load.random.choice([2_000, 31_000, 601_000]))
         if kill % 3 != 0:
@@ -432,38 +456,3 @@ def test_each_message_moves_once_whatever_is_killed(tmp_path, shards):
             gateway.set_clock(gateway.moment + 31_000)
     assert len(load.moved) > KILLS
     assert gateway.stop() == 0
-
-
-def run(gateway: Started, load: Load, kills_cq: bool) -> None:
-    """Lets clients work for a moment, and kills the gateway or its programs."""
-    load.round += 1
-    stop = threading.Event()
-    failures: list[BaseException] = []
-
-    def work(client: int) -> None:
-        call = ByBoto3(gateway.client())
-        place = 0
-        try:
-            while not stop.is_set():
-                place += 1
-                load.work(call, client, place)
-        except Exception as error:
-            # While the gateway is killed a connection or an answer may break off, and nothing else may happen.
-            if kills_cq or not stop.is_set() or isinstance(error, (AssertionError, Refused)):
-                failures.append(error)
-
-    threads = [threading.Thread(target=work, args=(client,)) for client in range(CLIENTS)]
-    for thread in threads:
-        thread.start()
-    time.sleep(load.random.uniform(0.1, 0.6))
-    if kills_cq:
-        for child in programs_of(gateway):
-            os.kill(child, signal.SIGKILL)
-        time.sleep(0.2)
-        stop.set()
-    else:
-        stop.set()
-        gateway.kill()
-    for thread in threads:
-        thread.join()
-    assert failures == []

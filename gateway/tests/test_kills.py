@@ -2,32 +2,29 @@
 
 from __future__ import annotations
 
+import itertools
 import os
-import random
 import signal
 import subprocess
 import threading
 import time
-import zlib
+from collections.abc import Callable
 
-from started import ByBoto3, Refused, Started, command, environment, program, programs_of
+from loads import Load, text_of
+from started import ByBoto3, Started, command, environment, program, programs_of
 
 KILLS = int(os.environ.get("HOBBYCHAIR_TEST_KILLS", "50"))
 CLIENTS = 6
 ROUNDS = 120
 TIMEOUT = 30
+LARGE = 20  # One message in so many is larger than the store takes.
 
 
-def text_of(name: str) -> str:
-    """The body of a message: its name, and behind one name in twenty more than the store takes."""
-    return name + "." * (300_000 if zlib.crc32(name.encode()) % 20 == 0 else 0)
-
-
-class Load:
+class FifoLoad(Load):
     """Clients that note what was acknowledged: messages sent, handed out and deleted."""
 
     def __init__(self, seed: int) -> None:
-        self.random = random.Random(seed)
+        super().__init__(seed)
         self.sent: dict[str, list[str]] = {}
         self.recent: list[str] = []
         self.maybe_sent: set[str] = set()
@@ -37,42 +34,36 @@ class Load:
         self.numbers: dict[str, str] = {}
         self.round = 0
 
+    def count_of_sends(self) -> int:
+        return len(self.numbers)
+
     def run(self, gateway: Started, queue: str, sends: int) -> None:
         """Lets clients work until about so many sends more were acknowledged, and kills the gateway."""
-        stop = threading.Event()
-        failures: list[BaseException] = []
+        self.gateway, self.queue = gateway, queue
 
-        def work(client: int) -> None:
-            call = ByBoto3(gateway.client())
-            place = 0
-            try:
-                while not stop.is_set():
-                    place += 1
-                    self._send(call, queue, client, place)
-                    if place % 2:
-                        self._receive(call, queue)
-            except Exception as error:
-                # While the gateway is killed a connection or an answer may break off, and nothing else may happen.
-                if not stop.is_set() or isinstance(error, (AssertionError, Refused)):
-                    failures.append(error)
+        def end(stop: threading.Event) -> None:
+            self.wait_for_sends(sends)
+            stop.set()
+            gateway.kill()
 
-        threads = [threading.Thread(target=work, args=(client,)) for client in range(CLIENTS)]
-        for thread in threads:
-            thread.start()
-        wanted, latest = len(self.numbers) + sends, time.monotonic() + 10
-        while len(self.numbers) < wanted and time.monotonic() < latest and failures == []:
-            time.sleep(self.random.uniform(0, 0.01))
-        stop.set()
-        gateway.kill()
-        for thread in threads:
-            thread.join()
+        self.work(CLIENTS, end)
         self.round += 1
-        assert failures == []
+
+    def begin(self, client: int) -> Callable[[], None]:
+        call, places = ByBoto3(self.gateway.client()), itertools.count(1)
+
+        def act() -> None:
+            place = next(places)
+            self._send(call, self.queue, client, place)
+            if place % 2:
+                self._receive(call, self.queue)
+
+        return act
 
     def _send(self, call, queue: str, client: int, place: int) -> None:
         body = f"{self.round}-{client}-{place}"
         self.maybe_sent.add(body)
-        result = call("SendMessage", QueueUrl=queue, MessageBody=text_of(body), MessageGroupId=f"g{client}",
+        result = call("SendMessage", QueueUrl=queue, MessageBody=text_of(body, LARGE), MessageGroupId=f"g{client}",
                       MessageDeduplicationId=body)
         self.numbers[body] = result["SequenceNumber"]
         self.sent.setdefault(f"g{client}", []).append(body)
@@ -92,7 +83,7 @@ class Load:
 
     def _note(self, message: dict) -> str:
         body, count = message["Body"].rstrip("."), int(message["Attributes"]["ApproximateReceiveCount"])
-        assert message["Body"] == text_of(body)
+        assert message["Body"] == text_of(body, LARGE)
         assert body in self.maybe_sent, f"{body} was never sent"
         assert body not in self.deleted, f"{body} came again after its deletion was acknowledged"
         assert count > self.counts.get(body, 0), f"an acknowledged handing of {body} was forgotten"
@@ -133,7 +124,7 @@ class Load:
 
 def test_what_was_acknowledged_outlives_kills(tmp_path):
     journal = tmp_path / "journal"
-    load = Load(7)
+    load = FifoLoad(7)
     gateway = Started("--journal", str(journal), room=tmp_path)
     call = ByBoto3(gateway.client())
     url = call("CreateQueue", QueueName="q.fifo", Attributes={"FifoQueue": "true"}, tags={"a": "b"})["QueueUrl"]

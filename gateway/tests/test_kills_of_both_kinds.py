@@ -13,9 +13,10 @@ import random
 import signal
 import threading
 import time
-import zlib
+from collections.abc import Callable
 from dataclasses import dataclass, field
 
+from loads import Load, text_of
 from started import ByJson, Refused, Started, programs_of
 
 KILLS = int(os.environ.get("HOBBYCHAIR_TEST_KILLS", "50"))
@@ -24,6 +25,7 @@ CLIENTS = 5
 STEP = 60  # The clock goes on by so many milliseconds in each five.
 TIMEOUT = 8
 MOST = 3
+LARGE = 25  # One message in so many is larger than the store takes.
 
 
 @dataclass
@@ -64,21 +66,18 @@ class Queue:
         return f"dead-{self.name}"
 
 
-def text_of(name: str) -> str:
-    return name + "." * (300_000 if zlib.crc32(name.encode()) % 25 == 0 else 0)
+class LoadOfBothKinds(Load):
+    faults = (AssertionError, Refused, KeyError)
 
-
-class Load:
     def __init__(self, gateway: Started, seed: int) -> None:
+        super().__init__(seed)
         self.gateway = gateway
         self.least = gateway.moment
-        self.random = random.Random(seed)
         self.lock = threading.Lock()
         self.messages: dict[str, Message] = {}
         self.numbers = itertools.count(1)
         self.sends = 0
         self.kills_of_cq = 0
-        self.failures: list[BaseException] = []
         self.queues: list[Queue] = []
         self.gone: set[str] = set()
         self.create(Queue("slow.fifo", 2), Queue("plain.fifo", 0), Queue("slow", 2), Queue("plain", 0))
@@ -111,7 +110,7 @@ class Load:
         message = Message(self.least + 1000 * delay)
         with self.lock:
             self.messages[name] = message
-        call("SendMessage", QueueUrl=queue.name, MessageBody=text_of(name), **more)
+        call("SendMessage", QueueUrl=queue.name, MessageBody=text_of(name, LARGE), **more)
         with self.lock:
             message.acknowledged = True
             self.sends += 1
@@ -141,7 +140,7 @@ class Load:
 
     def note(self, source: str, told: dict, handing: Handing, began: float) -> tuple[str, int, str]:
         name, count = told["Body"].rstrip("."), int(told["Attributes"]["ApproximateReceiveCount"])
-        assert told["Body"] == text_of(name) and source in (name.split("/")[0], f"dead-{name.split('/')[0]}")
+        assert told["Body"] == text_of(name, LARGE) and source in (name.split("/")[0], f"dead-{name.split('/')[0]}")
         message = self.messages[name]
         assert handing.after >= message.due, f"{name} came before it was due"
         assert message.deleted is None or message.deleted > began, f"{name} came again after its deletion"
@@ -168,46 +167,48 @@ class Load:
 
     # ---- rounds
 
+    def count_of_sends(self) -> int:
+        return self.sends
+
     def run(self, sends: int) -> None:
         """Lets clients work until about so many sends more were acknowledged, and kills the gateway."""
-        stop = threading.Event()
-        seeds = [self.random.randrange(1 << 30) for _ in range(CLIENTS)]
+        self.seeds = [self.random.randrange(1 << 30) for _ in range(CLIENTS)]
 
-        def work(seed: int) -> None:
-            call, chance = ByJson(self.gateway.url), random.Random(seed)
-            try:
-                while not stop.is_set():
-                    queue = chance.choice(self.queues)
-                    (self.send if chance.random() < 0.5 else self.receive)(call, chance, queue)
-            except Exception as error:
-                # While the gateway is killed a connection or an answer may break off, and nothing else may happen.
-                if not stop.is_set() or isinstance(error, (AssertionError, Refused, KeyError)):
-                    self.failures.append(error)
+        def end(stop: threading.Event) -> None:
+            ticks = threading.Thread(target=self.tick, args=(stop,))
+            ticks.start()
+            of_cq = self.sends + self.random.randrange(1, 120)
 
-        def tick() -> None:
-            while not stop.is_set():
-                self.set_clock(self.gateway.moment + STEP)
-                time.sleep(0.005)
+            def look() -> None:
+                nonlocal of_cq
+                if self.sends >= of_cq:
+                    self.kill_programs()
+                    of_cq = 1 << 30
 
-        threads = [threading.Thread(target=work, args=(seed,)) for seed in seeds] + [threading.Thread(target=tick)]
-        for thread in threads:
-            thread.start()
-        wanted, latest = self.sends + sends, time.monotonic() + 10
-        of_cq = self.sends + self.random.randrange(1, 120)
-        while self.sends < wanted and time.monotonic() < latest and self.failures == []:
-            time.sleep(self.random.uniform(0, 0.01))
-            if self.sends >= of_cq:
-                self.kill_programs()
-                of_cq = 1 << 30
-        stop.set()
-        self.gateway.kill()
-        for thread in threads:
-            thread.join()
-        assert self.failures == []
+            self.wait_for_sends(sends, look)
+            stop.set()
+            self.gateway.kill()
+            ticks.join()
+
+        self.work(CLIENTS, end)
         if self.random.random() < 0.3:
             # The store forgets deduplication ids.
             self.set_clock(self.gateway.moment + 301_000)
         self.gateway.start()
+
+    def begin(self, client: int) -> Callable[[], None]:
+        call, chance = ByJson(self.gateway.url), random.Random(self.seeds[client])
+
+        def act() -> None:
+            queue = chance.choice(self.queues)
+            (self.send if chance.random() < 0.5 else self.receive)(call, chance, queue)
+
+        return act
+
+    def tick(self, stop: threading.Event) -> None:
+        while not stop.is_set():
+            self.set_clock(self.gateway.moment + STEP)
+            time.sleep(0.005)
 
     def kill_programs(self) -> None:
         """No client sees this."""
@@ -251,7 +252,7 @@ class Load:
 def test_what_was_acknowledged_of_both_kinds_outlives_kills(tmp_path):
     print(f"seed {SEED}")
     gateway = Started("--journal", str(tmp_path / "journal"), "--shards", "2", "--no-pauses", room=tmp_path)
-    load = Load(gateway, SEED)
+    load = LoadOfBothKinds(gateway, SEED)
     acknowledged = 0
     for kill in range(1, KILLS + 1):
         if kill % 5 == 1:

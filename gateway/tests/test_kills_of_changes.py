@@ -16,6 +16,7 @@ import time
 from collections.abc import Callable
 from dataclasses import dataclass, field
 
+from loads import Load
 from started import ByJson, Refused, Started, programs_of
 
 KILLS = int(os.environ.get("HOBBYCHAIR_TEST_KILLS", "50"))
@@ -205,48 +206,50 @@ class Client:
         return sum(int(told[f"ApproximateNumberOfMessages{which}"]) for which in ("", "NotVisible", "Delayed"))
 
 
-def run(gateway: Started, clients: list[Client], chance: random.Random) -> int:
-    """Lets clients work for a while, kills the gateway, and tells how much they did."""
-    is_over = threading.Event()
-    failures: list[BaseException] = []
-    done = itertools.count()
+class LoadOfChanges(Load):
+    faults = (AssertionError, Refused, KeyError)
 
-    def work(client: Client, seed: int) -> None:
-        own = random.Random(seed)
-        try:
-            while not is_over.is_set():
-                client.act(own)
-                next(done)
-        except Exception as error:
-            # While the gateway is killed a connection or an answer may break off, and nothing else may happen.
-            if not is_over.is_set() or isinstance(error, (AssertionError, Refused, KeyError)):
-                failures.append(error)
+    def __init__(self, gateway: Started, seed: int) -> None:
+        super().__init__(seed)
+        self.gateway = gateway
+        self.clients = [Client(number, gateway) for number in range(CLIENTS)]
 
-    threads = [threading.Thread(target=work, args=(client, chance.randrange(1 << 30))) for client in clients]
-    for thread in threads:
-        thread.start()
-    time.sleep(chance.uniform(0.05, 0.8))
-    if chance.random() < 0.3:
-        for program in programs_of(gateway):
-            os.kill(program, signal.SIGKILL)
-        time.sleep(chance.uniform(0, 0.2))
-    is_over.set()
-    gateway.kill()
-    for thread in threads:
-        thread.join()
-    assert failures == []
-    return next(done)
+    def run(self) -> int:
+        """Lets clients work for a while, kills the gateway, and tells how much they did."""
+        self.seeds = [self.random.randrange(1 << 30) for _ in self.clients]
+        self.done = itertools.count()
+
+        def end(stop: threading.Event) -> None:
+            time.sleep(self.random.uniform(0.05, 0.8))
+            if self.random.random() < 0.3:
+                for program in programs_of(self.gateway):
+                    os.kill(program, signal.SIGKILL)
+                time.sleep(self.random.uniform(0, 0.2))
+            stop.set()
+            self.gateway.kill()
+
+        self.work(len(self.clients), end)
+        return next(self.done)
+
+    def begin(self, client: int) -> Callable[[], None]:
+        chance = random.Random(self.seeds[client])
+
+        def act() -> None:
+            self.clients[client].act(chance)
+            next(self.done)
+
+        return act
 
 
 def test_what_was_told_of_queues_and_messages_outlives_kills(tmp_path):
     print(f"seed {SEED}")
-    chance = random.Random(SEED)
     gateway = Started("--journal", str(tmp_path / "journal"), "--journal-size", "3MiB", "--shards", "2", "--no-pauses",
                       room=tmp_path)
-    clients = [Client(number, gateway) for number in range(CLIENTS)]
+    load = LoadOfChanges(gateway, SEED)
+    chance, clients = load.random, load.clients
     done = drains = 0
     for kill in range(1, KILLS + 1):
-        done += run(gateway, clients, chance)
+        done += load.run()
         # Queues at rest go over to other names, and what is in flight comes back.
         gateway.set_clock(gateway.moment + 1000 * chance.choice([0, 301, TIMEOUT + 100]))
         gateway.start()
