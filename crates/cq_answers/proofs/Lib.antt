@@ -1,5 +1,5 @@
 pub mod Floats
 pub mod Joined
 pub mod Plain
-pub mod Rows
+pub mod Examples
 pub mod Sending

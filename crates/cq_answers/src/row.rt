@@ -10,7 +10,7 @@ use std::marker::Model;
 
 /// How many bytes JSON writes as they stand, up to the first one that it escapes: O(that many).
 #[tactic(auto, using(cq_json::proofs::PlainText::escape_plain, cq_json::proofs::PlainText::plain_within))]
-fn plain_front(text: &[u8]) -> usize
+fn plain_prefix(text: &[u8]) -> usize
     ensures bound { result ≤ length text.now }
     ensures plain { escape (take result text.now) ≡ take result text.now }
 {
@@ -140,7 +140,7 @@ impl Row {
     {
         let mut rest = text;
         while !rest.is_empty() {
-            let (plain, other) = rest.split_at(plain_front(rest));
+            let (plain, other) = rest.split_at(plain_prefix(rest));
             self.put(plain)?;
             let Some((byte, later)) = other.split_first() else {
                 return Ok(());
@@ -151,7 +151,7 @@ impl Row {
         Ok(())
     }
 
-    /// Writes the text as a string: O(bytes of it). After `NoMemory` a front of it may be written.
+    /// Writes the text as a string: O(bytes of it). After `NoMemory` a prefix of it may be written.
     pub fn put_string(&mut self, text: &str) -> Result<(), NoMemory>
         ensures ok { OnOk result (self.new.told ≡ self.old.told ++ quoted text.now) }
         ensures before { self.new.before ≡ self.old.before }

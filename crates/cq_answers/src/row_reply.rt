@@ -156,7 +156,7 @@ fn put_refusal(row: &mut Row, code: u64, name: &str) -> Result<(), NoMemory>
     row.put(b"}")
 }
 
-/// Writes a reply: O(bytes of it). After `NoMemory` a front of it may be written.
+/// Writes a reply: O(bytes of it). After `NoMemory` a prefix of it may be written.
 pub fn put_reply(row: &mut Row, reply: &Reply) -> Result<(), NoMemory>
     ensures ok { OnOk result (row.new.told ≡ row.old.told ++ compact_text (reply_data reply.now)) }
     ensures before { row.new.before ≡ row.old.before }

@@ -58,9 +58,9 @@ pub split_handle : (h : Handle) (bs : List ℕ) (incarnation rest sequence handi
     → IsSplitOnceResult 45 bs (Some (incarnation, rest)) → IsSplitOnceResult 45 rest.now (Some (sequence, handing))
     → (incarnation.now ≡ decimal h.incarnation) × (sequence.now ≡ decimal h.sequence) × (handing.now ≡ decimal h.handing)
 split_handle h bs incarnation rest sequence handing fits text first second =
-    let front = split_at_dash h.incarnation bs (decimal h.sequence ++ 45 ∷ decimal h.handing) (Some (incarnation, rest)) fits.incarnation first text in
-    let back = split_at_dash h.sequence rest.now (decimal h.handing) (Some (sequence, handing)) fits.sequence second front.1 in
-    (front.0, back.0, back.1)
+    let prefix = split_at_dash h.incarnation bs (decimal h.sequence ++ 45 ∷ decimal h.handing) (Some (incarnation, rest)) fits.incarnation first text in
+    let back = split_at_dash h.sequence rest.now (decimal h.handing) (Some (sequence, handing)) fits.sequence second prefix.1 in
+    (prefix.0, back.0, back.1)
 
 -- two numbers with one text are one number
 pub same_number : (m n : ℕ) (bs : List ℕ) → IsHandleNumber m → IsHandleNumber n → bs ≡ decimal m → bs ≡ decimal n → m ≡ n

@@ -1,8 +1,8 @@
 pub mod Among
-pub mod ContentRows
+pub mod ContentExamples
 pub mod Deletes
 pub mod Ends
-pub mod FactRows
+pub mod OutcomeExamples
 pub mod Filters
 pub mod Finds
 pub mod HandleTexts
@@ -12,6 +12,6 @@ pub mod MadeIds
 pub mod Numbers
 pub mod Pairs
 pub mod PlainBytes
-pub mod Rows
-pub mod OneMoreFact
-pub mod TextRows
+pub mod Examples
+pub mod OneMoreOutcome
+pub mod TextExamples

@@ -39,10 +39,10 @@ other c s good low high = grind (arith, nat_tests)
 first : (c : ℕ) (rest : List ℕ) → scalar c ≡ true → ArePlain (encode c ++ rest) (length (encode c)) → is_body_character c ≡ true
 first c rest s plain =
     let some : 0 < length (encode c) = omega (arith, length-encode c, len_utf8_bounds c) in
-    let front : get_or (encode c ++ rest) 0 0 ≡ get_or (encode c) 0 0 = get_or_append_left (encode c) rest 0 0 some in
+    let prefix : get_or (encode c ++ rest) 0 0 ≡ get_or (encode c) 0 0 = get_or_append_left (encode c) rest 0 0 some in
     let of_length = λ (d : ℕ) (is : c ≡ d) (long : length (encode c) ≡ 3). subst (λ n. ArePlain (encode d ++ rest) n) long
     (subst (λ x. ArePlain (encode x ++ rest) (length (encode c))) is plain) in
-    other c s (subst (λ b. is_body_character b ≡ true) front (plain 0 some).0)
+    other c s (subst (λ b. is_body_character b ≡ true) prefix (plain 0 some).0)
     (λ is. not_fffe rest (of_length 0xFFFE is (long_enough c (omega (arith, is)) (omega (arith, is)))))
     (λ is. not_ffff rest (of_length 0xFFFF is (long_enough c (omega (arith, is)) (omega (arith, is)))))
 

@@ -6,13 +6,5 @@ pub mod Texts
 -- words on lists
 pub mod Relations
 -- the queue object
-pub mod Asks
-pub mod Facts
-pub mod Clients
-pub mod Lifetimes
-pub mod Messages
-pub mod Receiving
-pub mod Effects
-pub mod History
-pub mod Incarnations
+pub mod queue
 pub mod within

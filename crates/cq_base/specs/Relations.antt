@@ -11,6 +11,6 @@ abbrev pub Pairwise : {X : Type 0} → (X → X → Type 0) → List X → Type 
 Pairwise R [] = Unit
 Pairwise {X} R (x ∷ xs) = ((y : X) → Among y xs → R x y) × Pairwise R xs
 
--- the list xs is a front of ys
-abbrev pub Front : {X : Type 0} → List X → List X → Type 0
-Front {X} xs ys = (rest : List X) × (ys ≡ xs ++ rest)
+-- the list xs is a prefix of ys
+abbrev pub IsPrefix : {X : Type 0} → List X → List X → Type 0
+IsPrefix {X} xs ys = (rest : List X) × (ys ≡ xs ++ rest)

@@ -1,6 +1,6 @@
 //! What clients ask: of a queue, as a request under a number, as an entry of a history, or as a query.
 ghost use Rattle.std.specs.Prelude.{◌≡◌, IfOk};
-ghost use Rattle.cq_base.specs.Asks.{queue_of};
+ghost use Rattle.cq_base.specs.queue.Asks.{queue_of};
 
 use crate::fault::NoMemory;
 use crate::number::{BatchSize, Moment, Seconds};
@@ -51,7 +51,7 @@ pub enum Ask {
     },
 }
 
-/// By hand, so that whoever lets one go makes one call, and has no case for each part.
+/// Written out, not derived: CONTRIBUTING.md, "Drop".
 impl Drop for Ask {
     fn drop(self) {
         match self {

@@ -8,10 +8,9 @@
 //! there is no report it has the fault.
 use crate::common::stop;
 use cq_base::{Ask, Body, ChainSize, DedupId, GroupId, Party, QueueName, Seconds, ServerId};
-use cq_live::Gate;
-use cq_live_chain::live;
-use cq_live_run::LiveFault;
-use cq_plan::LiveStep;
+use cq_live::{LiveFault, live};
+use cq_live_plan::LiveStep;
+use cq_nodes::Gate;
 use cq_trace::AuditFault;
 use std::alloc::Global;
 use std::fmt::Write;

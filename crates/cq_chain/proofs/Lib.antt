@@ -4,6 +4,6 @@ pub mod Neighbours
 pub mod OrderStands
 pub mod Repairs
 pub mod Replicas
-pub mod Rows
+pub mod Examples
 pub mod ServerRefusals
 pub mod ServerStands

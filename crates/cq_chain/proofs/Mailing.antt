@@ -7,8 +7,8 @@ use Rattle.cq_base.specs.contracts.party.PartyPartialEq.TheImpl.{eq-value as der
 use Rattle.cq_base.specs.declared.party.Party.{Party}
 use Rattle.cq_base.specs.declared.party.Party.TheVariants.{Master, Clients, Server}
 use Rattle.cq_chain.specs.declared.message.Message as rust
-use Rattle.cq_chain.specs.Lanes.{Lane, messages_of, room_of}
-use Rattle.cq_chain.specs.within.Boxes.{lane_for, messages_for}
+use Rattle.cq_chain.specs.Fifos.{Fifo, messages_of, room_of}
+use Rattle.cq_chain.specs.within.Boxes.{fifo_for, messages_for}
 use Rattle.cq_chain.specs.Messages.{Message}
 use Rattle.cq_chain.specs.Parties.{same, addressed}
 use Rattle.cq_chain.specs.Stands.{Means, AllMean, IsFirst, posted, drained}
@@ -90,48 +90,48 @@ lookup-agrees : {K X : Type 0} (f g : K → Bool) → ((k : K) → f k ≡ g k) 
 lookup-agrees f g h [] = refl
 lookup-agrees f g h (e ∷ es) = ap (λ b. cond b (Some e.1) (lookup f es)) (h e.0) ∙ ap (λ o. cond (g e.0) (Some e.1) o) (lookup-agrees f g h es)
 
--- ---- lanes
+-- ---- fifos
 
--- The lane for a party is that one now, and the others stay.
-abbrev pub Rewrites : List (Party × Lane) → List (Party × Lane) → Party → Option Lane → Type 0
-Rewrites old new to lane = (p : Party) → lane_for new p ≡ cond (same to p) lane (lane_for old p)
+-- The fifo for a party is that one now, and the others stay.
+abbrev pub Rewrites : List (Party × Fifo) → List (Party × Fifo) → Party → Option Fifo → Type 0
+Rewrites old new to fifo = (p : Party) → fifo_for new p ≡ cond (same to p) fifo (fifo_for old p)
 
--- what a map finds by the derived equality is the lane for the party
-pub found : (inside now : List (Party × Lane)) (to : Party) (lane : Option Lane) → inside ≡ now → lane ≡ lookup (derived.it to) inside → lane_for now to ≡ lane
-found inside now to lane view is = ap (λ es. lane_for es to) (sym view) ∙ sym (lookup-agrees (derived.it to) (same to) (party-eq to) inside) ∙ sym is
+-- what a map finds by the derived equality is the fifo for the party
+pub found : (inside now : List (Party × Fifo)) (to : Party) (fifo : Option Fifo) → inside ≡ now → fifo ≡ lookup (derived.it to) inside → fifo_for now to ≡ fifo
+found inside now to fifo view is = ap (λ es. fifo_for es to) (sym view) ∙ sym (lookup-agrees (derived.it to) (same to) (party-eq to) inside) ∙ sym is
 
 -- and what it writes
-pub written : (inside now new : List (Party × Lane)) (to : Party) (lane : Option Lane) → inside ≡ now → ((p : Party) → lookup (derived.it p) new ≡ cond (derived.it to p) lane (lookup (derived.it p) inside)) → Rewrites now new to lane
-written inside now new to lane view writes p = sym (lookup-agrees (derived.it p) (same p) (party-eq p) new) ∙ writes p
-    ∙ ap (λ b. cond b lane (lookup (derived.it p) inside)) (party-eq to p) ∙ ap (λ o. cond (same to p) lane o) (lookup-agrees (derived.it p) (same p) (party-eq p) inside ∙ ap (λ es. lane_for es p) view)
+pub written : (inside now new : List (Party × Fifo)) (to : Party) (fifo : Option Fifo) → inside ≡ now → ((p : Party) → lookup (derived.it p) new ≡ cond (derived.it to p) fifo (lookup (derived.it p) inside)) → Rewrites now new to fifo
+written inside now new to fifo view writes p = sym (lookup-agrees (derived.it p) (same p) (party-eq p) new) ∙ writes p
+    ∙ ap (λ b. cond b fifo (lookup (derived.it p) inside)) (party-eq to p) ∙ ap (λ o. cond (same to p) fifo o) (lookup-agrees (derived.it p) (same p) (party-eq p) inside ∙ ap (λ es. fifo_for es p) view)
 
-replaced : (P : Bool → Option Lane → Option Lane → Type 0) (a b : Bool) (o p n m : Option Lane) → a ≡ b → o ≡ p → n ≡ m → P b p m → P a o n
+replaced : (P : Bool → Option Fifo → Option Fifo → Type 0) (a b : Bool) (o p n m : Option Fifo) → a ≡ b → o ≡ p → n ≡ m → P b p m → P a o n
 replaced P a b o p n m e f g h = subst (λ x. P x o n) (sym e) (subst (λ x. P b x n) (sym f) (subst (λ x. P b p x) (sym g) h))
 
--- what holds of the lane that is written, and of each that stays, holds of all
-by_lane : (old new : List (Party × Lane)) (to : Party) (before after : Option Lane) (P : Bool → Option Lane → Option Lane → Type 0) → lane_for old to ≡ before → Rewrites old new to after
-    → P true before after → ((o : Option Lane) → P false o o) → (p : Party) → P (same to p) (lane_for old p) (lane_for new p)
-by_lane old new to before after P was writes here there p = elim (cases_Bool (same to p)) [
-  | inl e ↦ replaced P (same to p) true (lane_for old p) before (lane_for new p) after e (ap (λ q. lane_for old q) (sym (same-equal to p e)) ∙ was) (writes p ∙ ap (λ b. cond b after (lane_for old p)) e) here
-  | inr e ↦ replaced P (same to p) false (lane_for old p) (lane_for old p) (lane_for new p) (lane_for old p) e refl (writes p ∙ ap (λ b. cond b after (lane_for old p)) e) (there (lane_for old p))
+-- what holds of the fifo that is written, and of each that stays, holds of all
+by_fifo : (old new : List (Party × Fifo)) (to : Party) (before after : Option Fifo) (P : Bool → Option Fifo → Option Fifo → Type 0) → fifo_for old to ≡ before → Rewrites old new to after
+    → P true before after → ((o : Option Fifo) → P false o o) → (p : Party) → P (same to p) (fifo_for old p) (fifo_for new p)
+by_fifo old new to before after P was writes here there p = elim (cases_Bool (same to p)) [
+  | inl e ↦ replaced P (same to p) true (fifo_for old p) before (fifo_for new p) after e (ap (λ q. fifo_for old q) (sym (same-equal to p e)) ∙ was) (writes p ∙ ap (λ b. cond b after (fifo_for old p)) e) here
+  | inr e ↦ replaced P (same to p) false (fifo_for old p) (fifo_for old p) (fifo_for new p) (fifo_for old p) e refl (writes p ∙ ap (λ b. cond b after (fifo_for old p)) e) (there (fifo_for old p))
 ]
 
 -- nothing is written
-pub unwritten : (old : List (Party × Lane)) (to : Party) (before : Option Lane) → lane_for old to ≡ before → Rewrites old old to before
+pub unwritten : (old : List (Party × Fifo)) (to : Party) (before : Option Fifo) → fifo_for old to ≡ before → Rewrites old old to before
 unwritten old to before was p = elim (cases_Bool (same to p)) [
-  | inl e ↦ ap (λ q. lane_for old q) (sym (same-equal to p e)) ∙ was ∙ sym (ap (λ b. cond b before (lane_for old p)) e)
-  | inr e ↦ sym (ap (λ b. cond b before (lane_for old p)) e)
+  | inl e ↦ ap (λ q. fifo_for old q) (sym (same-equal to p e)) ∙ was ∙ sym (ap (λ b. cond b before (fifo_for old p)) e)
+  | inr e ↦ sym (ap (λ b. cond b before (fifo_for old p)) e)
 ]
 
--- a lane with the same messages and no less room
-pub lane-kept : (old new : List (Party × Lane)) (to : Party) (before : Option Lane) (lane : Lane) → lane_for old to ≡ before → Rewrites old new to (Some lane) → lane.messages ≡ messages_of before → room_of before ≤ lane.room → KeepsAll old new
-lane-kept old new to before lane was writes messages room = (by_lane old new to before (Some lane) (λ b o n. messages_of n ≡ messages_of o) was writes messages (λ o. refl), by_lane old new to before (Some lane) (λ b o n. room_of o ≤ room_of n) was writes room (λ o. omega arith))
+-- a fifo with the same messages and no less room
+pub fifo-kept : (old new : List (Party × Fifo)) (to : Party) (before : Option Fifo) (fifo : Fifo) → fifo_for old to ≡ before → Rewrites old new to (Some fifo) → fifo.messages ≡ messages_of before → room_of before ≤ fifo.room → KeepsAll old new
+fifo-kept old new to before fifo was writes messages room = (by_fifo old new to before (Some fifo) (λ b o n. messages_of n ≡ messages_of o) was writes messages (λ o. refl), by_fifo old new to before (Some fifo) (λ b o n. room_of o ≤ room_of n) was writes room (λ o. omega arith))
 
--- a lane with one more message
-pub lane-posts : (old new : List (Party × Lane)) (to : Party) (before : Option Lane) (lane : Lane) (message : rust.Message) → lane_for old to ≡ before → Rewrites old new to (Some lane) → lane.messages ≡ messages_of before ++ message ∷ []
+-- a fifo with one more message
+pub fifo-posts : (old new : List (Party × Fifo)) (to : Party) (before : Option Fifo) (fifo : Fifo) (message : rust.Message) → fifo_for old to ≡ before → Rewrites old new to (Some fifo) → fifo.messages ≡ messages_of before ++ message ∷ []
     → (m : Message) → Means message m → Posts old new ((to, m) ∷ [])
-lane-posts old new to before lane message was writes messages m means outbox h p = subst (λ b. AllMean (messages_for new p) (outbox p ++ (if b then m ∷ [] else []))) (same-turned to p)
-    (by_lane old new to before (Some lane) (λ b o n. AllMean (messages_of o) (outbox p) → AllMean (messages_of n) (outbox p ++ (if b then m ∷ [] else []))) was writes
+fifo-posts old new to before fifo message was writes messages m means outbox h p = subst (λ b. AllMean (messages_for new p) (outbox p ++ (if b then m ∷ [] else []))) (same-turned to p)
+    (by_fifo old new to before (Some fifo) (λ b o n. AllMean (messages_of o) (outbox p) → AllMean (messages_of n) (outbox p ++ (if b then m ∷ [] else []))) was writes
     (λ k. subst (λ xs. AllMean xs (outbox p ++ m ∷ [])) (sym messages) (means-append (messages_of before) (message ∷ []) (outbox p) (m ∷ []) k (means, tt)))
     (λ o k. subst (λ ms. AllMean (messages_of o) ms) (sym (append-nil (outbox p))) k) p (h p))
 
@@ -148,31 +148,31 @@ for-no to p [] (x ∷ xs) h e = absurd h
 for-no to p (y ∷ ys) [] h e = absurd h
 for-no to p (y ∷ ys) (x ∷ xs) h e = ap (λ b. if b then x.1 ∷ addressed p xs else addressed p xs) (ap (λ q. same p q) h.0 ∙ e) ∙ for-no to p ys xs h.1.1 e
 
--- a lane with these messages more
-pub lanes-post : (old new : List (Party × Lane)) (to : Party) (before : Option Lane) (lane : Lane) (ys : List rust.Message) → lane_for old to ≡ before → Rewrites old new to (Some lane) → lane.messages ≡ messages_of before ++ ys
+-- a fifo with these messages more
+pub fifos-post : (old new : List (Party × Fifo)) (to : Party) (before : Option Fifo) (fifo : Fifo) (ys : List rust.Message) → fifo_for old to ≡ before → Rewrites old new to (Some fifo) → fifo.messages ≡ messages_of before ++ ys
     → (all : List (Party × Message)) → AllFor to ys all → Posts old new all
-lanes-post old new to before lane ys was writes messages all for outbox h p =
-    by_lane old new to before (Some lane) (λ b o n. b ≡ same to p → AllMean (messages_of o) (outbox p) → AllMean (messages_of n) (outbox p ++ addressed p all)) was writes
+fifos-post old new to before fifo ys was writes messages all for outbox h p =
+    by_fifo old new to before (Some fifo) (λ b o n. b ≡ same to p → AllMean (messages_of o) (outbox p) → AllMean (messages_of n) (outbox p ++ addressed p all)) was writes
     (λ e k. subst (λ xs. AllMean xs (outbox p ++ addressed p all)) (sym messages) (means-append (messages_of before) ys (outbox p) (addressed p all) k (for-yes to p ys all for (same-turned p to ∙ sym e))))
     (λ o e k. subst (λ ms. AllMean (messages_of o) (outbox p ++ ms)) (sym (for-no to p ys all for (same-turned p to ∙ sym e))) (subst (λ ms. AllMean (messages_of o) ms) (sym (append-nil (outbox p))) k))
     p refl (h p)
 
 -- none is sent, where there is no room
-pub none-post : (boxes : List (Party × Lane)) (to : Party) (ys : List rust.Message) → lane_for boxes to ≡ None → length ys ≤ room_of (lane_for boxes to) → (all : List (Party × Message)) → AllFor to ys all → (outbox : Party → List Message) → Waits boxes outbox
+pub none-post : (boxes : List (Party × Fifo)) (to : Party) (ys : List rust.Message) → fifo_for boxes to ≡ None → length ys ≤ room_of (fifo_for boxes to) → (all : List (Party × Message)) → AllFor to ys all → (outbox : Party → List Message) → Waits boxes outbox
     → Waits boxes (posted outbox all)
 none-post boxes to [] was fits [] for outbox h = λ p. subst (λ ms. AllMean (messages_for boxes p) ms) (sym (append-nil (outbox p))) (h p)
 none-post boxes to [] was fits (x ∷ xs) for outbox h = absurd for
 none-post boxes to (y ∷ ys) was fits all for outbox h = let k : length (y ∷ ys) ≤ 0 = subst (λ o. length (y ∷ ys) ≤ room_of o) was fits in absurd (omega arith)
 
--- the lanes of others have as much room
-pub lanes-others : (old new : List (Party × Lane)) (to : Party) (before : Option Lane) (lane : Lane) → lane_for old to ≡ before → Rewrites old new to (Some lane) → (p : Party) → same to p ≡ false → room_of (lane_for old p) ≤ room_of (lane_for new p)
-lanes-others old new to before lane was writes p other =
-    by_lane old new to before (Some lane) (λ b o n. b ≡ false → room_of o ≤ room_of n) was writes (λ e. absurd (true≢false e)) (λ o e. omega arith) p other
+-- the fifos of others have as much room
+pub fifos-others : (old new : List (Party × Fifo)) (to : Party) (before : Option Fifo) (fifo : Fifo) → fifo_for old to ≡ before → Rewrites old new to (Some fifo) → (p : Party) → same to p ≡ false → room_of (fifo_for old p) ≤ room_of (fifo_for new p)
+fifos-others old new to before fifo was writes p other =
+    by_fifo old new to before (Some fifo) (λ b o n. b ≡ false → room_of o ≤ room_of n) was writes (λ e. absurd (true≢false e)) (λ o e. omega arith) p other
 
-pub lane-takes_one : (old new : List (Party × Lane)) (to : Party) (before : Option Lane) (lane : Lane) → lane_for old to ≡ before → Rewrites old new to (Some lane) → room_of before ≤ lane.room + 1 → TakesOne old new
-lane-takes_one old new to before lane was writes room = by_lane old new to before (Some lane) (λ b o n. room_of o ≤ room_of n + 1) was writes room (λ o. omega arith)
+pub fifo-takes_one : (old new : List (Party × Fifo)) (to : Party) (before : Option Fifo) (fifo : Fifo) → fifo_for old to ≡ before → Rewrites old new to (Some fifo) → room_of before ≤ fifo.room + 1 → TakesOne old new
+fifo-takes_one old new to before fifo was writes room = by_fifo old new to before (Some fifo) (λ b o n. room_of o ≤ room_of n + 1) was writes room (λ o. omega arith)
 
--- the message that leaves a lane is the first that waits
+-- the message that leaves a fifo is the first that waits
 pub popped-first : (result : Option rust.Message) (old new : List rust.Message) (ms : List Message) → IfSome result (λ x. old ≡ x ∷ new) → IfNone result (old ≡ []) → AllMean old ms → IsFirst result ms
 popped-first None old new ms some none h = none-mean ms (subst (λ xs. AllMean xs ms) none h)
 popped-first (Some x) old new ms some none h = first-mean x new ms (subst (λ xs. AllMean xs ms) some h)
@@ -183,17 +183,17 @@ rest-means [] (m ∷ ms) h = absurd h
 rest-means (x ∷ xs) ms h = rest-mean x xs ms h
 
 -- and the others wait on
-pub lane-drained : (old new : List (Party × Lane)) (to : Party) (before after : Option Lane) → lane_for old to ≡ before → Rewrites old new to after
+pub fifo-drained : (old new : List (Party × Fifo)) (to : Party) (before after : Option Fifo) → fifo_for old to ≡ before → Rewrites old new to after
     → messages_of after ≡ drop 1 (messages_of before) → (outbox : Party → List Message) → Waits old outbox → Waits new (drained outbox to)
-lane-drained old new to before after was writes rest outbox h p =
-    by_lane old new to before after (λ b o n. AllMean (messages_of o) (outbox p) → AllMean (messages_of n) (if b then drop 1 (outbox p) else outbox p)) was writes
+fifo-drained old new to before after was writes rest outbox h p =
+    by_fifo old new to before after (λ b o n. AllMean (messages_of o) (outbox p) → AllMean (messages_of n) (if b then drop 1 (outbox p) else outbox p)) was writes
     (λ k. subst (λ xs. AllMean xs (drop 1 (outbox p))) (sym rest) (rest-means (messages_of before) (outbox p) k)) (λ o k. k) p (h p)
 
 -- ---- one after the other
 
-chosen-append : (b : Bool) (m : Message) (all front back : List Message) → all ≡ front ++ back → (if b then m ∷ all else all) ≡ (if b then m ∷ front else front) ++ back
-chosen-append true m all front back h = ap (λ ms. m ∷ ms) h
-chosen-append false m all front back h = h
+chosen-append : (b : Bool) (m : Message) (all prefix back : List Message) → all ≡ prefix ++ back → (if b then m ∷ all else all) ≡ (if b then m ∷ prefix else prefix) ++ back
+chosen-append true m all prefix back h = ap (λ ms. m ∷ ms) h
+chosen-append false m all prefix back h = h
 
 -- what is addressed to a party
 addressed-append : (p : Party) (xs ys : List (Party × Message)) → addressed p (xs ++ ys) ≡ addressed p xs ++ addressed p ys
@@ -205,16 +205,16 @@ pub posted-append : (outbox : Party → List Message) (xs ys : List (Party × Me
 posted-append outbox xs ys p = append_assoc (outbox p) (addressed p xs) (addressed p ys) ∙ ap (λ ms. outbox p ++ ms) (sym (addressed-append p xs ys))
 
 -- nothing is sent
-pub posts-none : (boxes : List (Party × Lane)) → Posts boxes boxes []
+pub posts-none : (boxes : List (Party × Fifo)) → Posts boxes boxes []
 posts-none boxes outbox h p = subst (λ ms. AllMean (messages_for boxes p) ms) (sym (append-nil (outbox p))) (h p)
 
 -- one after the other
-pub posts-then : (a b c : List (Party × Lane)) (xs ys : List (Party × Message)) → Posts a b xs → Posts b c ys → Posts a c (xs ++ ys)
+pub posts-then : (a b c : List (Party × Fifo)) (xs ys : List (Party × Message)) → Posts a b xs → Posts b c ys → Posts a c (xs ++ ys)
 posts-then a b c xs ys h k outbox waits p = subst (λ ms. AllMean (messages_for c p) ms) (posted-append outbox xs ys p) (k (posted outbox xs) (h outbox waits) p)
 
 -- the same messages wait
-pub waits-kept : (old new : List (Party × Lane)) → KeepsAll old new → (outbox : Party → List Message) → Waits old outbox → Waits new outbox
+pub waits-kept : (old new : List (Party × Fifo)) → KeepsAll old new → (outbox : Party → List Message) → Waits old outbox → Waits new outbox
 waits-kept old new keeps outbox h p = subst (λ xs. AllMean xs (outbox p)) (sym (keeps.0 p)) (h p)
 
-pub posts-after : (a b c : List (Party × Lane)) (xs : List (Party × Message)) → KeepsAll a b → Posts b c xs → Posts a c xs
+pub posts-after : (a b c : List (Party × Fifo)) (xs : List (Party × Message)) → KeepsAll a b → Posts b c xs → Posts a c xs
 posts-after a b c xs keeps posts outbox h = posts outbox (waits-kept a b keeps outbox h)

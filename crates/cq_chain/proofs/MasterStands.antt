@@ -5,10 +5,10 @@ use Rattle.cq_base.specs.declared.party.Party.{Party}
 use Rattle.cq_base.specs.declared.party.Party.TheVariants as parties
 use Rattle.cq_chain.specs.declared.fault.WorldFault.{WorldFault}
 use Rattle.cq_chain.specs.declared.fault.WorldFault.TheVariants.{NoSuchServer, LastFull, JoinPending, IdUsed, ChainFull}
-use Rattle.cq_chain.specs.declared.master.Master as kept
+use Rattle.cq_chain.specs.declared.master.Master as stored
 use Rattle.cq_chain.specs.declared.message.Message as rust
 use Rattle.cq_chain.specs.declared.message.Message.TheVariants as sent
-use Rattle.cq_chain.specs.Lanes.{Lane}
+use Rattle.cq_chain.specs.Fifos.{Fifo}
 use Rattle.cq_chain.specs.within.Boxes.{messages_for}
 use Rattle.cq_chain.specs.Masters.{Master, Order, no_order, is_in, is_last, stands_before, without, dropped, closed_up, detected, joined, joins_behind, admitted, hears, said_of_join, refusal_of_detection, refusal_of_join}
 use Rattle.cq_chain.specs.Messages.{Message, Feed, Have, Adopted, Caught, Ready, Adopt, BeTail}
@@ -17,16 +17,16 @@ use Rattle.cq_chain.specs.Stands.{Means, AllMean, MasterHolds, MasterStandsFor, 
 use Rattle.cq_chain.specs.within.Waiting.{Waits, Posts, KeepsAll, AllFor}
 use Rattle.cq_chain.proofs.Mailing.{waits-kept}
 
-pub master-stands : (kept : kept.Master) (m : Master) (outbox : Party → List Message) → MasterHolds kept m outbox → MasterStandsFor kept m outbox
+pub master-stands : (kept : stored.Master) (m : Master) (outbox : Party → List Message) → MasterHolds kept m outbox → MasterStandsFor kept m outbox
 unfolding MasterStandsFor
 master-stands kept m outbox h = h
 
-pub master-parts : (kept : kept.Master) (m : Master) (outbox : Party → List Message) → MasterStandsFor kept m outbox → MasterHolds kept m outbox
+pub master-parts : (kept : stored.Master) (m : Master) (outbox : Party → List Message) → MasterStandsFor kept m outbox → MasterHolds kept m outbox
 unfolding MasterStandsFor
 master-parts kept m outbox h = h
 
 -- with other outboxes
-pub with_master_boxes : (kept : kept.Master) (m : Master) (outbox next : Party → List Message) (boxes : List (Party × Lane)) → MasterStandsFor kept m outbox → Waits boxes next → next parties.Master ≡ [] → next parties.Clients ≡ []
+pub with_master_boxes : (kept : stored.Master) (m : Master) (outbox next : Party → List Message) (boxes : List (Party × Fifo)) → MasterStandsFor kept m outbox → Waits boxes next → next parties.Master ≡ [] → next parties.Clients ≡ []
     → MasterStandsFor (record kept { outboxes = boxes }) m next
 with_master_boxes kept m outbox next boxes h waits master clients = let p = master-parts kept m outbox h in master-stands (record kept { outboxes = boxes }) m next (record {
   chain = p.chain;
@@ -40,17 +40,17 @@ with_master_boxes kept m outbox next boxes h waits master clients = let p = mast
 })
 
 -- with room
-pub with_master_room : (kept : kept.Master) (m : Master) (outbox : Party → List Message) (boxes : List (Party × Lane)) → MasterStandsFor kept m outbox → KeepsAll kept.outboxes boxes → MasterStandsFor (record kept { outboxes = boxes }) m outbox
+pub with_master_room : (kept : stored.Master) (m : Master) (outbox : Party → List Message) (boxes : List (Party × Fifo)) → MasterStandsFor kept m outbox → KeepsAll kept.outboxes boxes → MasterStandsFor (record kept { outboxes = boxes }) m outbox
 with_master_room kept m outbox boxes h keeps = let p = master-parts kept m outbox h in
     with_master_boxes kept m outbox outbox boxes h (waits-kept kept.outboxes boxes keeps outbox p.waiting) p.master p.clients
 
 -- the same waits
-pub with_master_outbox : (kept : kept.Master) (m : Master) (outbox next : Party → List Message) → MasterStandsFor kept m outbox → ((p : Party) → outbox p ≡ next p) → MasterStandsFor kept m next
+pub with_master_outbox : (kept : stored.Master) (m : Master) (outbox next : Party → List Message) → MasterStandsFor kept m outbox → ((p : Party) → outbox p ≡ next p) → MasterStandsFor kept m next
 with_master_outbox kept m outbox next h same = let p = master-parts kept m outbox h in
     with_master_boxes kept m outbox next kept.outboxes h (λ q. subst (λ ms. AllMean (messages_for kept.outboxes q) ms) (same q) (p.waiting q)) (sym (same parties.Master) ∙ p.master) (sym (same parties.Clients) ∙ p.clients)
 
 -- nothing is said
-pub nothing-said : (kept : kept.Master) (m : Master) (outbox : Party → List Message) → MasterStandsFor kept m outbox → MasterStandsFor kept m (posted outbox [])
+pub nothing-said : (kept : stored.Master) (m : Master) (outbox : Party → List Message) → MasterStandsFor kept m outbox → MasterStandsFor kept m (posted outbox [])
 nothing-said kept m outbox h = with_master_outbox kept m outbox (posted outbox []) h (λ p. sym (append-nil (outbox p)))
 
 -- what is said to a server is for no other party
@@ -60,13 +60,13 @@ said-to_server to y (x ∷ []) h = rw h.0 (refl, refl)
 said-to_server to y (x ∷ z ∷ zs) h = absurd h.1.1
 
 -- it is said
-pub said-stands : (kept : kept.Master) (m : Master) (outbox : Party → List Message) (boxes : List (Party × Lane)) (to : ℕ) (y : rust.Message) (all : List (Party × Message)) → MasterStandsFor kept m outbox → AllFor (parties.Server to) (y ∷ []) all
+pub said-stands : (kept : stored.Master) (m : Master) (outbox : Party → List Message) (boxes : List (Party × Fifo)) (to : ℕ) (y : rust.Message) (all : List (Party × Message)) → MasterStandsFor kept m outbox → AllFor (parties.Server to) (y ∷ []) all
     → Posts kept.outboxes boxes all → MasterStandsFor (record kept { outboxes = boxes }) m (posted outbox all)
 said-stands kept m outbox boxes to y all h for posts = let p = master-parts kept m outbox h in let none = said-to_server to y all for in
     with_master_boxes kept m outbox (posted outbox all) boxes h (posts outbox p.waiting) (rw (p.master, none.0)) (rw (p.clients, none.1))
 
 -- one message is for its party
-pub one-for : (to : Party) (y : rust.Message) (all : List (Party × Message)) (boxes new : List (Party × Lane)) → AllFor to (y ∷ []) all → ((m : Message) → Means y m → Posts boxes new ((to, m) ∷ [])) → Posts boxes new all
+pub one-for : (to : Party) (y : rust.Message) (all : List (Party × Message)) (boxes new : List (Party × Fifo)) → AllFor to (y ∷ []) all → ((m : Message) → Means y m → Posts boxes new ((to, m) ∷ [])) → Posts boxes new all
 one-for to y [] boxes new h posts = absurd h
 one-for to y ((p, m) ∷ []) boxes new h posts = subst (λ q. Posts boxes new ((q, m) ∷ [])) (sym h.0) (posts m h.1.0)
 one-for to y (a ∷ b ∷ rest) boxes new h posts = absurd h.1.1
@@ -125,7 +125,7 @@ pub joins-no : (p from : ℕ) (m : Master) → is_that m.joiner from ≡ false �
 joins-no p from m joins = rw joins
 
 -- an order, by what it is
-pub orders-by : (kept : kept.Master) (outbox : Party → List Message) (order other : Order) → order ≡ other → MasterStandsFor kept other.master (posted outbox other.said) → MasterStandsFor kept order.master (posted outbox order.said)
+pub orders-by : (kept : stored.Master) (outbox : Party → List Message) (order other : Order) → order ≡ other → MasterStandsFor kept other.master (posted outbox other.said) → MasterStandsFor kept order.master (posted outbox order.said)
 orders-by kept outbox order other is h = subst (λ x. MasterStandsFor kept x.master (posted outbox x.said)) (sym is) h
 
 pub hears-ready_of_last : (from : ℕ) (m : Master) → is_last m.chain from ≡ true → hears from Ready m ≡ record { master = record m { ready = true }; said = [] }
@@ -170,7 +170,7 @@ hears-adopted_again from s n m last told = rw (last, told)
 
 -- ---- what it knows
 
-pub with_ready : (kept : kept.Master) (m : Master) (outbox : Party → List Message) → MasterStandsFor kept m outbox → MasterStandsFor (record kept { ready = true }) (record m { ready = true }) outbox
+pub with_ready : (kept : stored.Master) (m : Master) (outbox : Party → List Message) → MasterStandsFor kept m outbox → MasterStandsFor (record kept { ready = true }) (record m { ready = true }) outbox
 with_ready kept m outbox h = let p = master-parts kept m outbox h in master-stands (record kept { ready = true }) (record m { ready = true }) outbox (record {
   chain = p.chain;
   told = p.told;
@@ -182,7 +182,7 @@ with_ready kept m outbox h = let p = master-parts kept m outbox h in master-stan
   clients = p.clients;
 })
 
-pub with_told : (kept : kept.Master) (m : Master) (outbox : Party → List Message) → MasterStandsFor kept m outbox → MasterStandsFor (record kept { told = true }) (record m { told = true }) outbox
+pub with_told : (kept : stored.Master) (m : Master) (outbox : Party → List Message) → MasterStandsFor kept m outbox → MasterStandsFor (record kept { told = true }) (record m { told = true }) outbox
 with_told kept m outbox h = let p = master-parts kept m outbox h in master-stands (record kept { told = true }) (record m { told = true }) outbox (record {
   chain = p.chain;
   told = refl;
@@ -195,7 +195,7 @@ with_told kept m outbox h = let p = master-parts kept m outbox h in master-stand
 })
 
 -- without a member
-pub without-stands : (old new : kept.Master) (m : Master) (outbox : Party → List Message) (id : ℕ) → MasterStandsFor old m outbox → new.chain.items ≡ without id old.chain.items → new.told ≡ (is_last old.chain.items id || old.told)
+pub without-stands : (old new : stored.Master) (m : Master) (outbox : Party → List Message) (id : ℕ) → MasterStandsFor old m outbox → new.chain.items ≡ without id old.chain.items → new.told ≡ (is_last old.chain.items id || old.told)
     → new.ready ≡ (not (is_last old.chain.items id) && old.ready) → new.joiner ≡ (if is_last old.chain.items id then None else old.joiner) → new.used ≡ old.used → new.outboxes ≡ old.outboxes
     → MasterStandsFor new (closed_up id m).master outbox
 without-stands old new m outbox id h chain told ready joins used boxes = let p = master-parts old m outbox h in master-stands new (closed_up id m).master outbox (record {
@@ -218,7 +218,7 @@ unfolding detected
 detected-member id m joins = rw joins
 
 -- with no server that joins
-pub with_no_joiner : (kept : kept.Master) (m : Master) (outbox : Party → List Message) → MasterStandsFor kept m outbox → MasterStandsFor (record kept { joiner = None }) (dropped m).master outbox
+pub with_no_joiner : (kept : stored.Master) (m : Master) (outbox : Party → List Message) → MasterStandsFor kept m outbox → MasterStandsFor (record kept { joiner = None }) (dropped m).master outbox
 with_no_joiner kept m outbox h = let p = master-parts kept m outbox h in master-stands (record kept { joiner = None }) (dropped m).master outbox (record {
   chain = p.chain;
   told = p.told;
@@ -231,7 +231,7 @@ with_no_joiner kept m outbox h = let p = master-parts kept m outbox h in master-
 })
 
 -- with a server that joins
-pub joined-stands : (old new : kept.Master) (m : Master) (outbox : Party → List Message) (id : ℕ) → MasterStandsFor old m outbox → new.chain ≡ old.chain → new.used.keys ≡ old.used.keys ++ id ∷ []
+pub joined-stands : (old new : stored.Master) (m : Master) (outbox : Party → List Message) (id : ℕ) → MasterStandsFor old m outbox → new.chain ≡ old.chain → new.used.keys ≡ old.used.keys ++ id ∷ []
     → new.told ≡ old.told → new.ready ≡ old.ready → new.joiner ≡ Some id → new.outboxes ≡ old.outboxes → MasterStandsFor new (joined id m).master outbox
 unfolding joined
 joined-stands old new m outbox id h chain used told ready joins boxes = let p = master-parts old m outbox h in master-stands new (joined id m).master outbox (record {
@@ -250,7 +250,7 @@ unfolding joined
 joined-said id m = refl
 
 -- with a member more, which joined behind p
-pub admitted-stands : (old new : kept.Master) (m : Master) (outbox : Party → List Message) (p id n : ℕ) → MasterStandsFor old m outbox → new.chain.items ≡ old.chain.items ++ id ∷ [] → new.used ≡ old.used → new.told ≡ false → new.ready ≡ false
+pub admitted-stands : (old new : stored.Master) (m : Master) (outbox : Party → List Message) (p id n : ℕ) → MasterStandsFor old m outbox → new.chain.items ≡ old.chain.items ++ id ∷ [] → new.used ≡ old.used → new.told ≡ false → new.ready ≡ false
     → new.joiner ≡ None → new.outboxes ≡ old.outboxes → MasterStandsFor new (admitted p id n m).master outbox
 admitted-stands old new m outbox pred id n h chain used told ready joins boxes = let p = master-parts old m outbox h in master-stands new (admitted pred id n m).master outbox (record {
   chain = chain ∙ ap (λ xs. xs ++ id ∷ []) p.chain;
@@ -264,7 +264,7 @@ admitted-stands old new m outbox pred id n h chain used told ready joins boxes =
 })
 
 -- the same members and numbers
-pub same-stands : (old new : kept.Master) (m : Master) (outbox : Party → List Message) → MasterStandsFor old m outbox → new.chain.items ≡ old.chain.items → new.used.keys ≡ old.used.keys → new.told ≡ old.told → new.ready ≡ old.ready
+pub same-stands : (old new : stored.Master) (m : Master) (outbox : Party → List Message) → MasterStandsFor old m outbox → new.chain.items ≡ old.chain.items → new.used.keys ≡ old.used.keys → new.told ≡ old.told → new.ready ≡ old.ready
     → new.joiner ≡ old.joiner → new.outboxes ≡ old.outboxes → MasterStandsFor new m outbox
 same-stands old new m outbox h chain used told ready joins boxes = let p = master-parts old m outbox h in master-stands new m outbox (record {
   chain = chain ∙ p.chain;
@@ -296,6 +296,6 @@ hears-others from sent.Ready x m have caught adopted ready h = absurd (ready ref
 hears-others from (sent.Answer answer) x m have caught adopted ready h = ap (λ y. hears from y m) h
 
 -- an order that succeeded, by what it is
-pub orders-as : {E : Type 0} (old new : kept.Master) (order other : Master → Order) (r : Result (Unit {0}) E) → ((m : Master) (outbox : Party → List Message) → MasterStandsFor old m outbox → other m ≡ order m) → OnOk r (Orders old new order) → OnOk r (Orders old new other)
+pub orders-as : {E : Type 0} (old new : stored.Master) (order other : Master → Order) (r : Result (Unit {0}) E) → ((m : Master) (outbox : Party → List Message) → MasterStandsFor old m outbox → other m ≡ order m) → OnOk r (Orders old new order) → OnOk r (Orders old new other)
 orders-as old new order other (Ok x) same does = λ m outbox h. orders-by new outbox (other m) (order m) (same m outbox h) (does m outbox h)
 orders-as old new order other (Err e) same does = tt

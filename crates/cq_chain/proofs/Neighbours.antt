@@ -5,7 +5,7 @@ use Rattle.std.specs.List.{list_any}
 use Rattle.std.proofs.lemmas.Bool.{ne_eqb}
 use Rattle.std.proofs.lemmas.List.{drop_more}
 use Rattle.cq_base.specs.declared.party.Party.TheVariants as parties
-use Rattle.cq_chain.specs.declared.message.Message.TheVariants as kept
+use Rattle.cq_chain.specs.declared.message.Message.TheVariants as stored
 use Rattle.cq_chain.specs.Masters.{numbers_from, is_in, is_last, stands_before, closing, said_of_loss, said_of_join, to_last}
 use Rattle.cq_chain.specs.Messages.{Report, Feed}
 use Rattle.cq_chain.specs.within.Waiting.{IsSaid}
@@ -71,7 +71,7 @@ last-none (a ∷ b ∷ rest) id h =
     let e : length (a ∷ b ∷ rest) - 1 ≡ suc (length (b ∷ rest) - 1) = omega arith in
     last-none (b ∷ rest) id (h ∙ ap (λ n. slice_get (a ∷ b ∷ rest) n) e)
 
-pub join-said : (xs : List ℕ) (x id : ℕ) → Some x ≡ slice_get xs (length xs - 1) → IsSaid (Some (id, kept.Report x)) (said_of_join id xs)
+pub join-said : (xs : List ℕ) (x id : ℕ) → Some x ≡ slice_get xs (length xs - 1) → IsSaid (Some (id, stored.Report x)) (said_of_join id xs)
 join-said [] x id h = absurd (none_some x h)
 join-said (a ∷ []) x id h = (refl, (ap (λ y. Report y) (sym (some_same x a h)), tt))
 join-said (a ∷ b ∷ rest) x id h =
@@ -85,7 +85,7 @@ join-silent (a ∷ b ∷ rest) id h =
     let e : length (a ∷ b ∷ rest) - 1 ≡ suc (length (b ∷ rest) - 1) = omega arith in
     join-silent (b ∷ rest) id (h ∙ ap (λ n. slice_get (a ∷ b ∷ rest) n) e)
 
-pub drop-said : (xs : List ℕ) (x : ℕ) → Some x ≡ slice_get xs (length xs - 1) → IsSaid (Some (x, kept.Feed None)) (to_last (Feed None) xs)
+pub drop-said : (xs : List ℕ) (x : ℕ) → Some x ≡ slice_get xs (length xs - 1) → IsSaid (Some (x, stored.Feed None)) (to_last (Feed None) xs)
 drop-said [] x h = absurd (none_some x h)
 drop-said (a ∷ []) x h = (ap (λ y. parties.Server y) (sym (some_same x a h)), (refl, tt))
 drop-said (a ∷ b ∷ rest) x h =
@@ -118,10 +118,10 @@ same-self : (a : ℕ) → (a == a) ≡ true
 same-self a = eq-eqb a a refl
 
 -- what is said of the one that is gone
-pub said-report : (p b c : ℕ) (rest : List ℕ) → IsSaid (Some (c, kept.Report p)) (closing p b (b ∷ c ∷ rest))
+pub said-report : (p b c : ℕ) (rest : List ℕ) → IsSaid (Some (c, stored.Report p)) (closing p b (b ∷ c ∷ rest))
 said-report p b c rest = rw (same-self b) (refl, (refl, tt))
 
-pub said-be_tail : (p b : ℕ) → IsSaid (Some (p, kept.BeTail 0)) (closing p b (b ∷ []))
+pub said-be_tail : (p b : ℕ) → IsSaid (Some (p, stored.BeTail 0)) (closing p b (b ∷ []))
 said-be_tail p b = rw (same-self b) (refl, (refl, tt))
 
 -- another one is about the next ones
@@ -129,7 +129,7 @@ pub closing-step : (p b id : ℕ) (rest : List ℕ) → (b == id) ≡ false → 
 closing-step p b id [] h = rw h
 closing-step p b id (c ∷ rest) h = rw h
 
-pub loss-first : (id a b : ℕ) (rest : List ℕ) → (a == id) ≡ true → IsSaid (Some (b, kept.BeHead)) (said_of_loss id (a ∷ b ∷ rest))
+pub loss-first : (id a b : ℕ) (rest : List ℕ) → (a == id) ≡ true → IsSaid (Some (b, stored.BeHead)) (said_of_loss id (a ∷ b ∷ rest))
 loss-first id a b rest h = rw h (refl, (refl, tt))
 
 pub loss-later : (id a b : ℕ) (rest : List ℕ) → (a == id) ≡ false → said_of_loss id (a ∷ b ∷ rest) ≡ closing a id (b ∷ rest)
@@ -177,20 +177,20 @@ none-after : (xs : List ℕ) (i p b : ℕ) (rest : List ℕ) → length xs ≤ i
 none-after xs i p b [] few h = refl
 none-after xs i p b (c ∷ rest) few h = let k : length xs ≤ suc i + 1 = omega arith in absurd (few-dropped xs (suc i) b c rest k (tail-dropped xs i p (b ∷ c ∷ rest) h))
 
-pub closing-at_end : (xs : List ℕ) (i q p b : ℕ) (rest : List ℕ) → length xs ≤ i + 2 → q ≡ get_or xs i q → drop i xs ≡ p ∷ b ∷ rest → IsSaid (Some (q, kept.BeTail 0)) (closing p b (b ∷ rest))
-closing-at_end xs i q p b rest few is h = subst (λ x. IsSaid (Some (x, kept.BeTail 0)) (closing p b (b ∷ rest))) (sym (is ∙ head-dropped xs i p q (b ∷ rest) h))
-    (subst (λ ys. IsSaid (Some (p, kept.BeTail 0)) (closing p b (b ∷ ys))) (sym (none-after xs i p b rest few h)) (said-be_tail p b))
+pub closing-at_end : (xs : List ℕ) (i q p b : ℕ) (rest : List ℕ) → length xs ≤ i + 2 → q ≡ get_or xs i q → drop i xs ≡ p ∷ b ∷ rest → IsSaid (Some (q, stored.BeTail 0)) (closing p b (b ∷ rest))
+closing-at_end xs i q p b rest few is h = subst (λ x. IsSaid (Some (x, stored.BeTail 0)) (closing p b (b ∷ rest))) (sym (is ∙ head-dropped xs i p q (b ∷ rest) h))
+    (subst (λ ys. IsSaid (Some (p, stored.BeTail 0)) (closing p b (b ∷ ys))) (sym (none-after xs i p b rest few h)) (said-be_tail p b))
 
 third-is : (xs : List ℕ) (i p b c : ℕ) (rest : List ℕ) (d : ℕ) → drop i xs ≡ p ∷ b ∷ c ∷ rest → get_or xs (suc (suc i)) d ≡ c
 third-is xs i p b c rest d h = head-dropped xs (suc (suc i)) c d rest (tail-dropped xs (suc i) b (c ∷ rest) (tail-dropped xs i p (b ∷ c ∷ rest) h))
 
-pub closing-in_middle : (xs : List ℕ) (i q r p b : ℕ) (rest : List ℕ) → i + 2 < length xs → q ≡ get_or xs i q → r ≡ get_or xs (i + 2) r → drop i xs ≡ p ∷ b ∷ rest → IsSaid (Some (r, kept.Report q)) (closing p b (b ∷ rest))
+pub closing-in_middle : (xs : List ℕ) (i q r p b : ℕ) (rest : List ℕ) → i + 2 < length xs → q ≡ get_or xs i q → r ≡ get_or xs (i + 2) r → drop i xs ≡ p ∷ b ∷ rest → IsSaid (Some (r, stored.Report q)) (closing p b (b ∷ rest))
 closing-in_middle xs i q r p b [] more is_q is_r h = absurd (omega (arith, length-dropped xs i p (b ∷ []) h))
 closing-in_middle xs i q r p b (c ∷ rest) more is_q is_r h =
     let e : i + 2 ≡ suc (suc i) = omega arith in
     let r_is : r ≡ c = is_r ∙ ap (λ n. get_or xs n r) e ∙ third-is xs i p b c rest r h in
     let q_is : q ≡ p = is_q ∙ head-dropped xs i p q (b ∷ c ∷ rest) h in
-    subst (λ x. IsSaid (Some (x, kept.Report q)) (closing p b (b ∷ c ∷ rest))) (sym r_is) (subst (λ x. IsSaid (Some (c, kept.Report x)) (closing p b (b ∷ c ∷ rest))) (sym q_is) (said-report p b c rest))
+    subst (λ x. IsSaid (Some (x, stored.Report q)) (closing p b (b ∷ c ∷ rest))) (sym r_is) (subst (λ x. IsSaid (Some (c, stored.Report x)) (closing p b (b ∷ c ∷ rest))) (sym q_is) (said-report p b c rest))
 
 -- the same rest
 pub closing-of : (id b q : ℕ) (xs more : List ℕ) → b ∷ xs ≡ q ∷ more → closing b id xs ≡ closing q id more

@@ -3,8 +3,8 @@ use Rattle.std.proofs.Common.{◌≡◌, ℕ, ◌∙◌, List, [], ◌∷◌, �
 use Rattle.cq_base.specs.declared.ask.Entry.{Entry}
 use Rattle.cq_base.specs.declared.party.Party.{Party}
 use Rattle.cq_base.specs.declared.party.Party.TheVariants as parties
-use Rattle.cq_chain.specs.declared.server.Server as kept
-use Rattle.cq_chain.specs.Lanes.{Lane}
+use Rattle.cq_chain.specs.declared.server.Server as stored
+use Rattle.cq_chain.specs.Fifos.{Fifo}
 use Rattle.cq_chain.specs.Messages.{Message, Snap, Ack, Have, Adopted, Caught, Ready}
 use Rattle.cq_chain.specs.Servers.{Server, acts, is_that}
 use Rattle.cq_chain.specs.Stands.{StandsFor, Does, posted}
@@ -16,11 +16,11 @@ use Rattle.cq_store.specs.Stands.{count_of}
 use Rattle.cq_chain.proofs.ServerStands.{stands, stands-by, parts, nothing-sent}
 
 -- room is made twice
-pub keeps-then : (a b c : List (Party × Lane)) → KeepsAll a b → KeepsAll b c → KeepsAll a c
+pub keeps-then : (a b c : List (Party × Fifo)) → KeepsAll a b → KeepsAll b c → KeepsAll a c
 keeps-then a b c h k = ((λ to. k.0 to ∙ h.0 to), (λ to. omega (arith, h.1 to, k.1 to)))
 
 -- a server that is down
-down-stands : (kept : kept.Server) (s : Server) (outbox : Party → List Message) → StandsFor kept s outbox → StandsFor (record kept { down = true }) (record s { down = true }) outbox
+down-stands : (kept : stored.Server) (s : Server) (outbox : Party → List Message) → StandsFor kept s outbox → StandsFor (record kept { down = true }) (record s { down = true }) outbox
 down-stands kept s outbox h = let p = parts kept s outbox h in stands (record kept { down = true }) (record s { down = true }) outbox (record {
   entries = p.entries;
   acked = p.acked;
@@ -33,11 +33,11 @@ down-stands kept s outbox h = let p = parts kept s outbox h in stands (record ke
   waiting = p.waiting;
 })
 
-pub crashed-stands : (kept : kept.Server) (s : Server) (outbox : Party → List Message) → StandsFor kept s outbox → StandsFor (record kept { down = true }) (record s { down = true }) (posted outbox [])
+pub crashed-stands : (kept : stored.Server) (s : Server) (outbox : Party → List Message) → StandsFor kept s outbox → StandsFor (record kept { down = true }) (record s { down = true }) (posted outbox [])
 crashed-stands kept s outbox h = nothing-sent (record kept { down = true }) (record s { down = true }) outbox (down-stands kept s outbox h)
 
 -- the head
-head-stands : (kept : kept.Server) (s : Server) (outbox : Party → List Message) → StandsFor kept s outbox → StandsFor (record kept { head = true; pred = None }) (record s { head = true; pred = None }) outbox
+head-stands : (kept : stored.Server) (s : Server) (outbox : Party → List Message) → StandsFor kept s outbox → StandsFor (record kept { head = true; pred = None }) (record s { head = true; pred = None }) outbox
 head-stands kept s outbox h = let p = parts kept s outbox h in stands (record kept { head = true; pred = None }) (record s { head = true; pred = None }) outbox (record {
   entries = p.entries;
   acked = p.acked;
@@ -50,11 +50,11 @@ head-stands kept s outbox h = let p = parts kept s outbox h in stands (record ke
   waiting = p.waiting;
 })
 
-pub headed-stands : (kept : kept.Server) (s : Server) (outbox : Party → List Message) → StandsFor kept s outbox → StandsFor (record kept { head = true; pred = None }) (record s { head = true; pred = None }) (posted outbox [])
+pub headed-stands : (kept : stored.Server) (s : Server) (outbox : Party → List Message) → StandsFor kept s outbox → StandsFor (record kept { head = true; pred = None }) (record s { head = true; pred = None }) (posted outbox [])
 headed-stands kept s outbox h = nothing-sent (record kept { head = true; pred = None }) (record s { head = true; pred = None }) outbox (head-stands kept s outbox h)
 
 -- a new predecessor
-pub reported-stands : (kept : kept.Server) (s : Server) (outbox : Party → List Message) (boxes : List (Party × Lane)) (pred n k : ℕ) → StandsFor kept s outbox
+pub reported-stands : (kept : stored.Server) (s : Server) (outbox : Party → List Message) (boxes : List (Party × Fifo)) (pred n k : ℕ) → StandsFor kept s outbox
     → Posts kept.outboxes boxes ((parties.Master, Have pred n) ∷ (parties.Server pred, Ack k) ∷ []) → n ≡ count_of kept.replica.store → k ≡ kept.acked
     → StandsFor (record kept { pred = Some pred; outboxes = boxes }) (reported pred s).server (posted outbox (reported pred s).sent)
 reported-stands kept s outbox boxes pred n k h posts is_n is_k = let p = parts kept s outbox h in
@@ -72,7 +72,7 @@ reported-stands kept s outbox boxes pred n k h posts is_n is_k = let p = parts k
     })
 
 -- a new successor
-pub adopting-stands : (kept : kept.Server) (s : Server) (outbox : Party → List Message) (boxes : List (Party × Lane)) (succ have n : ℕ) → StandsFor kept s outbox
+pub adopting-stands : (kept : stored.Server) (s : Server) (outbox : Party → List Message) (boxes : List (Party × Fifo)) (succ have n : ℕ) → StandsFor kept s outbox
     → Posts kept.outboxes boxes (when (not (is_that s.succ succ)) (repair succ have s) ++ (parties.Master, Adopted succ n) ∷ []) → n ≡ count_of kept.replica.store
     → StandsFor (record kept { at_least = None; succ = Some succ; outboxes = boxes }) (adopting succ have s).server (posted outbox (adopting succ have s).sent)
 adopting-stands kept s outbox boxes succ have n h posts is_n = let p = parts kept s outbox h in
@@ -90,7 +90,7 @@ adopting-stands kept s outbox boxes succ have n h posts is_n = let p = parts kep
     })
 
 -- a successor that is fed
-pub feeding-stands : (kept : kept.Server) (s : Server) (outbox : Party → List Message) (boxes : List (Party × Lane)) (succ : ℕ) → StandsFor kept s outbox → Posts kept.outboxes boxes ((parties.Server succ, Snap s.entries) ∷ [])
+pub feeding-stands : (kept : stored.Server) (s : Server) (outbox : Party → List Message) (boxes : List (Party × Fifo)) (succ : ℕ) → StandsFor kept s outbox → Posts kept.outboxes boxes ((parties.Server succ, Snap s.entries) ∷ [])
     → StandsFor (record kept { succ = Some succ; outboxes = boxes }) (feeding (Some succ) s).server (posted outbox (feeding (Some succ) s).sent)
 feeding-stands kept s outbox boxes succ h posts = let p = parts kept s outbox h in
     stands (record kept { succ = Some succ; outboxes = boxes }) (feeding (Some succ) s).server (posted outbox (feeding (Some succ) s).sent) (record {
@@ -106,7 +106,7 @@ feeding-stands kept s outbox boxes succ h posts = let p = parts kept s outbox h 
     })
 
 -- no successor any more
-alone-stands : (kept : kept.Server) (s : Server) (outbox : Party → List Message) → StandsFor kept s outbox → StandsFor (record kept { succ = None }) (record s { succ = None }) outbox
+alone-stands : (kept : stored.Server) (s : Server) (outbox : Party → List Message) → StandsFor kept s outbox → StandsFor (record kept { succ = None }) (record s { succ = None }) outbox
 alone-stands kept s outbox h = let p = parts kept s outbox h in stands (record kept { succ = None }) (record s { succ = None }) outbox (record {
   entries = p.entries;
   acked = p.acked;
@@ -119,7 +119,7 @@ alone-stands kept s outbox h = let p = parts kept s outbox h in stands (record k
   waiting = p.waiting;
 })
 
-pub feeding_none-stands : (kept : kept.Server) (s : Server) (outbox : Party → List Message) → StandsFor kept s outbox → StandsFor (record kept { succ = None }) (feeding None s).server (posted outbox (feeding None s).sent)
+pub feeding_none-stands : (kept : stored.Server) (s : Server) (outbox : Party → List Message) → StandsFor kept s outbox → StandsFor (record kept { succ = None }) (feeding None s).server (posted outbox (feeding None s).sent)
 feeding_none-stands kept s outbox h = nothing-sent (record kept { succ = None }) (record s { succ = None }) outbox (alone-stands kept s outbox h)
 
 -- by whether the server acts
@@ -138,7 +138,7 @@ pub restored-caught : (old now : Server) (from : ℕ) → now.at_least ≡ None 
 restored-caught old now from h = rw h
 
 -- the tail
-pub tail-stands : (kept : kept.Server) (s : Server) (outbox : Party → List Message) (least : ℕ) → StandsFor kept s outbox → StandsFor (record kept { at_least = Some least; succ = None }) (as_tail least s) outbox
+pub tail-stands : (kept : stored.Server) (s : Server) (outbox : Party → List Message) (least : ℕ) → StandsFor kept s outbox → StandsFor (record kept { at_least = Some least; succ = None }) (as_tail least s) outbox
 tail-stands kept s outbox least h = let p = parts kept s outbox h in stands (record kept { at_least = Some least; succ = None }) (as_tail least s) outbox (record {
   entries = p.entries;
   acked = p.acked;
@@ -160,7 +160,7 @@ pub tailed-news : (least : ℕ) (s : Server) → tail_news (record s { at_least 
 tailed-news least s = both-when (acts (as_tail least s)) (to_server s.pred (Ack (length s.entries))) ((parties.Master, Ready) ∷ [])
 
 -- the history of a snapshot
-pub history-stands : (kept : kept.Server) (s : Server) (outbox : Party → List Message) (replica : Replica) (es : List Entry) → StandsFor kept s outbox → Recalls replica es (length es)
+pub history-stands : (kept : stored.Server) (s : Server) (outbox : Party → List Message) (replica : Replica) (es : List Entry) → StandsFor kept s outbox → Recalls replica es (length es)
     → StandsFor (record kept { replica = replica }) (with_history s es) outbox
 history-stands kept s outbox replica es h recalls = let p = parts kept s outbox h in stands (record kept { replica = replica }) (with_history s es) outbox (record {
   entries = recalls;
@@ -175,7 +175,7 @@ history-stands kept s outbox replica es h recalls = let p = parts kept s outbox 
 })
 
 -- whether a snapshot is taken, by what the server keeps
-pub restoring-of : (s : Server) (kept : kept.Server) (outbox : Party → List Message) (from : ℕ) (state : stores.StoreKept) (es : List Entry) → StandsFor kept s outbox → stores.StandsFor state es
+pub restoring-of : (s : Server) (kept : stored.Server) (outbox : Party → List Message) (from : ℕ) (state : stores.StoreKept) (es : List Entry) → StandsFor kept s outbox → stores.StandsFor state es
     → (is_that kept.pred from && is_none kept.succ && nat_le (count_of kept.replica.store) (count_of state)) ≡ is_restoring s from es
 restoring-of s kept outbox from state es h is = let p = parts kept s outbox h in rw (p.pred, p.succ, p.entries.store.count, is.count)
 
@@ -188,11 +188,11 @@ unfolding takes
 takes-no_snapshot s from es h = rw h
 
 -- a step that succeeded, by what it is
-pub does-by : {E : Type 0} (old new : kept.Server) (step other : Server → Step) (r : Result (Unit {0}) E) → ((s : Server) → other s ≡ step s) → OnOk r (Does old new step) → OnOk r (Does old new other)
+pub does-by : {E : Type 0} (old new : stored.Server) (step other : Server → Step) (r : Result (Unit {0}) E) → ((s : Server) → other s ≡ step s) → OnOk r (Does old new step) → OnOk r (Does old new other)
 does-by old new step other (Ok x) same does = λ s outbox h. stands-by new outbox (other s) (step s) (same s) (does s outbox h)
 does-by old new step other (Err e) same does = tt
 
 -- the same where it is told by what the server stands for
-pub does-as : {E : Type 0} (old new : kept.Server) (step other : Server → Step) (r : Result (Unit {0}) E) → ((s : Server) (outbox : Party → List Message) → StandsFor old s outbox → other s ≡ step s) → OnOk r (Does old new step) → OnOk r (Does old new other)
+pub does-as : {E : Type 0} (old new : stored.Server) (step other : Server → Step) (r : Result (Unit {0}) E) → ((s : Server) (outbox : Party → List Message) → StandsFor old s outbox → other s ≡ step s) → OnOk r (Does old new step) → OnOk r (Does old new other)
 does-as old new step other (Ok x) same does = λ s outbox h. stands-by new outbox (other s) (step s) (same s outbox h) (does s outbox h)
 does-as old new step other (Err e) same does = tt

@@ -8,7 +8,7 @@ use Rattle.cq_base.specs.declared.party.Party.TheVariants as parties
 use Rattle.cq_chain.specs.declared.fault.WorldFault.{WorldFault}
 use Rattle.cq_chain.specs.declared.fault.WorldFault.TheVariants.{NotHead, HistoryFull, NotTail, NoMemory}
 use Rattle.cq_chain.specs.declared.message.Message as rust
-use Rattle.cq_chain.specs.declared.message.Message.TheVariants as kept
+use Rattle.cq_chain.specs.declared.message.Message.TheVariants as stored
 use Rattle.cq_chain.specs.Messages.{Message, Fwd, Snap, Ack, BeHead, Report, Adopt, BeTail, Feed}
 use Rattle.cq_chain.specs.Refusals.{unless_full, refusal_of_arrival, refusal_of_query, refusal_of_taking}
 use Rattle.cq_chain.specs.Servers.{Server, acts, is_that}
@@ -88,8 +88,8 @@ unfolding refusal_of_taking
 ack-not-refused s from n m is = ap (λ x. refusal_of_taking (parties.Server from) x s) is
 
 -- what a snapshot stands for
-pub snapshot-seen : (message : rust.Message) (state : StoreKept) (m : Message) → message ≡ kept.Snap state → Means message m → IsSnapshot state m
-snapshot-seen message state m is h = means-seen message (kept.Snap state) m is h
+pub snapshot-seen : (message : rust.Message) (state : StoreKept) (m : Message) → message ≡ stored.Snap state → Means message m → IsSnapshot state m
+snapshot-seen message state m is h = means-seen message (stored.Snap state) m is h
 
 pub snapshot-not-refused : (s : Server) (from : ℕ) (state : List Entry) (m : Message) → m ≡ Snap state → refusal_of_taking (parties.Server from) m s ≡ None
 unfolding refusal_of_taking
@@ -97,38 +97,38 @@ snapshot-not-refused s from state m is = ap (λ x. refusal_of_taking (parties.Se
 
 -- what no server says to a server
 
-pub takes-others : (s : Server) (from : ℕ) (message : rust.Message) (m : Message) → ((place : ℕ) (e : Entry) → message ≡ kept.Fwd place e → ⊥) → ((state : StoreKept) → message ≡ kept.Snap state → ⊥)
-    → ((place : ℕ) → message ≡ kept.Ack place → ⊥) → Means message m → takes (parties.Server from) m s ≡ silent s
+pub takes-others : (s : Server) (from : ℕ) (message : rust.Message) (m : Message) → ((place : ℕ) (e : Entry) → message ≡ stored.Fwd place e → ⊥) → ((state : StoreKept) → message ≡ stored.Snap state → ⊥)
+    → ((place : ℕ) → message ≡ stored.Ack place → ⊥) → Means message m → takes (parties.Server from) m s ≡ silent s
 unfolding takes
-takes-others s from (kept.Fwd place e) m fwd snap ack h = absurd (fwd place e refl)
-takes-others s from (kept.Snap state) m fwd snap ack h = absurd (snap state refl)
-takes-others s from (kept.Ack place) m fwd snap ack h = absurd (ack place refl)
-takes-others s from kept.BeHead m fwd snap ack h = ap (λ x. takes (parties.Server from) x s) h
-takes-others s from (kept.Report pred) m fwd snap ack h = ap (λ x. takes (parties.Server from) x s) h
-takes-others s from (kept.Adopt succ have) m fwd snap ack h = ap (λ x. takes (parties.Server from) x s) h
-takes-others s from (kept.BeTail least) m fwd snap ack h = ap (λ x. takes (parties.Server from) x s) h
-takes-others s from (kept.Feed succ) m fwd snap ack h = ap (λ x. takes (parties.Server from) x s) h
-takes-others s from (kept.Have pred count) m fwd snap ack h = ap (λ x. takes (parties.Server from) x s) h
-takes-others s from (kept.Adopted succ count) m fwd snap ack h = ap (λ x. takes (parties.Server from) x s) h
-takes-others s from (kept.Caught pred count) m fwd snap ack h = ap (λ x. takes (parties.Server from) x s) h
-takes-others s from kept.Ready m fwd snap ack h = ap (λ x. takes (parties.Server from) x s) h
-takes-others s from (kept.Answer answer) m fwd snap ack h = ap (λ x. takes (parties.Server from) x s) h
+takes-others s from (stored.Fwd place e) m fwd snap ack h = absurd (fwd place e refl)
+takes-others s from (stored.Snap state) m fwd snap ack h = absurd (snap state refl)
+takes-others s from (stored.Ack place) m fwd snap ack h = absurd (ack place refl)
+takes-others s from stored.BeHead m fwd snap ack h = ap (λ x. takes (parties.Server from) x s) h
+takes-others s from (stored.Report pred) m fwd snap ack h = ap (λ x. takes (parties.Server from) x s) h
+takes-others s from (stored.Adopt succ have) m fwd snap ack h = ap (λ x. takes (parties.Server from) x s) h
+takes-others s from (stored.BeTail least) m fwd snap ack h = ap (λ x. takes (parties.Server from) x s) h
+takes-others s from (stored.Feed succ) m fwd snap ack h = ap (λ x. takes (parties.Server from) x s) h
+takes-others s from (stored.Have pred count) m fwd snap ack h = ap (λ x. takes (parties.Server from) x s) h
+takes-others s from (stored.Adopted succ count) m fwd snap ack h = ap (λ x. takes (parties.Server from) x s) h
+takes-others s from (stored.Caught pred count) m fwd snap ack h = ap (λ x. takes (parties.Server from) x s) h
+takes-others s from stored.Ready m fwd snap ack h = ap (λ x. takes (parties.Server from) x s) h
+takes-others s from (stored.Answer answer) m fwd snap ack h = ap (λ x. takes (parties.Server from) x s) h
 
-pub others-not-refused : (s : Server) (from : ℕ) (message : rust.Message) (m : Message) → ((place : ℕ) (e : Entry) → message ≡ kept.Fwd place e → ⊥) → Means message m → refusal_of_taking (parties.Server from) m s ≡ None
+pub others-not-refused : (s : Server) (from : ℕ) (message : rust.Message) (m : Message) → ((place : ℕ) (e : Entry) → message ≡ stored.Fwd place e → ⊥) → Means message m → refusal_of_taking (parties.Server from) m s ≡ None
 unfolding refusal_of_taking
-others-not-refused s from (kept.Fwd place e) m fwd h = absurd (fwd place e refl)
-others-not-refused s from (kept.Snap state) m fwd h = ap (λ x. refusal_of_taking (parties.Server from) x s) h.is
-others-not-refused s from (kept.Ack place) m fwd h = ap (λ x. refusal_of_taking (parties.Server from) x s) h
-others-not-refused s from kept.BeHead m fwd h = ap (λ x. refusal_of_taking (parties.Server from) x s) h
-others-not-refused s from (kept.Report pred) m fwd h = ap (λ x. refusal_of_taking (parties.Server from) x s) h
-others-not-refused s from (kept.Adopt succ have) m fwd h = ap (λ x. refusal_of_taking (parties.Server from) x s) h
-others-not-refused s from (kept.BeTail least) m fwd h = ap (λ x. refusal_of_taking (parties.Server from) x s) h
-others-not-refused s from (kept.Feed succ) m fwd h = ap (λ x. refusal_of_taking (parties.Server from) x s) h
-others-not-refused s from (kept.Have pred count) m fwd h = ap (λ x. refusal_of_taking (parties.Server from) x s) h
-others-not-refused s from (kept.Adopted succ count) m fwd h = ap (λ x. refusal_of_taking (parties.Server from) x s) h
-others-not-refused s from (kept.Caught pred count) m fwd h = ap (λ x. refusal_of_taking (parties.Server from) x s) h
-others-not-refused s from kept.Ready m fwd h = ap (λ x. refusal_of_taking (parties.Server from) x s) h
-others-not-refused s from (kept.Answer answer) m fwd h = ap (λ x. refusal_of_taking (parties.Server from) x s) h
+others-not-refused s from (stored.Fwd place e) m fwd h = absurd (fwd place e refl)
+others-not-refused s from (stored.Snap state) m fwd h = ap (λ x. refusal_of_taking (parties.Server from) x s) h.is
+others-not-refused s from (stored.Ack place) m fwd h = ap (λ x. refusal_of_taking (parties.Server from) x s) h
+others-not-refused s from stored.BeHead m fwd h = ap (λ x. refusal_of_taking (parties.Server from) x s) h
+others-not-refused s from (stored.Report pred) m fwd h = ap (λ x. refusal_of_taking (parties.Server from) x s) h
+others-not-refused s from (stored.Adopt succ have) m fwd h = ap (λ x. refusal_of_taking (parties.Server from) x s) h
+others-not-refused s from (stored.BeTail least) m fwd h = ap (λ x. refusal_of_taking (parties.Server from) x s) h
+others-not-refused s from (stored.Feed succ) m fwd h = ap (λ x. refusal_of_taking (parties.Server from) x s) h
+others-not-refused s from (stored.Have pred count) m fwd h = ap (λ x. refusal_of_taking (parties.Server from) x s) h
+others-not-refused s from (stored.Adopted succ count) m fwd h = ap (λ x. refusal_of_taking (parties.Server from) x s) h
+others-not-refused s from (stored.Caught pred count) m fwd h = ap (λ x. refusal_of_taking (parties.Server from) x s) h
+others-not-refused s from stored.Ready m fwd h = ap (λ x. refusal_of_taking (parties.Server from) x s) h
+others-not-refused s from (stored.Answer answer) m fwd h = ap (λ x. refusal_of_taking (parties.Server from) x s) h
 
 -- what comes from clients is ignored
 
@@ -159,22 +159,22 @@ unfolding takes
 takes-feed s succ m is = ap (λ x. takes parties.Master x s) is
 
 -- and what the master doesn't say
-pub takes-no_order : (s : Server) (message : rust.Message) (m : Message) → (message ≡ kept.BeHead → ⊥) → ((pred : ℕ) → message ≡ kept.Report pred → ⊥) → ((succ have : ℕ) → message ≡ kept.Adopt succ have → ⊥)
-    → ((least : ℕ) → message ≡ kept.BeTail least → ⊥) → ((succ : Option ℕ) → message ≡ kept.Feed succ → ⊥) → Means message m → takes parties.Master m s ≡ silent s
+pub takes-no_order : (s : Server) (message : rust.Message) (m : Message) → (message ≡ stored.BeHead → ⊥) → ((pred : ℕ) → message ≡ stored.Report pred → ⊥) → ((succ have : ℕ) → message ≡ stored.Adopt succ have → ⊥)
+    → ((least : ℕ) → message ≡ stored.BeTail least → ⊥) → ((succ : Option ℕ) → message ≡ stored.Feed succ → ⊥) → Means message m → takes parties.Master m s ≡ silent s
 unfolding takes
-takes-no_order s (kept.Fwd place e) m head report adopt tail feed h = ap (λ x. takes parties.Master x s) h
-takes-no_order s (kept.Snap state) m head report adopt tail feed h = ap (λ x. takes parties.Master x s) h.is
-takes-no_order s (kept.Ack place) m head report adopt tail feed h = ap (λ x. takes parties.Master x s) h
-takes-no_order s kept.BeHead m head report adopt tail feed h = absurd (head refl)
-takes-no_order s (kept.Report pred) m head report adopt tail feed h = absurd (report pred refl)
-takes-no_order s (kept.Adopt succ have) m head report adopt tail feed h = absurd (adopt succ have refl)
-takes-no_order s (kept.BeTail least) m head report adopt tail feed h = absurd (tail least refl)
-takes-no_order s (kept.Feed succ) m head report adopt tail feed h = absurd (feed succ refl)
-takes-no_order s (kept.Have pred count) m head report adopt tail feed h = ap (λ x. takes parties.Master x s) h
-takes-no_order s (kept.Adopted succ count) m head report adopt tail feed h = ap (λ x. takes parties.Master x s) h
-takes-no_order s (kept.Caught pred count) m head report adopt tail feed h = ap (λ x. takes parties.Master x s) h
-takes-no_order s kept.Ready m head report adopt tail feed h = ap (λ x. takes parties.Master x s) h
-takes-no_order s (kept.Answer answer) m head report adopt tail feed h = ap (λ x. takes parties.Master x s) h
+takes-no_order s (stored.Fwd place e) m head report adopt tail feed h = ap (λ x. takes parties.Master x s) h
+takes-no_order s (stored.Snap state) m head report adopt tail feed h = ap (λ x. takes parties.Master x s) h.is
+takes-no_order s (stored.Ack place) m head report adopt tail feed h = ap (λ x. takes parties.Master x s) h
+takes-no_order s stored.BeHead m head report adopt tail feed h = absurd (head refl)
+takes-no_order s (stored.Report pred) m head report adopt tail feed h = absurd (report pred refl)
+takes-no_order s (stored.Adopt succ have) m head report adopt tail feed h = absurd (adopt succ have refl)
+takes-no_order s (stored.BeTail least) m head report adopt tail feed h = absurd (tail least refl)
+takes-no_order s (stored.Feed succ) m head report adopt tail feed h = absurd (feed succ refl)
+takes-no_order s (stored.Have pred count) m head report adopt tail feed h = ap (λ x. takes parties.Master x s) h
+takes-no_order s (stored.Adopted succ count) m head report adopt tail feed h = ap (λ x. takes parties.Master x s) h
+takes-no_order s (stored.Caught pred count) m head report adopt tail feed h = ap (λ x. takes parties.Master x s) h
+takes-no_order s stored.Ready m head report adopt tail feed h = ap (λ x. takes parties.Master x s) h
+takes-no_order s (stored.Answer answer) m head report adopt tail feed h = ap (λ x. takes parties.Master x s) h
 
 pub master-not-refused : (s : Server) (m : Message) → refusal_of_taking parties.Master m s ≡ None
 unfolding refusal_of_taking

@@ -3,12 +3,12 @@ use Rattle.std.proofs.Common.{◌≡◌, ℕ, ◌+◌, ◌∙◌, ap, sym, List,
 use Rattle.cq_base.specs.declared.ask.Entry.{Entry}
 use Rattle.cq_base.specs.declared.ask.Query.{Query}
 use Rattle.cq_base.specs.declared.ask.Request.{Request}
-use Rattle.cq_base.specs.History.{last_moment}
+use Rattle.cq_base.specs.queue.History.{last_moment}
 use Rattle.cq_base.specs.declared.party.Party.{Party}
 use Rattle.cq_base.specs.declared.party.Party.TheVariants as parties
 use Rattle.cq_chain.specs.declared.message.Answer.{Answer}
-use Rattle.cq_chain.specs.declared.server.Server as kept
-use Rattle.cq_chain.specs.Lanes.{Lane}
+use Rattle.cq_chain.specs.declared.server.Server as stored
+use Rattle.cq_chain.specs.Fifos.{Fifo}
 use Rattle.cq_chain.specs.within.Boxes.{messages_for}
 use Rattle.cq_chain.specs.within.Replicas.{Replica, Recalls}
 use Rattle.cq_chain.specs.Messages.{Message, Fwd, Ack, Ready, Answers}
@@ -21,11 +21,11 @@ use Rattle.cq_chain.proofs.Mailing.{means-length, waits-kept, posts-after, poste
 
 -- ---- the parts
 
-pub stands : (kept : kept.Server) (s : Server) (outbox : Party → List Message) → Holds kept s outbox → StandsFor kept s outbox
+pub stands : (kept : stored.Server) (s : Server) (outbox : Party → List Message) → Holds kept s outbox → StandsFor kept s outbox
 unfolding StandsFor
 stands kept s outbox h = h
 
-pub parts : (kept : kept.Server) (s : Server) (outbox : Party → List Message) → StandsFor kept s outbox → Holds kept s outbox
+pub parts : (kept : stored.Server) (s : Server) (outbox : Party → List Message) → StandsFor kept s outbox → Holds kept s outbox
 unfolding StandsFor
 parts kept s outbox h = h
 
@@ -35,13 +35,13 @@ on_err (Ok x) q = tt
 on_err (Err e) q = q
 
 -- it acts
-pub acting : (kept : kept.Server) (s : Server) (outbox : Party → List Message) → StandsFor kept s outbox → reaches (count_of kept.replica.store) kept.at_least ≡ acts s
+pub acting : (kept : stored.Server) (s : Server) (outbox : Party → List Message) → StandsFor kept s outbox → reaches (count_of kept.replica.store) kept.at_least ≡ acts s
 acting kept s outbox h = let p = parts kept s outbox h in ap (λ n. reaches n kept.at_least) p.entries.store.count ∙ ap (λ l. reaches (length s.entries) l) p.at_least
 
 -- ---- outboxes
 
 -- with other outboxes
-pub with_boxes : (kept : kept.Server) (s : Server) (outbox next : Party → List Message) (boxes : List (Party × Lane)) → StandsFor kept s outbox → Waits boxes next → StandsFor (record kept { outboxes = boxes }) s next
+pub with_boxes : (kept : stored.Server) (s : Server) (outbox next : Party → List Message) (boxes : List (Party × Fifo)) → StandsFor kept s outbox → Waits boxes next → StandsFor (record kept { outboxes = boxes }) s next
 with_boxes kept s outbox next boxes h waits = let p = parts kept s outbox h in stands (record kept { outboxes = boxes }) s next (record {
   entries = p.entries;
   acked = p.acked;
@@ -55,7 +55,7 @@ with_boxes kept s outbox next boxes h waits = let p = parts kept s outbox h in s
 })
 
 -- with another replica of the same
-pub with_replica : (kept : kept.Server) (s : Server) (outbox : Party → List Message) (replica : Replica) → StandsFor kept s outbox → Recalls replica s.entries s.floor → StandsFor (record kept { replica = replica }) s outbox
+pub with_replica : (kept : stored.Server) (s : Server) (outbox : Party → List Message) (replica : Replica) → StandsFor kept s outbox → Recalls replica s.entries s.floor → StandsFor (record kept { replica = replica }) s outbox
 with_replica kept s outbox replica h recalls = let p = parts kept s outbox h in stands (record kept { replica = replica }) s outbox (record {
   entries = recalls;
   acked = p.acked;
@@ -69,35 +69,35 @@ with_replica kept s outbox replica h recalls = let p = parts kept s outbox h in 
 })
 
 -- with room
-pub with_room : (kept : kept.Server) (s : Server) (outbox : Party → List Message) (boxes : List (Party × Lane)) → StandsFor kept s outbox → KeepsAll kept.outboxes boxes → StandsFor (record kept { outboxes = boxes }) s outbox
+pub with_room : (kept : stored.Server) (s : Server) (outbox : Party → List Message) (boxes : List (Party × Fifo)) → StandsFor kept s outbox → KeepsAll kept.outboxes boxes → StandsFor (record kept { outboxes = boxes }) s outbox
 with_room kept s outbox boxes h keeps = with_boxes kept s outbox outbox boxes h (waits-kept kept.outboxes boxes keeps outbox (parts kept s outbox h).waiting)
 
 -- with messages
-pub with_posts : (kept : kept.Server) (s : Server) (outbox : Party → List Message) (boxes : List (Party × Lane)) (sent all : List (Party × Message)) → StandsFor kept s outbox → Posts kept.outboxes boxes sent → sent ≡ all
+pub with_posts : (kept : stored.Server) (s : Server) (outbox : Party → List Message) (boxes : List (Party × Fifo)) (sent all : List (Party × Message)) → StandsFor kept s outbox → Posts kept.outboxes boxes sent → sent ≡ all
     → StandsFor (record kept { outboxes = boxes }) s (posted outbox all)
 with_posts kept s outbox boxes sent all h posts same = subst (λ xs. StandsFor (record kept { outboxes = boxes }) s (posted outbox xs)) same
     (with_boxes kept s outbox (posted outbox sent) boxes h (posts outbox (parts kept s outbox h).waiting))
 
 -- the same waits
-pub with_outbox : (kept : kept.Server) (s : Server) (outbox next : Party → List Message) → StandsFor kept s outbox → ((p : Party) → outbox p ≡ next p) → StandsFor kept s next
+pub with_outbox : (kept : stored.Server) (s : Server) (outbox next : Party → List Message) → StandsFor kept s outbox → ((p : Party) → outbox p ≡ next p) → StandsFor kept s next
 with_outbox kept s outbox next h same = with_boxes kept s outbox next kept.outboxes h (λ p. subst (λ ms. AllMean (messages_for kept.outboxes p) ms) (same p) ((parts kept s outbox h).waiting p))
 
 -- nothing is sent
-pub nothing-sent : (kept : kept.Server) (s : Server) (outbox : Party → List Message) → StandsFor kept s outbox → StandsFor kept s (posted outbox [])
+pub nothing-sent : (kept : stored.Server) (s : Server) (outbox : Party → List Message) → StandsFor kept s outbox → StandsFor kept s (posted outbox [])
 nothing-sent kept s outbox h = with_outbox kept s outbox (posted outbox []) h (λ p. sym (append-nil (outbox p)))
 
 -- one after the other
-pub sent-after : (kept : kept.Server) (s : Server) (outbox : Party → List Message) (xs ys : List (Party × Message)) → StandsFor kept s (posted (posted outbox xs) ys) → StandsFor kept s (posted outbox (xs ++ ys))
+pub sent-after : (kept : stored.Server) (s : Server) (outbox : Party → List Message) (xs ys : List (Party × Message)) → StandsFor kept s (posted (posted outbox xs) ys) → StandsFor kept s (posted outbox (xs ++ ys))
 sent-after kept s outbox xs ys h = with_outbox kept s (posted (posted outbox xs) ys) (posted outbox (xs ++ ys)) h (posted-append outbox xs ys)
 
 -- how many wait
-pub waiting-length : (kept : kept.Server) (s : Server) (outbox : Party → List Message) (to : Party) → StandsFor kept s outbox → length (messages_for kept.outboxes to) ≡ length (outbox to)
+pub waiting-length : (kept : stored.Server) (s : Server) (outbox : Party → List Message) (to : Party) → StandsFor kept s outbox → length (messages_for kept.outboxes to) ≡ length (outbox to)
 waiting-length kept s outbox to h = means-length (messages_for kept.outboxes to) (outbox to) ((parts kept s outbox h).waiting to)
 
 -- ---- parts of steps
 
 -- a server that acts is settled
-pub settled-stands : (kept : kept.Server) (s : Server) (outbox : Party → List Message) (n : ℕ) (replica : Replica) → StandsFor kept s outbox → acts s ≡ true → n ≡ count_of kept.replica.store
+pub settled-stands : (kept : stored.Server) (s : Server) (outbox : Party → List Message) (n : ℕ) (replica : Replica) → StandsFor kept s outbox → acts s ≡ true → n ≡ count_of kept.replica.store
     → ((history : List Entry) (floor : ℕ) → Recalls kept.replica history floor → Recalls replica history (length history)) → StandsFor (record kept { acked = n; replica = replica; full = true }) (settled s) outbox
 settled-stands kept s outbox n replica h acting is_n forgets = let p = parts kept s outbox h in
     let now : Server = record s { acked = length s.entries; floor = length s.entries; full = true } in
@@ -115,7 +115,7 @@ settled-stands kept s outbox n replica h acting is_n forgets = let p = parts kep
     }))
 
 -- with one more entry
-pub appended-stands : (kept : kept.Server) (s : Server) (outbox : Party → List Message) (e : Entry) (replica : Replica) → StandsFor kept s outbox → Recalls replica (s.entries ++ e ∷ []) s.floor → StandsFor (record kept { replica = replica }) (appended s e) outbox
+pub appended-stands : (kept : stored.Server) (s : Server) (outbox : Party → List Message) (e : Entry) (replica : Replica) → StandsFor kept s outbox → Recalls replica (s.entries ++ e ∷ []) s.floor → StandsFor (record kept { replica = replica }) (appended s e) outbox
 appended-stands kept s outbox e replica h more = let p = parts kept s outbox h in stands (record kept { replica = replica }) (appended s e) outbox (record {
   entries = more;
   acked = p.acked;
@@ -146,29 +146,29 @@ tells-place old now pred n acting acted is_pred is_n = rw (acting, acted, is_pre
 -- ---- whole steps
 
 -- a step, by what it is
-pub stands-by : (kept : kept.Server) (outbox : Party → List Message) (step other : Step) → step ≡ other → StandsFor kept other.server (posted outbox other.sent) → StandsFor kept step.server (posted outbox step.sent)
+pub stands-by : (kept : stored.Server) (outbox : Party → List Message) (step other : Step) → step ≡ other → StandsFor kept other.server (posted outbox other.sent) → StandsFor kept step.server (posted outbox step.sent)
 stands-by kept outbox step other same h = subst (λ x. StandsFor kept x.server (posted outbox x.sent)) (sym same) h
 
 pub stamped-by : (entries : List Entry) (clock last : ℕ) (request : Request) (e : Entry) → e ≡ record { moment = max clock last; request = request } → last ≡ last_moment entries → e ≡ stamped entries clock request
 stamped-by entries clock last request e is same = subst (λ l. e ≡ record { moment = max clock l; request = request }) same is
 
-pub arrived-stands : (new : kept.Server) (clock : ℕ) (request : Request) (s : Server) (outbox : Party → List Message) (e : Entry) → e ≡ stamped s.entries clock request
+pub arrived-stands : (new : stored.Server) (clock : ℕ) (request : Request) (s : Server) (outbox : Party → List Message) (e : Entry) → e ≡ stamped s.entries clock request
     → StandsFor new (settled (appended s e)) (posted outbox (passed_on s e)) → StandsFor new (arrived clock request s).server (posted outbox (arrived clock request s).sent)
 unfolding arrived
 arrived-stands new clock request s outbox e is h = subst (λ d. StandsFor new (settled (appended s d)) (posted outbox (passed_on s d))) is h
 
-pub asked-stands : (kept : kept.Server) (boxes mid : List (Party × Lane)) (query : Query) (s : Server) (outbox : Party → List Message) (answer : Answer) → StandsFor kept s outbox → KeepsAll kept.outboxes mid
+pub asked-stands : (kept : stored.Server) (boxes mid : List (Party × Fifo)) (query : Query) (s : Server) (outbox : Party → List Message) (answer : Answer) → StandsFor kept s outbox → KeepsAll kept.outboxes mid
     → Posts mid boxes ((parties.Clients, Answers answer) ∷ []) → answer ≡ answer_to_query s.entries query → StandsFor (record kept { outboxes = boxes }) (asked query s).server (posted outbox (asked query s).sent)
 unfolding asked
 asked-stands kept boxes mid query s outbox answer h keeps posts is = with_posts kept s outbox boxes ((parties.Clients, Answers answer) ∷ []) ((parties.Clients, Answers (answer_to_query s.entries query)) ∷ []) h
     (posts-after kept.outboxes mid boxes ((parties.Clients, Answers answer) ∷ []) keeps posts) (ap (λ a. (parties.Clients, Answers a) ∷ []) is)
 
 -- no news is ignored
-pub ignored-stands : (kept : kept.Server) (n : ℕ) (s : Server) (outbox : Party → List Message) → StandsFor kept s outbox → nat_lt s.acked n ≡ false → StandsFor kept (acknowledged n s).server (posted outbox (acknowledged n s).sent)
+pub ignored-stands : (kept : stored.Server) (n : ℕ) (s : Server) (outbox : Party → List Message) → StandsFor kept s outbox → nat_lt s.acked n ≡ false → StandsFor kept (acknowledged n s).server (posted outbox (acknowledged n s).sent)
 ignored-stands kept n s outbox h old = rw old (nothing-sent kept s outbox h)
 
 -- an acknowledgement is kept and passed on
-pub acknowledged-stands : (kept : kept.Server) (boxes mid : List (Party × Lane)) (n k : ℕ) (replica : Replica) (s : Server) (outbox : Party → List Message) → StandsFor kept s outbox → KeepsAll kept.outboxes mid
+pub acknowledged-stands : (kept : stored.Server) (boxes mid : List (Party × Fifo)) (n k : ℕ) (replica : Replica) (s : Server) (outbox : Party → List Message) → StandsFor kept s outbox → KeepsAll kept.outboxes mid
     → Posts mid boxes (to_server kept.pred (Ack k)) → k ≡ n → Recalls replica s.entries (max s.floor n) → nat_lt s.acked n ≡ true
     → StandsFor (record kept { acked = k; replica = replica; outboxes = boxes }) (acknowledged n s).server (posted outbox (acknowledged n s).sent)
 acknowledged-stands kept boxes mid n k replica s outbox h keeps posts is_k forgets news = let p = parts kept s outbox h in

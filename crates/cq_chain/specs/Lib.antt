@@ -1,7 +1,7 @@
 pub mod Parties
 pub mod Faults
 pub mod Messages
-pub mod Lanes
+pub mod Fifos
 pub mod Servers
 pub mod Steps
 pub mod Refusals

@@ -6,7 +6,7 @@ use Rattle.cq_base.specs.declared.party.Party.TheVariants as parties
 use Rattle.cq_chain.specs.declared.fault.WorldFault.{WorldFault}
 use Rattle.cq_chain.specs.declared.message.Answer.{Answer}
 use Rattle.cq_chain.specs.declared.message.Message as rust
-use Rattle.cq_chain.specs.declared.message.Message.TheVariants as kept
+use Rattle.cq_chain.specs.declared.message.Message.TheVariants as stored
 use Rattle.cq_chain.specs.declared.master.Master as rust_master
 use Rattle.cq_chain.specs.declared.server.Server as rust_server
 use Rattle.cq_chain.specs.within.Boxes.{messages_for}
@@ -27,23 +27,23 @@ pub record IsSnapshot (store : stores.StoreKept) (m : Message) : Type 0 where
 
 -- a message as it is kept stands for a message
 abbrev pub Means : rust.Message → Message → Type 0
-Means (kept.Fwd place entry) m = m ≡ Fwd place entry
-Means (kept.Snap state) m = IsSnapshot state m
-Means (kept.Ack place) m = m ≡ Ack place
-Means kept.BeHead m = m ≡ BeHead
-Means (kept.Report pred) m = m ≡ Report pred
-Means (kept.Adopt succ have) m = m ≡ Adopt succ have
-Means (kept.BeTail least) m = m ≡ BeTail least
-Means (kept.Feed succ) m = m ≡ Feed succ
-Means (kept.Have pred count) m = m ≡ Have pred count
-Means (kept.Adopted succ count) m = m ≡ Adopted succ count
-Means (kept.Caught pred count) m = m ≡ Caught pred count
-Means kept.Ready m = m ≡ Ready
-Means (kept.Answer answer) m = m ≡ Answers answer
+Means (stored.Fwd place entry) m = m ≡ Fwd place entry
+Means (stored.Snap state) m = IsSnapshot state m
+Means (stored.Ack place) m = m ≡ Ack place
+Means stored.BeHead m = m ≡ BeHead
+Means (stored.Report pred) m = m ≡ Report pred
+Means (stored.Adopt succ have) m = m ≡ Adopt succ have
+Means (stored.BeTail least) m = m ≡ BeTail least
+Means (stored.Feed succ) m = m ≡ Feed succ
+Means (stored.Have pred count) m = m ≡ Have pred count
+Means (stored.Adopted succ count) m = m ≡ Adopted succ count
+Means (stored.Caught pred count) m = m ≡ Caught pred count
+Means stored.Ready m = m ≡ Ready
+Means (stored.Answer answer) m = m ≡ Answers answer
 
 -- the answer that a message is, if it is one
 abbrev pub answer_of : rust.Message → Option Answer
-answer_of (kept.Answer answer) = Some answer
+answer_of (stored.Answer answer) = Some answer
 answer_of message = None
 
 -- messages stand for messages, each for the one at its place

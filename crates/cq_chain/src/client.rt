@@ -18,7 +18,7 @@ pub struct Client {
     length: u64,
 }
 
-/// By hand, so that whoever lets one go makes one call, and has no case for each part.
+/// Written out, not derived: CONTRIBUTING.md, "Drop".
 impl Drop for Client {
     fn drop(self) {
         let Client {

@@ -5,8 +5,8 @@
 
 mod client;
 mod fault;
+mod fifo;
 mod identity;
-mod lane;
 mod master;
 mod message;
 mod outboxes;
@@ -16,7 +16,7 @@ mod snapshot;
 
 pub use client::Client;
 pub use fault::{ClientFault, WorldFault};
-pub use lane::Lane;
+pub use fifo::Fifo;
 pub use master::Master;
 pub use message::{Answer, Message};
 pub use server::Server;

@@ -40,7 +40,7 @@ pub struct Master {
     outboxes: Outboxes,
 }
 
-/// By hand, so that whoever lets one go makes one call, and has no case for each part.
+/// Written out, not derived: CONTRIBUTING.md, "Drop".
 impl Drop for Master {
     fn drop(self) {
         let Master {

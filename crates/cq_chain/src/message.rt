@@ -19,7 +19,7 @@ pub struct Answer {
     pub reply: Reply,
 }
 
-/// By hand, so that whoever lets one go makes one call, and has no case for each part.
+/// Written out, not derived: CONTRIBUTING.md, "Drop".
 impl Drop for Answer {
     fn drop(self) {
         let Answer {
@@ -63,7 +63,7 @@ pub enum Message {
     Answer(Answer),
 }
 
-/// By hand, so that whoever lets one go makes one call, and has no case for each part.
+/// Written out, not derived: CONTRIBUTING.md, "Drop".
 impl Drop for Message {
     fn drop(self) {
         match self {

@@ -1,14 +1,14 @@
 //! What waits at a server, or at the master, for each party.
 ghost use Rattle.std.specs.Prelude.{◌≡◌, ◌<◌, ◌≤◌, List, [], ◌∷◌, length, false, None, OnOk};
 ghost use Rattle.cq_base.specs.declared.party.Party as rust_party;
-ghost use Rattle.cq_chain.specs.within.Boxes.{messages_for, room_for, lane_for};
+ghost use Rattle.cq_chain.specs.within.Boxes.{messages_for, room_for, fifo_for};
 ghost use Rattle.cq_chain.specs.Messages as sent;
 ghost use Rattle.cq_chain.specs.Parties.{same};
 ghost use Rattle.cq_chain.specs.Stands.{Means, IsFirst, drained};
 ghost use Rattle.cq_chain.specs.Steps.{to_server};
 ghost use Rattle.cq_chain.specs.within.Waiting.{Waits, Posts, AllFor, KeepsAll, TakesOne, HasRoom, HasRoomAt};
 
-use crate::lane::Lane;
+use crate::fifo::Fifo;
 use crate::message::Message;
 use cq_base::{NoMemory, Party, ServerId};
 use indexmap::IndexMap;
@@ -20,24 +20,24 @@ const STEP_ROOM: usize = 4;
 
 /// What a server has to send, to each party in order: found by a hash of the party.
 pub struct Outboxes {
-    lanes: IndexMap<Party, Lane>,
+    fifos: IndexMap<Party, Fifo>,
 }
 
-/// By hand, so that whoever lets one go makes one call, and has no case for each part.
+/// Written out, not derived: CONTRIBUTING.md, "Drop".
 impl Drop for Outboxes {
     fn drop(self) {
-        let Outboxes { lanes: _ } = self;
+        let Outboxes { fifos: _ } = self;
     }
 }
 
 impl Model for Outboxes {
     ghost use Rattle.std.specs.Prelude.{List};
     ghost use Rattle.cq_base.specs.declared.party.Party as rust_party;
-    ghost use Rattle.cq_chain.specs.Lanes as kept;
+    ghost use Rattle.cq_chain.specs.Fifos as stored;
 
-    ghost Value = { List (rust_party.Party × kept.Lane) };
+    ghost Value = { List (rust_party.Party × stored.Fifo) };
 
-    ghost view = { λ o. o.lanes.entries };
+    ghost view = { λ o. o.fifos.entries };
 }
 
 impl Outboxes {
@@ -46,7 +46,7 @@ impl Outboxes {
         ensures { (to : rust_party.Party) → messages_for result to ≡ [] }
     {
         Outboxes {
-            lanes: IndexMap::new(alloc),
+            fifos: IndexMap::new(alloc),
         }
     }
 
@@ -54,21 +54,21 @@ impl Outboxes {
     pub fn waiting(&self, to: Party) -> usize
         ensures { result ≡ length (messages_for self.now to) }
     {
-        match self.lanes.get(&to) {
-            Some(lane) => lane.len(),
+        match self.fifos.get(&to) {
+            Some(fifo) => fifo.len(),
             None => 0,
         }
     }
 
-    /// A lane for a party that has none, with room for so many messages.
+    /// A fifo for a party that has none, with room for so many messages.
     fn add(&mut self, alloc: Global, to: Party, count: usize) -> Result<(), NoMemory>
-        requires { lane_for self.old to ≡ None }
+        requires { fifo_for self.old to ≡ None }
         ensures keeps { KeepsAll self.old self.new }
         ensures room { OnOk result (count ≤ room_for self.new to) }
     {
-        let mut lane = Lane::new(alloc);
-        lane.reserve(count)?;
-        self.lanes.insert(to, lane)?;
+        let mut fifo = Fifo::new(alloc);
+        fifo.reserve(count)?;
+        self.fifos.insert(to, fifo)?;
         Ok(())
     }
 
@@ -77,8 +77,8 @@ impl Outboxes {
         ensures keeps { KeepsAll self.old self.new }
         ensures room { OnOk result (count ≤ room_for self.new to) }
     {
-        match self.lanes.get_mut(&to) {
-            Some(lane) => lane.reserve(count),
+        match self.fifos.get_mut(&to) {
+            Some(fifo) => fifo.reserve(count),
             None => self.add(alloc, to, count),
         }
     }
@@ -124,21 +124,21 @@ impl Outboxes {
         ensures posts { (m : sent.Message) → Means message m → Posts self.old self.new ((to, m) ∷ []) }
         ensures room { TakesOne self.old self.new }
     {
-        match self.lanes.get_mut(&to) {
-            Some(lane) => lane.push(message),
+        match self.fifos.get_mut(&to) {
+            Some(fifo) => fifo.push(message),
             None => unreachable!(),
         }
     }
 
     /// These messages wait for the party behind the others, in room that was made: O(messages that come).
-    pub fn push_all(&mut self, to: Party, messages: Lane)
+    pub fn push_all(&mut self, to: Party, messages: Fifo)
         requires { length messages.messages ≤ room_for self.old to }
         ensures posts { (all : List (rust_party.Party × sent.Message)) → AllFor to messages.messages all
             → Posts self.old self.new all }
         ensures others { (party : rust_party.Party) → same to party ≡ false → room_for self.old party ≤ room_for self.new party }
     {
-        match self.lanes.get_mut(&to) {
-            Some(lane) => lane.append(messages),
+        match self.fifos.get_mut(&to) {
+            Some(fifo) => fifo.append(messages),
             None => (),
         }
     }
@@ -161,8 +161,8 @@ impl Outboxes {
         ensures rest { (outbox : rust_party.Party → List sent.Message) → Waits self.old outbox
             → Waits self.new (drained outbox to) }
     {
-        match self.lanes.get_mut(&to) {
-            Some(lane) => lane.pop(),
+        match self.fifos.get_mut(&to) {
+            Some(fifo) => fifo.pop(),
             None => None,
         }
     }

@@ -2,7 +2,7 @@
 ghost use Rattle.std.specs.Prelude.{◌≡◌, ◌<◌, ◌≤◌, ◌+◌, ◌-◌, ℕ, List, ◌++◌, ◌∷◌, [], length, max, IfOk, OnErr};
 ghost use Rattle.cq_base.specs.declared.ask.Entry as rust_entry;
 ghost use Rattle.cq_base.specs.declared.limits.TheConstants.{HISTORY_LIMIT};
-ghost use Rattle.cq_base.specs.History.{reply_to, counts_after};
+ghost use Rattle.cq_base.specs.queue.History.{reply_to, counts_after};
 ghost use Rattle.cq_chain.specs.within.Replicas.{Recalls, IsEntryAfter};
 ghost use Rattle.cq_store.specs.Stands as stores;
 ghost use Rattle.cq_store.specs.Stands.{count_of, last_of};
@@ -20,7 +20,7 @@ pub struct Replica {
     entries: VecDeque<Entry>,
 }
 
-/// By hand, so that whoever lets one go makes one call, and has no case for each part.
+/// Written out, not derived: CONTRIBUTING.md, "Drop".
 impl Drop for Replica {
     fn drop(self) {
         let Replica {
@@ -33,10 +33,10 @@ impl Drop for Replica {
 impl Model for Replica {
     ghost use Rattle.std.specs.Prelude.{◌≤◌};
     ghost use Rattle.std.specs.VecDeque.{deque_len};
-    ghost use Rattle.cq_chain.specs.within.Replicas as kept;
+    ghost use Rattle.cq_chain.specs.within.Replicas as stored;
     ghost use Rattle.cq_store.specs.Stands.{count_of};
 
-    ghost Value = { kept.Replica };
+    ghost Value = { stored.Replica };
 
     ghost view = { λ r. record { store = r.store; entries = r.entries.items } };
 

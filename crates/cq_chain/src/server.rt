@@ -41,7 +41,7 @@ pub struct Server {
     outboxes: Outboxes,
 }
 
-/// By hand, so that whoever lets one go makes one call, and has no case for each part.
+/// Written out, not derived: CONTRIBUTING.md, "Drop".
 impl Drop for Server {
     fn drop(self) {
         let Server {

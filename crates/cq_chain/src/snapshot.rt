@@ -14,7 +14,7 @@ pub struct Snapshot {
     store: Store,
 }
 
-/// By hand, so that whoever lets one go makes one call, and has no case for each part.
+/// Written out, not derived: CONTRIBUTING.md, "Drop".
 impl Drop for Snapshot {
     fn drop(self) {
         let Snapshot { store: _ } = self;

@@ -20,8 +20,8 @@ module _ (a b o e m : List ℕ) (start at n len r : ℕ) (is_start : length a �
   of_part : part start len d ≡ b ++ (o ++ take r e)
   of_part = ap (λ (l : List ℕ). take len l) (drop_at a (b ++ (o ++ e)) start is_start) ∙ take_past b (o ++ e) len (n + r) (omega (arith, is_len, is_at)) ∙ ap (λ (l : List ℕ). b ++ l) (take_past o e (n + r) r (omega (arith, is_n)))
 
-  front : take (start + at) d ≡ a ++ b
-  front = ap (λ (l : List ℕ). take (start + at) l) (sym (append_assoc a b (o ++ e))) ∙ take_at (a ++ b) (o ++ e) (start + at) (omega (arith, length-append a b, is_start, is_at))
+  prefix : take (start + at) d ≡ a ++ b
+  prefix = ap (λ (l : List ℕ). take (start + at) l) (sym (append_assoc a b (o ++ e))) ∙ take_at (a ++ b) (o ++ e) (start + at) (omega (arith, length-append a b, is_start, is_at))
 
   back : drop (start + at + n) d ≡ e
   back = ap (λ (l : List ℕ). drop (start + at + n) l) (sym (append_assoc a b (o ++ e)) ∙ sym (append_assoc (a ++ b) o e)) ∙ drop_at ((a ++ b) ++ o) e (start + at + n) (omega (arith, length-append (a ++ b) o, length-append a b, is_start, is_at, is_n))
@@ -29,7 +29,7 @@ module _ (a b o e m : List ℕ) (start at n len r : ℕ) (is_start : length a �
   -- written into the whole, and then the part of it
   outside : part start len (take (start + at) d ++ (m ++ drop (start + at + n) d)) ≡ b ++ (m ++ take r e)
   outside =
-      ap (λ (l : List ℕ). part start len l) ((λ i. front i ++ (m ++ back i)) ∙ append_assoc a b (m ++ e))
+      ap (λ (l : List ℕ). part start len l) ((λ i. prefix i ++ (m ++ back i)) ∙ append_assoc a b (m ++ e))
       ∙ ap (λ (l : List ℕ). take len l) (drop_at a (b ++ (m ++ e)) start is_start) ∙ take_past b (m ++ e) len (n + r) (omega (arith, is_len, is_at)) ∙ ap (λ (l : List ℕ). b ++ l) (take_past m e (n + r) r (omega (arith, m_n)))
 
   -- written into the part
@@ -41,7 +41,7 @@ module _ (a b o e m : List ℕ) (start at n len r : ℕ) (is_start : length a �
   in_pieces = outside ∙ sym inside
 
   pub before_pieces : take start (take (start + at) d ++ (m ++ drop (start + at + n) d)) ≡ take start d
-  before_pieces = ap (λ (l : List ℕ). take start l) ((λ i. front i ++ (m ++ back i)) ∙ append_assoc a b (m ++ e)) ∙ take_at a (b ++ (m ++ e)) start is_start ∙ sym (take_at a (b ++ (o ++ e)) start is_start)
+  before_pieces = ap (λ (l : List ℕ). take start l) ((λ i. prefix i ++ (m ++ back i)) ∙ append_assoc a b (m ++ e)) ∙ take_at a (b ++ (m ++ e)) start is_start ∙ sym (take_at a (b ++ (o ++ e)) start is_start)
 
   far : start + len ≡ start + at + n + r
   far = omega (arith, is_len)
@@ -52,7 +52,7 @@ module _ (a b o e m : List ℕ) (start at n len r : ℕ) (is_start : length a �
       ∙ ap (λ (l : List ℕ). drop r l) (ap (λ (l : List ℕ). drop (start + at + n) l) (sym (append_assoc (a ++ b) x e)) ∙ drop_at ((a ++ b) ++ x) e (start + at + n) (omega (arith, length-append (a ++ b) x, length-append a b, is_start, is_at, x_n)))
 
   pub behind_pieces : drop (start + len) (take (start + at) d ++ (m ++ drop (start + at + n) d)) ≡ drop (start + len) d
-  behind_pieces = ap (λ (l : List ℕ). drop (start + len) l) (λ i. front i ++ (m ++ back i)) ∙ behind_of m m_n ∙ sym (ap (λ (l : List ℕ). drop (start + len) l) (sym (append_assoc a b (o ++ e))) ∙ behind_of o is_n)
+  behind_pieces = ap (λ (l : List ℕ). drop (start + len) l) (λ i. prefix i ++ (m ++ back i)) ∙ behind_of m m_n ∙ sym (ap (λ (l : List ℕ). drop (start + len) l) (sym (append_assoc a b (o ++ e))) ∙ behind_of o is_n)
 
   pub third_piece : take n (drop (start + at) d) ≡ take n (drop at (part start len d))
   third_piece =

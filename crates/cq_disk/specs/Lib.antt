@@ -1,9 +1,9 @@
 pub mod Device
 pub mod Events
-pub mod Host
 pub mod Memory
 pub mod Modelled
 pub mod Noted
 pub mod Opened
 pub mod Past
 pub mod Region
+pub mod within

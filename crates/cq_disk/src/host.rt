@@ -14,7 +14,7 @@ pub struct Host {
 }
 
 impl Host {
-    ghost use Rattle.cq_disk.specs.Host.{calls_on};
+    ghost use Rattle.cq_disk.specs.within.Host.{calls_on};
 
     /// An open file, on which no call has been made.
     pub(crate) fn new(file: File) -> Host

@@ -17,10 +17,10 @@ use Rattle.cq_events.specs.declared.event.Event.TheVariants.{Arrive, Ask, Put, T
 -- ---- refusals
 
 -- the party is the master, the clients, or a server that there is
-abbrev pub knows : World → Party → Bool
-knows w parties.Master = true
-knows w parties.Clients = true
-knows w (parties.Server id) = is_in w.master.used id
+abbrev pub has_party : World → Party → Bool
+has_party w parties.Master = true
+has_party w parties.Clients = true
+has_party w (parties.Server id) = is_in w.master.used id
 
 -- refused where a server is unknown, and else as that says
 abbrev pub if_known : Bool → Option WorldFault → Option WorldFault
@@ -74,8 +74,8 @@ refusal_of_detect w id = if (w.server id).down then refusal_of_detection id w.ma
 unfoldable pub refusal_of : World → Event → Option WorldFault
 refusal_of w (Arrive at clock request) = if_lives w at (refusal_of_arrival (w.server at))
 refusal_of w (Ask at query) = if_lives w at (refusal_of_query (w.server at))
-refusal_of w (Put from to) = if_known (knows w from && knows w to) (unless_down (is_down w from) (refusal_of_put (w.outbox from to)))
-refusal_of w (Take from to) = if_known (knows w from && knows w to) (unless_down (is_down w to) (refusal_of_take w from to (w.link from to)))
+refusal_of w (Put from to) = if_known (has_party w from && has_party w to) (unless_down (is_down w from) (refusal_of_put (w.outbox from to)))
+refusal_of w (Take from to) = if_known (has_party w from && has_party w to) (unless_down (is_down w to) (refusal_of_take w from to (w.link from to)))
 refusal_of w (Crash id) = if_lives w id (refusal_of_crash w id)
 refusal_of w (Detect id) = if_known (is_in w.master.used id) (refusal_of_detect w id)
 refusal_of w (Join id) = refusal_of_join id w.master

@@ -3,4 +3,4 @@ pub mod Owners
 pub mod Events
 pub mod Runs
 pub mod Orders
-pub mod Deeds
+pub mod Actions

@@ -42,7 +42,7 @@ pub enum Event {
     },
 }
 
-/// By hand, so that whoever lets one go makes one call, and has no case for each part.
+/// Written out, not derived: CONTRIBUTING.md, "Drop".
 impl Drop for Event {
     fn drop(self) {
         match self {

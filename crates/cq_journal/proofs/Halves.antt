@@ -7,7 +7,7 @@ use Rattle.cq_disk.specs.Device.{Only}
 use Rattle.cq_disk.specs.Region.{part, Leaves, Beside, KeepsBeside}
 use Rattle.cq_disk.proofs.Parts.{whole_again}
 use Rattle.cq_records.specs.Frames.{text_of, frames, records}
-use Rattle.cq_records.specs.Layout.{IsFrontOf}
+use Rattle.cq_records.specs.Layout.{IsPrefixOf}
 use Rattle.cq_journal.specs.Numbers.{number_of}
 use Rattle.cq_journal.specs.Roots.{first_of, number_in, later, half_of, root_of, numbered, IsSameRoot, IsOldOrNew}
 
@@ -93,16 +93,16 @@ module _ (h s : ℕ) (place : (s ≡ 0) ⊎ (s ≡ h)) where
 
     -- While it is written: it has no record, or the new one.
     module _ (new : List ℕ) (batch : List (List ℕ)) (one : map text_of batch ≡ new ∷ []) (next : number_of new ≡ n + 1) where
-      front_is : (k : ℕ) (fs : List (List ℕ)) → map text_of fs ≡ new ∷ [] → (first_of (map text_of (take k fs)) ≡ None) ⊎ (first_of (map text_of (take k fs)) ≡ Some new)
-      front_is zero fs is = inl refl
-      front_is (suc k) [] is = absurd (omega (arith, ap length is))
-      front_is (suc k) (f ∷ fs) is = inr (ap first_of_all is)
+      prefix_is : (k : ℕ) (fs : List (List ℕ)) → map text_of fs ≡ new ∷ [] → (first_of (map text_of (take k fs)) ≡ None) ⊎ (first_of (map text_of (take k fs)) ≡ Some new)
+      prefix_is zero fs is = inl refl
+      prefix_is (suc k) [] is = absurd (omega (arith, ap length is))
+      prefix_is (suc k) (f ∷ fs) is = inr (ap first_of_all is)
         where
           first_of_all : List (List ℕ) → Option (List ℕ)
           first_of_all = first_of
 
-      written : (c : List ℕ) → IsFrontOf [] batch (part (h - s) h c) → (half_of (h - s) h c ≡ None) ⊎ (half_of (h - s) h c ≡ Some new)
-      written c front = ⊎_elim (λ none. inl (ap (λ (fs : List (List ℕ)). first_of (map text_of fs)) front.frames ∙ none)) (λ some. inr (ap (λ (fs : List (List ℕ)). first_of (map text_of fs)) front.frames ∙ some)) (front_is front.many batch one)
+      written : (c : List ℕ) → IsPrefixOf [] batch (part (h - s) h c) → (half_of (h - s) h c ≡ None) ⊎ (half_of (h - s) h c ≡ Some new)
+      written c prefix = ⊎_elim (λ none. inl (ap (λ (fs : List (List ℕ)). first_of (map text_of fs)) prefix.frames ∙ none)) (λ some. inr (ap (λ (fs : List (List ℕ)). first_of (map text_of fs)) prefix.frames ∙ some)) (prefix_is prefix.many batch one)
 
 pub turned_place : (h s : ℕ) → (s ≡ 0) ⊎ (s ≡ h) → (h - s ≡ 0) ⊎ (h - s ≡ h)
 turned_place h s place = ⊎_elim (λ (is : s ≡ 0). inr (omega (arith, is))) (λ (is : s ≡ h). inl (omega (arith, is))) place
@@ -119,14 +119,14 @@ new_counts h s place n new c is before next =
 
 pub old_or_new : (h s : ℕ) (place : (s ≡ 0) ⊎ (s ≡ h)) (old : List ℕ) (n : ℕ) (current : number_in (half_of s h old) ≡ n) (other : number_in (half_of (h - s) h old) < n)
     (new : List ℕ) (batch : List (List ℕ)) (one : map text_of batch ≡ new ∷ []) (next : number_of new ≡ n + 1) (c : List ℕ)
-    → IsFrontOf [] batch (part (h - s) h c) → Beside (h - s) h old c → IsOldOrNew h old new c
-old_or_new h s place old n current other new batch one next c front beside =
+    → IsPrefixOf [] batch (part (h - s) h c) → Beside (h - s) h old c → IsOldOrNew h old new c
+old_or_new h s place old n current other new batch one next c prefix beside =
     let same = same_half h s place old c beside in
     record {
       root = ⊎_elim
           (λ none. inl (counts h s place c (omega (arith, ap number_in none, ap number_in same, current, other)) ∙ same ∙ sym (root_is h s place old n current other)))
           (λ some. inr (new_counts h s place n new c some (ap number_in same ∙ current) next))
-          (written h s place old n current other new batch one next c front);
+          (written h s place old n current other new batch one next c prefix);
       behind = behind_kept h s place old c beside;
     }
 

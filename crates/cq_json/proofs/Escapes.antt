@@ -62,7 +62,7 @@ lex-run : (xs : List ℕ) → lex in_string xs ≡ lex in_string (drop (prefix_l
 lex-run [] = refl
 lex-run (x ∷ xs) = run_step (is_plain x) x (prefix_len is_plain xs) xs refl (lex-run xs)
 
--- the front whose bytes stand for themselves
+-- the prefix whose bytes stand for themselves
 pub run_spelled : (d : List ℕ) (n : ℕ) → n ≡ prefix_len is_plain d → n < length d → Spelled d (take n d) (get_or d n 0 ∷ drop (n + 1) d)
 run_spelled d n is within =
     let rest : drop (prefix_len is_plain d) d ≡ get_or d n 0 ∷ drop (n + 1) d = ap (λ k. drop k d) (sym is) ∙ drop_more d n 0 within in
@@ -71,8 +71,8 @@ run_spelled d n is within =
 -- ---- one after the other
 
 pub then : (text a b middle rest : List ℕ) → Spelled text a middle → Spelled middle b rest → Spelled text (a ++ b) rest
-then text a b middle rest front behind =
-    (front.0 ∙ ap (prepend a) behind.0 ∙ prepend-prepend a b (content plain rest), front.1 ∙ behind.1)
+then text a b middle rest prefix behind =
+    (prefix.0 ∙ ap (prepend a) behind.0 ∙ prepend-prepend a b (content plain rest), prefix.1 ∙ behind.1)
 
 -- ---- the end
 

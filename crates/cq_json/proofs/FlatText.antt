@@ -28,9 +28,9 @@ use Rattle.cq_json.specs.declared.flat.Member.{Member}
 
 -- ---- strings
 
--- the front of a string whose bytes stand for themselves, and the byte behind it
-pub run_front : (d : List ℕ) (n : ℕ) → n ≡ prefix_len is_plain d → n < length d → d ≡ escape (take n d) ++ (get_or d n 0 ∷ drop (n + 1) d)
-run_front d n is within =
+-- the prefix of a string whose bytes stand for themselves, and the byte behind it
+pub run_prefix : (d : List ℕ) (n : ℕ) → n ≡ prefix_len is_plain d → n < length d → d ≡ escape (take n d) ++ (get_or d n 0 ∷ drop (n + 1) d)
+run_prefix d n is within =
     let plain : take n d ≡ escape (take n d) = rw is (sym (escape_plain d)) in
     sym (take-append-drop n d) ∙ ap₂ (λ a b. a ++ b) plain (drop_more d n 0 within)
 
@@ -40,8 +40,8 @@ run_end_ascii false = omega arith
 
 -- ---- numbers
 
-pub zero_front : (d : List ℕ) → 0 < length d → get_or d 0 0 ≡ 48 → d ≡ decimal 0 ++ drop 1 d
-zero_front d some is = drop_more d 0 0 some ∙ ap (λ x. x ∷ drop 1 d) is ∙ ap (λ t. t ++ drop 1 d) (sym (decimal_digit 0 (omega arith)))
+pub zero_prefix : (d : List ℕ) → 0 < length d → get_or d 0 0 ≡ 48 → d ≡ decimal 0 ++ drop 1 d
+zero_prefix d some is = drop_more d 0 0 some ∙ ap (λ x. x ∷ drop 1 d) is ∙ ap (λ t. t ++ drop 1 d) (sym (decimal_digit 0 (omega arith)))
 
 pub first_digit : (d : List ℕ) → 0 < length d → 48 ≤ get_or d 0 0 → get_or d 0 0 ≤ 57 → decimal (get_or d 0 0 - 48) ≡ take 1 d
 first_digit d some low high =
@@ -52,10 +52,10 @@ pub digit_more : (d : List ℕ) (n value : ℕ) → decimal value ≡ take n d �
     → decimal (value * 10 + (get_or d n 0 - 48)) ≡ take (n + 1) d
 digit_more d n value is some small within low high =
     let x = get_or d n 0 in
-    let front : (value * 10 + (x - 48)) / 10 ≡ value = omega arith in
+    let prefix : (value * 10 + (x - 48)) / 10 ≡ value = omega arith in
     let last : 48 + (value * 10 + (x - 48)) % 10 ≡ x = omega arith in
     decimal_step (value * 10 + (x - 48)) (omega arith) (omega arith)
-    ∙ ap₂ (λ a b. a ++ b ∷ []) (ap decimal front ∙ is) last ∙ sym (take_next d n 0 within)
+    ∙ ap₂ (λ a b. a ++ b ∷ []) (ap decimal prefix ∙ is) last ∙ sym (take_next d n 0 within)
 
 -- ---- one member more
 
@@ -307,13 +307,13 @@ flat_said text rest members utf8 takes none =
 
 pub nested_said : (text opened closed rest : List ℕ) (ms inner members : List Member) → IsUtf8 text → Takes text [] pauses.Inner opened ms → Takes opened [] pauses.End closed inner
     → Takes closed ms pauses.End rest members → Same rest [] → json_of text ≡ Some (object (puts (inner_members inner) members no_members))
-nested_said text opened closed rest ms inner members utf8 front within back none =
+nested_said text opened closed rest ms inner members utf8 prefix within back none =
     let inner_text = members_text two_braces 123 inner ++ 125 ∷ [] in
     let whole = object_whole two_braces braces_whole inner (within.1.0 tt) in
     let is = within.0 two_braces braces_whole tt ∙ ap (lex between) (sym (append_assoc (members_text two_braces 123 inner) (125 ∷ []) closed)) in
     text_said text inner_text (members_tokens (end_object ∷ []) inner) (inner_members inner) 2 members
     (outer_object two_braces (end_object ∷ []) no_members 1 empty_object inner within.1.1 (within.1.0 tt)) (omega arith) utf8
-    (front.0 inner_text closed whole tt is ∙ back.0 inner_text whole (front.1.0 tt) ∙ last_same inner_text whole members (back.1.0 (front.1.0 tt)) rest none) back.1.1 (back.1.0 (front.1.0 tt))
+    (prefix.0 inner_text closed whole tt is ∙ back.0 inner_text whole (prefix.1.0 tt) ∙ last_same inner_text whole members (back.1.0 (prefix.1.0 tt)) rest none) back.1.1 (back.1.0 (prefix.1.0 tt))
 
 pub on_some : {A P Q : Type 0} (o : Option A) → (P → Q) → OnSome o P → OnSome o Q
 on_some (Some x) f p = f p

@@ -10,4 +10,4 @@ pub mod FlatReading
 pub mod FlatText
 pub mod Receipts
 -- worked objects
-pub mod Rows
+pub mod Examples

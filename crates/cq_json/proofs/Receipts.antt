@@ -65,10 +65,10 @@ handle_passes h fits = rw (number_passes h.incarnation fits.incarnation, number_
 handle_fits : (h : Handle) → is_handle h ≡ true → IsHandle h
 handle_fits h passes =
     let last = both (is_handle_number h.incarnation && is_handle_number h.sequence) (is_handle_number h.handing) passes in
-    let front = both (is_handle_number h.incarnation) (is_handle_number h.sequence) last.0 in
+    let prefix = both (is_handle_number h.incarnation) (is_handle_number h.sequence) last.0 in
     record {
-      incarnation = number_fits h.incarnation front.0;
-      sequence = number_fits h.sequence front.1;
+      incarnation = number_fits h.incarnation prefix.0;
+      sequence = number_fits h.sequence prefix.1;
       handing = number_fits h.handing last.1;
     }
 

@@ -4,7 +4,8 @@ ghost use Rattle.cq_json.specs.Asks as spec;
 ghost use Rattle.cq_json.specs.Readers.{Gives, same};
 
 use crate::fields::{
-    Stop, batch_size_if_at, has_only, seconds_at, seconds_if_at, text_at, text_if_at, truth_if_at,
+    ReadFault, batch_size_if_at, has_only, seconds_at, seconds_if_at, text_at, text_if_at,
+    truth_if_at,
 };
 use crate::texts::{dedup_id_if, group_id, message_body, queue_name, receipt};
 use cq_base::{Ask, BatchSize, Seconds};
@@ -20,11 +21,11 @@ pub(crate) const DEFAULT_SECONDS: u32 = 30;
 pub(crate) const DEFAULT_BATCH: u8 = 1;
 
 #[tactic(auto, unfolding(crate::specs::Asks::create_in))]
-fn read_create(alloc: Global, value: &Value) -> Result<Ask, Stop>
+fn read_create(alloc: Global, value: &Value) -> Result<Ask, ReadFault>
     ensures { Gives same result (spec.create_in (view value.now)) }
 {
     if !has_only(value, &["kind", "queue", "visibility", "content_dedup"]) {
-        return Err(Stop::Bad);
+        return Err(ReadFault::Bad);
     }
     let queue = text_at(value, "queue")?;
     let visibility = seconds_if_at(value, "visibility")?;
@@ -37,11 +38,11 @@ fn read_create(alloc: Global, value: &Value) -> Result<Ask, Stop>
 }
 
 #[tactic(auto, unfolding(crate::specs::Asks::remove_in))]
-fn read_remove(alloc: Global, value: &Value) -> Result<Ask, Stop>
+fn read_remove(alloc: Global, value: &Value) -> Result<Ask, ReadFault>
     ensures { Gives same result (spec.remove_in (view value.now)) }
 {
     if !has_only(value, &["kind", "queue"]) {
-        return Err(Stop::Bad);
+        return Err(ReadFault::Bad);
     }
     let queue = text_at(value, "queue")?;
     Ok(Ask::Remove {
@@ -50,11 +51,11 @@ fn read_remove(alloc: Global, value: &Value) -> Result<Ask, Stop>
 }
 
 #[tactic(auto, unfolding(crate::specs::Asks::send_in))]
-fn read_send(alloc: Global, value: &Value) -> Result<Ask, Stop>
+fn read_send(alloc: Global, value: &Value) -> Result<Ask, ReadFault>
     ensures { Gives same result (spec.send_in (view value.now)) }
 {
     if !has_only(value, &["kind", "queue", "group", "dedup", "body"]) {
-        return Err(Stop::Bad);
+        return Err(ReadFault::Bad);
     }
     let queue = text_at(value, "queue")?;
     let group = text_at(value, "group")?;
@@ -69,11 +70,11 @@ fn read_send(alloc: Global, value: &Value) -> Result<Ask, Stop>
 }
 
 #[tactic(auto, unfolding(crate::specs::Asks::receive_in))]
-fn read_receive(alloc: Global, value: &Value) -> Result<Ask, Stop>
+fn read_receive(alloc: Global, value: &Value) -> Result<Ask, ReadFault>
     ensures { Gives same result (spec.receive_in (view value.now)) }
 {
     if !has_only(value, &["kind", "queue", "size", "visibility"]) {
-        return Err(Stop::Bad);
+        return Err(ReadFault::Bad);
     }
     let queue = text_at(value, "queue")?;
     let size = batch_size_if_at(value, "size")?;
@@ -86,11 +87,11 @@ fn read_receive(alloc: Global, value: &Value) -> Result<Ask, Stop>
 }
 
 #[tactic(auto, unfolding(crate::specs::Asks::delete_in))]
-fn read_delete(alloc: Global, value: &Value) -> Result<Ask, Stop>
+fn read_delete(alloc: Global, value: &Value) -> Result<Ask, ReadFault>
     ensures { Gives same result (spec.delete_in (view value.now)) }
 {
     if !has_only(value, &["kind", "queue", "receipt"]) {
-        return Err(Stop::Bad);
+        return Err(ReadFault::Bad);
     }
     let queue = text_at(value, "queue")?;
     let receipt = receipt(text_at(value, "receipt")?)?;
@@ -101,11 +102,11 @@ fn read_delete(alloc: Global, value: &Value) -> Result<Ask, Stop>
 }
 
 #[tactic(auto, unfolding(crate::specs::Asks::change_in))]
-fn read_change(alloc: Global, value: &Value) -> Result<Ask, Stop>
+fn read_change(alloc: Global, value: &Value) -> Result<Ask, ReadFault>
     ensures { Gives same result (spec.change_in (view value.now)) }
 {
     if !has_only(value, &["kind", "queue", "receipt", "visibility"]) {
-        return Err(Stop::Bad);
+        return Err(ReadFault::Bad);
     }
     let queue = text_at(value, "queue")?;
     let receipt = receipt(text_at(value, "receipt")?)?;
@@ -119,7 +120,7 @@ fn read_change(alloc: Global, value: &Value) -> Result<Ask, Stop>
 
 /// The ask that the value says.
 #[tactic(auto, unfolding(crate::specs::Asks::ask_in))]
-pub fn read_ask(alloc: Global, value: &Value) -> Result<Ask, Stop>
+pub fn read_ask(alloc: Global, value: &Value) -> Result<Ask, ReadFault>
     ensures { Gives same result (spec.ask_in (view value.now)) }
 {
     let kind = text_at(value, "kind")?;
@@ -136,6 +137,6 @@ pub fn read_ask(alloc: Global, value: &Value) -> Result<Ask, Stop>
     } else if kind == "change" {
         read_change(alloc, value)
     } else {
-        Err(Stop::Bad)
+        Err(ReadFault::Bad)
     }
 }

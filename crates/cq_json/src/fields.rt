@@ -17,7 +17,7 @@ use serde_json::{Map, Value};
 use std::alloc::Global;
 
 /// Why reading a line stopped before an event was made.
-pub enum Stop {
+pub enum ReadFault {
     /// The line is none of the script's.
     Bad,
     /// One of its texts breaks that text's rule.
@@ -26,32 +26,32 @@ pub enum Stop {
     Memory,
 }
 
-impl From<BaseFault> for Stop {
+impl From<BaseFault> for ReadFault {
     ghost use Rattle.std.specs.Prelude.{◌≡◌};
     ghost use Rattle.cq_json.specs.Readers.{stop_of};
 
     ghost from_gives = { λ fault stop. stop ≡ stop_of fault };
 
-    fn from(fault: BaseFault) -> Stop {
+    fn from(fault: BaseFault) -> ReadFault {
         match fault {
-            BaseFault::NoMemory => Stop::Memory,
-            _ => Stop::Text(fault),
+            BaseFault::NoMemory => ReadFault::Memory,
+            _ => ReadFault::Text(fault),
         }
     }
 }
 
 /// The value that the bytes are as JSON: O(bytes).
 #[tactic(auto, using(crate::proofs::JsonText::json_of_read, crate::proofs::JsonText::json_of_refused))]
-pub fn parse(alloc: Global, bytes: &[u8]) -> Result<Value, Stop>
+pub fn parse(alloc: Global, bytes: &[u8]) -> Result<Value, ReadFault>
     ensures { Gives view result (spec.or_bad (spec.json_of bytes.now)) }
 {
     match Value::from_slice(alloc, bytes) {
         Ok(value) => Ok(value),
         Err(error) => {
             if error.is_memory() {
-                Err(Stop::Memory)
+                Err(ReadFault::Memory)
             } else {
-                Err(Stop::Bad)
+                Err(ReadFault::Bad)
             }
         }
     }
@@ -83,27 +83,27 @@ pub fn has_only(value: &Value, keys: &[&str]) -> bool
 }
 
 /// The value under the key.
-pub fn member_at<'v>(value: &'v Value, key: &str) -> Result<&'v Value, Stop>
+pub fn member_at<'v>(value: &'v Value, key: &str) -> Result<&'v Value, ReadFault>
     ensures { Gives (λ v. view v.now) result (spec.member_at key.now (view value.now)) }
 {
     match value.get(key) {
         Some(found) => Ok(found),
-        None => Err(Stop::Bad),
+        None => Err(ReadFault::Bad),
     }
 }
 
 /// The text under the key.
-pub fn text_at<'v>(value: &'v Value, key: &str) -> Result<&'v str, Stop>
+pub fn text_at<'v>(value: &'v Value, key: &str) -> Result<&'v str, ReadFault>
     ensures { Gives (λ t. t.now) result (spec.text_at key.now (view value.now)) }
 {
     match member_at(value, key)?.as_str() {
         Some(text) => Ok(text),
-        None => Err(Stop::Bad),
+        None => Err(ReadFault::Bad),
     }
 }
 
 /// The number, if it is from `low` to `high`.
-pub(crate) fn within(number: u64, low: u64, high: u64) -> Result<u64, Stop>
+pub(crate) fn within(number: u64, low: u64, high: u64) -> Result<u64, ReadFault>
     ensures value { Gives same result (spec.within low high number) }
     ensures least { IfOk result (λ found. low ≤ found) }
     ensures most { IfOk result (λ found. found ≤ high) }
@@ -111,40 +111,40 @@ pub(crate) fn within(number: u64, low: u64, high: u64) -> Result<u64, Stop>
     if low <= number && number <= high {
         Ok(number)
     } else {
-        Err(Stop::Bad)
+        Err(ReadFault::Bad)
     }
 }
 
-fn whole(value: &Value, low: u64, high: u64) -> Result<u64, Stop>
+fn whole(value: &Value, low: u64, high: u64) -> Result<u64, ReadFault>
     ensures value { Gives same result (spec.whole low high (view value.now)) }
     ensures least { IfOk result (λ number. low ≤ number) }
     ensures most { IfOk result (λ number. number ≤ high) }
 {
     match value.as_u64() {
         Some(number) => within(number, low, high),
-        None => Err(Stop::Bad),
+        None => Err(ReadFault::Bad),
     }
 }
 
-fn seconds(value: &Value) -> Result<Seconds, Stop>
+fn seconds(value: &Value) -> Result<Seconds, ReadFault>
     ensures { Gives same result (spec.whole 0 SECONDS_LIMIT (view value.now)) }
 {
     Ok(Seconds::new(whole(value, 0, u64::from(SECONDS_LIMIT))? as u32).unwrap())
 }
 
-fn batch_size(value: &Value) -> Result<BatchSize, Stop>
+fn batch_size(value: &Value) -> Result<BatchSize, ReadFault>
     ensures { Gives same result (spec.whole 1 BATCH_LIMIT (view value.now)) }
 {
     Ok(BatchSize::new(whole(value, 1, u64::from(BATCH_LIMIT))? as u8).unwrap())
 }
 
-fn server(value: &Value) -> Result<ServerId, Stop>
+fn server(value: &Value) -> Result<ServerId, ReadFault>
     ensures { Gives same result (spec.whole 1 PARTY_LIMIT (view value.now)) }
 {
     Ok(ServerId::new(whole(value, 1, u64::from(PARTY_LIMIT))? as u32).unwrap())
 }
 
-pub(crate) fn party_named(name: &str) -> Result<Party, Stop>
+pub(crate) fn party_named(name: &str) -> Result<Party, ReadFault>
     ensures { Gives same result (spec.party_named name.now) }
 {
     if name == "master" {
@@ -152,11 +152,11 @@ pub(crate) fn party_named(name: &str) -> Result<Party, Stop>
     } else if name == "clients" {
         Ok(Party::Clients)
     } else {
-        Err(Stop::Bad)
+        Err(ReadFault::Bad)
     }
 }
 
-fn party(value: &Value) -> Result<Party, Stop>
+fn party(value: &Value) -> Result<Party, ReadFault>
     ensures { Gives same result (spec.party_in (view value.now)) }
 {
     match value.as_str() {
@@ -166,75 +166,75 @@ fn party(value: &Value) -> Result<Party, Stop>
 }
 
 /// The server under the key.
-pub fn server_at(value: &Value, key: &str) -> Result<ServerId, Stop>
+pub fn server_at(value: &Value, key: &str) -> Result<ServerId, ReadFault>
     ensures { Gives same result (spec.number_at 1 PARTY_LIMIT key.now (view value.now)) }
 {
     server(member_at(value, key)?)
 }
 
 /// The party under the key.
-pub fn party_at(value: &Value, key: &str) -> Result<Party, Stop>
+pub fn party_at(value: &Value, key: &str) -> Result<Party, ReadFault>
     ensures { Gives same result (spec.party_at key.now (view value.now)) }
 {
     party(member_at(value, key)?)
 }
 
 /// The number under the key.
-pub fn u32_at(value: &Value, key: &str) -> Result<u32, Stop>
+pub fn u32_at(value: &Value, key: &str) -> Result<u32, ReadFault>
     ensures { Gives same result (spec.number_at 0 PARTY_LIMIT key.now (view value.now)) }
 {
     Ok(whole(member_at(value, key)?, 0, u64::from(PARTY_LIMIT))? as u32)
 }
 
 /// The number under the key.
-pub fn u64_at(value: &Value, key: &str) -> Result<u64, Stop>
+pub fn u64_at(value: &Value, key: &str) -> Result<u64, ReadFault>
     ensures { Gives same result (spec.number_at 0 NUMBER_LIMIT key.now (view value.now)) }
 {
     whole(member_at(value, key)?, 0, NUMBER_LIMIT)
 }
 
 /// The moment under the key.
-pub fn moment_at(value: &Value, key: &str) -> Result<Moment, Stop>
+pub fn moment_at(value: &Value, key: &str) -> Result<Moment, ReadFault>
     ensures { Gives same result (spec.number_at 0 MOMENT_LIMIT key.now (view value.now)) }
 {
     Ok(Moment::new(whole(member_at(value, key)?, 0, MOMENT_LIMIT)?).unwrap())
 }
 
 /// The text under the key, which may be missing.
-pub fn text_if_at<'v>(value: &'v Value, key: &str) -> Result<Option<&'v str>, Stop>
+pub fn text_if_at<'v>(value: &'v Value, key: &str) -> Result<Option<&'v str>, ReadFault>
     ensures { Gives option_copied result (spec.text_if_at key.now (view value.now)) }
 {
     match value.get(key) {
         Some(found) => match found.as_str() {
             Some(text) => Ok(Some(text)),
-            None => Err(Stop::Bad),
+            None => Err(ReadFault::Bad),
         },
         None => Ok(None),
     }
 }
 
 /// The truth value under the key, which may be missing.
-pub fn truth_if_at(value: &Value, key: &str) -> Result<Option<bool>, Stop>
+pub fn truth_if_at(value: &Value, key: &str) -> Result<Option<bool>, ReadFault>
     ensures { Gives same result (spec.truth_if_at key.now (view value.now)) }
 {
     match value.get(key) {
         Some(found) => match found.as_bool() {
             Some(truth) => Ok(Some(truth)),
-            None => Err(Stop::Bad),
+            None => Err(ReadFault::Bad),
         },
         None => Ok(None),
     }
 }
 
 /// The visibility timeout under the key.
-pub fn seconds_at(value: &Value, key: &str) -> Result<Seconds, Stop>
+pub fn seconds_at(value: &Value, key: &str) -> Result<Seconds, ReadFault>
     ensures { Gives same result (spec.number_at 0 SECONDS_LIMIT key.now (view value.now)) }
 {
     seconds(member_at(value, key)?)
 }
 
 /// The visibility timeout under the key, which may be missing.
-pub fn seconds_if_at(value: &Value, key: &str) -> Result<Option<Seconds>, Stop>
+pub fn seconds_if_at(value: &Value, key: &str) -> Result<Option<Seconds>, ReadFault>
     ensures { Gives same result (spec.number_if_at 0 SECONDS_LIMIT key.now (view value.now)) }
 {
     match value.get(key) {
@@ -244,7 +244,7 @@ pub fn seconds_if_at(value: &Value, key: &str) -> Result<Option<Seconds>, Stop>
 }
 
 /// The number of messages under the key, which may be missing.
-pub fn batch_size_if_at(value: &Value, key: &str) -> Result<Option<BatchSize>, Stop>
+pub fn batch_size_if_at(value: &Value, key: &str) -> Result<Option<BatchSize>, ReadFault>
     ensures { Gives same result (spec.number_if_at 1 BATCH_LIMIT key.now (view value.now)) }
 {
     match value.get(key) {

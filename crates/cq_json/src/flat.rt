@@ -11,7 +11,7 @@ ghost use Rattle.cq_json.specs.Keys.{key_text};
 ghost use Rattle.cq_json.specs.Flat.{scalar_data, inner_members, flat_data, inner_data, is_inner, last_named, IsNoObject};
 ghost use Rattle.cq_json.specs.Readers.{Gives, same};
 
-use crate::fields::{Stop, party_named, within};
+use crate::fields::{ReadFault, party_named, within};
 use crate::key::Key;
 use arrayvec::ArrayVec;
 use cq_base::{
@@ -131,45 +131,45 @@ impl<'o, 'a> Flat<'o, 'a> {
     }
 
     /// The text under the key.
-    pub fn text_at(self, key: Key) -> Result<&'a str, Stop>
+    pub fn text_at(self, key: Key) -> Result<&'a str, ReadFault>
         ensures { Gives (λ t. t.now) result (spec.text_at (key_text key) (flat_data self.entry)) }
     {
         match self.get(key) {
             Some(Scalar::Text(text)) => Ok(text),
             Some(Scalar::Number(_) | Scalar::Truth(_) | Scalar::Null | Scalar::Inner) | None => {
-                Err(Stop::Bad)
+                Err(ReadFault::Bad)
             }
         }
     }
 
     /// The text under the key, which may be missing.
-    pub fn text_if_at(self, key: Key) -> Result<Option<&'a str>, Stop>
+    pub fn text_if_at(self, key: Key) -> Result<Option<&'a str>, ReadFault>
         ensures { Gives option_copied result (spec.text_if_at (key_text key) (flat_data self.entry)) }
     {
         match self.get(key) {
             Some(Scalar::Text(text)) => Ok(Some(text)),
             Some(Scalar::Number(_) | Scalar::Truth(_) | Scalar::Null | Scalar::Inner) => {
-                Err(Stop::Bad)
+                Err(ReadFault::Bad)
             }
             None => Ok(None),
         }
     }
 
     /// The truth value under the key, which may be missing.
-    pub fn truth_if_at(self, key: Key) -> Result<Option<bool>, Stop>
+    pub fn truth_if_at(self, key: Key) -> Result<Option<bool>, ReadFault>
         ensures { Gives same result (spec.truth_if_at (key_text key) (flat_data self.entry)) }
     {
         match self.get(key) {
             Some(Scalar::Truth(truth)) => Ok(Some(truth)),
             Some(Scalar::Number(_) | Scalar::Text(_) | Scalar::Null | Scalar::Inner) => {
-                Err(Stop::Bad)
+                Err(ReadFault::Bad)
             }
             None => Ok(None),
         }
     }
 
     /// The number under the key, if it is from `low` to `high`.
-    fn number_at(self, low: u64, high: u64, key: Key) -> Result<u64, Stop>
+    fn number_at(self, low: u64, high: u64, key: Key) -> Result<u64, ReadFault>
         ensures value { Gives same result (spec.number_at low high (key_text key) (flat_data self.entry)) }
         ensures least { IfOk result (λ number. low ≤ number) }
         ensures most { IfOk result (λ number. number ≤ high) }
@@ -177,48 +177,48 @@ impl<'o, 'a> Flat<'o, 'a> {
         match self.get(key) {
             Some(Scalar::Number(number)) => within(number, low, high),
             Some(Scalar::Text(_) | Scalar::Truth(_) | Scalar::Null | Scalar::Inner) | None => {
-                Err(Stop::Bad)
+                Err(ReadFault::Bad)
             }
         }
     }
 
     /// The server under the key.
-    pub fn server_at(self, key: Key) -> Result<ServerId, Stop>
+    pub fn server_at(self, key: Key) -> Result<ServerId, ReadFault>
         ensures { Gives same result (spec.number_at 1 PARTY_LIMIT (key_text key) (flat_data self.entry)) }
     {
         Ok(ServerId::new(self.number_at(1, u64::from(PARTY_LIMIT), key)? as u32).unwrap())
     }
 
     /// The number under the key.
-    pub fn u32_at(self, key: Key) -> Result<u32, Stop>
+    pub fn u32_at(self, key: Key) -> Result<u32, ReadFault>
         ensures { Gives same result (spec.number_at 0 PARTY_LIMIT (key_text key) (flat_data self.entry)) }
     {
         Ok(self.number_at(0, u64::from(PARTY_LIMIT), key)? as u32)
     }
 
     /// The number under the key.
-    pub fn u64_at(self, key: Key) -> Result<u64, Stop>
+    pub fn u64_at(self, key: Key) -> Result<u64, ReadFault>
         ensures { Gives same result (spec.number_at 0 NUMBER_LIMIT (key_text key) (flat_data self.entry)) }
     {
         self.number_at(0, NUMBER_LIMIT, key)
     }
 
     /// The moment under the key.
-    pub fn moment_at(self, key: Key) -> Result<Moment, Stop>
+    pub fn moment_at(self, key: Key) -> Result<Moment, ReadFault>
         ensures { Gives same result (spec.number_at 0 MOMENT_LIMIT (key_text key) (flat_data self.entry)) }
     {
         Ok(Moment::new(self.number_at(0, MOMENT_LIMIT, key)?).unwrap())
     }
 
     /// The visibility timeout under the key.
-    pub fn seconds_at(self, key: Key) -> Result<Seconds, Stop>
+    pub fn seconds_at(self, key: Key) -> Result<Seconds, ReadFault>
         ensures { Gives same result (spec.number_at 0 SECONDS_LIMIT (key_text key) (flat_data self.entry)) }
     {
         Ok(Seconds::new(self.number_at(0, u64::from(SECONDS_LIMIT), key)? as u32).unwrap())
     }
 
     /// The number under the key, which may be missing, if it is from `low` to `high`.
-    fn number_if_at(self, low: u64, high: u64, key: Key) -> Result<Option<u64>, Stop>
+    fn number_if_at(self, low: u64, high: u64, key: Key) -> Result<Option<u64>, ReadFault>
         ensures value { Gives same result (spec.number_if_at low high (key_text key) (flat_data self.entry)) }
         ensures least { IfOk result (λ found. IfSome found (λ number. low ≤ number)) }
         ensures most { IfOk result (λ found. IfSome found (λ number. number ≤ high)) }
@@ -226,14 +226,14 @@ impl<'o, 'a> Flat<'o, 'a> {
         match self.get(key) {
             Some(Scalar::Number(number)) => Ok(Some(within(number, low, high)?)),
             Some(Scalar::Text(_) | Scalar::Truth(_) | Scalar::Null | Scalar::Inner) => {
-                Err(Stop::Bad)
+                Err(ReadFault::Bad)
             }
             None => Ok(None),
         }
     }
 
     /// The visibility timeout under the key, which may be missing.
-    pub fn seconds_if_at(self, key: Key) -> Result<Option<Seconds>, Stop>
+    pub fn seconds_if_at(self, key: Key) -> Result<Option<Seconds>, ReadFault>
         ensures { Gives same result (spec.number_if_at 0 SECONDS_LIMIT (key_text key) (flat_data self.entry)) }
     {
         match self.number_if_at(0, u64::from(SECONDS_LIMIT), key)? {
@@ -243,7 +243,7 @@ impl<'o, 'a> Flat<'o, 'a> {
     }
 
     /// The number of messages under the key, which may be missing.
-    pub fn batch_size_if_at(self, key: Key) -> Result<Option<BatchSize>, Stop>
+    pub fn batch_size_if_at(self, key: Key) -> Result<Option<BatchSize>, ReadFault>
         ensures { Gives same result (spec.number_if_at 1 BATCH_LIMIT (key_text key) (flat_data self.entry)) }
     {
         match self.number_if_at(1, u64::from(BATCH_LIMIT), key)? {
@@ -253,13 +253,13 @@ impl<'o, 'a> Flat<'o, 'a> {
     }
 
     /// The party under the key.
-    pub fn party_at(self, key: Key) -> Result<Party, Stop>
+    pub fn party_at(self, key: Key) -> Result<Party, ReadFault>
         ensures { Gives same result (spec.party_at (key_text key) (flat_data self.entry)) }
     {
         match self.get(key) {
             Some(Scalar::Text(name)) => party_named(name),
             Some(Scalar::Number(_)) => Ok(Party::Server(self.server_at(key)?)),
-            Some(Scalar::Truth(_) | Scalar::Null | Scalar::Inner) | None => Err(Stop::Bad),
+            Some(Scalar::Truth(_) | Scalar::Null | Scalar::Inner) | None => Err(ReadFault::Bad),
         }
     }
 

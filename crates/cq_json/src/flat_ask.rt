@@ -5,7 +5,7 @@ ghost use Rattle.cq_json.specs.Keys.{key_text};
 ghost use Rattle.cq_json.specs.Readers.{Gives, same};
 
 use crate::ask::{DEFAULT_BATCH, DEFAULT_SECONDS};
-use crate::fields::Stop;
+use crate::fields::ReadFault;
 use crate::flat::Flat;
 use crate::key::Key;
 use crate::texts::{dedup_id_if, group_id, message_body, queue_name, receipt};
@@ -13,11 +13,11 @@ use cq_base::{Ask, BatchSize, Seconds};
 use std::alloc::Global;
 
 #[tactic(auto, unfolding(crate::specs::Asks::create_in))]
-fn read_create(alloc: Global, object: Flat<'_, '_>) -> Result<Ask, Stop>
+fn read_create(alloc: Global, object: Flat<'_, '_>) -> Result<Ask, ReadFault>
     ensures { Gives same result (spec.create_in (flat_data object.entry)) }
 {
     if !object.has_only(&[Key::Kind, Key::Queue, Key::Visibility, Key::ContentDedup]) {
-        return Err(Stop::Bad);
+        return Err(ReadFault::Bad);
     }
     let queue = object.text_at(Key::Queue)?;
     let visibility = object.seconds_if_at(Key::Visibility)?;
@@ -30,11 +30,11 @@ fn read_create(alloc: Global, object: Flat<'_, '_>) -> Result<Ask, Stop>
 }
 
 #[tactic(auto, unfolding(crate::specs::Asks::remove_in))]
-fn read_remove(alloc: Global, object: Flat<'_, '_>) -> Result<Ask, Stop>
+fn read_remove(alloc: Global, object: Flat<'_, '_>) -> Result<Ask, ReadFault>
     ensures { Gives same result (spec.remove_in (flat_data object.entry)) }
 {
     if !object.has_only(&[Key::Kind, Key::Queue]) {
-        return Err(Stop::Bad);
+        return Err(ReadFault::Bad);
     }
     let queue = object.text_at(Key::Queue)?;
     Ok(Ask::Remove {
@@ -43,11 +43,11 @@ fn read_remove(alloc: Global, object: Flat<'_, '_>) -> Result<Ask, Stop>
 }
 
 #[tactic(auto, unfolding(crate::specs::Asks::send_in))]
-fn read_send(alloc: Global, object: Flat<'_, '_>) -> Result<Ask, Stop>
+fn read_send(alloc: Global, object: Flat<'_, '_>) -> Result<Ask, ReadFault>
     ensures { Gives same result (spec.send_in (flat_data object.entry)) }
 {
     if !object.has_only(&[Key::Kind, Key::Queue, Key::Group, Key::Dedup, Key::Body]) {
-        return Err(Stop::Bad);
+        return Err(ReadFault::Bad);
     }
     let queue = object.text_at(Key::Queue)?;
     let group = object.text_at(Key::Group)?;
@@ -62,11 +62,11 @@ fn read_send(alloc: Global, object: Flat<'_, '_>) -> Result<Ask, Stop>
 }
 
 #[tactic(auto, unfolding(crate::specs::Asks::receive_in))]
-fn read_receive(alloc: Global, object: Flat<'_, '_>) -> Result<Ask, Stop>
+fn read_receive(alloc: Global, object: Flat<'_, '_>) -> Result<Ask, ReadFault>
     ensures { Gives same result (spec.receive_in (flat_data object.entry)) }
 {
     if !object.has_only(&[Key::Kind, Key::Queue, Key::Size, Key::Visibility]) {
-        return Err(Stop::Bad);
+        return Err(ReadFault::Bad);
     }
     let queue = object.text_at(Key::Queue)?;
     let size = object.batch_size_if_at(Key::Size)?;
@@ -79,11 +79,11 @@ fn read_receive(alloc: Global, object: Flat<'_, '_>) -> Result<Ask, Stop>
 }
 
 #[tactic(auto, unfolding(crate::specs::Asks::delete_in))]
-fn read_delete(alloc: Global, object: Flat<'_, '_>) -> Result<Ask, Stop>
+fn read_delete(alloc: Global, object: Flat<'_, '_>) -> Result<Ask, ReadFault>
     ensures { Gives same result (spec.delete_in (flat_data object.entry)) }
 {
     if !object.has_only(&[Key::Kind, Key::Queue, Key::Receipt]) {
-        return Err(Stop::Bad);
+        return Err(ReadFault::Bad);
     }
     let queue = object.text_at(Key::Queue)?;
     let receipt = receipt(object.text_at(Key::Receipt)?)?;
@@ -94,11 +94,11 @@ fn read_delete(alloc: Global, object: Flat<'_, '_>) -> Result<Ask, Stop>
 }
 
 #[tactic(auto, unfolding(crate::specs::Asks::change_in))]
-fn read_change(alloc: Global, object: Flat<'_, '_>) -> Result<Ask, Stop>
+fn read_change(alloc: Global, object: Flat<'_, '_>) -> Result<Ask, ReadFault>
     ensures { Gives same result (spec.change_in (flat_data object.entry)) }
 {
     if !object.has_only(&[Key::Kind, Key::Queue, Key::Receipt, Key::Visibility]) {
-        return Err(Stop::Bad);
+        return Err(ReadFault::Bad);
     }
     let queue = object.text_at(Key::Queue)?;
     let receipt = receipt(object.text_at(Key::Receipt)?)?;
@@ -112,7 +112,7 @@ fn read_change(alloc: Global, object: Flat<'_, '_>) -> Result<Ask, Stop>
 
 /// The ask that the object says.
 #[tactic(auto, unfolding(crate::specs::Asks::ask_in))]
-fn read_flat_ask(alloc: Global, object: Flat<'_, '_>) -> Result<Ask, Stop>
+fn read_flat_ask(alloc: Global, object: Flat<'_, '_>) -> Result<Ask, ReadFault>
     ensures { Gives same result (spec.ask_in (flat_data object.entry)) }
 {
     let kind = object.text_at(Key::Kind)?;
@@ -129,17 +129,17 @@ fn read_flat_ask(alloc: Global, object: Flat<'_, '_>) -> Result<Ask, Stop>
     } else if kind == "change" {
         read_change(alloc, object)
     } else {
-        Err(Stop::Bad)
+        Err(ReadFault::Bad)
     }
 }
 
 /// The ask that the object under the key says.
 #[tactic(auto, unfolding(crate::specs::Asks::ask_in))]
-pub fn read_flat_ask_at(alloc: Global, object: Flat<'_, '_>, key: Key) -> Result<Ask, Stop>
+pub fn read_flat_ask_at(alloc: Global, object: Flat<'_, '_>, key: Key) -> Result<Ask, ReadFault>
     ensures { Gives same result (ask_at (key_text key) (flat_data object.entry)) }
 {
     match object.inner_at(key) {
         Some(inner) => read_flat_ask(alloc, inner),
-        None => Err(Stop::Bad),
+        None => Err(ReadFault::Bad),
     }
 }

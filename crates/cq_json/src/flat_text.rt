@@ -57,8 +57,8 @@ fn ends_at(byte: u8) -> Option<bool>
     }
 }
 
-/// The front of a string's text whose bytes stand for themselves, whether the string ends behind it or has an escape
-/// there, and what follows the quote or the backslash: O(bytes of the front).
+/// The prefix of a string's text whose bytes stand for themselves, whether the string ends behind it or has an escape
+/// there, and what follows the quote or the backslash: O(bytes of the prefix).
 fn next_run(text: &str) -> Option<(&str, bool, &str)>
     ensures value { IfSome result (λ parts.
         text.now ≡ escape parts.0.now ++ (run_end parts.1 ∷ parts.2.now)) }
@@ -73,7 +73,7 @@ fn next_run(text: &str) -> Option<(&str, bool, &str)>
     Some((&text[..len], ends, &text[len + 1..]))
 }
 
-/// What follows the space, tab or carriage return at the front.
+/// What follows the space, tab or carriage return at the beginning.
 fn after_space(text: &str) -> Option<&str>
     ensures same { IfSome result (λ rest. Same text.now rest.now) }
     ensures ends { IfSome result (λ rest. ends_word text.now ≡ true) }
@@ -89,7 +89,7 @@ fn after_space(text: &str) -> Option<&str>
     Some(rest)
 }
 
-/// What follows the sixteen spaces at the front, or else the one space, tab or carriage return.
+/// What follows the sixteen spaces at the beginning, or else the one space, tab or carriage return.
 fn after_some_spaces(text: &str) -> Option<&str>
     ensures same { IfSome result (λ rest. Same text.now rest.now) }
     ensures ends { IfSome result (λ rest. ends_word text.now ≡ true) }
@@ -101,7 +101,7 @@ fn after_some_spaces(text: &str) -> Option<&str>
     after_space(text)
 }
 
-/// What follows the white space at the front, of which there is much: O(its bytes).
+/// What follows the white space at the beginning, of which there is much: O(its bytes).
 fn after_many_spaces(text: &str) -> &str
     ensures same { Same text.now result.now }
     ensures ends { ends_word result.now ≡ true → ends_word text.now ≡ true }
@@ -113,7 +113,7 @@ fn after_many_spaces(text: &str) -> &str
     rest
 }
 
-/// What follows the white space at the front: O(its bytes).
+/// What follows the white space at the beginning: O(its bytes).
 #[inline(never)]
 fn after_spaces(text: &str) -> &str
     ensures same { Same text.now result.now }
@@ -153,7 +153,7 @@ fn after_mark(text: &str, mark: u8) -> Option<&str>
     after(after_spaces(text), mark)
 }
 
-/// The string at the front, which may stand behind white space, if it has no escapes, and what follows it: O(its bytes).
+/// The string at the beginning, which may stand behind white space, if it has no escapes, and what follows it: O(its bytes).
 fn read_string(text: &str) -> Option<(&str, &str)>
     ensures { IfSome result (λ parts. Same text.now (quoted parts.0.now ++ parts.1.now)) }
 {
@@ -181,7 +181,7 @@ fn escaped_by(letter: u8) -> Option<char>
     }
 }
 
-/// The UTF-16 code unit that four hex digits at the front spell (RFC 8259, section 7), and what follows them.
+/// The UTF-16 code unit that four hex digits at the beginning spell (RFC 8259, section 7), and what follows them.
 fn read_unit(text: &str) -> Option<(u32, &str)>
     ensures { IfSome result (λ parts. IsUnit text.now parts.0 parts.1.now) }
 {
@@ -196,7 +196,7 @@ fn read_unit(text: &str) -> Option<(u32, &str)>
     Some((a * 4096 + b * 256 + c * 16 + d, &text[4..]))
 }
 
-/// The character of a surrogate pair with that first half, where the escape of the second stands at the front, and what
+/// The character of a surrogate pair with that first half, where the escape of the second stands at the beginning, and what
 /// follows it.
 fn read_second_half(high: u32, text: &str) -> Option<(char, &str)>
     requires { is_high_surrogate high ≡ true }
@@ -211,7 +211,7 @@ fn read_second_half(high: u32, text: &str) -> Option<(char, &str)>
     Some((character, rest))
 }
 
-/// The character whose escape by numbers stands at the front, behind its backslash and its `u`, and what follows it.
+/// The character whose escape by numbers stands at the beginning, behind its backslash and its `u`, and what follows it.
 fn read_numbered(text: &str) -> Option<(char, &str)>
     ensures value { IfSome result (λ parts. SpelledFrom after_u text.now (encode_utf8 parts.0) parts.1.now) }
     ensures shorter { IfSome result (λ parts. length parts.1.now < length text.now) }
@@ -224,7 +224,7 @@ fn read_numbered(text: &str) -> Option<(char, &str)>
     Some((char::from_u32(unit)?, rest))
 }
 
-/// The character whose escape stands at the front, behind its backslash, and what follows it.
+/// The character whose escape stands at the beginning, behind its backslash, and what follows it.
 fn read_escape(text: &str) -> Option<(char, &str)>
     ensures value { IfSome result (λ parts. Spelled (92 ∷ text.now) (encode_utf8 parts.0) parts.1.now) }
     ensures shorter { IfSome result (λ parts. length parts.1.now < length text.now) }
@@ -238,11 +238,11 @@ fn read_escape(text: &str) -> Option<(char, &str)>
 }
 
 /// Makes `out` that text. None where there is no memory.
-fn begin(out: &mut String, front: &str) -> Option<()>
-    ensures { OnSome result (string_bytes out.new ≡ front.now) }
+fn begin(out: &mut String, prefix: &str) -> Option<()>
+    ensures { OnSome result (string_bytes out.new ≡ prefix.now) }
 {
     out.clear();
-    out.push_str(front).ok()
+    out.push_str(prefix).ok()
 }
 
 /// Adds a character and a text. None where there is no memory.
@@ -254,13 +254,13 @@ fn append(out: &mut String, character: char, run: &str) -> Option<()>
     out.push_str(run).ok()
 }
 
-/// The string that has this front, and behind it an escape of which the backslash was passed; and what follows it. It is
+/// The string that has this prefix, and behind it an escape of which the backslash was passed; and what follows it. It is
 /// written to `out`: O(its bytes). None also where there is no memory.
-fn read_escaped<'a>(front: &str, text: &'a str, out: &'a mut String) -> Option<(&'a str, &'a str)>
-    requires { Spelled (escape front.now ++ (92 ∷ text.now)) front.now (92 ∷ text.now) }
-    ensures { IfSome result (λ parts. Spelled (escape front.now ++ (92 ∷ text.now)) parts.0.now (34 ∷ parts.1.now)) }
+fn read_escaped<'a>(prefix: &str, text: &'a str, out: &'a mut String) -> Option<(&'a str, &'a str)>
+    requires { Spelled (escape prefix.now ++ (92 ∷ text.now)) prefix.now (92 ∷ text.now) }
+    ensures { IfSome result (λ parts. Spelled (escape prefix.now ++ (92 ∷ text.now)) parts.0.now (34 ∷ parts.1.now)) }
 {
-    begin(out, front)?;
+    begin(out, prefix)?;
     let mut rest = text;
     let mut ended = false;
     'escapes: while !ended {
@@ -273,19 +273,19 @@ fn read_escaped<'a>(front: &str, text: &'a str, out: &'a mut String) -> Option<(
     Some((out.as_str(), rest))
 }
 
-/// The string at the front, and what follows it: O(its bytes). One with escapes is written to a spare string.
+/// The string at the beginning, and what follows it: O(its bytes). One with escapes is written to a spare string.
 fn read_text<'a>(text: &'a str, spares: &mut Spares<'a>) -> Option<(&'a str, &'a str)>
     ensures { IfSome result (λ parts. Same text.now (quoted parts.0.now ++ parts.1.now)) }
 {
-    let (front, ends, rest) = next_run(after(text, b'"')?)?;
+    let (prefix, ends, rest) = next_run(after(text, b'"')?)?;
     if ends {
-        return Some((front, rest));
+        return Some((prefix, rest));
     }
-    let (string, rest) = read_escaped(front, rest, spares.take()?)?;
+    let (string, rest) = read_escaped(prefix, rest, spares.take()?)?;
     Some((string, rest))
 }
 
-/// The number at the front, and what follows it: O(its digits). None also for one that has 20 digits or begins with a
+/// The number at the beginning, and what follows it: O(its digits). None also for one that has 20 digits or begins with a
 /// `0` it doesn't need.
 fn read_number(text: &str) -> Option<(u64, &str)>
     ensures { IfSome result (λ parts. (text.now ≡ decimal parts.0 ++ parts.1.now) × (parts.0 < 2 ^ 64)) }
@@ -310,7 +310,7 @@ fn read_number(text: &str) -> Option<(u64, &str)>
     Some((number, &text[len..]))
 }
 
-/// The truth value at the front, and what follows it.
+/// The truth value at the beginning, and what follows it.
 fn read_truth(text: &str) -> Option<(bool, &str)>
     ensures { IfSome result (λ parts. text.now ≡ value_text [] (Scalar.Truth parts.0) ++ parts.1.now) }
 {
@@ -320,7 +320,7 @@ fn read_truth(text: &str) -> Option<(bool, &str)>
     Some((false, text.strip_prefix("false")?))
 }
 
-/// The value at the front, which may stand behind white space, and what follows it; of the inner object nothing is passed.
+/// The value at the beginning, which may stand behind white space, and what follows it; of the inner object nothing is passed.
 fn read_value<'a>(text: &'a str, spares: &mut Spares<'a>) -> Option<(Scalar<'a>, &'a str)>
     ensures { IfSome result (λ parts. Same text.now (value_text [] parts.0 ++ parts.1.now) × IsInRange parts.0) }
 {
@@ -343,7 +343,7 @@ fn read_value<'a>(text: &'a str, spares: &mut Spares<'a>) -> Option<(Scalar<'a>,
     }
 }
 
-/// The member at the front, and what follows it.
+/// The member at the beginning, and what follows it.
 fn read_member<'a>(text: &'a str, spares: &mut Spares<'a>) -> Option<(Member<'a>, &'a str)>
     ensures { IfSome result (λ parts. Same text.now (member_text [] parts.0 ++ parts.1.now) × IsInRange parts.0.value) }
 {

@@ -15,7 +15,7 @@ mod texts;
 
 pub use ask::read_ask;
 pub use fields::{
-    Stop, has_only, member_at, moment_at, parse, party_at, server_at, text_at, u32_at, u64_at,
+    ReadFault, has_only, member_at, moment_at, parse, party_at, server_at, text_at, u32_at, u64_at,
 };
 pub use flat::Flat;
 pub use flat_ask::read_flat_ask_at;

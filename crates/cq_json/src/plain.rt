@@ -21,7 +21,7 @@ fn plain_lanes(bytes: u8x16) -> usize
     }
 }
 
-/// The length of the front whose bytes stand for themselves in a string, found byte by byte: O(that length).
+/// The length of the prefix whose bytes stand for themselves in a string, found byte by byte: O(that length).
 fn plain_len_by_bytes(bytes: &[u8]) -> usize
     ensures { result ≡ prefix_len is_plain bytes.now }
 {
@@ -32,7 +32,7 @@ fn plain_len_by_bytes(bytes: &[u8]) -> usize
     len
 }
 
-/// The length of the front whose bytes stand for themselves in a string (RFC 8259, section 7), 16 at a time: O(that
+/// The length of the prefix whose bytes stand for themselves in a string (RFC 8259, section 7), 16 at a time: O(that
 /// length).
 pub fn plain_len(bytes: &[u8]) -> usize
     ensures { result ≡ prefix_len is_plain bytes.now }

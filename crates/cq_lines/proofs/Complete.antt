@@ -2,7 +2,7 @@
 use Rattle.std.proofs.Common.{◌≡◌, ℕ, ◌+◌, ◌<◌, ◌≤◌, Bool, true, false, List, [], ◌∷◌, ◌++◌, length, Option, None, Some, Ok, nat_eq, nat_lt, refl, sym, ap, ◌∙◌, append_assoc, arith}
 use Rattle.std.proofs.lemmas.Bool.{ltb-true, ltb-false}
 use Rattle.cq_lines.specs.Lines.{lines_of, put_first}
-use Rattle.cq_base.specs.Relations.{Front}
+use Rattle.cq_base.specs.Relations.{IsPrefix}
 use Rattle.cq_lines.specs.Grammars.{Grammar, Parsed, values_of, value_or_fault, parse_line, parsed_before, parse_from, parse_text, values_from}
 use Rattle.cq_lines.specs.declared.fault.ScriptFault.{ScriptFault}
 use Rattle.cq_lines.specs.declared.fault.ScriptFault.TheVariants.{BadLine, LineTooLong, TooManyLines}
@@ -67,7 +67,7 @@ module _ {T : Type 0} (grammar : Grammar T) (limits : Limits)
 
   -- what the limit lets through are the first of all values, and all of them where the limit isn't met
   record Covers (n : ℕ) (lines : List (List ℕ)) : Type 0 where
-    first : Front (parse_from grammar limits n lines).values (values_from grammar limits.line_len n lines)
+    first : IsPrefix (parse_from grammar limits n lines).values (values_from grammar limits.line_len n lines)
     all : (parse_from grammar limits n lines).fault ≡ None → values_from grammar limits.line_len n lines ≡ (parse_from grammar limits n lines).values
 
   covers_line : (n : ℕ) (line : List ℕ) (lines : List (List ℕ)) (value : Option T) → n ≤ limits.line_count → parse_line grammar limits.line_len n line ≡ Ok value → Covers (n + 1) lines
@@ -97,7 +97,7 @@ module _ {T : Type 0} (grammar : Grammar T) (limits : Limits)
   covers n [] = record { first = rw (parse_from-nil grammar limits n) (_, refl); all = λ none. rw (parse_from-nil grammar limits n) refl }
   covers n (line ∷ lines) = covers-cases n line lines _ refl (covers (n + 1) lines)
 
-  pub first_of_all : (bytes : List ℕ) → Front (parse_text grammar limits bytes).values (values_from grammar limits.line_len 1 (lines_of bytes))
+  pub first_of_all : (bytes : List ℕ) → IsPrefix (parse_text grammar limits bytes).values (values_from grammar limits.line_len 1 (lines_of bytes))
   unfolding parse_text
   first_of_all bytes = (covers 1 (lines_of bytes)).first
 

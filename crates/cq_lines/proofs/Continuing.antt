@@ -2,7 +2,7 @@
 use Rattle.std.proofs.Common.{◌≡◌, ℕ, ◌+◌, ◌<◌, ◌≤◌, Bool, true, false, List, [], ◌∷◌, ◌++◌, length, Option, None, Some, Result, Ok, Err, nat_le, nat_lt, refl, sym, ap, ◌∙◌, append_assoc, append-nil, length-append, arith}
 use Rattle.std.proofs.lemmas.Bool.{leb-true, leb-false, ltb-true, ltb-false}
 use Rattle.cq_lines.specs.Lines.{lines_of, has_line_feed}
-use Rattle.cq_lines.specs.Grammars.{Grammar, Parsed, IsOpen, Yields, faulty, values_of, value_or_fault, parse_line, parsed_before, with_front, parse_from}
+use Rattle.cq_lines.specs.Grammars.{Grammar, Parsed, IsOpen, Yields, faulty, values_of, value_or_fault, parse_line, parsed_before, with_prefix, parse_from}
 use Rattle.cq_lines.specs.Progress.{Progress, overlong, partial_before, parse_after, Continues}
 use Rattle.cq_lines.specs.within.Steps.{Next, goes, stops, with_partial, line_completed, partial_overlong, overlong_outcome, part_of, line_end, Follows}
 use Rattle.cq_lines.specs.declared.fault.ScriptFault.{ScriptFault}
@@ -13,11 +13,11 @@ module _ {T : Type 0} where
   pub empty_text : Parsed T
   empty_text = record { values = []; fault = None }
 
-  pub with_front-faulty : (values : List T) (f : ScriptFault) → with_front values (faulty f) ≡ record { values = values; fault = Some f }
-  with_front-faulty values f = rw (append-nil values) refl
+  pub with_prefix-faulty : (values : List T) (f : ScriptFault) → with_prefix values (faulty f) ≡ record { values = values; fault = Some f }
+  with_prefix-faulty values f = rw (append-nil values) refl
 
-  pub with_front-twice : (xs ys : List T) (parsed : Parsed T) → with_front xs (with_front ys parsed) ≡ with_front (xs ++ ys) parsed
-  with_front-twice xs ys parsed = rw (append_assoc xs ys parsed.values) refl
+  pub with_prefix-twice : (xs ys : List T) (parsed : Parsed T) → with_prefix xs (with_prefix ys parsed) ≡ with_prefix (xs ++ ys) parsed
+  with_prefix-twice xs ys parsed = rw (append_assoc xs ys parsed.values) refl
 
 module _ {T : Type 0} (grammar : Grammar T) where
   -- The text stays the same from `s` with these bytes to the next state with what is left of them.
@@ -26,45 +26,45 @@ module _ {T : Type 0} (grammar : Grammar T) where
   ContinuesTo s bytes left (stops parsed) = (more : List ℕ) → parse_after grammar s (bytes ++ more) ≡ parsed
 
   parse_after-line : (s : Progress T) (part later more : List ℕ) → has_line_feed part ≡ false
-      → parse_after grammar s ((part ++ 10 ∷ later) ++ more) ≡ with_front s.values (parse_from grammar s.limits (s.lines + 1) ((s.partial ++ part) ∷ lines_of (later ++ more)))
+      → parse_after grammar s ((part ++ 10 ∷ later) ++ more) ≡ with_prefix s.values (parse_from grammar s.limits (s.lines + 1) ((s.partial ++ part) ∷ lines_of (later ++ more)))
   unfolding parse_after
   parse_after-line s part later more none =
-      ap (λ lines. with_front s.values (parse_from grammar s.limits (s.lines + 1) lines))
+      ap (λ lines. with_prefix s.values (parse_from grammar s.limits (s.lines + 1) lines))
       (ap (λ bytes. partial_before s.partial (lines_of bytes)) (append_assoc part (10 ∷ later) more) ∙ lines_of-line s.partial part (later ++ more) none)
 
   parse_after-part : (s : Progress T) (part more : List ℕ) → has_line_feed part ≡ false
-      → parse_after grammar s (part ++ more) ≡ with_front s.values (parse_from grammar s.limits (s.lines + 1) (partial_before (s.partial ++ part) (lines_of more)))
+      → parse_after grammar s (part ++ more) ≡ with_prefix s.values (parse_from grammar s.limits (s.lines + 1) (partial_before (s.partial ++ part) (lines_of more)))
   unfolding parse_after
-  parse_after-part s part more none = ap (λ lines. with_front s.values (parse_from grammar s.limits (s.lines + 1) lines)) (lines_of-part s.partial part more none)
+  parse_after-part s part more none = ap (λ lines. with_prefix s.values (parse_from grammar s.limits (s.lines + 1) lines)) (lines_of-part s.partial part more none)
 
   -- the next line is one too many
   line_too_many : (s : Progress T) (line : List ℕ) (lines : List (List ℕ)) → nat_le s.limits.line_count s.lines ≡ true
-      → with_front s.values (parse_from grammar s.limits (s.lines + 1) (line ∷ lines)) ≡ record { values = s.values; fault = Some TooManyLines }
+      → with_prefix s.values (parse_from grammar s.limits (s.lines + 1) (line ∷ lines)) ≡ record { values = s.values; fault = Some TooManyLines }
   line_too_many s line lines many =
       let past = leb-true s.limits.line_count s.lines many in
-      ap (with_front s.values) (parse_from-many grammar s.limits (s.lines + 1) line lines (omega (arith, past))) ∙ with_front-faulty s.values TooManyLines
+      ap (with_prefix s.values) (parse_from-many grammar s.limits (s.lines + 1) line lines (omega (arith, past))) ∙ with_prefix-faulty s.values TooManyLines
 
   -- the next line is parsed so
   line_parsed : (s : Progress T) (line : List ℕ) (lines : List (List ℕ)) (outcome : Result (Option T) ScriptFault) → s.lines + 1 ≤ s.limits.line_count
       → parse_line grammar s.limits.line_len (s.lines + 1) line ≡ outcome
-      → with_front s.values (parse_from grammar s.limits (s.lines + 1) (line ∷ lines))
-      ≡ with_front s.values (parsed_before outcome (parse_from grammar s.limits (s.lines + 1 + 1) lines))
+      → with_prefix s.values (parse_from grammar s.limits (s.lines + 1) (line ∷ lines))
+      ≡ with_prefix s.values (parsed_before outcome (parse_from grammar s.limits (s.lines + 1 + 1) lines))
   line_parsed s line lines outcome few is =
-      ap (with_front s.values) (parse_from-line grammar s.limits (s.lines + 1) line lines few ∙ ap (λ v. parsed_before v (parse_from grammar s.limits (s.lines + 1 + 1) lines)) is)
+      ap (with_prefix s.values) (parse_from-line grammar s.limits (s.lines + 1) line lines few ∙ ap (λ v. parsed_before v (parse_from grammar s.limits (s.lines + 1 + 1) lines)) is)
 
   -- ---- a line that ends
 
   -- a value that is added, and the lines behind it
   parse_after-value : (s : Progress T) (value : Option T) (bytes : List ℕ)
-      → with_front s.values (with_front (values_of value) (parse_from grammar s.limits (s.lines + 1 + 1) (lines_of bytes)))
+      → with_prefix s.values (with_prefix (values_of value) (parse_from grammar s.limits (s.lines + 1 + 1) (lines_of bytes)))
       ≡ parse_after grammar (record { limits = s.limits; values = s.values ++ values_of value; lines = s.lines + 1; partial = [] }) bytes
   unfolding parse_after
-  parse_after-value s value bytes = with_front-twice s.values (values_of value) (parse_from grammar s.limits (s.lines + 1 + 1) (lines_of bytes))
+  parse_after-value s value bytes = with_prefix-twice s.values (values_of value) (parse_from grammar s.limits (s.lines + 1 + 1) (lines_of bytes))
 
   line_completed-continues : (s : Progress T) (part later : List ℕ) (outcome : Result (Option T) ScriptFault) → has_line_feed part ≡ false → s.lines + 1 ≤ s.limits.line_count
       → parse_line grammar s.limits.line_len (s.lines + 1) (s.partial ++ part) ≡ outcome → ContinuesTo s (part ++ 10 ∷ later) later (line_completed s outcome)
   line_completed-continues s part later (Err f) none few is = λ more.
-      parse_after-line s part later more none ∙ line_parsed s (s.partial ++ part) (lines_of (later ++ more)) (Err f) few is ∙ with_front-faulty s.values f
+      parse_after-line s part later more none ∙ line_parsed s (s.partial ++ part) (lines_of (later ++ more)) (Err f) few is ∙ with_prefix-faulty s.values f
   line_completed-continues s part later (Ok value) none few is = λ more.
       parse_after-line s part later more none ∙ line_parsed s (s.partial ++ part) (lines_of (later ++ more)) (Ok value) few is ∙ parse_after-value s value (later ++ more)
 
@@ -89,12 +89,12 @@ module _ {T : Type 0} (grammar : Grammar T) where
       let first = partial_before-HasFirstLine s.partial b bs (lines_of more) in
       let longer : s.limits.line_len < length ((s.partial ++ b ∷ bs) ++ first.rest) = omega (arith, long, length-append s.partial (b ∷ bs), length-append (s.partial ++ b ∷ bs) first.rest) in
       parse_after-part s (b ∷ bs) more none
-      ∙ ap (λ lines. with_front s.values (parse_from grammar s.limits (s.lines + 1) lines)) first.is
+      ∙ ap (λ lines. with_prefix s.values (parse_from grammar s.limits (s.lines + 1) lines)) first.is
       ∙ line_parsed s ((s.partial ++ b ∷ bs) ++ first.rest) first.later (Err f) few (parse_line-long grammar s.limits (s.lines + 1) ((s.partial ++ b ∷ bs) ++ first.rest) longer ∙ is)
-      ∙ with_front-faulty s.values f
+      ∙ with_prefix-faulty s.values f
   partial_overlong-continues s b bs (Ok value) none few long is = λ more.
       parse_after-part s (b ∷ bs) more none
-      ∙ ap (with_front s.values) (parse_from-partial_long grammar s.limits (s.lines + 1) (s.partial ++ b ∷ bs) (overlong s.limits.line_len) (lines_of more) few
+      ∙ ap (with_prefix s.values) (parse_from-partial_long grammar s.limits (s.lines + 1) (s.partial ++ b ∷ bs) (overlong s.limits.line_len) (lines_of more) few
       (omega (arith, long, length-append s.partial (b ∷ bs))) (omega (arith, length-overlong s.limits.line_len)))
 
   -- they are added to the partial line
@@ -107,7 +107,7 @@ module _ {T : Type 0} (grammar : Grammar T) where
   unfolding part_of
   part_of-cases s b bs true long is_many is_long none = rw is_many (λ more.
       let first = partial_before-HasFirstLine s.partial b bs (lines_of more) in
-      parse_after-part s (b ∷ bs) more none ∙ ap (λ lines. with_front s.values (parse_from grammar s.limits (s.lines + 1) lines)) first.is
+      parse_after-part s (b ∷ bs) more none ∙ ap (λ lines. with_prefix s.values (parse_from grammar s.limits (s.lines + 1) lines)) first.is
       ∙ line_too_many s ((s.partial ++ b ∷ bs) ++ first.rest) first.later is_many)
   part_of-cases s b bs false true is_many is_long none =
       let under = leb-false s.limits.line_count s.lines is_many in
@@ -173,10 +173,10 @@ module _ {T : Type 0} (grammar : Grammar T) where
 
   -- there is one
   end_in_line : (s : Progress T) → 0 < length s.partial → s.lines + 1 ≤ s.limits.line_count
-      → parse_after grammar s [] ≡ with_front s.values (parsed_before (parse_line grammar s.limits.line_len (s.lines + 1) s.partial) empty_text)
+      → parse_after grammar s [] ≡ with_prefix s.values (parsed_before (parse_line grammar s.limits.line_len (s.lines + 1) s.partial) empty_text)
   unfolding parse_after lines_of empty_text
   end_in_line s some few =
-      ap (λ lines. with_front s.values (parse_from grammar s.limits (s.lines + 1) lines)) (partial_before-nil s.partial some)
+      ap (λ lines. with_prefix s.values (parse_from grammar s.limits (s.lines + 1) lines)) (partial_before-nil s.partial some)
       ∙ line_parsed s s.partial [] (parse_line grammar s.limits.line_len (s.lines + 1) s.partial) few refl
       ∙ rw (parse_from-nil grammar s.limits (s.lines + 1 + 1)) refl
 
@@ -184,18 +184,18 @@ module _ {T : Type 0} (grammar : Grammar T) where
   stops-same x y is = cc
 
   last_line-fault : (s : Progress T) (new : Progress T) (f g : ScriptFault) → stops (record { values = s.values; fault = Some g }) ≡ stops (record { values = new.values; fault = Some f })
-      → with_front s.values (faulty g) ≡ record { values = new.values; fault = Some f }
-  last_line-fault s new f g is = with_front-faulty s.values g ∙ stops-same (record { values = s.values; fault = Some g }) (record { values = new.values; fault = Some f }) is
+      → with_prefix s.values (faulty g) ≡ record { values = new.values; fault = Some f }
+  last_line-fault s new f g is = with_prefix-faulty s.values g ∙ stops-same (record { values = s.values; fault = Some g }) (record { values = new.values; fault = Some f }) is
 
   last_line-value : (s new : Progress T) (value : Option T) → line_completed s (Ok value) ≡ goes new
-      → with_front s.values (parsed_before (Ok value) empty_text) ≡ record { values = new.values; fault = None }
+      → with_prefix s.values (parsed_before (Ok value) empty_text) ≡ record { values = new.values; fault = None }
   unfolding empty_text
   last_line-value s new value is =
       let next : new ≡ record { limits = s.limits; values = s.values ++ values_of value; lines = s.lines + 1; partial = [] } = cc in
       rw (next, append-nil (values_of value)) refl
 
   last_line-yields : (r : Result (Unit {0}) ScriptFault) (s new : Progress T) (outcome : Result (Option T) ScriptFault) → Follows r new (line_completed s outcome)
-      → Yields r new.values (with_front s.values (parsed_before outcome empty_text))
+      → Yields r new.values (with_prefix s.values (parsed_before outcome empty_text))
   last_line-yields (Ok _) s new (Err g) is = cc
   last_line-yields (Ok _) s new (Ok value) is = last_line-value s new value is
   last_line-yields (Err (BadLine n)) s new (Err g) is = last_line-fault s new (BadLine n) g is
@@ -229,7 +229,7 @@ module _ {T : Type 0} (grammar : Grammar T) where
 
   -- ---- the partial line passes no limit
 
-  open-outcome : (s : Progress T) (value : Option (Option T)) → IsOpen (with_front s.values (parsed_before (value_or_fault (BadLine (s.lines + 1)) value) empty_text)).fault
+  open-outcome : (s : Progress T) (value : Option (Option T)) → IsOpen (with_prefix s.values (parsed_before (value_or_fault (BadLine (s.lines + 1)) value) empty_text)).fault
   unfolding empty_text
   open-outcome s None = tt
   open-outcome s (Some value) = tt

@@ -1,26 +1,26 @@
 -- Values that were cleared after each chunk: with them, what was read is a text as if they were kept.
-use Rattle.cq_base.specs.Relations.{Front}
+use Rattle.cq_base.specs.Relations.{IsPrefix}
 use Rattle.std.proofs.Common.{◌≡◌, ℕ, Bool, true, false, List, [], ◌++◌, Some, Result, Ok, Err, refl, sym, ap, ◌∙◌, append_assoc, append-nil}
 use Rattle.cq_lines.specs.Lines.{has_line_feed, ended_part}
-use Rattle.cq_lines.specs.Grammars.{Grammar, Parsed, Yields, with_front, parse_text}
+use Rattle.cq_lines.specs.Grammars.{Grammar, Parsed, Yields, with_prefix, parse_text}
 use Rattle.cq_lines.specs.Faults.{ends_by_memory}
 use Rattle.cq_lines.specs.Progress.{Progress, parse_after, with_earlier, ReadsOn, MeetsFault, FeedsChunk, HasRead, AreFirstValues}
 use Rattle.cq_lines.specs.declared.fault.ScriptFault.{ScriptFault}
 use Rattle.cq_lines.specs.declared.fault.ScriptFault.TheVariants.{BadLine, LineTooLong, TooManyLines, ReadFailed, WriteFailed, NoMemory}
 use Rattle.cq_lines.specs.declared.limits.Limits.{Limits}
-use Rattle.cq_lines.proofs.Continuing.{with_front-twice}
+use Rattle.cq_lines.proofs.Continuing.{with_prefix-twice}
 use Rattle.cq_lines.proofs.Chunks.{parse_after-start, ended_part-before, ended_part-behind, chunk_is_read}
 use Rattle.cq_lines.proofs.Endings.{parse_text-end}
 
 module _ {T : Type 0} (grammar : Grammar T) where
-  parse_after-earlier : (xs : List T) (s : Progress T) (bytes : List ℕ) → parse_after grammar (with_earlier xs s) bytes ≡ with_front xs (parse_after grammar s bytes)
+  parse_after-earlier : (xs : List T) (s : Progress T) (bytes : List ℕ) → parse_after grammar (with_earlier xs s) bytes ≡ with_prefix xs (parse_after grammar s bytes)
   unfolding parse_after
-  parse_after-earlier xs s bytes = sym (with_front-twice xs s.values _)
+  parse_after-earlier xs s bytes = sym (with_prefix-twice xs s.values _)
 
   reads_on-earlier : (xs : List T) (old new : Progress T) (bytes : List ℕ) → ReadsOn grammar old bytes new → ReadsOn grammar (with_earlier xs old) bytes (with_earlier xs new)
   reads_on-earlier xs old new bytes goes = record {
-    continues = λ more. parse_after-earlier xs old (bytes ++ more) ∙ ap (with_front xs) (goes.continues more) ∙ sym (parse_after-earlier xs new more);
-    ended = λ some. parse_after-earlier xs old (ended_part bytes) ∙ ap (with_front xs) (goes.ended some);
+    continues = λ more. parse_after-earlier xs old (bytes ++ more) ∙ ap (with_prefix xs) (goes.continues more) ∙ sym (parse_after-earlier xs new more);
+    ended = λ some. parse_after-earlier xs old (ended_part bytes) ∙ ap (with_prefix xs) (goes.ended some);
     unended = λ none. ap (λ values. xs ++ values) (goes.unended none);
     stays_open = λ yet.
         let old_fault : (parse_after grammar (with_earlier xs old) []).fault ≡ (parse_after grammar old []).fault = ap (λ (x : Parsed T). x.fault) (parse_after-earlier xs old []) in
@@ -30,7 +30,7 @@ module _ {T : Type 0} (grammar : Grammar T) where
 
   fault-earlier : (xs : List T) (f : ScriptFault) (old new : Progress T) (bytes : List ℕ) → MeetsFault grammar f old bytes new → MeetsFault grammar f (with_earlier xs old) bytes (with_earlier xs new)
   fault-earlier xs f old new bytes fault = record {
-    here = λ more. parse_after-earlier xs old (bytes ++ more) ∙ ap (with_front xs) (fault.here more);
+    here = λ more. parse_after-earlier xs old (bytes ++ more) ∙ ap (with_prefix xs) (fault.here more);
     ended = λ some. ap (λ (x : Parsed T). x.values) (parse_after-earlier xs old (ended_part bytes)) ∙ ap (λ values. xs ++ values) (fault.ended some);
     unended = λ none. ap (λ values. xs ++ values) (fault.unended none);
   }
@@ -44,11 +44,11 @@ module _ {T : Type 0} (grammar : Grammar T) where
   feeds-earlier xs (Err WriteFailed) old new bytes feeds = feeds
   feeds-earlier xs (Err NoMemory) old new bytes feeds = tt
 
-  yields-earlier : (xs : List T) (r : Result (Unit {0}) ScriptFault) (values : List T) (parsed : Parsed T) → Yields r values parsed → Yields r (xs ++ values) (with_front xs parsed)
-  yields-earlier xs (Ok _) values parsed is = ap (with_front xs) is
-  yields-earlier xs (Err (BadLine n)) values parsed is = ap (with_front xs) is
-  yields-earlier xs (Err (LineTooLong n)) values parsed is = ap (with_front xs) is
-  yields-earlier xs (Err TooManyLines) values parsed is = ap (with_front xs) is
+  yields-earlier : (xs : List T) (r : Result (Unit {0}) ScriptFault) (values : List T) (parsed : Parsed T) → Yields r values parsed → Yields r (xs ++ values) (with_prefix xs parsed)
+  yields-earlier xs (Ok _) values parsed is = ap (with_prefix xs) is
+  yields-earlier xs (Err (BadLine n)) values parsed is = ap (with_prefix xs) is
+  yields-earlier xs (Err (LineTooLong n)) values parsed is = ap (with_prefix xs) is
+  yields-earlier xs (Err TooManyLines) values parsed is = ap (with_prefix xs) is
   yields-earlier xs (Err ReadFailed) values parsed is = is
   yields-earlier xs (Err WriteFailed) values parsed is = is
   yields-earlier xs (Err NoMemory) values parsed is = tt
@@ -57,34 +57,34 @@ module _ {T : Type 0} (grammar : Grammar T) (limits : Limits) where
   from_start : (s : Progress T) (input more : List ℕ) → HasRead grammar limits input s → parse_text grammar limits (input ++ more) ≡ parse_after grammar s more
   from_start s input more read = sym (parse_after-start grammar limits (input ++ more)) ∙ read.continues more
 
-  first_of_rest : (s : Progress T) (bytes : List ℕ) → Front s.values (parse_after grammar s bytes).values
+  first_of_rest : (s : Progress T) (bytes : List ℕ) → IsPrefix s.values (parse_after grammar s bytes).values
   unfolding parse_after
   first_of_rest s bytes = (_, refl)
 
-  Front-equal : (xs ys zs : List T) → ys ≡ zs → Front xs zs → Front xs ys
-  Front-equal xs ys zs is front = rw is front
+  IsPrefix-equal : (xs ys zs : List T) → ys ≡ zs → IsPrefix xs zs → IsPrefix xs ys
+  IsPrefix-equal xs ys zs is prefix = rw is prefix
 
-  Front-self : (xs ys : List T) → ys ≡ xs → Front xs ys
-  Front-self xs ys is = ([], is ∙ sym (append-nil xs))
+  IsPrefix-self : (xs ys : List T) → ys ≡ xs → IsPrefix xs ys
+  IsPrefix-self xs ys is = ([], is ∙ sym (append-nil xs))
 
   -- the values so far are the first ones, whatever comes
   pub first_values : (s : Progress T) (input : List ℕ) → HasRead grammar limits input s → AreFirstValues grammar limits s.values input
   first_values s input read = record {
-    front = λ more. Front-equal s.values _ _ (ap (λ (x : Parsed T). x.values) (from_start s input more read)) (first_of_rest s more);
-    ended = Front-self s.values _ (ap (λ (x : Parsed T). x.values) read.ended);
+    prefix = λ more. IsPrefix-equal s.values _ _ (ap (λ (x : Parsed T). x.values) (from_start s input more read)) (first_of_rest s more);
+    ended = IsPrefix-self s.values _ (ap (λ (x : Parsed T). x.values) read.ended);
   }
 
-  first_ended : (s : Progress T) (input chunk : List ℕ) (some : Bool) → has_line_feed chunk ≡ some → HasRead grammar limits input s → Front s.values (parse_text grammar limits (ended_part (input ++ chunk))).values
+  first_ended : (s : Progress T) (input chunk : List ℕ) (some : Bool) → has_line_feed chunk ≡ some → HasRead grammar limits input s → IsPrefix s.values (parse_text grammar limits (ended_part (input ++ chunk))).values
   first_ended s input chunk true is read =
-      Front-equal s.values _ _ (ap (λ (x : Parsed T). x.values) (ap (parse_text grammar limits) (ended_part-behind input chunk is) ∙ from_start s input (ended_part chunk) read))
+      IsPrefix-equal s.values _ _ (ap (λ (x : Parsed T). x.values) (ap (parse_text grammar limits) (ended_part-behind input chunk is) ∙ from_start s input (ended_part chunk) read))
       (first_of_rest s (ended_part chunk))
-  first_ended s input chunk false is read = Front-self s.values _ (ap (λ (x : Parsed T). x.values) (ap (parse_text grammar limits) (ended_part-before input chunk is) ∙ read.ended))
+  first_ended s input chunk false is read = IsPrefix-self s.values _ (ap (λ (x : Parsed T). x.values) (ap (parse_text grammar limits) (ended_part-before input chunk is) ∙ read.ended))
 
   -- also behind a chunk that was not read to its end
   pub first_before_chunk : (s : Progress T) (input chunk : List ℕ) → HasRead grammar limits input s → AreFirstValues grammar limits s.values (input ++ chunk)
   first_before_chunk s input chunk read = record {
-    front = λ more.
-        Front-equal s.values _ _ (ap (λ (x : Parsed T). x.values) (ap (parse_text grammar limits) (append_assoc input chunk more) ∙ from_start s input (chunk ++ more) read)) (first_of_rest s (chunk ++ more));
+    prefix = λ more.
+        IsPrefix-equal s.values _ _ (ap (λ (x : Parsed T). x.values) (ap (parse_text grammar limits) (append_assoc input chunk more) ∙ from_start s input (chunk ++ more) read)) (first_of_rest s (chunk ++ more));
     ended = first_ended s input chunk _ refl read;
   }
 
@@ -104,8 +104,8 @@ module _ {T : Type 0} (grammar : Grammar T) (limits : Limits) where
   first_at_fault : (f : ScriptFault) (old new : Progress T) (input chunk : List ℕ) → HasRead grammar limits input old → MeetsFault grammar f old chunk new
       → AreFirstValues grammar limits new.values (input ++ chunk)
   first_at_fault f old new input chunk read fault = record {
-    front = λ more. Front-self new.values _ (ap (λ (x : Parsed T). x.values) (text_of_fault f old new input chunk read fault more));
-    ended = Front-self new.values _ (ended_of_fault f old new input chunk _ refl read fault);
+    prefix = λ more. IsPrefix-self new.values _ (ap (λ (x : Parsed T). x.values) (text_of_fault f old new input chunk read fault more));
+    ended = IsPrefix-self new.values _ (ended_of_fault f old new input chunk _ refl read fault);
   }
 
   first_of_chunk : (r : Result (Unit {0}) ScriptFault) (old new : Progress T) (input chunk : List ℕ) → ends_by_memory r ≡ false → HasRead grammar limits input old → FeedsChunk grammar r old chunk new

@@ -8,4 +8,4 @@ pub mod Chunks
 pub mod Earlier
 pub mod Endings
 -- worked texts
-pub mod Rows
+pub mod Examples

@@ -58,13 +58,13 @@ abbrev pub faulty : {T : Type 0} → ScriptFault → Parsed T
 faulty f = record { values = []; fault = Some f }
 
 -- a text with values before its own
-abbrev pub with_front : {T : Type 0} → List T → Parsed T → Parsed T
-with_front values parsed = record { values = values ++ parsed.values; fault = parsed.fault }
+abbrev pub with_prefix : {T : Type 0} → List T → Parsed T → Parsed T
+with_prefix values parsed = record { values = values ++ parsed.values; fault = parsed.fault }
 
 -- a line before the rest of a text, which counts only if the line is no fault
 abbrev pub parsed_before : {T : Type 0} → Result (Option T) ScriptFault → Parsed T → Parsed T
 parsed_before (Err f) rest = faulty f
-parsed_before (Ok value) rest = with_front (values_of value) rest
+parsed_before (Ok value) rest = with_prefix (values_of value) rest
 
 -- the text of these lines, of which the first has the number n
 unfoldable pub parse_from : {T : Type 0} → Grammar T → Limits → ℕ → List (List ℕ) → Parsed T

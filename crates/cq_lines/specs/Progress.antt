@@ -1,8 +1,8 @@
 -- A text that is being read: what is known of it so far, and how a chunk takes it further.
 use Rattle.std.specs.Prelude.{◌≡◌, ℕ, ◌+◌, Bool, true, false, if◌then◌else◌, List, [], ◌∷◌, ◌++◌, replicate, None, Some, Result, Ok, Err}
-use Rattle.cq_base.specs.Relations.{Front}
+use Rattle.cq_base.specs.Relations.{IsPrefix}
 use Rattle.cq_lines.specs.Lines.{lines_of, has_line_feed, ended_part}
-use Rattle.cq_lines.specs.Grammars.{Grammar, Parsed, IsOpen, with_front, parse_from, parse_text}
+use Rattle.cq_lines.specs.Grammars.{Grammar, Parsed, IsOpen, with_prefix, parse_from, parse_text}
 use Rattle.cq_lines.specs.declared.fault.ScriptFault.{ScriptFault}
 use Rattle.cq_lines.specs.declared.fault.ScriptFault.TheVariants.{BadLine, LineTooLong, TooManyLines, ReadFailed, WriteFailed, NoMemory}
 use Rattle.cq_lines.specs.declared.limits.Limits.{Limits}
@@ -45,7 +45,7 @@ partial_before (b ∷ bs) (line ∷ lines) = ((b ∷ bs) ++ line) ∷ lines
 
 -- the text, where these bytes are the rest of it
 unfoldable pub parse_after : {T : Type 0} → Grammar T → Progress T → List ℕ → Parsed T
-parse_after grammar s bytes = with_front s.values (parse_from grammar s.limits (s.lines + 1) (partial_before s.partial (lines_of bytes)))
+parse_after grammar s bytes = with_prefix s.values (parse_from grammar s.limits (s.lines + 1) (partial_before s.partial (lines_of bytes)))
 
 -- ---- a chunk
 
@@ -87,5 +87,5 @@ pub record HasRead {T : Type 0} (grammar : Grammar T) (limits : Limits) (input :
 
 -- These values are the first ones of the lines that have ended in the input, and of each text that begins with it.
 pub record AreFirstValues {T : Type 0} (grammar : Grammar T) (limits : Limits) (values : List T) (input : List ℕ) : Type 0 where
-  pub front : (more : List ℕ) → Front values (parse_text grammar limits (input ++ more)).values
-  pub ended : Front values (parse_text grammar limits (ended_part input)).values
+  pub prefix : (more : List ℕ) → IsPrefix values (parse_text grammar limits (input ++ more)).values
+  pub ended : IsPrefix values (parse_text grammar limits (ended_part input)).values

@@ -4,3 +4,5 @@ pub mod Tags
 pub mod Inboxes
 pub mod Memories
 pub mod within
+pub mod Wirings
+pub mod Clients

@@ -1,11 +1,10 @@
 //! Wires by rows, in one thread.
 ghost use Rattle.std.specs.Prelude.{◌≡◌};
-ghost use Rattle.cq_wires.specs.Clients.{AreTied};
-ghost use Rattle.cq_wires.specs.Wirings.{wiring};
+ghost use Rattle.cq_link.specs.Clients.{AreTied};
+ghost use Rattle.cq_link.specs.Wirings.{wiring};
 
 use cq_base::{Ask, BaseFault, QueueName, Request};
-use cq_link::LinkFault;
-use cq_wires::{ClientWires, Ports, settle_all, settle_clients, wire, wire_clients};
+use cq_link::{ClientWires, LinkFault, Ports, settle_all, settle_clients, wire, wire_clients};
 use std::alloc::Global;
 use std::sync::Wait;
 use std::test::Fail;

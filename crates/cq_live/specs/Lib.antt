@@ -1,8 +1,6 @@
-pub mod Ends
-pub mod FreshLinks
-pub mod MasterMoves
-pub mod MasterNodes
-pub mod Moves
-pub mod Nodes
-pub mod ClientMoves
-pub mod ClientNodes
+pub mod Reports
+pub mod within
+pub mod Faults
+pub mod Lives
+pub mod Plans
+pub mod Ended

@@ -1,28 +1,23 @@
-//! Nodes of a chain: each runs one server, the master or one client between the ends of links. `specs/` holds the
-//! rules.
+//! A live chain: servers, the master and two clients on threads of their own, and what an audit says of what they did.
+//! The nodes are made of the ends of the run's links, run, and taken apart into these ends. `specs/` holds the rules.
 #![tactic(auto)]
 
-mod arrivals;
-mod client_moves;
-mod client_node;
-mod crashes;
-mod ends;
-mod first_core;
-mod flags;
-mod links;
-mod master_moves;
-mod master_node;
-mod moves;
-mod server_ends;
-mod server_node;
-mod to_clients;
-mod turns;
+mod apart;
+mod bare_ends;
+mod fault;
+mod fresh;
+pub mod laws;
+mod live_run;
+mod node_types;
+mod nodes;
+mod report;
+mod roles;
+mod sends;
+mod servers;
+mod settle;
+mod threads;
+mod wires;
 
-pub use client_node::{ClientLeft, ClientLinks, ClientNode};
-pub use ends::{In, Out, ToClients};
-pub use flags::Flags;
-pub use links::Links;
-pub use master_node::{Join, MasterEnds, MasterNode};
-pub use server_ends::{ServerEnds, ServerParts};
-pub use server_node::ServerNode;
-pub use turns::{Always, Gate, Stop, Turn};
+pub use fault::LiveFault;
+pub use live_run::live;
+pub use report::LiveReport;

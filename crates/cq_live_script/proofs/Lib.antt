@@ -1,2 +1,2 @@
 -- worked lines
-pub mod Rows
+pub mod Examples

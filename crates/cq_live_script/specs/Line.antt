@@ -2,7 +2,7 @@
 use Rattle.std.specs.Prelude.{ℕ, List, if◌then◌else◌, Option, Some, None, Result, Ok, Err}
 use Rattle.std.specs.List.{list_all}
 use Rattle.cq_json.specs.Fields.{Reason, ◌>>=◌, or_bad, json_of}
-use Rattle.cq_plan.specs.declared.step.LiveStep.{LiveStep}
+use Rattle.cq_live_plan.specs.declared.step.LiveStep.{LiveStep}
 use Rattle.cq_lines.specs.Lines.{is_blank_byte}
 use Rattle.cq_live_script.specs.Steps.{step_in}
 

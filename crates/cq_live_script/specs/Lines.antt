@@ -6,7 +6,7 @@ use Rattle.cq_lines.specs.Texts.{ReadsText}
 use Rattle.cq_lines.specs.declared.fault.ScriptFault.{ScriptFault}
 use Rattle.cq_lines.specs.declared.limits.Limits.{Limits}
 use Rattle.cq_lines.specs.declared.limits.TheConstants.{LINE_LIMIT, LINES_LIMIT}
-use Rattle.cq_plan.specs.declared.step.LiveStep.{LiveStep}
+use Rattle.cq_live_plan.specs.declared.step.LiveStep.{LiveStep}
 use Rattle.cq_live_script.specs.Line.{step_line}
 
 -- the steps of lines; a line that is bad or overlong ends the live script

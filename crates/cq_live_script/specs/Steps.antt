@@ -5,8 +5,8 @@ use Rattle.serde_json.specs.Data.{Data}
 use Rattle.cq_base.specs.declared.limits.TheConstants.{PARTY_LIMIT, NUMBER_LIMIT}
 use Rattle.cq_json.specs.Asks.{ask_in}
 use Rattle.cq_json.specs.Fields.{Reason, bad, ◌>>=◌, within, has_only, member_at, text_at, number_at}
-use Rattle.cq_plan.specs.declared.step.LiveStep.{LiveStep}
-use Rattle.cq_plan.specs.declared.step.LiveStep.TheVariants as steps
+use Rattle.cq_live_plan.specs.declared.step.LiveStep.{LiveStep}
+use Rattle.cq_live_plan.specs.declared.step.LiveStep.TheVariants as steps
 use Rattle.cq_live_script.specs.declared.step.TheConstants.{AFTER_LIMIT}
 
 -- the client, which is 1 or 2

@@ -8,7 +8,7 @@ use crate::step_line::step_of;
 use cq_lines::{
     LINE_LIMIT, LINES_LIMIT, Limits, LineFault, LineParser, ScriptFault, Source, read_lines,
 };
-use cq_plan::LiveStep;
+use cq_live_plan::LiveStep;
 use std::alloc::Global;
 
 /// Parses each line to its step.

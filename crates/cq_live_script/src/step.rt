@@ -4,8 +4,8 @@ ghost use Rattle.cq_json.specs.Readers.{Gives, same};
 ghost use Rattle.cq_live_script.specs.Steps as spec;
 
 use cq_base::ServerId;
-use cq_json::{Stop, has_only, member_at, read_ask, server_at, text_at, u32_at, u64_at};
-use cq_plan::LiveStep;
+use cq_json::{ReadFault, has_only, member_at, read_ask, server_at, text_at, u32_at, u64_at};
+use cq_live_plan::LiveStep;
 use serde_json::Value;
 use std::alloc::Global;
 
@@ -14,36 +14,36 @@ pub const AFTER_LIMIT: u64 = 1 << 62;
 
 /// The client of a step, which is 1 or 2.
 #[tactic(auto, unfolding(crate::specs::Steps::client_at))]
-fn client_at(value: &Value) -> Result<u32, Stop>
+fn client_at(value: &Value) -> Result<u32, ReadFault>
     ensures { Gives same result (spec.client_at (view value.now)) }
 {
     let client = u32_at(value, "client")?;
     if client == 1 || client == 2 {
         Ok(client)
     } else {
-        Err(Stop::Bad)
+        Err(ReadFault::Bad)
     }
 }
 
 /// How many entries or turns a step waits for.
 #[tactic(auto, unfolding(crate::specs::Steps::after_at))]
-fn after_at(value: &Value) -> Result<u64, Stop>
+fn after_at(value: &Value) -> Result<u64, ReadFault>
     ensures { Gives same result (spec.after_at (view value.now)) }
 {
     let after = u64_at(value, "after")?;
     if after <= AFTER_LIMIT {
         Ok(after)
     } else {
-        Err(Stop::Bad)
+        Err(ReadFault::Bad)
     }
 }
 
 #[tactic(auto, unfolding(crate::specs::Steps::client_in))]
-fn read_client(alloc: Global, value: &Value) -> Result<LiveStep, Stop>
+fn read_client(alloc: Global, value: &Value) -> Result<LiveStep, ReadFault>
     ensures { Gives same result (spec.client_in (view value.now)) }
 {
     if !has_only(value, &["op", "client", "ask"]) {
-        return Err(Stop::Bad);
+        return Err(ReadFault::Bad);
     }
     let client = client_at(value)?;
     let ask = read_ask(alloc, member_at(value, "ask")?)?;
@@ -52,11 +52,11 @@ fn read_client(alloc: Global, value: &Value) -> Result<LiveStep, Stop>
 
 /// The server of a step that has no client, and how long the step waits.
 #[tactic(auto, unfolding(crate::specs::Steps::server_in))]
-fn read_server(value: &Value) -> Result<(ServerId, u64), Stop>
+fn read_server(value: &Value) -> Result<(ServerId, u64), ReadFault>
     ensures { Gives same result (spec.server_in (view value.now)) }
 {
     if !has_only(value, &["op", "server", "after"]) {
-        return Err(Stop::Bad);
+        return Err(ReadFault::Bad);
     }
     let server = server_at(value, "server")?;
     let after = after_at(value)?;
@@ -65,7 +65,7 @@ fn read_server(value: &Value) -> Result<(ServerId, u64), Stop>
 
 /// The step that the value says.
 #[tactic(auto, unfolding(crate::specs::Steps::step_in))]
-pub(crate) fn read_step(alloc: Global, value: &Value) -> Result<LiveStep, Stop>
+pub(crate) fn read_step(alloc: Global, value: &Value) -> Result<LiveStep, ReadFault>
     ensures { Gives same result (spec.step_in (view value.now)) }
 {
     let op = text_at(value, "op")?;
@@ -78,6 +78,6 @@ pub(crate) fn read_step(alloc: Global, value: &Value) -> Result<LiveStep, Stop>
         let (server, after) = read_server(value)?;
         Ok(LiveStep::Join { server, after })
     } else {
-        Err(Stop::Bad)
+        Err(ReadFault::Bad)
     }
 }

@@ -7,12 +7,12 @@ ghost use Rattle.cq_lines.specs.Grammars.{IsParsedAs};
 ghost use Rattle.cq_live_script.specs.Line.{step_from, step_line};
 
 use crate::step::read_step;
-use cq_json::{Stop, parse};
+use cq_json::{ReadFault, parse};
 use cq_lines::{LineFault, is_blank};
-use cq_plan::LiveStep;
+use cq_live_plan::LiveStep;
 use std::alloc::Global;
 
-fn read_object(alloc: Global, bytes: &[u8]) -> Result<LiveStep, Stop>
+fn read_object(alloc: Global, bytes: &[u8]) -> Result<LiveStep, ReadFault>
     ensures { Gives same result (step_from bytes.now) }
 {
     let value = parse(alloc, bytes)?;
@@ -32,7 +32,7 @@ pub fn step_of(alloc: Global, bytes: &[u8]) -> Result<Option<LiveStep>, LineFaul
     }
     match read_object(alloc, bytes) {
         Ok(step) => Ok(Some(step)),
-        Err(Stop::Bad | Stop::Text(_)) => Err(LineFault::Bad),
-        Err(Stop::Memory) => Err(LineFault::NoMemory),
+        Err(ReadFault::Bad | ReadFault::Text(_)) => Err(LineFault::Bad),
+        Err(ReadFault::Memory) => Err(LineFault::NoMemory),
     }
 }

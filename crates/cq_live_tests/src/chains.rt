@@ -1,7 +1,7 @@
 //! Whole chains in one thread: servers, the master and two clients. Each message is handed back at least once before it
 //! is put.
 use crate::cast::{Chain, changes, nodes};
-use cq_live::{Flags, Turn};
+use cq_nodes::{Flags, Turn};
 use std::sync::Wait;
 use std::test::Fail;
 

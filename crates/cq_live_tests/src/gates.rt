@@ -1,6 +1,6 @@
 //! Gates at which servers wait for each other.
 use cq_base::{Party, ServerId};
-use cq_live::Gate;
+use cq_nodes::Gate;
 use std::sync::atomic::AtomicBool;
 use std::sync::atomic::Ordering::SeqCst;
 use std::test::Fail;

@@ -2,9 +2,9 @@
 use crate::common::{create, send};
 use crate::gates::{Holding, Meeting};
 use cq_base::{ChainSize, Party, ServerId};
-use cq_live::{Always, Gate};
-use cq_live_chain::{LiveReport, live};
-use cq_plan::LiveStep;
+use cq_live::{LiveReport, live};
+use cq_live_plan::LiveStep;
+use cq_nodes::{Always, Gate};
 use cq_world::Event;
 use std::alloc::Global;
 use std::sync::Wait;

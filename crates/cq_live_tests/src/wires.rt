@@ -3,7 +3,7 @@ ghost use Rattle.std.specs.Prelude.{◌≡◌};
 
 use cq_chain::Message;
 use cq_link::{Full, Link, PutEnd, Putter, Taker};
-use cq_live::Links;
+use cq_nodes::Links;
 use std::alloc::Global;
 use std::marker::Model;
 use std::sync::Wait;
@@ -142,7 +142,7 @@ pub fn between(
     Ok(all)
 }
 
-/// The links with these ends, but for so many at the front.
+/// The links with these ends, without the first few.
 fn joined(
     alloc: Global,
     row: Vec<FreshPutter>,

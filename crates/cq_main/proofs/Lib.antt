@@ -1,3 +1,3 @@
-mod Rows
+mod Examples
 mod Told
 mod LiveTold

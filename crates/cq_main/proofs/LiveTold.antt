@@ -1,9 +1,9 @@
 -- The text by which a fault of a live run is told.
 use Rattle.std.proofs.Common.{ℕ, List, [], ◌∷◌, ◌++◌, Option, Result, Err, refl, ap, codes, ◌≡◌}
 use Rattle.std.specs.Prelude.{◌↔◌, decimal}
-use Rattle.cq_live_chain.specs.declared.report.LiveReport.{LiveReport}
-use Rattle.cq_live_run.specs.Faults.{code_of, name_of}
-use Rattle.cq_live_run.specs.declared.fault.LiveFault.{LiveFault}
+use Rattle.cq_live.specs.declared.report.LiveReport.{LiveReport}
+use Rattle.cq_live.specs.Faults.{code_of, name_of}
+use Rattle.cq_live.specs.declared.fault.LiveFault.{LiveFault}
 use Rattle.cq_main.specs.LiveStatuses.{fault_step, live_fault_text, step_text}
 
 pub is_told : (fault : LiveFault) (code : ℕ) (name : List ℕ) (step : Option ℕ) → code ≡ code_of fault → name ≡ name_of fault → fault_step fault ≡ step

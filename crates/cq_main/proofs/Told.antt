@@ -5,7 +5,7 @@ use Rattle.clap.specs.declared.error.kind.ErrorKind.{ErrorKind}
 use Rattle.clap.specs.declared.error.kind.ErrorKind.TheVariants.{DisplayHelp, DisplayVersion}
 use Rattle.cq_lines.specs.Faults.{code_of, name_of}
 use Rattle.cq_lines.specs.declared.fault.ScriptFault.{ScriptFault}
-use Rattle.cq_words.specs.WordFaults.{is_help, is_version}
+use Rattle.cq_args.specs.ArgFaults.{is_help, is_version}
 use Rattle.cq_main.specs.Statuses.{fault_line, fault_text, line_text}
 
 pub is_told : (fault : ScriptFault) (code : ℕ) (name : List ℕ) (line : Option ℕ) → code ≡ code_of fault → name ≡ name_of fault → fault_line fault ≡ line

@@ -2,4 +2,4 @@ pub mod Statuses
 pub mod Outcomes
 pub mod LiveStatuses
 pub mod LiveOutcomes
-pub mod Choices
+pub mod Invocations

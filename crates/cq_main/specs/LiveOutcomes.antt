@@ -2,17 +2,17 @@
 use Rattle.std.specs.Prelude.{◌≡◌, ◌↔◌, ◌⊎◌, ℕ, Bool, true, false, List, [], ◌++◌, codes, decimal, Option, Some, Result, Ok, Err}
 use Rattle.std.specs.Global.{Vec}
 use Rattle.std.specs.Io.KnownBytes.{Appends, Consumes}
-use Rattle.cq_live_chain.specs.Reports.{IsReport}
-use Rattle.cq_live_chain.specs.declared.report.LiveReport.{LiveReport}
-use Rattle.cq_live_run.specs.declared.fault.LiveFault.{LiveFault}
-use Rattle.cq_live_run.specs.declared.fault.LiveFault.TheVariants.{BadScript}
+use Rattle.cq_live.specs.Reports.{IsReport}
+use Rattle.cq_live.specs.declared.report.LiveReport.{LiveReport}
+use Rattle.cq_live.specs.declared.fault.LiveFault.{LiveFault}
+use Rattle.cq_live.specs.declared.fault.LiveFault.TheVariants.{BadScript}
 use Rattle.cq_live_script.specs.Lines.{ReadsLive}
 use Rattle.cq_main.specs.LiveStatuses.{live_fault_text, live_status_of}
 use Rattle.cq_main.specs.Outcomes.{EndsAt}
 use Rattle.cq_main.specs.declared.live_fault.LiveEnd.{LiveEnd}
 use Rattle.cq_main.specs.declared.live_fault.LiveEnd.TheVariants.{Script, Live}
-use Rattle.cq_plan.specs.Steps.{first_bad}
-use Rattle.cq_plan.specs.declared.step.LiveStep.{LiveStep}
+use Rattle.cq_live_plan.specs.Steps.{first_bad}
+use Rattle.cq_live_plan.specs.declared.step.LiveStep.{LiveStep}
 use Rattle.cq_lines.specs.declared.fault.ScriptFault.TheVariants.{ReadFailed, WriteFailed}
 use Rattle.cq_world.specs.Laws.{Headline}
 

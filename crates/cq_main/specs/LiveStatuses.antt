@@ -1,8 +1,8 @@
 -- The line of a fault of a live run, and the status with which the program ends.
 use Rattle.std.specs.Prelude.{ℕ, List, [], ◌∷◌, ◌++◌, codes, decimal, Option, Some, None}
-use Rattle.cq_live_run.specs.Faults.{code_of, name_of}
-use Rattle.cq_live_run.specs.declared.fault.LiveFault.{LiveFault}
-use Rattle.cq_live_run.specs.declared.fault.LiveFault.TheVariants.{TurnLimit, AuditRefused, SpawnFailed, BadScript, NoMemory}
+use Rattle.cq_live.specs.Faults.{code_of, name_of}
+use Rattle.cq_live.specs.declared.fault.LiveFault.{LiveFault}
+use Rattle.cq_live.specs.declared.fault.LiveFault.TheVariants.{TurnLimit, AuditRefused, SpawnFailed, BadScript, NoMemory}
 
 -- 1 where the audit refused the run, 2 where the script is at fault, and else 3
 abbrev pub live_status_of : LiveFault → ℕ

@@ -57,10 +57,10 @@ TellsVersion version status output_failed written output failed old new =
     ((output_failed ≡ false) × (status ≡ 0) × (new ≡ old) × Appends written output (version_text version))
     ⊎ ((output_failed ≡ true) × EndsAt WriteFailed status failed old new)
 
--- the words were refused: a text says why, unless the writer failed
+-- the arguments were refused: a text says why, unless the writer failed
 abbrev pub Refuses : ℕ → Bool → Option (List ℕ) → Option (List ℕ) → Type 0
 Refuses status failed old new = (status ≡ 2) × ((text : List ℕ) × (failed ≡ false → Appends old new text))
 
--- what is told where the words of the command line are no text
+-- what is told where the arguments of the command line are no text
 abbrev pub unread_text : List ℕ
 unread_text = codes "error: a word of the command line is not UTF-8" ++ 10 ∷ []

@@ -8,9 +8,9 @@ ghost use Rattle.cq_main.specs.LiveOutcomes.{IsReadFaithfully, Lived, RunsLive, 
 use crate::live_fault::{LiveEnd, report_end};
 use crate::report::report;
 use cq_base::ChainSize;
-use cq_live::Always;
-use cq_live_chain::{LiveReport, live};
+use cq_live::{LiveReport, live};
 use cq_live_script::read_live;
+use cq_nodes::Always;
 use cq_script::{Checked, ScriptFault, Sink};
 use std::alloc::Global;
 use std::io::{Read, Write};

@@ -5,7 +5,7 @@ ghost use Rattle.cq_main.specs.LiveOutcomes.{EndsAtLive, EndsLive};
 ghost use Rattle.cq_main.specs.LiveStatuses.{fault_step, live_status_of};
 
 use crate::report::report;
-use cq_live_run::LiveFault;
+use cq_live::LiveFault;
 use cq_script::{Checked, ScriptFault};
 use std::io::Write;
 

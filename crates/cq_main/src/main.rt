@@ -2,6 +2,7 @@
 //! on threads of their own, and writes what comes of it on standard output.
 #![tactic(auto)]
 
+mod guide;
 mod live;
 mod live_fault;
 mod report;
@@ -12,8 +13,8 @@ use cq_script::Checked;
 use std::process::ExitCode;
 use std::{env, io};
 
-/// The words of the command line, behind the program's name.
-fn words_of(rt: &HostRuntime) -> io::Result<Vec<String>> {
+/// The arguments of the command line, behind the program's name.
+fn args_of(rt: &HostRuntime) -> io::Result<Vec<String>> {
     Ok(env::args(rt)?.skip(1).collect(rt.alloc())?)
 }
 
@@ -21,11 +22,11 @@ fn main(rt: HostRuntime) -> ExitCode {
     let mut reader = Checked::new(rt.reader());
     let mut output = Checked::new(io::writer(&rt));
     let mut errors = Checked::new(rt.stderr());
-    let status = match words_of(&rt) {
-        Ok(words) => run(
+    let status = match args_of(&rt) {
+        Ok(args) => run(
             &rt,
             rt.alloc(),
-            words.as_slice(),
+            args.as_slice(),
             &mut reader,
             &mut output,
             &mut errors,

@@ -5,19 +5,19 @@ use Rattle.std.specs.Str.{bytes_eq}
 use Rattle.std.proofs.lemmas.Bool.{cases_eq}
 use Rattle.std.proofs.lemmas.List.{length-set, get_or-set_same, get_or-set_other, get_or_read}
 use Rattle.std.proofs.lemmas.Slice.Eq.{bytes_eq-Decides}
-use Rattle.cq_base.specs.Messages.{Message}
+use Rattle.cq_base.specs.queue.Messages.{Message}
 use Rattle.cq_base.specs.Relations.{Among}
 use Rattle.cq_base.proofs.Filters.{filter-all}
 use Rattle.cq_messages.specs.declared.slot.Slot.{Slot}
-use Rattle.cq_messages.specs.Groups.{GroupKept, numbers_at, handed_at, without}
-use Rattle.cq_messages.specs.Indexed.{AreWaits, AreFlights, AreNumbers, AreHanded, IsIndexed}
+use Rattle.cq_messages.specs.within.Groups.{GroupKept, numbers_at, handed_at, without}
+use Rattle.cq_messages.specs.within.Indexed.{AreWaits, AreFlights, AreNumbers, AreHanded, IsIndexed}
 use Rattle.cq_messages.specs.Changes.{numbers_of, is_other}
 use Rattle.cq_messages.specs.declared.slot.TheConstants.{NEVER}
 use Rattle.cq_messages.specs.Slots.{live, kept_before, gone, IsOwn, IsAscending, in_group, busy, wait_in, wait_for, flight_of}
-use Rattle.cq_messages.specs.Touched.{IsHead}
+use Rattle.cq_messages.specs.within.Touched.{IsHead}
 use Rattle.cq_messages.proofs.Ascending.{ascending-above}
 use Rattle.cq_messages.proofs.Rising.{own-number, live-among, live-rising, rising-above}
-use Rattle.cq_messages.proofs.Standing.{StandsAt, live-place, same-place, head-exists, one-head}
+use Rattle.cq_messages.proofs.Remaining.{StandsAt, live-place, same-place, head-exists, one-head}
 use Rattle.cq_messages.proofs.Touching.{others-changed, wait-other, wait-first, late-other, some_number, same_self, head_group}
 
 -- the slot without its message
@@ -126,23 +126,23 @@ kept_waits ss ss' p m k (Some y) v inside else e nohead = by (bytes_eq y.group m
         by_place h head (inr other) x xs is eq = late-other ss' m.group h k y x xs v.new_order head (subst (λ n. k < n) (sym v.long) inside) other at is eq
 
 -- the slot waits for ever, the oldest that is left for the last of the timeouts, and all others as before
-pub waits-vacated : (ss ss' : List Slot) (waits waits' : List ℕ) (p : ℕ) (m : Message) → IsVacated ss ss' p m → AreWaits ss waits
-    → ((h : ℕ) → IsHead ss' m.group h → waits' ≡ set (set waits p NEVER) h (busy (in_group m.group (live ss')))) → (in_group m.group (live ss') ≡ [] → waits' ≡ set waits p NEVER) → AreWaits ss' waits'
-waits-vacated ss ss' waits waits' p m v are head none = by (in_group m.group (live ss')) refl
+pub lead_times-vacated : (ss ss' : List Slot) (lead_times waits' : List ℕ) (p : ℕ) (m : Message) → IsVacated ss ss' p m → AreWaits ss lead_times
+    → ((h : ℕ) → IsHead ss' m.group h → waits' ≡ set (set lead_times p NEVER) h (busy (in_group m.group (live ss')))) → (in_group m.group (live ss') ≡ [] → waits' ≡ set lead_times p NEVER) → AreWaits ss' waits'
+lead_times-vacated ss ss' lead_times waits' p m v are head none = by (in_group m.group (live ss')) refl
   where
     gs : List Message
     gs = in_group m.group (live ss')
 
     first : List ℕ
-    first = set waits p NEVER
+    first = set lead_times p NEVER
 
     -- at a place that isn't that of the oldest message
     plain : (k : ℕ) → k < length ss → (IsHead ss' m.group k → ⊥) → (k ≡ p) ⊎ (k ≡ p → ⊥) → get_or first k 0 ≡ wait_for (live ss') (get_or ss' k gone).message
     plain k inside nohead (inl same) =
-        ap (λ j. get_or first j 0) same ∙ get_or-set_same waits p NEVER 0 (let a = are.long in let w = v.within in omega arith)
+        ap (λ j. get_or first j 0) same ∙ get_or-set_same lead_times p NEVER 0 (let a = are.long in let w = v.within in omega arith)
         ∙ ap (wait_for (live ss')) (sym v.after) ∙ ap (λ j. wait_for (live ss') (get_or ss' j gone).message) (sym same)
     plain k inside nohead (inr else) =
-        get_or-set_other waits p k NEVER 0 else ∙ are.is k inside
+        get_or-set_other lead_times p k NEVER 0 else ∙ are.is k inside
         ∙ kept_waits ss ss' p m k (get_or ss k gone).message v inside else refl nohead
         ∙ ap (λ s. wait_for (live ss') s.message) (sym (v.elsewhere k else))
 
@@ -151,17 +151,17 @@ waits-vacated ss ss' waits waits' p m v are head none = by (in_group m.group (li
 
     with_head : (h : ℕ) → IsHead ss' m.group h → AreWaits ss' (set first h (busy gs))
     with_head h hd = record {
-      long = let a = v.long in let b = are.long in omega (arith, length-set waits p NEVER, length-set first h (busy gs));
+      long = let a = v.long in let b = are.long in omega (arith, length-set lead_times p NEVER, length-set first h (busy gs));
       is = λ k inside. at k (subst (λ n. k < n) v.long inside) (cases_eq k h);
     }
       where
         at : (k : ℕ) → k < length ss → (k ≡ h) ⊎ (k ≡ h → ⊥) → get_or (set first h (busy gs)) k 0 ≡ wait_for (live ss') (get_or ss' k gone).message
-        at k inside (inl same) = ap (λ j. get_or (set first h (busy gs)) j 0) same ∙ get_or-set_same first h (busy gs) 0 (let a = are.long in let w = hd.within in let l = v.long in omega (arith, length-set waits p NEVER)) ∙ sym (at_head h hd) ∙ ap (λ j. wait_for (live ss') (get_or ss' j gone).message) (sym same)
+        at k inside (inl same) = ap (λ j. get_or (set first h (busy gs)) j 0) same ∙ get_or-set_same first h (busy gs) 0 (let a = are.long in let w = hd.within in let l = v.long in omega (arith, length-set lead_times p NEVER)) ∙ sym (at_head h hd) ∙ ap (λ j. wait_for (live ss') (get_or ss' j gone).message) (sym same)
         at k inside (inr other) = get_or-set_other first h k (busy gs) 0 other ∙ plain k inside (λ hd'. other (one-head ss' m.group k h v.new_order hd' hd)) (cases_eq k p)
 
     by : (zs : List Message) → gs ≡ zs → AreWaits ss' waits'
     by [] is = subst (AreWaits ss') (sym (none is)) (record {
-      long = let a = v.long in let b = are.long in omega (arith, length-set waits p NEVER);
+      long = let a = v.long in let b = are.long in omega (arith, length-set lead_times p NEVER);
       is = λ k inside. plain k (subst (λ n. k < n) v.long inside) (λ hd. cc (hd.leads, is)) (cases_eq k p);
     })
     by (x ∷ xs) is =
@@ -199,27 +199,27 @@ handed-vacated ss ss' groups groups' p m v old numbers same x a upto = by (cases
         let there : 0 < length (numbers_at groups' x.group) = subst (λ ns. 0 < length ns) (sym (numbers x.group)) (some_number x.group (live ss') x (same_self x.group) a) in
         subst (λ n. x.sequence ≤ n) (sym (same x.group there)) before
 
-pub flights-vacated : (ss ss' : List Slot) (flights : List ℕ) (p : ℕ) (m : Message) → IsVacated ss ss' p m → AreFlights ss flights → AreFlights ss' (set flights p NEVER)
-flights-vacated ss ss' flights p m v are = record {
-  long = let a = v.long in let b = are.long in omega (arith, length-set flights p NEVER);
+pub flight_ends-vacated : (ss ss' : List Slot) (flight_ends : List ℕ) (p : ℕ) (m : Message) → IsVacated ss ss' p m → AreFlights ss flight_ends → AreFlights ss' (set flight_ends p NEVER)
+flight_ends-vacated ss ss' flight_ends p m v are = record {
+  long = let a = v.long in let b = are.long in omega (arith, length-set flight_ends p NEVER);
   is = λ k inside. by k (subst (λ n. k < n) v.long inside) (cases_eq k p);
 }
   where
-    by : (k : ℕ) → k < length ss → (k ≡ p) ⊎ (k ≡ p → ⊥) → get_or (set flights p NEVER) k 0 ≡ flight_of (get_or ss' k gone).message
+    by : (k : ℕ) → k < length ss → (k ≡ p) ⊎ (k ≡ p → ⊥) → get_or (set flight_ends p NEVER) k 0 ≡ flight_of (get_or ss' k gone).message
     by k inside (inl same) =
-        ap (λ j. get_or (set flights p NEVER) j 0) same
-        ∙ get_or-set_same flights p NEVER 0 (let a = are.long in let w = v.within in omega arith)
+        ap (λ j. get_or (set flight_ends p NEVER) j 0) same
+        ∙ get_or-set_same flight_ends p NEVER 0 (let a = are.long in let w = v.within in omega arith)
         ∙ ap flight_of (sym v.after)
         ∙ ap (λ j. flight_of (get_or ss' j gone).message) (sym same)
-    by k inside (inr other) = get_or-set_other flights p k NEVER 0 other ∙ are.is k inside ∙ ap (λ s. flight_of s.message) (sym (v.elsewhere k other))
+    by k inside (inr other) = get_or-set_other flight_ends p k NEVER 0 other ∙ are.is k inside ∙ ap (λ s. flight_of s.message) (sym (v.elsewhere k other))
 
-pub indexed-vacated : (ss ss' : List Slot) (waits waits' flights : List ℕ) (groups groups' : List (List ℕ × GroupKept)) (p : ℕ) (m : Message) → IsVacated ss ss' p m → IsIndexed ss waits flights groups
-    → ((h : ℕ) → IsHead ss' m.group h → waits' ≡ set (set waits p NEVER) h (busy (in_group m.group (live ss')))) → (in_group m.group (live ss') ≡ [] → waits' ≡ set waits p NEVER)
-    → AreNumbers ss' groups' → AreHanded ss' groups' → IsIndexed ss' waits' (set flights p NEVER) groups'
-indexed-vacated ss ss' waits waits' flights groups groups' p m v is head none numbers handed = record {
+pub indexed-vacated : (ss ss' : List Slot) (lead_times waits' flight_ends : List ℕ) (groups groups' : List (List ℕ × GroupKept)) (p : ℕ) (m : Message) → IsVacated ss ss' p m → IsIndexed ss lead_times flight_ends groups
+    → ((h : ℕ) → IsHead ss' m.group h → waits' ≡ set (set lead_times p NEVER) h (busy (in_group m.group (live ss')))) → (in_group m.group (live ss') ≡ [] → waits' ≡ set lead_times p NEVER)
+    → AreNumbers ss' groups' → AreHanded ss' groups' → IsIndexed ss' waits' (set flight_ends p NEVER) groups'
+indexed-vacated ss ss' lead_times waits' flight_ends groups groups' p m v is head none numbers handed = record {
   ascending = v.new_order;
-  are_waits = waits-vacated ss ss' waits waits' p m v is.are_waits head none;
-  are_flights = flights-vacated ss ss' flights p m v is.are_flights;
+  are_waits = lead_times-vacated ss ss' lead_times waits' p m v is.are_waits head none;
+  are_flights = flight_ends-vacated ss ss' flight_ends p m v is.are_flights;
   are_numbers = numbers;
   are_handed = handed;
 }

@@ -4,12 +4,12 @@ use Rattle.std.specs.List.{filter}
 use Rattle.std.proofs.lemmas.Bool.{cases_lt}
 use Rattle.std.proofs.lemmas.List.{length-append, take_all}
 use Rattle.std.proofs.lemmas.List.Elements.{filter_more}
-use Rattle.cq_base.specs.Messages.{Message}
-use Rattle.cq_base.specs.Receiving.{is_in_flight}
+use Rattle.cq_base.specs.queue.Messages.{Message}
+use Rattle.cq_base.specs.queue.Receiving.{is_in_flight}
 use Rattle.cq_messages.specs.declared.slot.Slot.{Slot}
 use Rattle.cq_messages.specs.declared.slot.TheConstants.{NEVER}
-use Rattle.cq_messages.specs.Indexed.{AreFlights}
-use Rattle.cq_messages.specs.Passing.{passing_upto}
+use Rattle.cq_messages.specs.within.Indexed.{AreFlights}
+use Rattle.cq_messages.specs.within.Passing.{passing_upto}
 use Rattle.cq_messages.specs.Slots.{live, kept_before, gone, passes, flight_of}
 use Rattle.cq_messages.proofs.Passing.{passing-more}
 
@@ -45,20 +45,20 @@ one : (t x : ℕ) (o : Option Message) → t < NEVER → x ≡ flight_of o → l
 one t x None small e = ap length (ap (λ n. cond (nat_le n (NEVER - 1 - t)) (x ∷ []) []) e ∙ ap (λ b. cond b (x ∷ []) []) (sym (flies-at t None small)))
 one t x (Some m) small e = alike (nat_le x (NEVER - 1 - t)) (is_in_flight t m) x m (ap (λ n. nat_le n (NEVER - 1 - t)) e ∙ sym (flies-at t (Some m) small))
 
-flying_upto : (ss : List Slot) (flights : List ℕ) (t k : ℕ) → AreFlights ss flights → t < NEVER → k ≤ length ss → length (filter (λ n. nat_le n (NEVER - 1 - t)) (take k flights)) ≡ length (passing_upto (is_in_flight t) ss k)
-flying_upto ss flights t zero are small l = refl
-flying_upto ss flights t (suc k) are small l =
+flying_upto : (ss : List Slot) (flight_ends : List ℕ) (t k : ℕ) → AreFlights ss flight_ends → t < NEVER → k ≤ length ss → length (filter (λ n. nat_le n (NEVER - 1 - t)) (take k flight_ends)) ≡ length (passing_upto (is_in_flight t) ss k)
+flying_upto ss flight_ends t zero are small l = refl
+flying_upto ss flight_ends t (suc k) are small l =
     let inside : k < length ss = omega arith in
-    let beside : k < length flights = let long = are.long in omega arith in
+    let beside : k < length flight_ends = let long = are.long in omega arith in
     let p : ℕ → Bool = λ n. nat_le n (NEVER - 1 - t) in
-    let x = get_or flights k 0 in
+    let x = get_or flight_ends k 0 in
     let m = (get_or ss k gone).message in
     let last = one t x m small (are.is k inside) in
-    let before = flying_upto ss flights t k are small (omega arith) in
-    let a = ap length (filter_more p flights k 0 beside) ∙ length-append (filter p (take k flights)) (cond (p x) (x ∷ []) []) in
+    let before = flying_upto ss flight_ends t k are small (omega arith) in
+    let a = ap length (filter_more p flight_ends k 0 beside) ∙ length-append (filter p (take k flight_ends)) (cond (p x) (x ∷ []) []) in
     let b = ap length (passing-more (is_in_flight t) ss k inside) ∙ length-append (passing_upto (is_in_flight t) ss k) (filter (is_in_flight t) (kept_before m [])) in
-    subst (λ n. length (filter p (take n flights)) ≡ length (passing_upto (is_in_flight t) ss n)) (add-one k) (omega (arith, a, b, before, last))
+    subst (λ n. length (filter p (take n flight_ends)) ≡ length (passing_upto (is_in_flight t) ss n)) (add-one k) (omega (arith, a, b, before, last))
 
 -- as many messages are in flight as small numbers stand beside the slots
-pub flying-count : (ss : List Slot) (flights : List ℕ) (t : ℕ) → AreFlights ss flights → t < NEVER → length (filter (λ n. nat_le n (NEVER - 1 - t)) (take (length ss) flights)) ≡ length (filter (is_in_flight t) (live ss))
-flying-count ss flights t are small = flying_upto ss flights t (length ss) are small (omega arith) ∙ ap (λ xs. length (filter (is_in_flight t) (live xs))) (take_all (length ss) ss (omega arith))
+pub flying-count : (ss : List Slot) (flight_ends : List ℕ) (t : ℕ) → AreFlights ss flight_ends → t < NEVER → length (filter (λ n. nat_le n (NEVER - 1 - t)) (take (length ss) flight_ends)) ≡ length (filter (is_in_flight t) (live ss))
+flying-count ss flight_ends t are small = flying_upto ss flight_ends t (length ss) are small (omega arith) ∙ ap (λ xs. length (filter (is_in_flight t) (live xs))) (take_all (length ss) ss (omega arith))

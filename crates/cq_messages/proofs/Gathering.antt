@@ -4,13 +4,13 @@ use Rattle.std.specs.Option.{is_some}
 use Rattle.std.proofs.lemmas.Bool.{cases_lt}
 use Rattle.std.proofs.lemmas.List.{append-nil, length_push, get_or_append_left, get_or_push, get_or-set_same, get_or-set_other, length-take-le}
 use Rattle.std.proofs.lemmas.List.Elements.{filter_more}
-use Rattle.cq_base.specs.Messages.{Message}
+use Rattle.cq_base.specs.queue.Messages.{Message}
 use Rattle.cq_base.specs.Relations.{Among}
 use Rattle.cq_messages.specs.declared.slot.Slot.{Slot}
-use Rattle.cq_messages.specs.Gathered.{AreGathered, IsBeside, is_full, full_slots}
-use Rattle.cq_messages.specs.Groups.{GroupKept}
+use Rattle.cq_messages.specs.within.Gathered.{AreGathered, IsBeside, is_full, full_slots}
+use Rattle.cq_messages.specs.within.Groups.{GroupKept}
 use Rattle.cq_messages.specs.Changes.{numbers_of}
-use Rattle.cq_messages.specs.Indexed.{IsIndexed}
+use Rattle.cq_messages.specs.within.Indexed.{IsIndexed}
 use Rattle.cq_messages.specs.Slots.{live, kept_before, gone, IsAscending, in_group, wait_for, flight_of}
 
 -- there are no more than before
@@ -39,12 +39,12 @@ full-upto ss i l = let a = full-short (take i ss) in let b = length-take-le i ss
 
 -- a write behind them leaves what stands beside them
 pub beside-apart : (f : Slot → ℕ) (xs : List Slot) (from v : ℕ) (tree : List ℕ) → length xs ≤ from → IsBeside f xs tree → IsBeside f xs (set tree from v)
-beside-apart f xs from v tree past front k inside = let other : k ≢ from = λ e. omega arith in get_or-set_other tree from k v 0 other ∙ front k inside
+beside-apart f xs from v tree past prefix k inside = let other : k ≢ from = λ e. omega arith in get_or-set_other tree from k v 0 other ∙ prefix k inside
 
 -- what stands beside one more is moved behind the others
 pub beside-next : (f : Slot → ℕ) (ss : List Slot) (i to v : ℕ) (tree : List ℕ) → i < length ss → is_full (get_or ss i gone) ≡ true → to ≡ length (full_slots (take i ss)) → to < length tree
     → v ≡ f (get_or ss i gone) → IsBeside f (full_slots (take i ss)) tree → IsBeside f (full_slots (take (i + 1) ss)) (set tree to v)
-beside-next f ss i to v tree l e at room is front = subst (λ xs. IsBeside f xs (set tree to v)) (sym (full_next ss i l e)) (λ k inside. by k (cases_lt k to) inside)
+beside-next f ss i to v tree l e at room is prefix = subst (λ xs. IsBeside f xs (set tree to v)) (sym (full_next ss i l e)) (λ k inside. by k (cases_lt k to) inside)
   where
     xs : List Slot
     xs = full_slots (take i ss)
@@ -56,7 +56,7 @@ beside-next f ss i to v tree l e at room is front = subst (λ xs. IsBeside f xs 
     by k (inl small) inside =
         let there : k < length xs = omega arith in
         let other : k ≢ to = λ eq. omega arith in
-        get_or-set_other tree to k v 0 other ∙ front k there ∙ ap f (sym (get_or_append_left xs (s ∷ []) gone k there))
+        get_or-set_other tree to k v 0 other ∙ prefix k there ∙ ap f (sym (get_or_append_left xs (s ∷ []) gone k there))
     by k (inr big) inside =
         let last : k ≡ to = omega (arith, length_push xs s) in
         ap (λ j. get_or (set tree to v) j 0) last ∙ get_or-set_same tree to v 0 room ∙ is ∙ ap f (sym (get_or_push xs s gone k (sym at ∙ sym last)))
@@ -84,8 +84,8 @@ live-full (s ∷ ss) = by s.message refl (live-full ss)
     by (Some m) e later = ap (λ q. kept_before q (live (full_slots ss))) e ∙ ap (λ ms. m ∷ ms) later
 
 -- and what stands beside them
-pub indexed-gathered : (ss : List Slot) (waits waits' flights flights' : List ℕ) (groups : List (List ℕ × GroupKept)) → AreGathered ss waits waits' → AreGathered ss flights flights' → IsIndexed ss waits flights groups → IsIndexed (full_slots ss) waits' flights' groups
-indexed-gathered ss waits waits' flights flights' groups gw gf is = record {
+pub indexed-gathered : (ss : List Slot) (lead_times waits' flight_ends flights' : List ℕ) (groups : List (List ℕ × GroupKept)) → AreGathered ss lead_times waits' → AreGathered ss flight_ends flights' → IsIndexed ss lead_times flight_ends groups → IsIndexed (full_slots ss) waits' flights' groups
+indexed-gathered ss lead_times waits' flight_ends flights' groups gw gf is = record {
   ascending = ascending-full 0 ss is.ascending;
   are_waits = record {
     long = let a = is.are_waits.long in let b = gw.long in let c = full-short ss in omega arith;

@@ -2,7 +2,7 @@
 use Rattle.std.proofs.Common.{◌≡◌, ℕ, ◌<◌, ◌≤◌, ◌∙◌, ap, sym, subst, List, [], ◌∷◌, ◌++◌, length, Bool, true, false, cond, Some, None, refl, arith, ◌==◌}
 use Rattle.std.specs.Str.{bytes_eq}
 use Rattle.std.proofs.lemmas.Slice.Eq.{bytes_eq-Decides}
-use Rattle.cq_messages.specs.Groups.{GroupKept, group_at, numbers_or, handed_or, numbers_at, handed_at, without}
+use Rattle.cq_messages.specs.within.Groups.{GroupKept, group_at, numbers_or, handed_or, numbers_at, handed_at, without}
 
 pub at_same : (groups : List (List ℕ × GroupKept)) (a b : List ℕ) → bytes_eq a b ≡ true → group_at groups a ≡ group_at groups b
 at_same groups a b e = ap (group_at groups) ((bytes_eq-Decides a b).0 e)

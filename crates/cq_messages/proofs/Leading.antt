@@ -3,16 +3,16 @@ use Rattle.std.proofs.Common.{◌≡◌, ℕ, ◌<◌, ◌≤◌, ◌==◌, ◌�
 use Rattle.std.specs.List.{filter, list_any}
 use Rattle.std.specs.Str.{bytes_eq}
 use Rattle.std.proofs.lemmas.Slice.Eq.{bytes_eq-Decides}
-use Rattle.cq_base.specs.Messages.{Message}
-use Rattle.cq_base.specs.Receiving.{is_same_group, is_in_flight, is_open, leads}
+use Rattle.cq_base.specs.queue.Messages.{Message}
+use Rattle.cq_base.specs.queue.Receiving.{is_same_group, is_in_flight, is_open, leads}
 use Rattle.cq_base.specs.Relations.{Among}
 use Rattle.cq_base.proofs.Among.{among-kept}
 use Rattle.cq_messages.specs.declared.slot.Slot.{Slot}
 use Rattle.cq_messages.specs.declared.slot.TheConstants.{NEVER}
 use Rattle.cq_messages.specs.Slots.{live, gone, IsAscending, in_group, busy, wait_in, wait_for, passes}
-use Rattle.cq_least.specs.Firsts.{AreAbove, IsFirst}
-use Rattle.cq_messages.specs.Indexed.{AreWaits}
-use Rattle.cq_messages.specs.Passing.{NonePasses, IsNext}
+use Rattle.cq_min_index.specs.Firsts.{AreAbove, IsFirst}
+use Rattle.cq_messages.specs.within.Indexed.{AreWaits}
+use Rattle.cq_messages.specs.within.Passing.{NonePasses, IsNext}
 use Rattle.cq_messages.proofs.Rising.{IsRising, rising-filter, rising-above, live-rising, live-among}
 
 any_step : (a b c : Bool) {X : Type 0} (q : X → Bool) (x : X) (xs : List X) → q x ≡ b → list_any q xs ≡ c → (a && b || c) ≡ list_any q (cond a (x ∷ xs) xs)
@@ -86,17 +86,17 @@ is_le : (a t : ℕ) → a ≤ t → nat_le a t ≡ true
 is_le a t h = grind arith
 
 -- where all that stands beside the slots is above the moment, none leads
-pub above-closed : (ss : List Slot) (waits : List ℕ) (t from end : ℕ) → IsAscending 0 ss → AreWaits ss waits → t < NEVER → end ≤ length ss → AreAbove waits t from end → NonePasses (leads t (live ss)) ss from end
-above-closed ss waits t from end h are small l above k a b =
+pub above-closed : (ss : List Slot) (lead_times : List ℕ) (t from end : ℕ) → IsAscending 0 ss → AreWaits ss lead_times → t < NEVER → end ≤ length ss → AreAbove lead_times t from end → NonePasses (leads t (live ss)) ss from end
+above-closed ss lead_times t from end h are small l above k a b =
     let inside : k < length ss = omega arith in
     leads-wait ss t k (get_or ss k gone).message h inside refl small
     ∙ ap (λ w. nat_le w t) (sym (are.is k inside))
-    ∙ not_le (get_or waits k 0) t (above k a b)
+    ∙ not_le (get_or lead_times k 0) t (above k a b)
 
-pub found-open : (ss : List Slot) (waits : List ℕ) (t from i : ℕ) → IsAscending 0 ss → AreWaits ss waits → t < NEVER → i < length ss → IsFirst waits from t i → IsNext (leads t (live ss)) ss from i
-found-open ss waits t from i h are small inside first = record {
+pub found-open : (ss : List Slot) (lead_times : List ℕ) (t from i : ℕ) → IsAscending 0 ss → AreWaits ss lead_times → t < NEVER → i < length ss → IsFirst lead_times from t i → IsNext (leads t (live ss)) ss from i
+found-open ss lead_times t from i h are small inside first = record {
   after = first.after;
   within = inside;
-  passing = leads-wait ss t i (get_or ss i gone).message h inside refl small ∙ ap (λ w. nat_le w t) (sym (are.is i inside)) ∙ is_le (get_or waits i 0) t first.found;
-  before = above-closed ss waits t from i h are small (omega arith) first.before;
+  passing = leads-wait ss t i (get_or ss i gone).message h inside refl small ∙ ap (λ w. nat_le w t) (sym (are.is i inside)) ∙ is_le (get_or lead_times i 0) t first.found;
+  before = above-closed ss lead_times t from i h are small (omega arith) first.before;
 }

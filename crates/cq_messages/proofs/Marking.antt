@@ -1,7 +1,7 @@
 -- Messages that are handed out one after another.
 use Rattle.std.proofs.Common.{◌≡◌, ℕ, ◌==◌, ◌∙◌, ◌||◌, ap, sym, List, [], ◌∷◌, ◌++◌, map, Bool, true, false, cond, arith, refl}
 use Rattle.std.specs.List.{list_any}
-use Rattle.cq_base.specs.Messages.{Message}
+use Rattle.cq_base.specs.queue.Messages.{Message}
 use Rattle.cq_base.specs.Relations.{Among}
 use Rattle.cq_base.proofs.Among.{among-map}
 use Rattle.cq_messages.specs.Changes.{marked, handed_at_until, is_numbered_in}

@@ -2,20 +2,20 @@
 use Rattle.std.proofs.Common.{◌≡◌, ℕ, ◌∙◌, ◌++◌, ap, sym, refl, List, [], ◌∷◌, Some, true, false, eqb, inl, inr, arith}
 use Rattle.std.specs.Prelude.{option_to_list}
 use Rattle.std.specs.List.{filter}
-use Rattle.cq_base.specs.Effects.{message_at}
-use Rattle.cq_base.specs.Messages.{Message}
-use Rattle.cq_base.specs.Receiving.{in_turn, to_hand, leads, group_with}
+use Rattle.cq_base.specs.queue.Effects.{message_at}
+use Rattle.cq_base.specs.queue.Messages.{Message}
+use Rattle.cq_base.specs.queue.Receiving.{delivery_order, to_hand, leads, group_with}
 use Rattle.cq_base.specs.Relations.{Among}
 use Rattle.cq_base.proofs.Among.{among-filter, among-flat_map, among-take}
 use Rattle.cq_messages.specs.Changes.{numbers_of}
-use Rattle.cq_messages.specs.Offered.{numbered}
+use Rattle.cq_messages.specs.within.Offered.{numbered}
 use Rattle.cq_messages.proofs.Rising.{IsRising, rising-above}
 
 -- what is handed out is among the messages
 pub handed-among : (size moment : ℕ) (ms : List Message) (m : Message) → Among m (to_hand size moment ms) → Among m ms
-unfolding to_hand in_turn
+unfolding to_hand delivery_order
 handed-among size moment ms m at =
-    let turn = among-take size m (in_turn moment ms) at in
+    let turn = among-take size m (delivery_order moment ms) at in
     let group = among-flat_map (group_with ms) m (filter (leads moment ms) ms) turn in
     (among-filter _ m ms group.2).0
 

@@ -4,13 +4,13 @@ use Rattle.std.specs.List.{filter, flat_map}
 use Rattle.std.proofs.lemmas.List.{take-map, map-append, append-nil, take-append-drop, take_all}
 use Rattle.std.proofs.lemmas.List.Elements.{filter-append}
 use Rattle.std.proofs.lemmas.Grind.{flat_map-append}
-use Rattle.cq_base.specs.Messages.{Message}
-use Rattle.cq_base.specs.Receiving.{leads, group_with, in_turn, to_hand}
+use Rattle.cq_base.specs.queue.Messages.{Message}
+use Rattle.cq_base.specs.queue.Receiving.{leads, group_with, delivery_order, to_hand}
 use Rattle.cq_messages.specs.declared.slot.Slot.{Slot}
 use Rattle.cq_messages.specs.Changes.{numbers_of, numbers_to_hand}
 use Rattle.cq_messages.specs.Slots.{live, kept_before, gone, passes}
-use Rattle.cq_messages.specs.Opened.{numbers_for, numbers_led, leaders_upto}
-use Rattle.cq_messages.specs.Passing.{NonePasses, IsNext}
+use Rattle.cq_messages.specs.within.Opened.{numbers_for, numbers_led, leaders_upto}
+use Rattle.cq_messages.specs.within.Passing.{NonePasses, IsNext}
 use Rattle.cq_messages.proofs.Passing.{live-append, passing-more, passing-skip}
 
 pub led-append : (ms xs ys : List Message) → numbers_led ms (xs ++ ys) ≡ numbers_led ms xs ++ numbers_led ms ys
@@ -37,15 +37,15 @@ take-twice zero xs ys = refl
 take-twice (suc n) [] ys = refl
 take-twice (suc n) (x ∷ xs) ys = ap (λ zs. x ∷ zs) (take-twice n xs ys)
 
-take_front : {X : Type 0} (n m : ℕ) (ys : List X) → n ≤ m → take n (take m ys) ≡ take n ys
-take_front zero m ys h = refl
-take_front (suc n) zero ys h = absurd (omega arith)
-take_front (suc n) (suc m) [] h = refl
-take_front (suc n) (suc m) (y ∷ ys) h = ap (λ zs. y ∷ zs) (take_front n m ys (omega arith))
+take_prefix : {X : Type 0} (n m : ℕ) (ys : List X) → n ≤ m → take n (take m ys) ≡ take n ys
+take_prefix zero m ys h = refl
+take_prefix (suc n) zero ys h = absurd (omega arith)
+take_prefix (suc n) (suc m) [] h = refl
+take_prefix (suc n) (suc m) (y ∷ ys) h = ap (λ zs. y ∷ zs) (take_prefix n m ys (omega arith))
 
 take_enough : {X : Type 0} (n m : ℕ) (xs ys : List X) → n ≤ m → take n (xs ++ take m ys) ≡ take n (xs ++ ys)
 take_enough zero m xs ys h = refl
-take_enough (suc n) m [] ys h = take_front (suc n) m ys h
+take_enough (suc n) m [] ys h = take_prefix (suc n) m ys h
 take_enough (suc n) m (x ∷ xs) ys h = ap (λ zs. x ∷ zs) (take_enough n m xs ys (omega arith))
 
 pub take-within : {X : Type 0} (n : ℕ) (xs ys : List X) → take n (xs ++ take n ys) ≡ take n (xs ++ ys)
@@ -56,10 +56,10 @@ take-full zero xs ys h = refl
 take-full (suc n) [] ys h = absurd (omega arith)
 take-full (suc n) (x ∷ xs) ys h = ap (λ zs. x ∷ zs) (take-full n xs ys (omega arith))
 
--- what is handed out is a front of what the leading messages' groups have
+-- what is handed out is a prefix of what the leading messages' groups have
 pub handed-led : (size t : ℕ) (ss : List Slot) → numbers_to_hand size t (live ss) ≡ take size (numbers_led (live ss) (leaders_upto t ss (length ss)))
-unfolding in_turn to_hand
-handed-led size t ss = sym (take-map (λ m. m.sequence) size (in_turn t (live ss))) ∙ ap (λ xs. take size (numbers_led (live ss) (filter (leads t (live ss)) (live xs)))) (sym (take_all (length ss) ss (omega arith)))
+unfolding delivery_order to_hand
+handed-led size t ss = sym (take-map (λ m. m.sequence) size (delivery_order t (live ss))) ∙ ap (λ xs. take size (numbers_led (live ss) (filter (leads t (live ss)) (live xs)))) (sym (take_all (length ss) ss (omega arith)))
 
 -- none leads from `from` on
 pub handed-rest : (size t : ℕ) (ss : List Slot) (from : ℕ) → from ≤ length ss → NonePasses (leads t (live ss)) ss from (length ss) → numbers_to_hand size t (live ss) ≡ take size (numbers_led (live ss) (leaders_upto t ss from))

@@ -3,9 +3,9 @@ use Rattle.std.proofs.Common.{◌≡◌, ℕ, ◌+◌, ◌-◌, ◌<◌, ◌≤�
 use Rattle.std.specs.List.{filter}
 use Rattle.std.proofs.lemmas.List.{take_more, append-nil}
 use Rattle.std.proofs.lemmas.List.Elements.{filter-append}
-use Rattle.cq_base.specs.Messages.{Message}
+use Rattle.cq_base.specs.queue.Messages.{Message}
 use Rattle.cq_messages.specs.declared.slot.Slot.{Slot}
-use Rattle.cq_messages.specs.Passing.{NonePasses, passing_upto}
+use Rattle.cq_messages.specs.within.Passing.{NonePasses, passing_upto}
 use Rattle.cq_messages.specs.Slots.{live, kept_before, gone, passes}
 
 kept_append : (o : Option Message) (xs ys : List Message) → kept_before o (xs ++ ys) ≡ kept_before o xs ++ ys

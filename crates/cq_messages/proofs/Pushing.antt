@@ -5,19 +5,19 @@ use Rattle.std.specs.Option.{is_some}
 use Rattle.std.proofs.lemmas.Bool.{cases_lt}
 use Rattle.std.proofs.lemmas.List.{length_push, length-take, length-take-le, get_or_append_left, get_or_push, get_or-take, append-nil, map-append}
 use Rattle.std.proofs.lemmas.List.Elements.{filter-append}
-use Rattle.cq_base.specs.Messages.{Message}
+use Rattle.cq_base.specs.queue.Messages.{Message}
 use Rattle.cq_base.specs.Relations.{Among}
 use Rattle.cq_base.proofs.Among.{among-append, among-kept, among-filter}
 use Rattle.cq_messages.specs.declared.slot.Slot.{Slot}
-use Rattle.cq_messages.specs.Groups.{GroupKept, group_at, numbers_or, handed_or, numbers_at, handed_at}
-use Rattle.cq_messages.specs.Indexed.{AreWaits, AreFlights, AreNumbers, AreHanded, IsIndexed}
+use Rattle.cq_messages.specs.within.Groups.{GroupKept, group_at, numbers_or, handed_or, numbers_at, handed_at}
+use Rattle.cq_messages.specs.within.Indexed.{AreWaits, AreFlights, AreNumbers, AreHanded, IsIndexed}
 use Rattle.cq_messages.specs.Changes.{numbers_of}
 use Rattle.cq_messages.specs.declared.slot.TheConstants.{NEVER}
 use Rattle.cq_messages.specs.Slots.{live, kept_before, gone, IsOwn, IsAscending, in_group, busy, wait_in, wait_for, flight_of}
 use Rattle.cq_messages.proofs.Emptying.{flipped}
 use Rattle.cq_messages.proofs.Passing.{live-append, live-more}
 use Rattle.cq_messages.proofs.Rising.{live-among, own-number}
-use Rattle.cq_messages.proofs.Standing.{live-place}
+use Rattle.cq_messages.proofs.Remaining.{live-place}
 use Rattle.cq_messages.proofs.Ascending.{ascending-upto}
 use Rattle.cq_messages.proofs.Touching.{same_self}
 
@@ -25,14 +25,14 @@ use Rattle.cq_messages.proofs.Touching.{same_self}
 pub trimmed-more : (ss : List Slot) (k : ℕ) → k < length ss → (get_or ss k gone).message ≡ None → live (take (k + 1) ss) ≡ live ss → live (take k ss) ≡ live ss
 trimmed-more ss k l e h = sym (live-more ss k l ∙ ap (λ o. live (take k ss) ++ kept_before o []) e ∙ append-nil (live (take k ss))) ∙ h
 
-ascending_front : (b : ℕ) (ss : List Slot) (k : ℕ) → IsAscending b ss → IsAscending b (take k ss)
-ascending_front b ss zero h = tt
-ascending_front b [] (suc k) h = tt
-ascending_front b (s ∷ ss) (suc k) h = (h.0, (h.1.0, ascending_front s.sequence ss k h.1.1))
+ascending_prefix : (b : ℕ) (ss : List Slot) (k : ℕ) → IsAscending b ss → IsAscending b (take k ss)
+ascending_prefix b ss zero h = tt
+ascending_prefix b [] (suc k) h = tt
+ascending_prefix b (s ∷ ss) (suc k) h = (h.0, (h.1.0, ascending_prefix s.sequence ss k h.1.1))
 
-pub indexed-trimmed : (ss : List Slot) (k : ℕ) (waits flights : List ℕ) (groups : List (List ℕ × GroupKept)) → k ≤ length ss → live (take k ss) ≡ live ss → IsIndexed ss waits flights groups → IsIndexed (take k ss) waits flights groups
-indexed-trimmed ss k waits flights groups l same is = record {
-  ascending = ascending_front 0 ss k is.ascending;
+pub indexed-trimmed : (ss : List Slot) (k : ℕ) (lead_times flight_ends : List ℕ) (groups : List (List ℕ × GroupKept)) → k ≤ length ss → live (take k ss) ≡ live ss → IsIndexed ss lead_times flight_ends groups → IsIndexed (take k ss) lead_times flight_ends groups
+indexed-trimmed ss k lead_times flight_ends groups l same is = record {
+  ascending = ascending_prefix 0 ss k is.ascending;
   are_waits = record {
     long = let a = is.are_waits.long in omega (arith, length-take-le k ss l);
     is = λ j inside. let near : j < k = omega (arith, length-take-le k ss l) in
@@ -97,9 +97,9 @@ handed-pushed ss s' m groups groups' e fresh old same x a upto = by (among-appen
     by (inr (inr nothing)) = absurd nothing
 
 -- what stands beside the slots, for one more
-pub waits-pushed : (ss : List Slot) (s' : Slot) (m : Message) (waits waits' : List ℕ) → s'.message ≡ Some m → m.until ≡ 0 → AreWaits ss waits → ((x : Message) → Among x (live ss) → x.sequence ≢ m.sequence)
-    → length ss < length waits' → ((k : ℕ) → k < length ss → get_or waits' k 0 ≡ get_or waits k 0) → get_or waits' (length ss) 0 ≡ cond (length (in_group m.group (live ss)) == 0) 0 NEVER → AreWaits (ss ++ s' ∷ []) waits'
-waits-pushed ss s' m waits waits' e fresh are apart long same new = record {
+pub lead_times-pushed : (ss : List Slot) (s' : Slot) (m : Message) (lead_times waits' : List ℕ) → s'.message ≡ Some m → m.until ≡ 0 → AreWaits ss lead_times → ((x : Message) → Among x (live ss) → x.sequence ≢ m.sequence)
+    → length ss < length waits' → ((k : ℕ) → k < length ss → get_or waits' k 0 ≡ get_or lead_times k 0) → get_or waits' (length ss) 0 ≡ cond (length (in_group m.group (live ss)) == 0) 0 NEVER → AreWaits (ss ++ s' ∷ []) waits'
+lead_times-pushed ss s' m lead_times waits' e fresh are apart long same new = record {
   long = omega (arith, length_push ss s');
   is = λ k inside. by k (cases_lt k (length ss)) inside;
 }
@@ -122,9 +122,9 @@ waits-pushed ss s' m waits waits' e fresh are apart long same new = record {
         ap (λ j. get_or waits' j 0) is ∙ new ∙ sym last ∙ ap (wait_for (live ss ++ m ∷ [])) (sym e)
         ∙ ap (λ s. wait_for (live ss ++ m ∷ []) s.message) (sym (get_or_push ss s' gone k (sym is))) ∙ ap (λ ms. wait_for ms (get_or (ss ++ s' ∷ []) k gone).message) (sym all)
 
-pub flights-pushed : (ss : List Slot) (s' : Slot) (m : Message) (flights flights' : List ℕ) → s'.message ≡ Some m → m.until ≡ 0 → AreFlights ss flights
-    → length ss < length flights' → ((k : ℕ) → k < length ss → get_or flights' k 0 ≡ get_or flights k 0) → get_or flights' (length ss) 0 ≡ NEVER → AreFlights (ss ++ s' ∷ []) flights'
-flights-pushed ss s' m flights flights' e fresh are long same new = record {
+pub flight_ends-pushed : (ss : List Slot) (s' : Slot) (m : Message) (flight_ends flights' : List ℕ) → s'.message ≡ Some m → m.until ≡ 0 → AreFlights ss flight_ends
+    → length ss < length flights' → ((k : ℕ) → k < length ss → get_or flights' k 0 ≡ get_or flight_ends k 0) → get_or flights' (length ss) 0 ≡ NEVER → AreFlights (ss ++ s' ∷ []) flights'
+flight_ends-pushed ss s' m flight_ends flights' e fresh are long same new = record {
   long = omega (arith, length_push ss s');
   is = λ k inside. by k (cases_lt k (length ss)) inside;
 }
@@ -136,16 +136,16 @@ flights-pushed ss s' m flights flights' e fresh are long same new = record {
         ap (λ j. get_or flights' j 0) is ∙ new ∙ (let u : NEVER ≡ NEVER - m.until = omega arith in u) ∙ ap flight_of (sym e) ∙ ap (λ s. flight_of s.message) (sym (get_or_push ss s' gone k (sym is)))
 
 -- all that is kept beside the slots, for one more message
-pub indexed-pushed : (ss : List Slot) (s' : Slot) (m : Message) (waits waits' flights flights' : List ℕ) (groups groups' : List (List ℕ × GroupKept)) → IsIndexed ss waits flights groups → s'.message ≡ Some m → s'.sequence ≡ m.sequence → m.until ≡ 0 → 0 < m.sequence
+pub indexed-pushed : (ss : List Slot) (s' : Slot) (m : Message) (lead_times waits' flight_ends flights' : List ℕ) (groups groups' : List (List ℕ × GroupKept)) → IsIndexed ss lead_times flight_ends groups → s'.message ≡ Some m → s'.sequence ≡ m.sequence → m.until ≡ 0 → 0 < m.sequence
     → ((k : ℕ) → k < length ss → (get_or ss k gone).sequence < m.sequence)
-    → length ss < length waits' → ((k : ℕ) → k < length ss → get_or waits' k 0 ≡ get_or waits k 0) → get_or waits' (length ss) 0 ≡ cond (length (in_group m.group (live ss)) == 0) 0 NEVER
-    → length ss < length flights' → ((k : ℕ) → k < length ss → get_or flights' k 0 ≡ get_or flights k 0) → get_or flights' (length ss) 0 ≡ NEVER
+    → length ss < length waits' → ((k : ℕ) → k < length ss → get_or waits' k 0 ≡ get_or lead_times k 0) → get_or waits' (length ss) 0 ≡ cond (length (in_group m.group (live ss)) == 0) 0 NEVER
+    → length ss < length flights' → ((k : ℕ) → k < length ss → get_or flights' k 0 ≡ get_or flight_ends k 0) → get_or flights' (length ss) 0 ≡ NEVER
     → ((g : List ℕ) → numbers_at groups' g ≡ cond (bytes_eq m.group g) (numbers_at groups g ++ m.sequence ∷ []) (numbers_at groups g)) → ((g : List ℕ) → handed_at groups' g ≡ handed_at groups g)
     → IsIndexed (ss ++ s' ∷ []) waits' flights' groups'
-indexed-pushed ss s' m waits waits' flights flights' groups groups' is e number fresh positive above wl ws wn fl fs fn added handed = record {
+indexed-pushed ss s' m lead_times waits' flight_ends flights' groups groups' is e number fresh positive above wl ws wn fl fs fn added handed = record {
   ascending = ascending-pushed 0 ss s' is.ascending (subst (λ n. 0 < n) (sym number) positive) (λ k l. subst (λ n. (get_or ss k gone).sequence < n) (sym number) (above k l)) (own s'.message e);
-  are_waits = waits-pushed ss s' m waits waits' e fresh is.are_waits (λ x a eq. let r = live-place ss x a in let low = above r.0 r.1.within in let at = own-number 0 ss r.0 x is.ascending r.1.within r.1.message in omega arith) wl ws wn;
-  are_flights = flights-pushed ss s' m flights flights' e fresh is.are_flights fl fs fn;
+  are_waits = lead_times-pushed ss s' m lead_times waits' e fresh is.are_waits (λ x a eq. let r = live-place ss x a in let low = above r.0 r.1.within in let at = own-number 0 ss r.0 x is.ascending r.1.within r.1.message in omega arith) wl ws wn;
+  are_flights = flight_ends-pushed ss s' m flight_ends flights' e fresh is.are_flights fl fs fn;
   are_numbers = numbers-pushed ss s' m groups groups' e is.are_numbers added;
   are_handed = handed-pushed ss s' m groups groups' e fresh is.are_handed handed;
 }
@@ -155,9 +155,9 @@ indexed-pushed ss s' m waits waits' flights flights' groups groups' is e number 
     own (Some x) h = (let same : x ≡ m = cc in ap (λ y. y.sequence) same) ∙ sym number
 
 -- more room beside the slots
-pub indexed-grown : (ss : List Slot) (waits waits' flights flights' : List ℕ) (groups : List (List ℕ × GroupKept)) → IsIndexed ss waits flights groups → length ss ≤ length waits' → ((k : ℕ) → k < length ss → get_or waits' k 0 ≡ get_or waits k 0)
-    → length ss ≤ length flights' → ((k : ℕ) → k < length ss → get_or flights' k 0 ≡ get_or flights k 0) → IsIndexed ss waits' flights' groups
-indexed-grown ss waits waits' flights flights' groups is wl ws fl fs = record {
+pub indexed-grown : (ss : List Slot) (lead_times waits' flight_ends flights' : List ℕ) (groups : List (List ℕ × GroupKept)) → IsIndexed ss lead_times flight_ends groups → length ss ≤ length waits' → ((k : ℕ) → k < length ss → get_or waits' k 0 ≡ get_or lead_times k 0)
+    → length ss ≤ length flights' → ((k : ℕ) → k < length ss → get_or flights' k 0 ≡ get_or flight_ends k 0) → IsIndexed ss waits' flights' groups
+indexed-grown ss lead_times waits' flight_ends flights' groups is wl ws fl fs = record {
   ascending = is.ascending;
   are_waits = record { long = wl; is = λ k l. ws k l ∙ is.are_waits.is k l };
   are_flights = record { long = fl; is = λ k l. fs k l ∙ is.are_flights.is k l };
@@ -166,8 +166,8 @@ indexed-grown ss waits waits' flights flights' groups is wl ws fl fs = record {
 }
 
 -- groups that have the same
-pub indexed-regrouped : (ss : List Slot) (waits flights : List ℕ) (groups groups' : List (List ℕ × GroupKept)) → IsIndexed ss waits flights groups → ((g : List ℕ) → group_at groups' g ≡ group_at groups g) → IsIndexed ss waits flights groups'
-indexed-regrouped ss waits flights groups groups' is same = record {
+pub indexed-regrouped : (ss : List Slot) (lead_times flight_ends : List ℕ) (groups groups' : List (List ℕ × GroupKept)) → IsIndexed ss lead_times flight_ends groups → ((g : List ℕ) → group_at groups' g ≡ group_at groups g) → IsIndexed ss lead_times flight_ends groups'
+indexed-regrouped ss lead_times flight_ends groups groups' is same = record {
   ascending = is.ascending;
   are_waits = is.are_waits;
   are_flights = is.are_flights;
@@ -175,15 +175,15 @@ indexed-regrouped ss waits flights groups groups' is same = record {
   are_handed = λ m a upto. subst (λ o. m.sequence ≤ handed_or o) (sym (same m.group)) (is.are_handed m a upto);
 }
 
--- the messages of a front, in their order
-pub front-indexed : (ss new : List Slot) (waits flights : List ℕ) (groups : List (List ℕ × GroupKept)) → new ≡ take (length new) ss → live new ≡ live ss → IsIndexed ss waits flights groups → IsIndexed new waits flights groups
-front-indexed ss new waits flights groups front same is =
-    let l : length new ≤ length ss = let e = ap length front in omega (arith, e, length-take (length new) ss) in
-    subst (λ xs. IsIndexed xs waits flights groups) (sym front) (indexed-trimmed ss (length new) waits flights groups l (ap live (sym front) ∙ same) is)
+-- the messages of a prefix, in their order
+pub prefix-indexed : (ss new : List Slot) (lead_times flight_ends : List ℕ) (groups : List (List ℕ × GroupKept)) → new ≡ take (length new) ss → live new ≡ live ss → IsIndexed ss lead_times flight_ends groups → IsIndexed new lead_times flight_ends groups
+prefix-indexed ss new lead_times flight_ends groups prefix same is =
+    let l : length new ≤ length ss = let e = ap length prefix in omega (arith, e, length-take (length new) ss) in
+    subst (λ xs. IsIndexed xs lead_times flight_ends groups) (sym prefix) (indexed-trimmed ss (length new) lead_times flight_ends groups l (ap live (sym prefix) ∙ same) is)
 
--- the same of a list that has room for one more than the front
-pub reserved-indexed : (ss new left : List Slot) (waits flights : List ℕ) (groups : List (List ℕ × GroupKept)) → left ≡ new → new ≡ take (length new) ss → live new ≡ live ss → IsIndexed ss waits flights groups → IsIndexed left waits flights groups
-reserved-indexed ss new left waits flights groups all front same is = subst (λ xs. IsIndexed xs waits flights groups) (sym all) (front-indexed ss new waits flights groups front same is)
+-- the same of a list that has room for one more than the prefix
+pub reserved-indexed : (ss new left : List Slot) (lead_times flight_ends : List ℕ) (groups : List (List ℕ × GroupKept)) → left ≡ new → new ≡ take (length new) ss → live new ≡ live ss → IsIndexed ss lead_times flight_ends groups → IsIndexed left lead_times flight_ends groups
+reserved-indexed ss new left lead_times flight_ends groups all prefix same is = subst (λ xs. IsIndexed xs lead_times flight_ends groups) (sym all) (prefix-indexed ss new lead_times flight_ends groups prefix same is)
 
 -- after its last message a slot's number is above all
 pub last-above : (ss : List Slot) (n : ℕ) → IsAscending 0 ss → ((k : ℕ) → k + 1 ≡ length ss → (get_or ss k gone).message ≢ None) → ((m : Message) → Among m (live ss) → m.sequence < n) → (k : ℕ) → k < length ss → (get_or ss k gone).sequence < n

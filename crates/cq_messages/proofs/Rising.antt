@@ -1,7 +1,7 @@
 -- Messages in order of their sequence numbers.
 use Rattle.std.proofs.Common.{◌≡◌, ℕ, ◌<◌, ◌≤◌, ◌∙◌, ap, sym, subst, List, [], ◌∷◌, length, get_or, Bool, true, false, cond, Option, Some, None, inl, inr, arith, suc, zero}
 use Rattle.std.specs.List.{filter}
-use Rattle.cq_base.specs.Messages.{Message}
+use Rattle.cq_base.specs.queue.Messages.{Message}
 use Rattle.cq_base.specs.Relations.{Among}
 use Rattle.cq_messages.specs.declared.slot.Slot.{Slot}
 use Rattle.cq_messages.specs.Slots.{live, kept_before, IsOwn, IsAscending, gone}

@@ -4,18 +4,18 @@ use Rattle.std.specs.Str.{bytes_eq}
 use Rattle.std.proofs.lemmas.Bool.{cases_eq}
 use Rattle.std.proofs.lemmas.List.{length-set, get_or-set_same, get_or-set_other, set-get_or}
 use Rattle.std.proofs.lemmas.Slice.Eq.{bytes_eq-Decides}
-use Rattle.cq_base.specs.Messages.{Message}
+use Rattle.cq_base.specs.queue.Messages.{Message}
 use Rattle.cq_base.specs.Relations.{Among}
 use Rattle.cq_base.proofs.Among.{among-filter, among-kept}
 use Rattle.cq_messages.specs.declared.slot.Slot.{Slot}
-use Rattle.cq_messages.specs.Groups.{GroupKept, numbers_at, handed_at}
-use Rattle.cq_messages.specs.Indexed.{AreWaits, AreFlights, AreNumbers, AreHanded, IsIndexed}
+use Rattle.cq_messages.specs.within.Groups.{GroupKept, numbers_at, handed_at}
+use Rattle.cq_messages.specs.within.Indexed.{AreWaits, AreFlights, AreNumbers, AreHanded, IsIndexed}
 use Rattle.cq_messages.specs.Changes.{numbers_of}
 use Rattle.cq_messages.specs.declared.slot.TheConstants.{NEVER}
 use Rattle.cq_messages.specs.Slots.{live, kept_before, gone, IsOwn, IsAscending, in_group, busy, wait_in, wait_for, flight_of}
-use Rattle.cq_messages.specs.Touched.{IsHead, retimed, retimed_kept, retimed_in}
+use Rattle.cq_messages.specs.within.Touched.{IsHead, retimed, retimed_kept, retimed_in}
 use Rattle.cq_messages.proofs.Rising.{own-number, live-among}
-use Rattle.cq_messages.proofs.Standing.{StandsAt, live-place, same-place, head-exists}
+use Rattle.cq_messages.proofs.Remaining.{StandsAt, live-place, same-place, head-exists}
 
 own_retimed : (n handings at until : ℕ) (o : Option Message) → IsOwn n o → IsOwn n (retimed_kept handings at until o)
 own_retimed n handings at until None h = h
@@ -162,9 +162,9 @@ kept_waits ss ss' p m m' h k (Some y') t head inside other e =
         ap (λ g. wait_in (in_group g (live ss)) y.sequence) same ∙ old ∙ sym new ∙ ap (λ g. wait_in (in_group g (live ss')) y'.sequence) (sym (like.group ∙ same))
 
 -- the oldest message of the group waits for the last of its timeouts, and all others as before
-pub waits-touched : (ss ss' : List Slot) (waits : List ℕ) (p h : ℕ) (m m' : Message) → IsTouched ss ss' p m m' → IsHead ss' m.group h → AreWaits ss waits → AreWaits ss' (set waits h (busy (in_group m.group (live ss'))))
-waits-touched ss ss' waits p h m m' t head are = record {
-  long = let a = t.long in let b = are.long in omega (arith, length-set waits h (busy (in_group m.group (live ss'))));
+pub lead_times-touched : (ss ss' : List Slot) (lead_times : List ℕ) (p h : ℕ) (m m' : Message) → IsTouched ss ss' p m m' → IsHead ss' m.group h → AreWaits ss lead_times → AreWaits ss' (set lead_times h (busy (in_group m.group (live ss'))))
+lead_times-touched ss ss' lead_times p h m m' t head are = record {
+  long = let a = t.long in let b = are.long in omega (arith, length-set lead_times h (busy (in_group m.group (live ss'))));
   is = λ k inside. by k (subst (λ n. k < n) t.long inside) (cases_eq k h);
 }
   where
@@ -174,14 +174,14 @@ waits-touched ss ss' waits p h m m' t head are = record {
     at_head : wait_for (live ss') (Some head.first) ≡ busy gs
     at_head = ap (λ g. wait_in (in_group g (live ss')) head.first.sequence) (sym (head_group ss' m.group h head)) ∙ wait-first gs head.first head.rest head.first.sequence head.leads refl
 
-    by : (k : ℕ) → k < length ss → (k ≡ h) ⊎ (k ≡ h → ⊥) → get_or (set waits h (busy gs)) k 0 ≡ wait_for (live ss') (get_or ss' k gone).message
+    by : (k : ℕ) → k < length ss → (k ≡ h) ⊎ (k ≡ h → ⊥) → get_or (set lead_times h (busy gs)) k 0 ≡ wait_for (live ss') (get_or ss' k gone).message
     by k inside (inl same) =
-        ap (λ j. get_or (set waits h (busy gs)) j 0) same
-        ∙ get_or-set_same waits h (busy gs) 0 (let a = are.long in omega arith)
+        ap (λ j. get_or (set lead_times h (busy gs)) j 0) same
+        ∙ get_or-set_same lead_times h (busy gs) 0 (let a = are.long in omega arith)
         ∙ sym at_head
         ∙ ap (wait_for (live ss')) (sym head.message)
         ∙ ap (λ j. wait_for (live ss') (get_or ss' j gone).message) (sym same)
-    by k inside (inr other) = get_or-set_other waits h k (busy gs) 0 other ∙ are.is k inside ∙ kept_waits ss ss' p m m' h k (get_or ss' k gone).message t head inside other refl
+    by k inside (inr other) = get_or-set_other lead_times h k (busy gs) 0 other ∙ are.is k inside ∙ kept_waits ss ss' p m m' h k (get_or ss' k gone).message t head inside other refl
 
 -- a slot whose message was given other times
 pub touched : (ss : List Slot) (p handings at until : ℕ) (m : Message) → IsAscending 0 ss → p < length ss → (get_or ss p gone).message ≡ Some m
@@ -205,19 +205,19 @@ touched ss p handings at until m asc inside e =
           (ap (λ o. in_group g (kept_before o [])) is ∙ ap (λ b. cond b (retimed handings at until m ∷ []) []) differs);
     }
 
-pub flights-touched : (ss ss' : List Slot) (flights : List ℕ) (p : ℕ) (m m' : Message) → IsTouched ss ss' p m m' → AreFlights ss flights → AreFlights ss' (set flights p (NEVER - m'.until))
-flights-touched ss ss' flights p m m' t are = record {
-  long = let a = t.long in let b = are.long in omega (arith, length-set flights p (NEVER - m'.until));
+pub flight_ends-touched : (ss ss' : List Slot) (flight_ends : List ℕ) (p : ℕ) (m m' : Message) → IsTouched ss ss' p m m' → AreFlights ss flight_ends → AreFlights ss' (set flight_ends p (NEVER - m'.until))
+flight_ends-touched ss ss' flight_ends p m m' t are = record {
+  long = let a = t.long in let b = are.long in omega (arith, length-set flight_ends p (NEVER - m'.until));
   is = λ k inside. by k (subst (λ n. k < n) t.long inside) (cases_eq k p);
 }
   where
-    by : (k : ℕ) → k < length ss → (k ≡ p) ⊎ (k ≡ p → ⊥) → get_or (set flights p (NEVER - m'.until)) k 0 ≡ flight_of (get_or ss' k gone).message
+    by : (k : ℕ) → k < length ss → (k ≡ p) ⊎ (k ≡ p → ⊥) → get_or (set flight_ends p (NEVER - m'.until)) k 0 ≡ flight_of (get_or ss' k gone).message
     by k inside (inl same) =
-        ap (λ j. get_or (set flights p (NEVER - m'.until)) j 0) same
-        ∙ get_or-set_same flights p (NEVER - m'.until) 0 (let a = are.long in let w = t.within in omega arith)
+        ap (λ j. get_or (set flight_ends p (NEVER - m'.until)) j 0) same
+        ∙ get_or-set_same flight_ends p (NEVER - m'.until) 0 (let a = are.long in let w = t.within in omega arith)
         ∙ ap flight_of (sym t.after)
         ∙ ap (λ j. flight_of (get_or ss' j gone).message) (sym same)
-    by k inside (inr other) = get_or-set_other flights p k (NEVER - m'.until) 0 other ∙ are.is k inside ∙ ap (λ s. flight_of s.message) (sym (t.elsewhere k other))
+    by k inside (inr other) = get_or-set_other flight_ends p k (NEVER - m'.until) 0 other ∙ are.is k inside ∙ ap (λ s. flight_of s.message) (sym (t.elsewhere k other))
 
 pub some_number : (g : List ℕ) (ms : List Message) (m : Message) → bytes_eq g m.group ≡ true → Among m ms → 0 < length (numbers_of (in_group g ms))
 some_number g ms m e a = by (in_group g ms) (among-kept (λ y. bytes_eq g y.group) m ms e a)
@@ -258,15 +258,15 @@ retimed-from handings at until (Some m) n e = (m, (refl, let same : retimed hand
 pub numbers-raised : (ss ss' : List Slot) (groups groups' : List (List ℕ × GroupKept)) (p : ℕ) (m m' : Message) → IsTouched ss ss' p m m' → AreNumbers ss groups → ((g : List ℕ) → numbers_at groups' g ≡ numbers_at groups g) → AreNumbers ss' groups'
 numbers-raised ss ss' groups groups' p m m' t are same g = same g ∙ are g ∙ sym (t.numbers g)
 
-pub indexed-touched : (ss ss' : List Slot) (waits waits' flights : List ℕ) (groups groups' : List (List ℕ × GroupKept)) (p : ℕ) (m m' : Message) → IsTouched ss ss' p m m' → IsIndexed ss waits flights groups
-    → ((h : ℕ) → IsHead ss' m.group h → waits' ≡ set waits h (busy (in_group m.group (live ss')))) → AreNumbers ss' groups' → AreHanded ss' groups' → IsIndexed ss' waits' (set flights p (NEVER - m'.until)) groups'
-indexed-touched ss ss' waits waits' flights groups groups' p m m' t is head numbers handed =
+pub indexed-touched : (ss ss' : List Slot) (lead_times waits' flight_ends : List ℕ) (groups groups' : List (List ℕ × GroupKept)) (p : ℕ) (m m' : Message) → IsTouched ss ss' p m m' → IsIndexed ss lead_times flight_ends groups
+    → ((h : ℕ) → IsHead ss' m.group h → waits' ≡ set lead_times h (busy (in_group m.group (live ss')))) → AreNumbers ss' groups' → AreHanded ss' groups' → IsIndexed ss' waits' (set flight_ends p (NEVER - m'.until)) groups'
+indexed-touched ss ss' lead_times waits' flight_ends groups groups' p m m' t is head numbers handed =
     let there : Among m' (in_group m.group (live ss')) = among-kept (λ y. bytes_eq m.group y.group) m' (live ss') (ap (bytes_eq m.group) t.alike.group ∙ same_self m.group) (live-among ss' p m' (let a = t.long in let b = t.within in omega arith) t.after) in
     let r = head-exists ss' m.group m' t.new_order there in
     record {
       ascending = t.new_order;
-      are_waits = subst (AreWaits ss') (sym (head r.0 r.1)) (waits-touched ss ss' waits p r.0 m m' t r.1 is.are_waits);
-      are_flights = flights-touched ss ss' flights p m m' t is.are_flights;
+      are_waits = subst (AreWaits ss') (sym (head r.0 r.1)) (lead_times-touched ss ss' lead_times p r.0 m m' t r.1 is.are_waits);
+      are_flights = flight_ends-touched ss ss' flight_ends p m m' t is.are_flights;
       are_numbers = numbers;
       are_handed = handed;
     }
@@ -321,8 +321,8 @@ busy-raised g (s ∷ ss) zero handings at until m l e d less = busy_here g handi
 busy-raised g (s ∷ ss) (suc p) handings at until m l e d less = busy_later g until s.message (live (set ss p (retimed_in handings at until (get_or ss p gone)))) (live ss) (busy-raised g ss p handings at until m (omega arith) e d less)
 
 -- beside the oldest message of the group stands how long the group was busy before
-pub head-before : (ss ss' : List Slot) (waits : List ℕ) (p h : ℕ) (m m' : Message) → IsTouched ss ss' p m m' → IsHead ss' m.group h → AreWaits ss waits → get_or waits h 0 ≡ busy (in_group m.group (live ss))
-head-before ss ss' waits p h m m' t head are =
+pub head-before : (ss ss' : List Slot) (lead_times : List ℕ) (p h : ℕ) (m m' : Message) → IsTouched ss ss' p m m' → IsHead ss' m.group h → AreWaits ss lead_times → get_or lead_times h 0 ≡ busy (in_group m.group (live ss))
+head-before ss ss' lead_times p h m m' t head are =
     let gs = in_group m.group (live ss) in
     let r = head-exists ss m.group m t.old_order (among-kept (λ y. bytes_eq m.group y.group) m (live ss) (same_self m.group) (live-among ss p m t.within t.before)) in
     let old : IsHead ss m.group r.0 = r.1 in
@@ -333,5 +333,5 @@ head-before ss ss' waits p h m m' t head are =
     let at_old : old.first.sequence ≡ (get_or ss r.0 gone).sequence = own-number 0 ss r.0 old.first t.old_order old.within old.message in
     let like : head.first.sequence ≡ w.0.sequence = w.1.1.sequence in
     let same : h ≡ r.0 = same-place ss h r.0 t.old_order inside old.within (sym at_h ∙ sym like ∙ first ∙ at_old) in
-    ap (λ k. get_or waits k 0) same ∙ are.is r.0 old.within ∙ ap (wait_for (live ss)) old.message
+    ap (λ k. get_or lead_times k 0) same ∙ are.is r.0 old.within ∙ ap (wait_for (live ss)) old.message
     ∙ ap (λ g. wait_in (in_group g (live ss)) old.first.sequence) (sym (head_group ss m.group r.0 old)) ∙ wait-first gs old.first old.rest old.first.sequence old.leads refl

@@ -1,19 +1,19 @@
 -- What a changed slot changes of the messages.
 use Rattle.std.proofs.Common.{◌≡◌, ◌≢◌, ℕ, ◌+◌, ◌<◌, ◌≤◌, ◌==◌, ◌∙◌, ◌||◌, ap, sym, subst, List, [], ◌∷◌, length, get_or, set, map, true, false, cond, Option, Some, None, inl, inr, arith, suc, zero, refl}
 use Rattle.std.specs.List.{find}
-use Rattle.cq_base.specs.Messages.{Message}
+use Rattle.cq_base.specs.queue.Messages.{Message}
 use Rattle.cq_base.specs.Relations.{Among}
 use Rattle.cq_messages.specs.declared.slot.Slot.{Slot}
 use Rattle.cq_messages.specs.Changes.{hidden_until, marked, handed_at_until}
 use Rattle.cq_messages.specs.Slots.{live, kept_before, gone, IsOwn, IsAscending}
-use Rattle.cq_messages.specs.Touched.{retimed, retimed_kept, retimed_in}
+use Rattle.cq_messages.specs.within.Touched.{retimed, retimed_kept, retimed_in}
 use Rattle.cq_messages.proofs.Ascending.{ascending-above}
 use Rattle.std.specs.Option.{option_map, option_copied}
 use Rattle.std.proofs.Common.{Bor}
 use Rattle.std.specs.List.{All}
 use Rattle.std.proofs.lemmas.List.Elements.{All-head, All-tail}
 use Rattle.cq_messages.proofs.Rising.{IsRising, rising-above, live-rising, own-number, live-among}
-use Rattle.cq_messages.proofs.Standing.{live-place, same-place}
+use Rattle.cq_messages.proofs.Remaining.{live-place, same-place}
 use Rattle.std.proofs.lemmas.List.{get_or_read}
 
 -- a function that changes none of these makes the same list

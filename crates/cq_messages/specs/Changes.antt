@@ -1,8 +1,8 @@
 -- What becomes of messages by a send, a receive, a change and a delete, and the numbers of those that a receive hands out.
 use Rattle.std.specs.Prelude.{ℕ, ◌+◌, ◌==◌, List, map, Bool, not, if◌then◌else◌}
 use Rattle.std.specs.List.{list_any}
-use Rattle.cq_base.specs.Messages.{Message}
-use Rattle.cq_base.specs.Receiving.{to_hand}
+use Rattle.cq_base.specs.queue.Messages.{Message}
+use Rattle.cq_base.specs.queue.Receiving.{to_hand}
 
 -- a message that was never handed out
 abbrev pub new_message : ℕ → List ℕ → List ℕ → Message

@@ -1,9 +1,3 @@
-pub mod Gathered
-pub mod Groups
-pub mod Indexed
 pub mod Changes
-pub mod Offered
-pub mod Opened
-pub mod Passing
 pub mod Slots
-pub mod Touched
+pub mod within

@@ -2,7 +2,7 @@
 use Rattle.std.specs.Prelude.{◌≡◌, ℕ, ◌-◌, ◌<◌, ◌==◌, List, [], ◌∷◌, max, Bool, false, cond, Option, Some, None}
 use Rattle.std.specs.List.{filter}
 use Rattle.std.specs.Str.{bytes_eq}
-use Rattle.cq_base.specs.Messages.{Message}
+use Rattle.cq_base.specs.queue.Messages.{Message}
 use Rattle.cq_messages.specs.declared.slot.TheConstants.{NEVER}
 use Rattle.cq_messages.specs.declared.slot.Slot.{Slot}
 

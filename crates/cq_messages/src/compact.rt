@@ -1,10 +1,10 @@
 //! Slots of deleted messages are given back.
 ghost use Rattle.std.specs.Prelude.{◌≡◌, ◌<◌, ◌≤◌, length, get_or, set};
-ghost use Rattle.cq_messages.specs.Gathered.{AreGathered, full_slots};
+ghost use Rattle.cq_messages.specs.within.Gathered.{AreGathered, full_slots};
 ghost use Rattle.cq_messages.specs.declared.slot.TheConstants.{NEVER};
 
 use crate::slot::{NEVER, Slot};
-use cq_least::{NumberList, Packed, Tower};
+use cq_min_index::{MinTree, NumberList, Packed};
 
 /// Moves a number to that place, which isn't after its own. Where it stood is the largest number then.
 fn move_down<T: NumberList>(beside: &mut T, from: usize, to: usize)
@@ -34,14 +34,14 @@ fn gather<T: NumberList>(beside: &mut T, slots: &[Slot])
 }
 
 /// Takes out the slots of deleted messages. It takes no memory. O(slots log slots).
-pub fn compact(slots: &mut Vec<Slot>, waits: &mut Tower, flights: &mut Packed)
-    requires waits { length slots.old.items ≤ length waits.old }
-    requires flights { length slots.old.items ≤ length flights.old }
+pub fn compact(slots: &mut Vec<Slot>, lead_times: &mut MinTree, flight_ends: &mut Packed)
+    requires lead_times { length slots.old.items ≤ length lead_times.old }
+    requires flight_ends { length slots.old.items ≤ length flight_ends.old }
     ensures slots { slots.new.items ≡ full_slots slots.old.items }
-    ensures waits { AreGathered slots.old.items waits.old waits.new }
-    ensures flights { AreGathered slots.old.items flights.old flights.new }
+    ensures lead_times { AreGathered slots.old.items lead_times.old lead_times.new }
+    ensures flight_ends { AreGathered slots.old.items flight_ends.old flight_ends.new }
 {
-    gather(waits, slots);
-    gather(flights, slots);
+    gather(lead_times, slots);
+    gather(flight_ends, slots);
     slots.retain(|slot| slot.message.is_some());
 }

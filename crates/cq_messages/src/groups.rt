@@ -1,7 +1,7 @@
 //! The groups that have messages, each with the sequence numbers of these.
 ghost use Rattle.std.specs.Prelude.{◌≡◌, ℕ, ◌<◌, ◌==◌, ◌++◌, [], ◌∷◌, List, filter, not, max, length, get_or, None, option_copied, if◌then◌else◌, ◌≤◌, IfOk, OnOk, OnErr};
 ghost use Rattle.std.specs.Str.{bytes_eq};
-ghost use Rattle.cq_messages.specs.Groups.{group_at, numbers_at, handed_at, without};
+ghost use Rattle.cq_messages.specs.within.Groups.{group_at, numbers_at, handed_at, without};
 
 use cq_base::{GroupId, NoMemory};
 use std::alloc::{AllocError, Global};
@@ -28,7 +28,7 @@ pub struct Group {
 }
 
 impl Model for Group {
-    ghost use Rattle.cq_messages.specs.Groups as spec;
+    ghost use Rattle.cq_messages.specs.within.Groups as spec;
 
     ghost Value = { spec.GroupKept };
 
@@ -110,7 +110,7 @@ pub struct Groups {
     kept: HashMap<GroupId, Group>,
 }
 
-/// By hand, so that whoever lets one go makes one call, and has no case for each part.
+/// Written out, not derived: CONTRIBUTING.md, "Drop".
 impl Drop for Groups {
     fn drop(self) {
         let Groups { kept: _ } = self;
@@ -119,7 +119,7 @@ impl Drop for Groups {
 
 impl Model for Groups {
     ghost use Rattle.std.specs.Prelude.{List, ℕ};
-    ghost use Rattle.cq_messages.specs.Groups as spec;
+    ghost use Rattle.cq_messages.specs.within.Groups as spec;
 
     ghost Value = { List (List ℕ × spec.GroupKept) };
 

@@ -1,16 +1,16 @@
 //! The oldest message of a group, and how long the group is busy.
 ghost use Rattle.std.specs.Prelude.{◌≡◌, ◌≤◌, ◌<◌, [], max, length, get_or, set, ℕ, IfSome, IsNone};
 ghost use Rattle.cq_base.specs.Relations.{Among};
-ghost use Rattle.cq_base.specs.Messages as object;
-ghost use Rattle.cq_messages.specs.Indexed.{AreNumbers, AreHanded};
+ghost use Rattle.cq_base.specs.queue.Messages as object;
+ghost use Rattle.cq_messages.specs.within.Indexed.{AreNumbers, AreHanded};
 ghost use Rattle.cq_messages.specs.Slots.{live, gone, busy, in_group, IsAscending};
-ghost use Rattle.cq_messages.specs.Touched.{IsHead};
+ghost use Rattle.cq_messages.specs.within.Touched.{IsHead};
 
 use crate::groups::Groups;
 use crate::places::place_of;
 use crate::slot::Slot;
 use cq_base::GroupId;
-use cq_least::{NumberList, Tower};
+use cq_min_index::{MinTree, NumberList};
 
 /// The place of the oldest message of a group. O(log places).
 pub fn head_of(slots: &[Slot], groups: &Groups, group: &GroupId) -> Option<usize>
@@ -61,33 +61,39 @@ pub fn busy_of(slots: &[Slot], groups: &Groups, group: &GroupId) -> u64
 
 /// Writes beside a group's oldest message when the last of its timeouts ends. O(messages of the group that
 /// were handed out, each log places).
-pub fn refresh(slots: &[Slot], waits: &mut Tower, groups: &Groups, group: &GroupId)
+pub fn refresh(slots: &[Slot], lead_times: &mut MinTree, groups: &Groups, group: &GroupId)
     requires ascending { IsAscending 0 slots.now }
     requires groups { AreNumbers slots.now groups.now }
     requires handed { AreHanded slots.now groups.now }
-    requires long { length slots.now ≤ length waits.old }
+    requires long { length slots.now ≤ length lead_times.old }
     ensures head { (h : ℕ) → IsHead slots.now group.now h
-        → waits.new ≡ set waits.old h (busy (in_group group.now (live slots.now))) }
-    ensures none { in_group group.now (live slots.now) ≡ [] → waits.new ≡ waits.old }
+        → lead_times.new ≡ set lead_times.old h (busy (in_group group.now (live slots.now))) }
+    ensures none { in_group group.now (live slots.now) ≡ [] → lead_times.new ≡ lead_times.old }
 {
     if let Some(head) = head_of(slots, groups, group) {
         let busy = busy_of(slots, groups, group);
-        waits.set(head, busy);
+        lead_times.set(head, busy);
     }
 }
 
 /// Writes beside a group's oldest message that it waits at least up to `until`. O(log places).
-fn raise_wait(slots: &[Slot], waits: &mut Tower, groups: &Groups, group: &GroupId, until: u64)
+fn raise_wait(
+    slots: &[Slot],
+    lead_times: &mut MinTree,
+    groups: &Groups,
+    group: &GroupId,
+    until: u64,
+)
     requires ascending { IsAscending 0 slots.now }
     requires groups { AreNumbers slots.now groups.now }
-    requires long { length slots.now ≤ length waits.old }
+    requires long { length slots.now ≤ length lead_times.old }
     ensures head { (h : ℕ) → IsHead slots.now group.now h
-        → waits.new ≡ set waits.old h (max (get_or waits.old h 0) until) }
-    ensures none { in_group group.now (live slots.now) ≡ [] → waits.new ≡ waits.old }
+        → lead_times.new ≡ set lead_times.old h (max (get_or lead_times.old h 0) until) }
+    ensures none { in_group group.now (live slots.now) ≡ [] → lead_times.new ≡ lead_times.old }
 {
     if let Some(head) = head_of(slots, groups, group) {
-        let wait = waits.get(head).max(until);
-        waits.set(head, wait);
+        let wait = lead_times.get(head).max(until);
+        lead_times.set(head, wait);
     }
 }
 
@@ -95,7 +101,7 @@ fn raise_wait(slots: &[Slot], waits: &mut Tower, groups: &Groups, group: &GroupI
 /// O(log places) where it doesn't end earlier than before.
 pub fn refresh_after(
     slots: &[Slot],
-    waits: &mut Tower,
+    lead_times: &mut MinTree,
     groups: &Groups,
     group: &GroupId,
     before: u64,
@@ -104,16 +110,16 @@ pub fn refresh_after(
     requires ascending { IsAscending 0 slots.now }
     requires groups { AreNumbers slots.now groups.now }
     requires handed { AreHanded slots.now groups.now }
-    requires long { length slots.now ≤ length waits.old }
+    requires long { length slots.now ≤ length lead_times.old }
     requires raised { before ≤ until → (h : ℕ) → IsHead slots.now group.now h
-        → max (get_or waits.old h 0) until ≡ busy (in_group group.now (live slots.now)) }
+        → max (get_or lead_times.old h 0) until ≡ busy (in_group group.now (live slots.now)) }
     ensures head { (h : ℕ) → IsHead slots.now group.now h
-        → waits.new ≡ set waits.old h (busy (in_group group.now (live slots.now))) }
-    ensures none { in_group group.now (live slots.now) ≡ [] → waits.new ≡ waits.old }
+        → lead_times.new ≡ set lead_times.old h (busy (in_group group.now (live slots.now))) }
+    ensures none { in_group group.now (live slots.now) ≡ [] → lead_times.new ≡ lead_times.old }
 {
     if before <= until {
-        raise_wait(slots, waits, groups, group, until);
+        raise_wait(slots, lead_times, groups, group, until);
     } else {
-        refresh(slots, waits, groups, group);
+        refresh(slots, lead_times, groups, group);
     }
 }

@@ -1,6 +1,6 @@
 //! A message of a queue.
 ghost use Rattle.std.specs.Prelude.{◌≡◌, ◌<◌, IfOk};
-ghost use Rattle.cq_base.specs.Receiving.{is_in_flight, delivery_of};
+ghost use Rattle.cq_base.specs.queue.Receiving.{is_in_flight, delivery_of};
 ghost use Rattle.cq_messages.specs.Changes.{new_message};
 
 use cq_base::{Body, Delivery, GroupId, Moment, NoMemory, Receipt};
@@ -19,7 +19,7 @@ pub struct Message {
     pub until: u64,
 }
 
-/// By hand, so that whoever lets one go makes one call, and has no case for each part.
+/// Written out, not derived: CONTRIBUTING.md, "Drop".
 impl Drop for Message {
     fn drop(self) {
         let Message {
@@ -36,7 +36,7 @@ impl Drop for Message {
 impl Model for Message {
     ghost use Rattle.std.specs.Prelude.{◌<◌, ◌≤◌};
     ghost use Rattle.cq_base.specs.declared.limits.TheConstants.{HISTORY_LIMIT};
-    ghost use Rattle.cq_base.specs.Messages as object;
+    ghost use Rattle.cq_base.specs.queue.Messages as object;
 
     ghost Value = { object.Message };
 

@@ -3,16 +3,16 @@ ghost use Rattle.std.specs.List.{list_any, All};
 ghost use Rattle.std.specs.Prelude.{◌≡◌, ℕ, ◌≢◌, ◌+◌, ◌==◌, ◌++◌, [], ◌∷◌, ◌<◌, ◌≤◌, map, filter, not, cond, length, get_or, take, set, IfOk, IfSome, OnOk, OnErr, Some, None};
 ghost use Rattle.std.specs.Option.{option_map};
 ghost use Rattle.cq_base.specs.declared.limits.TheConstants.{HISTORY_LIMIT};
-ghost use Rattle.cq_base.specs.Effects.{message_at};
-ghost use Rattle.cq_base.specs.Messages as object;
-ghost use Rattle.cq_base.specs.Receiving.{to_hand, delivery_of, is_in_flight};
+ghost use Rattle.cq_base.specs.queue.Effects.{message_at};
+ghost use Rattle.cq_base.specs.queue.Messages as object;
+ghost use Rattle.cq_base.specs.queue.Receiving.{to_hand, delivery_of, is_in_flight};
 ghost use Rattle.cq_base.specs.Relations.{Among};
-ghost use Rattle.cq_messages.specs.Groups.{numbers_at};
-ghost use Rattle.cq_messages.specs.Indexed.{IsIndexed};
+ghost use Rattle.cq_messages.specs.within.Groups.{numbers_at};
+ghost use Rattle.cq_messages.specs.within.Indexed.{IsIndexed};
 ghost use Rattle.cq_messages.specs.Changes.{marked, hidden_until, is_other, numbers_to_hand, handed_at_until};
 ghost use Rattle.cq_messages.specs.declared.slot.TheConstants.{NEVER};
 ghost use Rattle.cq_messages.specs.Slots.{live, gone, IsAscending};
-ghost use Rattle.cq_messages.specs.Touched.{retimed};
+ghost use Rattle.cq_messages.specs.within.Touched.{retimed};
 
 use crate::append::{append, make_place};
 use crate::compact::compact;
@@ -27,7 +27,7 @@ use crate::places::place_of;
 use crate::retime::retime;
 use crate::slot::{NEVER, Slot};
 use cq_base::{BatchSize, Delivery, Moment, NoMemory};
-use cq_least::{NumberList, Packed, Tower, new_tower};
+use cq_min_index::{MinTree, NumberList, Packed, new_min_tree};
 use std::alloc::Global;
 use std::marker::Model;
 
@@ -36,21 +36,21 @@ pub struct Messages {
     /// In order of sequence numbers. A message that is deleted leaves its slot behind, up to a later push.
     slots: Vec<Slot>,
     /// Beside each slot the moment from which its message is the oldest of an open group, if it can be.
-    waits: Tower,
+    lead_times: MinTree,
     /// Beside each slot a number that is the smaller, the later its message's timeout ends.
-    flights: Packed,
+    flight_ends: Packed,
     groups: Groups,
     /// How many messages aren't deleted.
     count: u64,
 }
 
-/// By hand, so that whoever lets one go makes one call, and has no case for each part.
+/// Written out, not derived: CONTRIBUTING.md, "Drop".
 impl Drop for Messages {
     fn drop(self) {
         let Messages {
             slots: _,
-            waits: _,
-            flights: _,
+            lead_times: _,
+            flight_ends: _,
             groups: _,
             count: _,
         } = self;
@@ -59,15 +59,15 @@ impl Drop for Messages {
 
 impl Model for Messages {
     ghost use Rattle.std.specs.Prelude.{List, length, ◌≡◌};
-    ghost use Rattle.cq_base.specs.Messages as object;
+    ghost use Rattle.cq_base.specs.queue.Messages as object;
     ghost use Rattle.cq_messages.specs.Slots.{live};
-    ghost use Rattle.cq_messages.specs.Indexed.{IsIndexed};
+    ghost use Rattle.cq_messages.specs.within.Indexed.{IsIndexed};
 
     ghost Value = { List object.Message };
 
     ghost view = { λ m. live m.slots.items };
 
-    ghost invariant = { λ m. IsIndexed m.slots.items m.waits m.flights m.groups
+    ghost invariant = { λ m. IsIndexed m.slots.items m.lead_times m.flight_ends m.groups
         × (m.count ≡ length (live m.slots.items)) };
 }
 
@@ -89,8 +89,8 @@ impl Messages {
     {
         Messages {
             slots: Vec::new(alloc),
-            waits: new_tower(alloc),
-            flights: Packed::new(alloc),
+            lead_times: new_min_tree(alloc),
+            flight_ends: Packed::new(alloc),
             groups: Groups::new(alloc),
             count: 0,
         }
@@ -109,7 +109,7 @@ impl Messages {
         ensures visible { result.0 ≡ length (filter (λ x. not (is_in_flight moment x)) self.now) }
         ensures in_flight { result.1 ≡ length (filter (is_in_flight moment) self.now) }
     {
-        let in_flight = count_in_flight(&self.slots, &self.flights, moment);
+        let in_flight = count_in_flight(&self.slots, &self.flight_ends, moment);
         (self.count - in_flight, in_flight)
     }
 
@@ -120,8 +120,8 @@ impl Messages {
         let alloc = *self.slots.allocator();
         Ok(Messages {
             slots: copies(alloc, &self.slots)?,
-            waits: self.waits.try_copy()?,
-            flights: self.flights.try_copy()?,
+            lead_times: self.lead_times.try_copy()?,
+            flight_ends: self.flight_ends.try_copy()?,
             groups: self.groups.try_copy()?,
             count: self.count,
         })
@@ -139,7 +139,7 @@ impl Messages {
     pub fn numbers_to_hand(&self, moment: Moment, size: BatchSize) -> Numbers
         ensures { result.items ≡ numbers_to_hand size moment self.now }
     {
-        open::numbers_to_hand(&self.slots, &self.waits, &self.groups, moment, size)
+        open::numbers_to_hand(&self.slots, &self.lead_times, &self.groups, moment, size)
     }
 
     /// What a receive of that size hands out at that moment, in order, from the queue of that incarnation, in a list that has
@@ -170,8 +170,8 @@ impl Messages {
                 let handed_at = message.handed_at;
                 retime(
                     &mut self.slots,
-                    &mut self.waits,
-                    &mut self.flights,
+                    &mut self.lead_times,
+                    &mut self.flight_ends,
                     &mut self.groups,
                     place,
                     handings,
@@ -192,8 +192,8 @@ impl Messages {
                 let handings = message.handings + 1;
                 retime(
                     &mut self.slots,
-                    &mut self.waits,
-                    &mut self.flights,
+                    &mut self.lead_times,
+                    &mut self.flight_ends,
                     &mut self.groups,
                     place,
                     handings,
@@ -225,8 +225,8 @@ impl Messages {
         if let Some(place) = place_of(&self.slots, sequence) {
             if empty(
                 &mut self.slots,
-                &mut self.waits,
-                &mut self.flights,
+                &mut self.lead_times,
+                &mut self.flight_ends,
                 &mut self.groups,
                 place,
             ) {
@@ -255,7 +255,7 @@ impl Messages {
     {
         let deleted = self.slots.len() as u64 - self.count;
         if deleted > self.count {
-            compact(&mut self.slots, &mut self.waits, &mut self.flights);
+            compact(&mut self.slots, &mut self.lead_times, &mut self.flight_ends);
         }
     }
 
@@ -268,14 +268,14 @@ impl Messages {
     {
         make_place(
             &mut self.slots,
-            &mut self.waits,
-            &mut self.flights,
+            &mut self.lead_times,
+            &mut self.flight_ends,
             &self.groups,
         )?;
         append(
             &mut self.slots,
-            &mut self.waits,
-            &mut self.flights,
+            &mut self.lead_times,
+            &mut self.flight_ends,
             &mut self.groups,
             message,
         )?;
@@ -287,24 +287,24 @@ impl Messages {
 /// Takes out the message at that place, and answers whether there was one.
 fn empty(
     slots: &mut Vec<Slot>,
-    waits: &mut Tower,
-    flights: &mut Packed,
+    lead_times: &mut MinTree,
+    flight_ends: &mut Packed,
     groups: &mut Groups,
     place: usize,
 ) -> bool
     requires place { place < length slots.old.items }
-    requires indexed { IsIndexed slots.old.items waits.old flights.old groups.old }
+    requires indexed { IsIndexed slots.old.items lead_times.old flight_ends.old groups.old }
     ensures slots { slots.new.items ≡ set slots.old.items place
         (record { sequence = (get_or slots.old.items place gone).sequence; message = None }) }
-    ensures indexed { IsIndexed slots.new.items waits.new flights.new groups.new }
+    ensures indexed { IsIndexed slots.new.items lead_times.new flight_ends.new groups.new }
     ensures count { length (live slots.new.items) + cond result 1 0 ≡ length (live slots.old.items) }
 {
     let taken = slots[place].message.take();
     if let Some(message) = taken {
-        waits.set(place, NEVER);
-        flights.set(place, NEVER);
+        lead_times.set(place, NEVER);
+        flight_ends.set(place, NEVER);
         groups.take_out(&message.group, message.sequence);
-        refresh(slots, waits, groups, &message.group);
+        refresh(slots, lead_times, groups, &message.group);
         return true;
     }
     false

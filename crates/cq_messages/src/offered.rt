@@ -1,10 +1,10 @@
 //! Messages as they are handed out.
 ghost use Rattle.std.specs.Prelude.{◌≡◌, ◌<◌, ◌++◌, map, get_or, take, IfOk, OnOk, option_to_list};
 ghost use Rattle.std.specs.List.{flat_map};
-ghost use Rattle.cq_base.specs.Effects.{message_at};
-ghost use Rattle.cq_base.specs.Receiving.{delivery_of};
+ghost use Rattle.cq_base.specs.queue.Effects.{message_at};
+ghost use Rattle.cq_base.specs.queue.Receiving.{delivery_of};
 ghost use Rattle.cq_messages.specs.Slots.{live, IsAscending};
-ghost use Rattle.cq_messages.specs.Offered.{numbered};
+ghost use Rattle.cq_messages.specs.within.Offered.{numbered};
 
 use crate::messages::message_in;
 use crate::slot::Slot;

@@ -1,18 +1,18 @@
 //! Which messages a receive hands out, from one open group to the next.
 ghost use Rattle.std.specs.Prelude.{◌≡◌, ◌<◌, ◌≤◌, ◌++◌, [], ◌∷◌, take, length, get_or, map, IfSome, IsNone};
 ghost use Rattle.arrayvec.specs.ArrayVec.{array_vec_len};
-ghost use Rattle.cq_messages.specs.Indexed.{AreWaits, AreNumbers};
+ghost use Rattle.cq_messages.specs.within.Indexed.{AreWaits, AreNumbers};
 ghost use Rattle.cq_messages.specs.Changes.{numbers_to_hand};
-ghost use Rattle.cq_base.specs.Receiving.{leads};
-ghost use Rattle.cq_messages.specs.Opened.{numbers_for, numbers_led, leaders_upto};
-ghost use Rattle.cq_messages.specs.Passing.{NonePasses, IsNext};
+ghost use Rattle.cq_base.specs.queue.Receiving.{leads};
+ghost use Rattle.cq_messages.specs.within.Opened.{numbers_for, numbers_led, leaders_upto};
+ghost use Rattle.cq_messages.specs.within.Passing.{NonePasses, IsNext};
 ghost use Rattle.cq_messages.specs.Slots.{live, gone, IsAscending};
 
 use crate::groups::{Group, Groups};
 use crate::slot::Slot;
 use arrayvec::ArrayVec;
 use cq_base::{BATCH_LIMIT, BatchSize, Moment};
-use cq_least::{Leasts, Tower};
+use cq_min_index::{MinSearch, MinTree};
 
 /// The most messages that one receive hands out.
 const MOST: usize = BATCH_LIMIT as usize;
@@ -42,13 +42,13 @@ fn push_group(numbers: &mut Numbers, size: BatchSize, group: &Group)
 }
 
 /// The first place from `from` on whose message leads an open group. O(log places).
-fn next_open(slots: &[Slot], waits: &Tower, moment: Moment, from: usize) -> Option<usize>
+fn next_open(slots: &[Slot], lead_times: &MinTree, moment: Moment, from: usize) -> Option<usize>
     requires ascending { IsAscending 0 slots.now }
-    requires waits { AreWaits slots.now waits.now }
+    requires lead_times { AreWaits slots.now lead_times.now }
     ensures some { IfSome result (IsNext (leads moment (live slots.now)) slots.now from) }
     ensures none { IsNone result → NonePasses (leads moment (live slots.now)) slots.now from (length slots.now) }
 {
-    match waits.first_at_most(from, moment.get()) {
+    match lead_times.first_at_most(from, moment.get()) {
         Some(place) if place < slots.len() => Some(place),
         _ => None,
     }
@@ -73,20 +73,20 @@ fn push_open(numbers: &mut Numbers, size: BatchSize, slots: &[Slot], groups: &Gr
 /// memory. O(size log places).
 pub fn numbers_to_hand(
     slots: &[Slot],
-    waits: &Tower,
+    lead_times: &MinTree,
     groups: &Groups,
     moment: Moment,
     size: BatchSize,
 ) -> Numbers
     requires ascending { IsAscending 0 slots.now }
-    requires waits { AreWaits slots.now waits.now }
+    requires lead_times { AreWaits slots.now lead_times.now }
     requires groups { AreNumbers slots.now groups.now }
     ensures { result.items ≡ numbers_to_hand size moment (live slots.now) }
 {
     let mut numbers = Numbers::new();
     let mut from = 0;
     while numbers.len() < usize::from(size.get()) {
-        match next_open(slots, waits, moment, from) {
+        match next_open(slots, lead_times, moment, from) {
             Some(place) => {
                 push_open(&mut numbers, size, slots, groups, place);
                 from = place + 1;

@@ -1,16 +1,16 @@
 //! Other timeouts for a message, and what is kept beside it.
 ghost use Rattle.std.specs.Prelude.{◌≡◌, ◌≤◌, ◌<◌, length, get_or, set, Some};
 ghost use Rattle.cq_base.specs.declared.limits.TheConstants.{HISTORY_LIMIT};
-ghost use Rattle.cq_base.specs.Messages as object;
-ghost use Rattle.cq_messages.specs.Indexed.{IsIndexed};
+ghost use Rattle.cq_base.specs.queue.Messages as object;
+ghost use Rattle.cq_messages.specs.within.Indexed.{IsIndexed};
 ghost use Rattle.cq_messages.specs.Slots.{live, gone};
-ghost use Rattle.cq_messages.specs.Touched.{retimed_in};
+ghost use Rattle.cq_messages.specs.within.Touched.{retimed_in};
 
 use crate::groups::Groups;
 use crate::heads::refresh_after;
 use crate::slot::Slot;
 use cq_base::Moment;
-use cq_least::{NumberList, Packed, Tower};
+use cq_min_index::{MinTree, NumberList, Packed};
 
 /// Gives the message at that place other handings and another timeout, and answers when the timeout ended before.
 fn write_times(
@@ -40,8 +40,8 @@ fn write_times(
 /// end earlier than before, or else O(messages of the group that were handed out, each log places).
 pub fn retime(
     slots: &mut Vec<Slot>,
-    waits: &mut Tower,
-    flights: &mut Packed,
+    lead_times: &mut MinTree,
+    flight_ends: &mut Packed,
     groups: &mut Groups,
     place: usize,
     handings: u64,
@@ -50,16 +50,16 @@ pub fn retime(
 )
     requires place { place < length slots.old.items }
     requires few { handings ≤ HISTORY_LIMIT }
-    requires indexed { IsIndexed slots.old.items waits.old flights.old groups.old }
+    requires indexed { IsIndexed slots.old.items lead_times.old flight_ends.old groups.old }
     ensures slots { slots.new.items ≡ set slots.old.items place
         (retimed_in handings handed_at until (get_or slots.old.items place gone)) }
-    ensures indexed { IsIndexed slots.new.items waits.new flights.new groups.new }
+    ensures indexed { IsIndexed slots.new.items lead_times.new flight_ends.new groups.new }
     ensures count { length (live slots.new.items) ≡ length (live slots.old.items) }
 {
     let before = write_times(slots, place, handings, handed_at, until);
     if let Some(message) = &slots[place].message {
-        flights.set(place, u64::MAX - until);
+        flight_ends.set(place, u64::MAX - until);
         groups.raise(&message.group, message.sequence);
-        refresh_after(slots, waits, groups, &message.group, before, until);
+        refresh_after(slots, lead_times, groups, &message.group, before, until);
     }
 }

@@ -13,7 +13,7 @@ pub struct Slot {
     pub message: Option<Message>,
 }
 
-/// By hand, so that whoever lets one go makes one call, and has no case for each part.
+/// Written out, not derived: CONTRIBUTING.md, "Drop".
 impl Drop for Slot {
     fn drop(self) {
         let Slot {

@@ -4,7 +4,7 @@ use Rattle.std.specs.Prelude.{nat_lt}
 use Rattle.std.specs.List.{filter}
 use Rattle.std.proofs.lemmas.Bool.Decides.{nat_tests}
 use Rattle.cq_base.specs.declared.limits.TheConstants.{DEDUPLICATION_WINDOW}
-use Rattle.cq_base.specs.Incarnations.{Accepted, Incarnation, is_recent}
+use Rattle.cq_base.specs.queue.Incarnations.{Accepted, Incarnation, is_recent}
 use Rattle.cq_base.proofs.Ends.{filter-passes}
 use Rattle.cq_base.proofs.Filters.{filter-twice}
 use Rattle.cq_queue.specs.within.Kept.{repeated_at, with_message}

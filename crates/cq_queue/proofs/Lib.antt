@@ -8,7 +8,7 @@ pub mod Receives
 pub mod Sends
 pub mod Sounds
 pub mod Spoken
-pub mod Standing
+pub mod Remaining
 pub mod Stands
 pub mod Told
 pub mod Windows

@@ -2,14 +2,14 @@
 use Rattle.std.proofs.Common.{◌≡◌, ℕ, List, [], ◌∷◌, ◌++◌, refl, subst, sym}
 use Rattle.std.proofs.lemmas.List.Sums.{fold-append}
 use Rattle.cq_base.specs.declared.ask.Entry.{Entry}
-use Rattle.cq_base.specs.Asks.{Attributes}
-use Rattle.cq_base.specs.Facts.{Fact}
-use Rattle.cq_base.specs.Incarnations.{coming, lifetime}
+use Rattle.cq_base.specs.queue.Asks.{Attributes}
+use Rattle.cq_base.specs.queue.Outcomes.{Outcome}
+use Rattle.cq_base.specs.queue.Incarnations.{coming, lifetime}
 use Rattle.cq_base.proofs.Lists.{by_last}
 
--- one more fact for one more entry
-abbrev told : ℕ → Attributes → List Fact → Entry → List Fact
-told incarnation own facts e = facts ++ coming incarnation own facts e ∷ []
+-- one more outcome for one more entry
+abbrev told : ℕ → Attributes → List Outcome → Entry → List Outcome
+told incarnation own outcomes e = outcomes ++ coming incarnation own outcomes e ∷ []
 
 -- one entry more adds what it does after the others
 pub lifetime-more : (incarnation : ℕ) (own : Attributes) (entries : List Entry) (e : Entry) → lifetime incarnation own (entries ++ e ∷ []) ≡ lifetime incarnation own entries ++ coming incarnation own (lifetime incarnation own entries) e ∷ []
@@ -22,6 +22,6 @@ unfolding lifetime
 lifetime-none incarnation own = refl
 
 -- what holds at first, and stays with one more entry, holds of all that happens
-pub by_lifetime : (P : List Fact → Type 0) (incarnation : ℕ) (own : Attributes) → P [] → ((xs : List Fact) (e : Entry) → P xs → P (xs ++ coming incarnation own xs e ∷ [])) → (entries : List Entry) → P (lifetime incarnation own entries)
+pub by_lifetime : (P : List Outcome → Type 0) (incarnation : ℕ) (own : Attributes) → P [] → ((xs : List Outcome) (e : Entry) → P xs → P (xs ++ coming incarnation own xs e ∷ [])) → (entries : List Entry) → P (lifetime incarnation own entries)
 by_lifetime P incarnation own none more entries = by_last (λ es. P (lifetime incarnation own es)) (subst P (sym (lifetime-none incarnation own)) none)
     (λ es e h. subst P (sym (lifetime-more incarnation own es e)) (more (lifetime incarnation own es) e h)) entries

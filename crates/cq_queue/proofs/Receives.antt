@@ -4,49 +4,49 @@ use Rattle.cq_base.specs.declared.ask.Ask.TheVariants.{Receive}
 use Rattle.cq_base.specs.declared.ask.Entry.{Entry}
 use Rattle.cq_base.specs.declared.limits.TheConstants.{SECOND}
 use Rattle.cq_base.specs.declared.reply.Reply.TheVariants.{Received}
-use Rattle.cq_base.specs.Asks.{timeout_or}
-use Rattle.cq_base.specs.Effects.{hand, effect_on}
-use Rattle.cq_base.specs.Facts.{Fact}
-use Rattle.cq_base.specs.History.{fact_with}
-use Rattle.cq_base.specs.Incarnations.{Incarnation, coming, told_of}
-use Rattle.cq_base.specs.Messages.{Message, hands_it, end_of, standing}
-use Rattle.cq_base.specs.Receiving.{to_hand, delivery_of}
+use Rattle.cq_base.specs.queue.Asks.{timeout_or}
+use Rattle.cq_base.specs.queue.Effects.{hand, effect_on}
+use Rattle.cq_base.specs.queue.Outcomes.{Outcome}
+use Rattle.cq_base.specs.queue.History.{outcome_with}
+use Rattle.cq_base.specs.queue.Incarnations.{Incarnation, coming, told_of}
+use Rattle.cq_base.specs.queue.Messages.{Message, hands_it, end_of, remaining}
+use Rattle.cq_base.specs.queue.Receiving.{to_hand, delivery_of}
 use Rattle.cq_messages.specs.Changes.{marked, numbers_to_hand, handed_at_until}
 use Rattle.cq_queue.specs.within.Kept.{handed_out}
 use Rattle.cq_queue.specs.Entries.{IsReceive, StandsAfter, IsAnswered}
 use Rattle.cq_queue.proofs.Maps.{map-agrees, filter-same}
-use Rattle.cq_queue.proofs.Standing.{after_fact, touched_by, is_left_by, standing-more}
+use Rattle.cq_queue.proofs.Remaining.{after_outcome, touched_by, is_left_by, remaining-more}
 use Rattle.cq_queue.proofs.Stands.{StandsFor, stands-told, stands-more, asked, entry-asked, clocked-next, used-next, sent-same, window-same, recent-same, trimmed-other}
 
--- the fact of a receive
-abbrev handing_fact : Incarnation → ℕ → Entry → List ℕ → ℕ → Option ℕ → Fact
-handing_fact kept moment e queue size visibility = fact_with (asked moment e (Receive queue size visibility)) kept.number (hand kept.number (to_hand size moment kept.messages))
+-- the outcome of a receive
+abbrev handing_outcome : Incarnation → ℕ → Entry → List ℕ → ℕ → Option ℕ → Outcome
+handing_outcome kept moment e queue size visibility = outcome_with (asked moment e (Receive queue size visibility)) kept.number (hand kept.number (to_hand size moment kept.messages))
 
 -- a message that is handed out, or isn't
-chosen_mark : (own : ℕ) (f : Fact) (b : Bool) (m : Message) → touched_by own f b (b || false) m ≡ cond b (handed_at_until f.entry.moment (end_of own f) m) m
+chosen_mark : (own : ℕ) (f : Outcome) (b : Bool) (m : Message) → touched_by own f b (b || false) m ≡ cond b (handed_at_until f.entry.moment (end_of own f) m) m
 chosen_mark own f true m = refl
 chosen_mark own f false m = refl
 
 -- how the messages stand after a receive
-standing-handed : (kept : Incarnation) (xs : List Fact) (moment : ℕ) (e : Entry) (queue : List ℕ) (size : ℕ) (visibility : Option ℕ) → StandsFor kept xs
-    → (handed_out moment size visibility kept).messages ≡ standing kept.attributes.visibility (xs ++ handing_fact kept moment e queue size visibility ∷ [])
-standing-handed kept xs moment e queue size visibility stands =
-    let f = handing_fact kept moment e queue size visibility in
+remaining-handed : (kept : Incarnation) (xs : List Outcome) (moment : ℕ) (e : Entry) (queue : List ℕ) (size : ℕ) (visibility : Option ℕ) → StandsFor kept xs
+    → (handed_out moment size visibility kept).messages ≡ remaining kept.attributes.visibility (xs ++ handing_outcome kept moment e queue size visibility ∷ [])
+remaining-handed kept xs moment e queue size visibility stands =
+    let f = handing_outcome kept moment e queue size visibility in
     let own = kept.attributes.visibility in
     let mark = marked moment (moment + SECOND * timeout_or own visibility) (numbers_to_hand size moment kept.messages) in
     ap (map mark) stands.messages
-    ∙ map-agrees mark (after_fact own f) (standing own xs) (λ m. sym (chosen_mark own f (hands_it m.sequence f) m))
-    ∙ ap (map (after_fact own f)) (sym (filter-same (is_left_by f) (standing own xs) (λ m. refl)))
-    ∙ sym (standing-more own xs f refl)
+    ∙ map-agrees mark (after_outcome own f) (remaining own xs) (λ m. sym (chosen_mark own f (hands_it m.sequence f) m))
+    ∙ ap (map (after_outcome own f)) (sym (filter-same (is_left_by f) (remaining own xs) (λ m. refl)))
+    ∙ sym (remaining-more own xs f refl)
 
 -- what is kept after a receive
-stands_handed : (kept : Incarnation) (xs : List Fact) (moment : ℕ) (e : Entry) (queue : List ℕ) (size : ℕ) (visibility : Option ℕ) → StandsFor kept xs → kept.last ≤ moment
-    → StandsFor (handed_out moment size visibility kept) (xs ++ handing_fact kept moment e queue size visibility ∷ [])
+stands_handed : (kept : Incarnation) (xs : List Outcome) (moment : ℕ) (e : Entry) (queue : List ℕ) (size : ℕ) (visibility : Option ℕ) → StandsFor kept xs → kept.last ≤ moment
+    → StandsFor (handed_out moment size visibility kept) (xs ++ handing_outcome kept moment e queue size visibility ∷ [])
 stands_handed kept xs moment e queue size visibility stands before =
-    let f = handing_fact kept moment e queue size visibility in
+    let f = handing_outcome kept moment e queue size visibility in
     record {
       sent = stands.sent ∙ sent-same xs f refl;
-      messages = standing-handed kept xs moment e queue size visibility stands;
+      messages = remaining-handed kept xs moment e queue size visibility stands;
       window = window-same kept xs f moment stands refl before;
       recent = recent-same kept xs f moment stands refl before;
       trimmed = trimmed-other kept xs f refl;
@@ -55,10 +55,10 @@ stands_handed kept xs moment e queue size visibility stands before =
     }
 
 -- what a receive does
-coming-handed : (kept : Incarnation) (xs : List Fact) (moment : ℕ) (e : Entry) (queue : List ℕ) (size : ℕ) (visibility : Option ℕ) → StandsFor kept xs
-    → coming kept.number kept.attributes xs (asked moment e (Receive queue size visibility)) ≡ handing_fact kept moment e queue size visibility
+coming-handed : (kept : Incarnation) (xs : List Outcome) (moment : ℕ) (e : Entry) (queue : List ℕ) (size : ℕ) (visibility : Option ℕ) → StandsFor kept xs
+    → coming kept.number kept.attributes xs (asked moment e (Receive queue size visibility)) ≡ handing_outcome kept moment e queue size visibility
 unfolding effect_on
-coming-handed kept xs moment e queue size visibility stands = ap (λ ms. fact_with (asked moment e (Receive queue size visibility)) kept.number (hand kept.number (to_hand size moment ms))) (sym stands.messages)
+coming-handed kept xs moment e queue size visibility stands = ap (λ ms. outcome_with (asked moment e (Receive queue size visibility)) kept.number (hand kept.number (to_hand size moment ms))) (sym stands.messages)
 
 -- a receive
 pub stands-handed : (kept : Incarnation) (moment size : ℕ) (visibility : Option ℕ) → kept.last ≤ moment → StandsAfter (IsReceive moment size visibility) kept (handed_out moment size visibility kept)

@@ -16,12 +16,12 @@ use Rattle.cq_base.specs.declared.reply.Refusal.{Refusal}
 use Rattle.cq_base.specs.declared.reply.Refusal.TheVariants.{MissingDedupId}
 use Rattle.cq_base.specs.declared.reply.Reply.{Reply}
 use Rattle.cq_base.specs.declared.reply.Reply.TheVariants.{Sent, Refused}
-use Rattle.cq_base.specs.Asks.{dedup_or_made, is_given_or_made}
-use Rattle.cq_base.specs.Effects.{takes_effect, only_replies, send, send_if, effect_on}
-use Rattle.cq_base.specs.Facts.{Fact}
-use Rattle.cq_base.specs.History.{fact_with}
-use Rattle.cq_base.specs.Incarnations.{Accepted, Incarnation, IncarnationStandsFor, EndWithSend, coming, told_of, is_recent, recent_sends, accepted_of, all_accepted, repeated, counts_for}
-use Rattle.cq_base.specs.Messages.{messages, duplicate, is_duplicated_by}
+use Rattle.cq_base.specs.queue.Asks.{dedup_or_made, is_given_or_made}
+use Rattle.cq_base.specs.queue.Effects.{takes_effect, only_replies, send, send_if, effect_on}
+use Rattle.cq_base.specs.queue.Outcomes.{Outcome}
+use Rattle.cq_base.specs.queue.History.{outcome_with}
+use Rattle.cq_base.specs.queue.Incarnations.{Accepted, Incarnation, IncarnationStandsFor, EndWithSend, coming, told_of, is_recent, recent_sends, accepted_of, all_accepted, repeated, counts_for}
+use Rattle.cq_base.specs.queue.Messages.{messages, duplicate, is_duplicated_by}
 use Rattle.cq_base.proofs.Filters.{filter-twice}
 use Rattle.cq_base.proofs.Numbers.{messages-next}
 use Rattle.cq_messages.specs.Changes.{new_message}
@@ -29,7 +29,7 @@ use Rattle.cq_queue.specs.within.Kept.{used_at, repeated_at, with_message}
 use Rattle.cq_queue.specs.Entries.{IsSend, IsSendAs, StandsAfter, IsAnswered}
 use Rattle.cq_queue.proofs.KeptIds.{all-accepted}
 use Rattle.cq_queue.proofs.Maps.{option_map-or, find-kept, filter-kept}
-use Rattle.cq_queue.proofs.Standing.{standing-quiet, standing-next}
+use Rattle.cq_queue.proofs.Remaining.{remaining-quiet, remaining-next}
 use Rattle.cq_queue.proofs.Stands.{StandsFor, stands-told, stands-more, asked, entry-asked, clocked-next, used-next, sent-same, window-same, recent-same, last-same, trimmed-send}
 use Rattle.cq_queue.proofs.Told.{IsTold, told-lifetime}
 
@@ -70,20 +70,20 @@ recent-recent : (moment later : ℕ) (accepted : List Accepted) → moment ≤ l
 recent-recent moment later accepted after = filter-kept (is_recent later) (is_recent moment) accepted (λ a passes. still_recent moment later (a.moment + DEDUPLICATION_WINDOW) after passes)
 
 -- one more accepted send
-duplicate-next : (id : List ℕ) (moment : ℕ) (xs : List Fact) (sends : List Fact) (f : Fact) → messages xs ≡ sends ++ f ∷ [] → duplicate id moment xs ≡ option_or (find (is_duplicated_by id moment) sends) (cond (is_duplicated_by id moment f) (Some f) None)
+duplicate-next : (id : List ℕ) (moment : ℕ) (xs : List Outcome) (sends : List Outcome) (f : Outcome) → messages xs ≡ sends ++ f ∷ [] → duplicate id moment xs ≡ option_or (find (is_duplicated_by id moment) sends) (cond (is_duplicated_by id moment f) (Some f) None)
 unfolding duplicate
 duplicate-next id moment xs sends f h = ap (find (is_duplicated_by id moment)) h ∙ find-append (is_duplicated_by id moment) sends (f ∷ [])
 
--- the fact of a send that is accepted
-abbrev accepted_fact : Incarnation → ℕ → Entry → List ℕ → List ℕ → Option (List ℕ) → List ℕ → Fact
-accepted_fact kept moment e queue group given body = fact_with (asked moment e (Send queue group given body)) kept.number (takes_effect (kept.sent + 1) (Sent (kept.sent + 1)))
+-- the outcome of a send that is accepted
+abbrev accepted_outcome : Incarnation → ℕ → Entry → List ℕ → List ℕ → Option (List ℕ) → List ℕ → Outcome
+accepted_outcome kept moment e queue group given body = outcome_with (asked moment e (Send queue group given body)) kept.number (takes_effect (kept.sent + 1) (Sent (kept.sent + 1)))
 
 -- the window after an accepted send
-window_next : (kept : Incarnation) (xs : List Fact) (moment : ℕ) (e : Entry) (queue group : List ℕ) (given : Option (List ℕ)) (body : List ℕ) → StandsFor kept xs → kept.last ≤ moment → (id : List ℕ) (later : ℕ) → moment ≤ later
-    → repeated id later (with_message moment group (dedup_or_made body given) body kept).accepted ≡ option_map (λ f. f.count) (duplicate id later (xs ++ accepted_fact kept moment e queue group given body ∷ []))
+window_next : (kept : Incarnation) (xs : List Outcome) (moment : ℕ) (e : Entry) (queue group : List ℕ) (given : Option (List ℕ)) (body : List ℕ) → StandsFor kept xs → kept.last ≤ moment → (id : List ℕ) (later : ℕ) → moment ≤ later
+    → repeated id later (with_message moment group (dedup_or_made body given) body kept).accepted ≡ option_map (λ f. f.count) (duplicate id later (xs ++ accepted_outcome kept moment e queue group given body ∷ []))
 unfolding duplicate
 window_next kept xs moment e queue group given body stands before id later after =
-    let f = accepted_fact kept moment e queue group given body in
+    let f = accepted_outcome kept moment e queue group given body in
     let from : kept.last ≤ later = omega arith in
     let a : Accepted = record { dedup = dedup_or_made body given; moment = moment; sequence = kept.sent + 1 } in
     repeated-next id moment later kept.accepted a after
@@ -93,10 +93,10 @@ window_next kept xs moment e queue group given body stands before id later after
     ∙ ap (option_map (λ y. y.count)) (sym (duplicate-next id later (xs ++ f ∷ []) (messages xs) f (messages-next xs f refl)))
 
 -- those that are recent after an accepted send
-recent_next : (kept : Incarnation) (xs : List Fact) (moment : ℕ) (e : Entry) (queue group : List ℕ) (given : Option (List ℕ)) (body : List ℕ) → StandsFor kept xs → kept.last ≤ moment → (later : ℕ) → moment ≤ later
-    → filter (is_recent later) (with_message moment group (dedup_or_made body given) body kept).accepted ≡ filter (is_recent later) (all_accepted (xs ++ accepted_fact kept moment e queue group given body ∷ []))
+recent_next : (kept : Incarnation) (xs : List Outcome) (moment : ℕ) (e : Entry) (queue group : List ℕ) (given : Option (List ℕ)) (body : List ℕ) → StandsFor kept xs → kept.last ≤ moment → (later : ℕ) → moment ≤ later
+    → filter (is_recent later) (with_message moment group (dedup_or_made body given) body kept).accepted ≡ filter (is_recent later) (all_accepted (xs ++ accepted_outcome kept moment e queue group given body ∷ []))
 recent_next kept xs moment e queue group given body stands before later after =
-    let f = accepted_fact kept moment e queue group given body in
+    let f = accepted_outcome kept moment e queue group given body in
     let from : kept.last ≤ later = omega arith in
     let recent = is_recent later in
     filter-append recent (filter (is_recent moment) kept.accepted) (accepted_of f ∷ [])
@@ -106,14 +106,14 @@ recent_next kept xs moment e queue group given body stands before later after =
     ∙ ap (λ ms. filter recent (map accepted_of ms)) (sym (messages-next xs f refl))
 
 -- what is kept after an accepted send
-stands_accepted : (kept : Incarnation) (xs : List Fact) (moment : ℕ) (e : Entry) (queue group : List ℕ) (given : Option (List ℕ)) (body : List ℕ) → StandsFor kept xs → IsTold xs → kept.last ≤ moment → StandsFor (with_message moment group (dedup_or_made body given) body kept) (xs ++ accepted_fact kept moment e queue group given body ∷ [])
+stands_accepted : (kept : Incarnation) (xs : List Outcome) (moment : ℕ) (e : Entry) (queue group : List ℕ) (given : Option (List ℕ)) (body : List ℕ) → StandsFor kept xs → IsTold xs → kept.last ≤ moment → StandsFor (with_message moment group (dedup_or_made body given) body kept) (xs ++ accepted_outcome kept moment e queue group given body ∷ [])
 stands_accepted kept xs moment e queue group given body stands told before =
-    let f = accepted_fact kept moment e queue group given body in
+    let f = accepted_outcome kept moment e queue group given body in
     let sent = stands.sent in
     let above : length (messages xs) < kept.sent + 1 = omega arith in
     record {
       sent = ap (λ n. n + 1) stands.sent ∙ sym (ap length (messages-next xs f refl) ∙ length-append (messages xs) (f ∷ []));
-      messages = ap (λ ms. ms ++ new_message (kept.sent + 1) group body ∷ []) stands.messages ∙ sym (standing-next kept.attributes.visibility xs f refl refl (λ n. refl) (λ n. refl) (told.new (kept.sent + 1) above));
+      messages = ap (λ ms. ms ++ new_message (kept.sent + 1) group body ∷ []) stands.messages ∙ sym (remaining-next kept.attributes.visibility xs f refl refl (λ n. refl) (λ n. refl) (told.new (kept.sent + 1) above));
       window = window_next kept xs moment e queue group given body stands before;
       recent = recent_next kept xs moment e queue group given body stands before;
       trimmed = trimmed-send (with_message moment group (dedup_or_made body given) body kept) xs f refl (all-accepted moment group (dedup_or_made body given) body kept) (recent_next kept xs moment e queue group given body stands before);
@@ -121,26 +121,26 @@ stands_accepted kept xs moment e queue group given body stands told before =
       used = ap (λ n. n + 1) stands.used ∙ used-next xs f refl;
     }
 
--- the fact of a send that repeats one, or is refused
-abbrev idle_fact : Incarnation → ℕ → Entry → List ℕ → List ℕ → Option (List ℕ) → List ℕ → Reply → Fact
-idle_fact kept moment e queue group given body reply = fact_with (asked moment e (Send queue group given body)) kept.number (only_replies reply)
+-- the outcome of a send that repeats one, or is refused
+abbrev idle_outcome : Incarnation → ℕ → Entry → List ℕ → List ℕ → Option (List ℕ) → List ℕ → Reply → Outcome
+idle_outcome kept moment e queue group given body reply = outcome_with (asked moment e (Send queue group given body)) kept.number (only_replies reply)
 
 -- one that is refused isn't answered with a number
-trimmed_refused : (kept : Incarnation) (xs : List Fact) (moment : ℕ) (e : Entry) (queue group : List ℕ) (given : Option (List ℕ)) (body : List ℕ) (refusal : Refusal) (later : ℕ) → EndWithSend (xs ++ idle_fact kept moment e queue group given body (Refused refusal) ∷ []) later
-    → length kept.accepted ≡ recent_sends later (xs ++ idle_fact kept moment e queue group given body (Refused refusal) ∷ [])
+trimmed_refused : (kept : Incarnation) (xs : List Outcome) (moment : ℕ) (e : Entry) (queue group : List ℕ) (given : Option (List ℕ)) (body : List ℕ) (refusal : Refusal) (later : ℕ) → EndWithSend (xs ++ idle_outcome kept moment e queue group given body (Refused refusal) ∷ []) later
+    → length kept.accepted ≡ recent_sends later (xs ++ idle_outcome kept moment e queue group given body (Refused refusal) ∷ [])
 trimmed_refused kept xs moment e queue group given body refusal later ends =
-    absurd (no_number ends.number (ap (λ g. g.reply) (last-same xs (idle_fact kept moment e queue group given body (Refused refusal)) ends.before ends.send ends.is) ∙ ends.replied))
+    absurd (no_number ends.number (ap (λ g. g.reply) (last-same xs (idle_outcome kept moment e queue group given body (Refused refusal)) ends.before ends.send ends.is) ∙ ends.replied))
   where
     no_number : (n : ℕ) → Refused refusal ≡ Sent n → ⊥
     no_number n same = cc
 
 -- what is kept after one that is refused
-stands_refused : (kept : Incarnation) (xs : List Fact) (moment : ℕ) (e : Entry) (queue group : List ℕ) (given : Option (List ℕ)) (body : List ℕ) (refusal : Refusal) → StandsFor kept xs → kept.last ≤ moment → StandsFor (used_at moment kept) (xs ++ idle_fact kept moment e queue group given body (Refused refusal) ∷ [])
+stands_refused : (kept : Incarnation) (xs : List Outcome) (moment : ℕ) (e : Entry) (queue group : List ℕ) (given : Option (List ℕ)) (body : List ℕ) (refusal : Refusal) → StandsFor kept xs → kept.last ≤ moment → StandsFor (used_at moment kept) (xs ++ idle_outcome kept moment e queue group given body (Refused refusal) ∷ [])
 stands_refused kept xs moment e queue group given body refusal stands before =
-    let f = idle_fact kept moment e queue group given body (Refused refusal) in
+    let f = idle_outcome kept moment e queue group given body (Refused refusal) in
     record {
       sent = stands.sent ∙ sent-same xs f refl;
-      messages = stands.messages ∙ sym (standing-quiet kept.attributes.visibility xs f (record { rejects = refl; handed = refl; changes = λ k. refl; deletes = λ k. refl }));
+      messages = stands.messages ∙ sym (remaining-quiet kept.attributes.visibility xs f (record { rejects = refl; handed = refl; changes = λ k. refl; deletes = λ k. refl }));
       window = window-same kept xs f moment stands refl before;
       recent = recent-same kept xs f moment stands refl before;
       trimmed = trimmed_refused kept xs moment e queue group given body refusal;
@@ -149,13 +149,13 @@ stands_refused kept xs moment e queue group given body refusal stands before =
     }
 
 -- what is kept after one that repeats one
-stands_again : (kept : Incarnation) (xs : List Fact) (moment : ℕ) (e : Entry) (queue group : List ℕ) (given : Option (List ℕ)) (body : List ℕ) (reply : Reply) → StandsFor kept xs → kept.last ≤ moment → StandsFor (repeated_at moment kept) (xs ++ idle_fact kept moment e queue group given body reply ∷ [])
+stands_again : (kept : Incarnation) (xs : List Outcome) (moment : ℕ) (e : Entry) (queue group : List ℕ) (given : Option (List ℕ)) (body : List ℕ) (reply : Reply) → StandsFor kept xs → kept.last ≤ moment → StandsFor (repeated_at moment kept) (xs ++ idle_outcome kept moment e queue group given body reply ∷ [])
 stands_again kept xs moment e queue group given body reply stands before =
-    let f = idle_fact kept moment e queue group given body reply in
+    let f = idle_outcome kept moment e queue group given body reply in
     let recent = λ (later : ℕ) (after : moment ≤ later). recent-recent moment later kept.accepted after ∙ recent-same kept xs f moment stands refl before later after in
     record {
       sent = stands.sent ∙ sent-same xs f refl;
-      messages = stands.messages ∙ sym (standing-quiet kept.attributes.visibility xs f (record { rejects = refl; handed = refl; changes = λ k. refl; deletes = λ k. refl }));
+      messages = stands.messages ∙ sym (remaining-quiet kept.attributes.visibility xs f (record { rejects = refl; handed = refl; changes = λ k. refl; deletes = λ k. refl }));
       window = λ id later after. repeated-recent id moment later kept.accepted after ∙ window-same kept xs f moment stands refl before id later after;
       recent = recent;
       trimmed = trimmed-send (repeated_at moment kept) xs f refl (filter-twice (is_recent moment) kept.accepted) recent;
@@ -164,17 +164,17 @@ stands_again kept xs moment e queue group given body reply stands before =
     }
 
 -- a send that repeats none is accepted
-coming-accepted : (kept : Incarnation) (xs : List Fact) (moment : ℕ) (e : Entry) (queue group : List ℕ) (given : Option (List ℕ)) (body : List ℕ) → StandsFor kept xs → kept.last ≤ moment → is_given_or_made kept.attributes.content given ≡ true → repeated (dedup_or_made body given) moment kept.accepted ≡ None
-    → coming kept.number kept.attributes xs (asked moment e (Send queue group given body)) ≡ accepted_fact kept moment e queue group given body
+coming-accepted : (kept : Incarnation) (xs : List Outcome) (moment : ℕ) (e : Entry) (queue group : List ℕ) (given : Option (List ℕ)) (body : List ℕ) → StandsFor kept xs → kept.last ≤ moment → is_given_or_made kept.attributes.content given ≡ true → repeated (dedup_or_made body given) moment kept.accepted ≡ None
+    → coming kept.number kept.attributes xs (asked moment e (Send queue group given body)) ≡ accepted_outcome kept moment e queue group given body
 unfolding effect_on
 coming-accepted kept xs moment e queue group given body stands before has none =
     let new : duplicate (dedup_or_made body given) moment xs ≡ None = image_none (λ f. f.count) (duplicate (dedup_or_made body given) moment xs) (sym (stands.window (dedup_or_made body given) moment before) ∙ none) in
-    ap (λ b. fact_with (asked moment e (Send queue group given body)) kept.number (send_if b (length (messages xs) + 1) (duplicate (dedup_or_made body given) moment xs))) has
-    ∙ ap (λ earlier. fact_with (asked moment e (Send queue group given body)) kept.number (send (length (messages xs) + 1) earlier)) new
-    ∙ ap (λ n. fact_with (asked moment e (Send queue group given body)) kept.number (takes_effect (n + 1) (Sent (n + 1)))) (sym stands.sent)
+    ap (λ b. outcome_with (asked moment e (Send queue group given body)) kept.number (send_if b (length (messages xs) + 1) (duplicate (dedup_or_made body given) moment xs))) has
+    ∙ ap (λ earlier. outcome_with (asked moment e (Send queue group given body)) kept.number (send (length (messages xs) + 1) earlier)) new
+    ∙ ap (λ n. outcome_with (asked moment e (Send queue group given body)) kept.number (takes_effect (n + 1) (Sent (n + 1)))) (sym stands.sent)
 
 -- what a send does that repeats one
-found_reply : (n next : ℕ) (o : Option Fact) → option_map (λ f. f.count) o ≡ Some n → send next o ≡ only_replies (Sent n)
+found_reply : (n next : ℕ) (o : Option Outcome) → option_map (λ f. f.count) o ≡ Some n → send next o ≡ only_replies (Sent n)
 found_reply n next None h = absurd (none_is n h)
   where
     none_is : (k : ℕ) → None ≡ Some k → ⊥
@@ -182,19 +182,19 @@ found_reply n next None h = absurd (none_is n h)
 found_reply n next (Some f) h = let same : f.count ≡ n = cc in ap (λ k. only_replies (Sent k)) same
 
 -- a send that repeats one is answered with its number
-coming-repeated : (kept : Incarnation) (xs : List Fact) (moment : ℕ) (e : Entry) (queue group : List ℕ) (given : Option (List ℕ)) (body : List ℕ) (n : ℕ) → StandsFor kept xs → kept.last ≤ moment → is_given_or_made kept.attributes.content given ≡ true → repeated (dedup_or_made body given) moment kept.accepted ≡ Some n
-    → coming kept.number kept.attributes xs (asked moment e (Send queue group given body)) ≡ idle_fact kept moment e queue group given body (Sent n)
+coming-repeated : (kept : Incarnation) (xs : List Outcome) (moment : ℕ) (e : Entry) (queue group : List ℕ) (given : Option (List ℕ)) (body : List ℕ) (n : ℕ) → StandsFor kept xs → kept.last ≤ moment → is_given_or_made kept.attributes.content given ≡ true → repeated (dedup_or_made body given) moment kept.accepted ≡ Some n
+    → coming kept.number kept.attributes xs (asked moment e (Send queue group given body)) ≡ idle_outcome kept moment e queue group given body (Sent n)
 unfolding effect_on
 coming-repeated kept xs moment e queue group given body n stands before has found =
-    ap (λ b. fact_with (asked moment e (Send queue group given body)) kept.number (send_if b (length (messages xs) + 1) (duplicate (dedup_or_made body given) moment xs))) has
-    ∙ ap (fact_with (asked moment e (Send queue group given body)) kept.number) (found_reply n (length (messages xs) + 1) (duplicate (dedup_or_made body given) moment xs) (sym (stands.window (dedup_or_made body given) moment before) ∙ found))
+    ap (λ b. outcome_with (asked moment e (Send queue group given body)) kept.number (send_if b (length (messages xs) + 1) (duplicate (dedup_or_made body given) moment xs))) has
+    ∙ ap (outcome_with (asked moment e (Send queue group given body)) kept.number) (found_reply n (length (messages xs) + 1) (duplicate (dedup_or_made body given) moment xs) (sym (stands.window (dedup_or_made body given) moment before) ∙ found))
 
 -- a send that has no id, and gets none, is refused
-coming-refused : (kept : Incarnation) (xs : List Fact) (moment : ℕ) (e : Entry) (queue group : List ℕ) (given : Option (List ℕ)) (body : List ℕ) → is_given_or_made kept.attributes.content given ≡ false
-    → coming kept.number kept.attributes xs (asked moment e (Send queue group given body)) ≡ idle_fact kept moment e queue group given body (Refused MissingDedupId)
+coming-refused : (kept : Incarnation) (xs : List Outcome) (moment : ℕ) (e : Entry) (queue group : List ℕ) (given : Option (List ℕ)) (body : List ℕ) → is_given_or_made kept.attributes.content given ≡ false
+    → coming kept.number kept.attributes xs (asked moment e (Send queue group given body)) ≡ idle_outcome kept moment e queue group given body (Refused MissingDedupId)
 unfolding effect_on
 coming-refused kept xs moment e queue group given body lacks =
-    ap (λ b. fact_with (asked moment e (Send queue group given body)) kept.number (send_if b (length (messages xs) + 1) (duplicate (dedup_or_made body given) moment xs))) lacks
+    ap (λ b. outcome_with (asked moment e (Send queue group given body)) kept.number (send_if b (length (messages xs) + 1) (duplicate (dedup_or_made body given) moment xs))) lacks
 
 -- an id that isn't found isn't under its other name
 repeated_as : (kept : Incarnation) (moment : ℕ) (id dedup : List ℕ) (found : Option ℕ) → id ≡ dedup → repeated dedup moment kept.accepted ≡ found → repeated id moment kept.accepted ≡ found

@@ -5,8 +5,8 @@ use Rattle.std.proofs.lemmas.List.{length_push}
 use Rattle.std.proofs.lemmas.List.Sums.{length-filter, count_by-le-length}
 use Rattle.std.proofs.lemmas.List.Elements.{All-map, All-weaker, All-filter, All-push}
 use Rattle.cq_base.specs.declared.limits.TheConstants.{HISTORY_LIMIT}
-use Rattle.cq_base.specs.Incarnations.{Accepted, is_recent}
-use Rattle.cq_base.specs.Messages.{Message}
+use Rattle.cq_base.specs.queue.Incarnations.{Accepted, is_recent}
+use Rattle.cq_base.specs.queue.Messages.{Message}
 use Rattle.cq_messages.specs.Changes.{marked, handed_at_until, is_other, hidden_until}
 use Rattle.cq_queue.specs.within.Sound.{IsHandedUpTo, IsNumberedUpTo, IsSound}
 use Rattle.cq_queue.specs.within.Windows.{IsBy}

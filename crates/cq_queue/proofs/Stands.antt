@@ -5,19 +5,19 @@ use Rattle.std.proofs.lemmas.Bool.{false≢true}
 use Rattle.std.specs.Option.{option_map}
 use Rattle.cq_base.specs.declared.ask.Ask.{Ask}
 use Rattle.cq_base.specs.declared.ask.Entry.{Entry}
-use Rattle.cq_base.specs.Asks.{Attributes, is_send}
-use Rattle.cq_base.specs.Facts.{Fact}
-use Rattle.cq_base.specs.Incarnations.{Incarnation, IncarnationStandsFor, EndWithSend, coming, told_of, is_recent, recent_sends, accepted_of, all_accepted, repeated, is_use, is_clocked}
-use Rattle.cq_base.specs.Messages.{messages, is_accepted, duplicate, is_duplicated_by, moment_of, standing}
+use Rattle.cq_base.specs.queue.Asks.{Attributes, is_send}
+use Rattle.cq_base.specs.queue.Outcomes.{Outcome}
+use Rattle.cq_base.specs.queue.Incarnations.{Incarnation, IncarnationStandsFor, EndWithSend, coming, told_of, is_recent, recent_sends, accepted_of, all_accepted, repeated, is_use, is_clocked}
+use Rattle.cq_base.specs.queue.Messages.{messages, is_accepted, duplicate, is_duplicated_by, moment_of, remaining}
 use Rattle.cq_base.proofs.Ends.{filter-passes, filter-fails}
 use Rattle.cq_base.proofs.Numbers.{messages-same}
 use Rattle.cq_queue.proofs.Lifetimes.{lifetime-more, lifetime-none}
 use Rattle.cq_queue.proofs.Maps.{last_or-more}
 
 -- What is kept stands for what happened.
-pub record StandsFor (kept : Incarnation) (xs : List Fact) : Type 0 where
+pub record StandsFor (kept : Incarnation) (xs : List Outcome) : Type 0 where
   pub sent : kept.sent ≡ length (messages xs)
-  pub messages : kept.messages ≡ standing kept.attributes.visibility xs
+  pub messages : kept.messages ≡ remaining kept.attributes.visibility xs
   pub window : (id : List ℕ) (moment : ℕ) → kept.last ≤ moment → repeated id moment kept.accepted ≡ option_map (λ f. f.count) (duplicate id moment xs)
   pub recent : (moment : ℕ) → kept.last ≤ moment → filter (is_recent moment) kept.accepted ≡ filter (is_recent moment) (all_accepted xs)
   pub trimmed : (moment : ℕ) → EndWithSend xs moment → length kept.accepted ≡ recent_sends moment xs
@@ -45,27 +45,27 @@ pub entry-asked : (e : Entry) (moment : ℕ) (ask : Ask) → e.moment ≡ moment
 entry-asked e moment ask at asks = ap (λ m. asked m e e.request.ask) at ∙ ap (asked moment e) asks
 
 -- a send, a receive or a change that takes effect is the last so far
-pub clocked-next : (xs : List Fact) (f : Fact) → is_clocked f ≡ true → f.entry.moment ≡ moment_of (last_or None (filter is_clocked (xs ++ f ∷ [])))
+pub clocked-next : (xs : List Outcome) (f : Outcome) → is_clocked f ≡ true → f.entry.moment ≡ moment_of (last_or None (filter is_clocked (xs ++ f ∷ [])))
 clocked-next xs f h = sym (ap (λ ys. moment_of (last_or None ys)) (filter-passes is_clocked xs f h) ∙ ap moment_of (last_or-more None (filter is_clocked xs) f))
 
 -- nothing else is
-pub clocked-same : (xs : List Fact) (f : Fact) → is_clocked f ≡ false → moment_of (last_or None (filter is_clocked xs)) ≡ moment_of (last_or None (filter is_clocked (xs ++ f ∷ [])))
+pub clocked-same : (xs : List Outcome) (f : Outcome) → is_clocked f ≡ false → moment_of (last_or None (filter is_clocked xs)) ≡ moment_of (last_or None (filter is_clocked (xs ++ f ∷ [])))
 clocked-same xs f h = sym (ap (λ ys. moment_of (last_or None ys)) (filter-fails is_clocked xs f h))
 
 -- a send or a receive is a use more
-pub used-next : (xs : List Fact) (f : Fact) → is_use f ≡ true → length (filter is_use xs) + 1 ≡ length (filter is_use (xs ++ f ∷ []))
+pub used-next : (xs : List Outcome) (f : Outcome) → is_use f ≡ true → length (filter is_use xs) + 1 ≡ length (filter is_use (xs ++ f ∷ []))
 used-next xs f h = sym (ap length (filter-passes is_use xs f h) ∙ length-append (filter is_use xs) (f ∷ []))
 
 -- nothing else is
-pub used-same : (xs : List Fact) (f : Fact) → is_use f ≡ false → length (filter is_use xs) ≡ length (filter is_use (xs ++ f ∷ []))
+pub used-same : (xs : List Outcome) (f : Outcome) → is_use f ≡ false → length (filter is_use xs) ≡ length (filter is_use (xs ++ f ∷ []))
 used-same xs f h = sym (ap length (filter-fails is_use xs f h))
 
 -- what is no accepted send leaves the count of those
-pub sent-same : (xs : List Fact) (f : Fact) → is_accepted f ≡ false → length (messages xs) ≡ length (messages (xs ++ f ∷ []))
+pub sent-same : (xs : List Outcome) (f : Outcome) → is_accepted f ≡ false → length (messages xs) ≡ length (messages (xs ++ f ∷ []))
 sent-same xs f h = sym (ap length (messages-same xs f h))
 
 -- and which of them are found, from any later moment on
-pub window-same : (kept : Incarnation) (xs : List Fact) (f : Fact) (last : ℕ) → StandsFor kept xs → is_accepted f ≡ false → kept.last ≤ last
+pub window-same : (kept : Incarnation) (xs : List Outcome) (f : Outcome) (last : ℕ) → StandsFor kept xs → is_accepted f ≡ false → kept.last ≤ last
     → (id : List ℕ) (moment : ℕ) → last ≤ moment → repeated id moment kept.accepted ≡ option_map (λ y. y.count) (duplicate id moment (xs ++ f ∷ []))
 unfolding duplicate
 window-same kept xs f last stands rejected later id moment from =
@@ -73,7 +73,7 @@ window-same kept xs f last stands rejected later id moment from =
     stands.window id moment from_last ∙ ap (λ ys. option_map (λ y. y.count) (find (is_duplicated_by id moment) ys)) (sym (messages-same xs f rejected))
 
 -- and which of them are recent
-pub recent-same : (kept : Incarnation) (xs : List Fact) (f : Fact) (last : ℕ) → StandsFor kept xs → is_accepted f ≡ false → kept.last ≤ last
+pub recent-same : (kept : Incarnation) (xs : List Outcome) (f : Outcome) (last : ℕ) → StandsFor kept xs → is_accepted f ≡ false → kept.last ≤ last
     → (moment : ℕ) → last ≤ moment → filter (is_recent moment) kept.accepted ≡ filter (is_recent moment) (all_accepted (xs ++ f ∷ []))
 recent-same kept xs f last stands rejected later moment from =
     let from_last : kept.last ≤ moment = omega arith in
@@ -86,19 +86,19 @@ last-same xs x ys y same = some_is (sym (last_or-more None xs x) ∙ ap (last_or
     some_is : Some x ≡ Some y → x ≡ y
     some_is e = cc
 
--- no facts end with nothing
-none_last : (xs : List Fact) (f : Fact) → [] ≡ xs ++ f ∷ [] → ⊥
+-- no outcomes end with nothing
+none_last : (xs : List Outcome) (f : Outcome) → [] ≡ xs ++ f ∷ [] → ⊥
 none_last xs f same = none_is (ap (last_or None) same ∙ last_or-more None xs f)
   where
     none_is : None ≡ Some f → ⊥
     none_is e = cc
 
--- facts of which the last is of another ask don't end with a send
-pub trimmed-other : (kept : Incarnation) (xs : List Fact) (f : Fact) → is_send f.entry.request.ask ≡ false → (moment : ℕ) → EndWithSend (xs ++ f ∷ []) moment → length kept.accepted ≡ recent_sends moment (xs ++ f ∷ [])
+-- outcomes of which the last is of another ask don't end with a send
+pub trimmed-other : (kept : Incarnation) (xs : List Outcome) (f : Outcome) → is_send f.entry.request.ask ≡ false → (moment : ℕ) → EndWithSend (xs ++ f ∷ []) moment → length kept.accepted ≡ recent_sends moment (xs ++ f ∷ [])
 trimmed-other kept xs f other moment ends = absurd (false≢true (sym other ∙ ap (λ g. is_send g.entry.request.ask) (last-same xs f ends.before ends.send ends.is) ∙ ends.sends))
 
 -- where all that are kept at a send are recent, they are those that count
-pub trimmed-send : (kept : Incarnation) (xs : List Fact) (f : Fact) → kept.last ≡ f.entry.moment → filter (is_recent f.entry.moment) kept.accepted ≡ kept.accepted
+pub trimmed-send : (kept : Incarnation) (xs : List Outcome) (f : Outcome) → kept.last ≡ f.entry.moment → filter (is_recent f.entry.moment) kept.accepted ≡ kept.accepted
     → ((moment : ℕ) → kept.last ≤ moment → filter (is_recent moment) kept.accepted ≡ filter (is_recent moment) (all_accepted (xs ++ f ∷ [])))
     → (moment : ℕ) → EndWithSend (xs ++ f ∷ []) moment → length kept.accepted ≡ recent_sends moment (xs ++ f ∷ [])
 trimmed-send kept xs f last all recent moment ends =
@@ -111,7 +111,7 @@ empty number attributes = record { number = number; attributes = attributes; sen
 
 -- nothing happened
 nothing_told : (number : ℕ) (attributes : Attributes) → StandsFor (empty number attributes) []
-unfolding messages duplicate standing
+unfolding messages duplicate remaining
 nothing_told number attributes = record { sent = refl; messages = refl; window = λ id moment later. refl; recent = λ moment later. refl; trimmed = λ moment ends. absurd (none_last ends.before ends.send ends.is); last = refl; used = refl }
 
 -- it stands for no entries

@@ -9,7 +9,7 @@ use Rattle.std.proofs.lemmas.List.Elements.{All-head, All-tail}
 use Rattle.std.proofs.lemmas.List.Folds.{find-append}
 use Rattle.std.proofs.lemmas.Slice.Eq.{bytes_eq-Decides}
 use Rattle.cq_base.specs.declared.limits.TheConstants.{DEDUPLICATION_WINDOW}
-use Rattle.cq_base.specs.Incarnations.{Accepted, is_recent, counts_for, repeated}
+use Rattle.cq_base.specs.queue.Incarnations.{Accepted, is_recent, counts_for, repeated}
 use Rattle.cq_queue.specs.declared.accepted.Known.{Known}
 use Rattle.cq_queue.specs.within.Windows.{has_id, IsBy, IsRising, AreDistinct, known_of, known_at, answered, IsWindow}
 

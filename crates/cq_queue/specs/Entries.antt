@@ -7,12 +7,12 @@ use Rattle.cq_base.specs.declared.ask.Entry.{Entry}
 use Rattle.cq_base.specs.declared.reply.Delivery.{Delivery}
 use Rattle.cq_base.specs.declared.reply.Reply.{Reply}
 use Rattle.cq_base.specs.declared.reply.Reply.TheVariants.{Counts}
-use Rattle.cq_base.specs.Asks.{Attributes, dedup_or_made, is_given_or_made}
-use Rattle.cq_base.specs.Effects.{counts_of}
+use Rattle.cq_base.specs.queue.Asks.{Attributes, dedup_or_made, is_given_or_made}
+use Rattle.cq_base.specs.queue.Effects.{counts_of}
 use Rattle.cq_base.specs.Handle.{Handle}
-use Rattle.cq_base.specs.Incarnations.{Incarnation, IncarnationStandsFor, coming, told_of, is_recent, all_accepted}
-use Rattle.cq_base.specs.Messages.{duplicate, standing}
-use Rattle.cq_base.specs.Receiving.{to_hand, delivery_of}
+use Rattle.cq_base.specs.queue.Incarnations.{Incarnation, IncarnationStandsFor, coming, told_of, is_recent, all_accepted}
+use Rattle.cq_base.specs.queue.Messages.{duplicate, remaining}
+use Rattle.cq_base.specs.queue.Receiving.{to_hand, delivery_of}
 
 -- the entry is a creation of the queue, which lives, at any moment
 pub record IsCreate (given : Attributes) (e : Entry) : Type 0 where
@@ -81,9 +81,9 @@ pub record IsSameQueue (old new : Incarnation) : Type 0 where
 -- Whatever entries `kept` stands for, these are what a receive of that size hands out after them.
 abbrev pub AreOffered : Incarnation → ℕ → ℕ → List Delivery → Type 0
 AreOffered kept moment size deliveries = (entries : List Entry) → IncarnationStandsFor kept entries
-    → deliveries ≡ map (delivery_of kept.number) (to_hand size moment (standing kept.attributes.visibility (told_of kept entries)))
+    → deliveries ≡ map (delivery_of kept.number) (to_hand size moment (remaining kept.attributes.visibility (told_of kept entries)))
 
 -- Whatever entries `kept` stands for, these are the counts of its messages after them.
 abbrev pub AreCounted : Incarnation → ℕ → ℕ → ℕ → Type 0
 AreCounted kept moment visible in_flight = (entries : List Entry) → IncarnationStandsFor kept entries
-    → counts_of moment (standing kept.attributes.visibility (told_of kept entries)) ≡ Counts visible in_flight
+    → counts_of moment (remaining kept.attributes.visibility (told_of kept entries)) ≡ Counts visible in_flight

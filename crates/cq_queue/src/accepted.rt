@@ -1,7 +1,7 @@
 //! An accepted send, and what is known of its deduplication id.
 ghost use Rattle.std.specs.Prelude.{◌≡◌, ◌+◌, nat_lt, Some};
 ghost use Rattle.cq_base.specs.declared.limits.TheConstants.{DEDUPLICATION_WINDOW};
-ghost use Rattle.cq_base.specs.Incarnations.{is_recent};
+ghost use Rattle.cq_base.specs.queue.Incarnations.{is_recent};
 ghost use Rattle.cq_queue.specs.within.Windows.{known_of, answered};
 
 use cq_base::{DEDUPLICATION_WINDOW, DedupId, Moment};
@@ -24,7 +24,7 @@ pub struct Accepted {
 }
 
 impl Model for Accepted {
-    ghost use Rattle.cq_base.specs.Incarnations as object;
+    ghost use Rattle.cq_base.specs.queue.Incarnations as object;
 
     ghost Value = { object.Accepted };
 

@@ -1,7 +1,7 @@
 //! A change of a message's timeout.
 ghost use Rattle.std.specs.Prelude.{◌≡◌, ◌+◌, ◌*◌, nat_lt};
 ghost use Rattle.cq_base.specs.declared.limits.TheConstants.{SECOND, FLIGHT_LIMIT};
-ghost use Rattle.cq_base.specs.Effects.{message_at, change_standing, change_sent};
+ghost use Rattle.cq_base.specs.queue.Effects.{message_at, change_remaining, change_sent};
 ghost use Rattle.cq_queue.specs.within.Answers.{change_reply, is_changing};
 
 use crate::delete::fits;
@@ -24,15 +24,15 @@ fn is_beyond_limit(moment: Moment, visibility: Seconds, message: &Message) -> bo
 
 /// Whether a change of the timeout of a message that isn't deleted, to so many seconds from this moment
 /// on, takes effect, or why not.
-fn change_standing(
+fn change_remaining(
     moment: Moment,
     visibility: Seconds,
     receipt: Receipt,
     message: &Message,
 ) -> Result<(), Refusal>
-    ensures reply { change_reply result ≡ (change_standing moment visibility receipt message.now).reply }
+    ensures reply { change_reply result ≡ (change_remaining moment visibility receipt message.now).reply }
     ensures effective { is_changing result
-        ≡ (change_standing moment visibility receipt message.now).effective }
+        ≡ (change_remaining moment visibility receipt message.now).effective }
 {
     if !fits(receipt, message) {
         Err(Refusal::ReceiptHandleIsInvalid)
@@ -58,7 +58,7 @@ pub fn change_sent(
         ≡ (change_sent moment visibility receipt (message_at receipt.sequence messages.now)).effective }
 {
     match messages.get(receipt.sequence()) {
-        Some(message) => change_standing(moment, visibility, receipt, message),
+        Some(message) => change_remaining(moment, visibility, receipt, message),
         None => Err(Refusal::MessageNotInflight),
     }
 }

@@ -4,7 +4,7 @@ ghost use Rattle.std.specs.Option.{option_copied};
 ghost use Rattle.cq_base.specs.declared.limits.TheConstants.{HISTORY_LIMIT};
 ghost use Rattle.cq_base.specs.declared.reply.Reply.TheVariants.{Sent, Deleted, Changed, Refused};
 ghost use Rattle.cq_base.specs.declared.reply.Refusal.TheVariants.{MissingDedupId};
-ghost use Rattle.cq_base.specs.Incarnations.{IncarnationStandsFor, repeated};
+ghost use Rattle.cq_base.specs.queue.Incarnations.{IncarnationStandsFor, repeated};
 ghost use Rattle.cq_queue.specs.within.Answers.{send_reply, delete_reply, is_deleting, change_reply, is_changing};
 ghost use Rattle.cq_queue.specs.Entries.{IsSend, IsSendAs, IsReceive, IsDelete, IsChange, StandsAfter, IsAnswered, IsNoRepeat, KeepsIds, IsSameQueue};
 ghost use Rattle.cq_queue.specs.within.Kept.{used_at, repeated_at, with_message, handed_out, is_receipt_of, without_message, deletion, with_timeout, alteration};
@@ -38,7 +38,7 @@ pub struct Queue {
     used: u64,
 }
 
-/// By hand, so that whoever lets one go makes one call, and has no case for each part.
+/// Written out, not derived: CONTRIBUTING.md, "Drop".
 impl Drop for Queue {
     fn drop(self) {
         let Queue {
@@ -56,7 +56,7 @@ impl Drop for Queue {
 }
 
 impl Model for Queue {
-    ghost use Rattle.cq_base.specs.Incarnations as object;
+    ghost use Rattle.cq_base.specs.queue.Incarnations as object;
 
     ghost Value = { object.Incarnation };
 

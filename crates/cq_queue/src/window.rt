@@ -4,7 +4,7 @@ ghost use Rattle.std.specs.Str.{bytes_eq};
 ghost use Rattle.std.specs.List.{find, All};
 ghost use Rattle.std.specs.HashMap.{spare};
 ghost use Rattle.std.specs.VecDeque.{deque_len, deque_capacity};
-ghost use Rattle.cq_base.specs.Incarnations.{is_recent, repeated};
+ghost use Rattle.cq_base.specs.queue.Incarnations.{is_recent, repeated};
 ghost use Rattle.cq_queue.specs.within.Windows.{has_id, IsBy, known_of, known_at, IsWindow};
 
 use crate::accepted::{Accepted, Known};
@@ -109,7 +109,7 @@ pub struct Window {
     known: HashMap<DedupId, Known>,
 }
 
-/// By hand, so that whoever lets one go makes one call, and has no case for each part.
+/// Written out, not derived: CONTRIBUTING.md, "Drop".
 impl Drop for Window {
     fn drop(self) {
         let Window {

@@ -6,12 +6,12 @@ use Rattle.std.proofs.lemmas.List.{append-nil, take_at, drop_at, take_all, lengt
 use Rattle.cq_disk.specs.declared.device.TornWrites.{TornWrites}
 use Rattle.cq_disk.specs.declared.device.TornWrites.TheVariants.{OldOrNew}
 use Rattle.cq_disk.specs.Device.{EachOldOrNew, Torn, Overlaid}
-use Rattle.cq_records.specs.Batches.{IsBatch}
+use Rattle.cq_records.specs.within.Batches.{IsBatch}
 use Rattle.cq_records.specs.Frames.{frames, joined, all_sound}
-use Rattle.cq_records.specs.Layout.{IsLog, IsFrontOf}
+use Rattle.cq_records.specs.Layout.{IsLog, IsPrefixOf}
 use Rattle.cq_records.proofs.Zeros.{Faded, faded}
-use Rattle.cq_records.proofs.Frames.{AllFrames, all_frames, frames_append, sound_append, joined_append, frames_joined, closed, of_zeros, index_front}
-use Rattle.cq_records.proofs.Torn.{front}
+use Rattle.cq_records.proofs.Frames.{AllFrames, all_frames, frames_append, sound_append, joined_append, frames_joined, closed, of_zeros, index_prefix}
+use Rattle.cq_records.proofs.Torn.{prefix}
 
 take_one : (x : ℕ) (xs : List ℕ) → take 1 (x ∷ xs) ≡ x ∷ []
 take_one x xs = refl
@@ -44,11 +44,11 @@ module _ (old batch : List ℕ) (end : ℕ) (log : IsLog old end) (b : IsBatch b
   behind_at : (k : ℕ) → drop (end + k) old ≡ replicate (log.room - k) 0
   behind_at k = sym (drop-drop k end old) ∙ ap (λ (l : List ℕ). drop k l) behind ∙ drop-replicate k log.room 0
 
-  none_of : (c : List ℕ) → frames c ≡ A → IsFrontOf A B c
+  none_of : (c : List ℕ) → frames c ≡ A → IsPrefixOf A B c
   none_of c same = record { many = 0; frames = same ∙ sym (append-nil A) }
 
   -- before the first write
-  pub at_start : (c : List ℕ) → c ≡ old → IsFrontOf A B c
+  pub at_start : (c : List ℕ) → c ≡ old → IsPrefixOf A B c
   at_start c is = none_of c (ap frames is)
 
   all_of : (c : List ℕ) → c ≡ joined A ++ (batch ++ zeros) → c ≡ joined (A ++ B) ++ zeros
@@ -75,11 +75,11 @@ module _ (old batch : List ℕ) (end : ℕ) (log : IsLog old end) (b : IsBatch b
   pub at_once : (c : List ℕ) → Overlaid old end batch c → c ≡ joined A ++ (batch ++ zeros)
   at_once c is = is ∙ (λ i. before i ++ (batch ++ behind_at n i))
 
-  pub torn_at_once : (torn : TornWrites) → torn ≡ OldOrNew → (c : List ℕ) → Torn torn end batch old c → IsFrontOf A B c
+  pub torn_at_once : (torn : TornWrites) → torn ≡ OldOrNew → (c : List ℕ) → Torn torn end batch old c → IsPrefixOf A B c
   torn_at_once torn is c t =
       let over_zeros : take n (drop end old) ≡ replicate n 0 = ap (λ (l : List ℕ). take n l) behind ∙ take-replicate n log.room 0 room in
       let f : Faded batch t.range = faded n batch t.range (subst (λ (l : List ℕ). EachOldOrNew l batch t.range) over_zeros (t.each is)) in
-      let rest = front B t.range (log.room - n) (all_frames batch) (subst (λ (l : List ℕ). Faded l t.range) b.whole f) in
+      let rest = prefix B t.range (log.room - n) (all_frames batch) (subst (λ (l : List ℕ). Faded l t.range) b.whole f) in
       let whole : c ≡ joined A ++ (t.range ++ zeros) = t.is ∙ (λ i. before i ++ (t.range ++ behind_at n i)) in
       record { many = rest.many; frames = ap frames whole ∙ frames_joined A (t.range ++ zeros) (all_frames old) ∙ ap (λ (l : List (List ℕ)). A ++ l) rest.frames }
 
@@ -107,14 +107,14 @@ module _ (old batch : List ℕ) (end : ℕ) (log : IsLog old end) (b : IsBatch b
         ap frames (is ∙ append_assoc (joined A) (0 ∷ []) x) ∙ frames_joined A (0 ∷ x) (all_frames old)
         ∙ ap (λ (l : List (List ℕ)). A ++ l) (closed (0 ∷ x) (λ open_gate. absurd (omega (arith, open_gate)))) ∙ append-nil A
 
-    pub torn_behind : (torn : TornWrites) (c : List ℕ) → Torn torn (end + 1) (drop 1 batch) old c → IsFrontOf A B c
+    pub torn_behind : (torn : TornWrites) (c : List ℕ) → Torn torn (end + 1) (drop 1 batch) old c → IsPrefixOf A B c
     torn_behind torn c t = none_of c (count_nothing (t.range ++ drop (end + 1 + length (drop 1 batch)) old) c (t.is ∙ ap (λ (l : List ℕ). l ++ (t.range ++ drop (end + 1 + length (drop 1 batch)) old)) shut))
 
     module _ (mid : List ℕ) (is_mid : Overlaid old (end + 1) (drop 1 batch) mid) where
       mid_is : mid ≡ joined A ++ (0 ∷ (drop 1 batch ++ zeros))
       mid_is = is_mid ∙ (λ i. shut i ++ (drop 1 batch ++ after i)) ∙ append_assoc (joined A) (0 ∷ []) (drop 1 batch ++ zeros)
 
-      pub still_shut : (c : List ℕ) → c ≡ mid → IsFrontOf A B c
+      pub still_shut : (c : List ℕ) → c ≡ mid → IsPrefixOf A B c
       still_shut c is = none_of c (count_nothing (drop 1 batch ++ zeros) c (is ∙ mid_is ∙ sym (append_assoc (joined A) (0 ∷ []) (drop 1 batch ++ zeros))))
 
       mid_before : take end mid ≡ joined A
@@ -141,7 +141,7 @@ module _ (old batch : List ℕ) (end : ℕ) (log : IsLog old end) (b : IsBatch b
         where
           of_frames : (fs : List (List ℕ)) → AllFrames fs → l ≡ joined fs → slice_index l 0 ≡ 1
           of_frames [] are is = absurd (omega (arith, ap length is, more))
-          of_frames (f ∷ fs) are is = ap (λ (k : List ℕ). slice_index k 0) is ∙ index_front f (joined fs) 0 (omega (arith, are.0.all)) ∙ are.0.whole.gate
+          of_frames (f ∷ fs) are is = ap (λ (k : List ℕ). slice_index k 0) is ∙ index_prefix f (joined fs) 0 (omega (arith, are.0.all)) ∙ are.0.whole.gate
 
       single : (l : List ℕ) → length l ≡ 1 → l ≡ slice_index l 0 ∷ []
       single [] is = absurd (omega (arith, is))
@@ -149,9 +149,9 @@ module _ (old batch : List ℕ) (end : ℕ) (log : IsLog old end) (b : IsBatch b
       single (x ∷ y ∷ l) is = absurd (omega (arith, is))
 
       first_is : take 1 batch ≡ 1 ∷ []
-      first_is = single (take 1 batch) one ∙ ap (λ (g : ℕ). g ∷ []) (sym (index_front (take 1 batch) (drop 1 batch) 0 (omega (arith, one))) ∙ ap (λ (l : List ℕ). slice_index l 0) (take-append-drop 1 batch) ∙ gate batch b.whole some)
+      first_is = single (take 1 batch) one ∙ ap (λ (g : ℕ). g ∷ []) (sym (index_prefix (take 1 batch) (drop 1 batch) 0 (omega (arith, one))) ∙ ap (λ (l : List ℕ). slice_index l 0) (take-append-drop 1 batch) ∙ gate batch b.whole some)
 
-      pub torn_gate : (torn : TornWrites) (c : List ℕ) → Torn torn end (take 1 batch) mid c → IsFrontOf A B c
+      pub torn_gate : (torn : TornWrites) (c : List ℕ) → Torn torn end (take 1 batch) mid c → IsPrefixOf A B c
       torn_gate torn c t =
           let g = slice_index t.range 0 in
           let range_is : t.range ≡ g ∷ [] = single t.range (t.long ∙ one) in

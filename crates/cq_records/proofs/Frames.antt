@@ -70,26 +70,26 @@ pub record IsFrame (f : List ℕ) : Type 0 where
   pub whole : Whole f
   pub all : frame_length f ≡ length f
 
-pub index_front : (f x : List ℕ) (i : ℕ) → i < length f → slice_index (f ++ x) i ≡ slice_index f i
-index_front f x i below = get_or_append_left f x 0 i below
+pub index_prefix : (f x : List ℕ) (i : ℕ) → i < length f → slice_index (f ++ x) i ≡ slice_index f i
+index_prefix f x i below = get_or_append_left f x 0 i below
 
-pub length_front : (f x : List ℕ) → 9 ≤ length f → frame_length (f ++ x) ≡ frame_length f
-length_front f x long = λ i. 9 + ((index_front f x 1 (omega (arith, long)) i - 1) + (255 * (index_front f x 2 (omega (arith, long)) i - 1) + 65025 * (index_front f x 3 (omega (arith, long)) i - 1)))
+pub length_prefix : (f x : List ℕ) → 9 ≤ length f → frame_length (f ++ x) ≡ frame_length f
+length_prefix f x long = λ i. 9 + ((index_prefix f x 1 (omega (arith, long)) i - 1) + (255 * (index_prefix f x 2 (omega (arith, long)) i - 1) + 65025 * (index_prefix f x 3 (omega (arith, long)) i - 1)))
 
 -- the same frame, whatever is behind it
-pub frame_front : (f x : List ℕ) → IsFrame f → frames (f ++ x) ≡ f ∷ frames x
-frame_front f x is =
+pub frame_prefix : (f x : List ℕ) → IsFrame f → frames (f ++ x) ≡ f ∷ frames x
+frame_prefix f x is =
     let long : 9 ≤ length f = omega (arith, is.all) in
-    let k_is : frame_length (f ++ x) ≡ length f = length_front f x long ∙ is.all in
-    let front : take (frame_length (f ++ x)) (f ++ x) ≡ f = take_at f x (frame_length (f ++ x)) (sym k_is) in
+    let k_is : frame_length (f ++ x) ≡ length f = length_prefix f x long ∙ is.all in
+    let prefix : take (frame_length (f ++ x)) (f ++ x) ≡ f = take_at f x (frame_length (f ++ x)) (sym k_is) in
     let behind : drop (frame_length (f ++ x)) (f ++ x) ≡ x = drop_at f x (frame_length (f ++ x)) (sym k_is) in
     let same : take (frame_length f) f ≡ f = take_all (frame_length f) f (omega (arith, is.all)) in
     let whole : Whole (f ++ x) = record {
-      gate = index_front f x 0 (omega (arith, long)) ∙ is.whole.gate;
+      gate = index_prefix f x 0 (omega (arith, long)) ∙ is.whole.gate;
       within = omega (arith, k_is, length-append f x);
-      full = ap has_no_zero (front ∙ sym same) ∙ is.whole.full;
+      full = ap has_no_zero (prefix ∙ sym same) ∙ is.whole.full;
     } in
-    first_whole (f ++ x) (whole_from (f ++ x) whole) ∙ (λ i. front i ∷ frames (behind i))
+    first_whole (f ++ x) (whole_from (f ++ x) whole) ∙ (λ i. prefix i ∷ frames (behind i))
 
 -- the frame that bytes begin with is one
 pub taken : (bytes : List ℕ) → is_whole bytes ≡ true → IsFrame (take (frame_length bytes) bytes)
@@ -99,8 +99,8 @@ taken bytes is =
     let f = take k bytes in
     let long : length f ≡ k = omega (arith, length-take k bytes, w.within) in
     let again : f ++ drop k bytes ≡ bytes = take-append-drop k bytes in
-    let k_is : frame_length f ≡ k = sym (length_front f (drop k bytes) (omega (arith, long))) ∙ ap frame_length again in
-    let gate : slice_index f 0 ≡ 1 = sym (index_front f (drop k bytes) 0 (omega (arith, long))) ∙ ap (λ (l : List ℕ). slice_index l 0) again ∙ w.gate in
+    let k_is : frame_length f ≡ k = sym (length_prefix f (drop k bytes) (omega (arith, long))) ∙ ap frame_length again in
+    let gate : slice_index f 0 ≡ 1 = sym (index_prefix f (drop k bytes) 0 (omega (arith, long))) ∙ ap (λ (l : List ℕ). slice_index l 0) again ∙ w.gate in
     record {
       whole = record {
         gate = gate;
@@ -145,4 +145,4 @@ joined_append (x ∷ xs) ys = ap (λ (l : List ℕ). x ++ l) (joined_append xs y
 pub frames_joined : (fs : List (List ℕ)) (x : List ℕ) → AllFrames fs → frames (joined fs ++ x) ≡ fs ++ frames x
 frames_joined [] x are = refl
 frames_joined (f ∷ fs) x are =
-    ap frames (append_assoc f (joined fs) x) ∙ frame_front f (joined fs ++ x) are.0 ∙ ap (λ (l : List (List ℕ)). f ∷ l) (frames_joined fs x are.1)
+    ap frames (append_assoc f (joined fs) x) ∙ frame_prefix f (joined fs ++ x) are.0 ∙ ap (λ (l : List (List ℕ)). f ∷ l) (frames_joined fs x are.1)

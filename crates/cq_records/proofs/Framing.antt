@@ -6,8 +6,8 @@ use Rattle.std.proofs.lemmas.Bool.Decides.{nat_tests}
 use Rattle.std.proofs.lemmas.List.{append-nil, take_all}
 use Rattle.cq_records.specs.Checksum.{checksum}
 use Rattle.cq_records.specs.Frames.{has_no_zero, is_text, framed, text_of, frame_length, stored_sum, is_sound, frames, records, joined, all_sound}
-use Rattle.cq_records.specs.Batches.{IsBatch}
-use Rattle.cq_records.proofs.Frames.{IsFrame, AllFrames, all_frames, frames_append, sound_append, joined_append, frames_joined, frame_front}
+use Rattle.cq_records.specs.within.Batches.{IsBatch}
+use Rattle.cq_records.proofs.Frames.{IsFrame, AllFrames, all_frames, frames_append, sound_append, joined_append, frames_joined, frame_prefix}
 
 above : (x : ℕ) → nat_le 1 (x + 1) ≡ true
 above x = le-leb 1 (x + 1) (omega arith)
@@ -46,7 +46,7 @@ module _ (text : List ℕ) (is : is_text text ≡ true) (small : checksum text <
   sound = grind (arith, nat_tests, same_sum)
 
   pub frames_of : frames (framed text) ≡ framed text ∷ []
-  frames_of = ap frames (sym (append-nil (framed text))) ∙ frame_front (framed text) [] one_frame
+  frames_of = ap frames (sym (append-nil (framed text))) ∙ frame_prefix (framed text) [] one_frame
 
   -- a batch, and one frame more
   pub one_more : (batch new : List ℕ) → new ≡ batch ++ framed text → IsBatch batch → IsBatch new × (records new ≡ records batch ++ text ∷ [])

@@ -8,28 +8,28 @@ use Rattle.cq_disk.specs.Device.{Torn, Overlaid}
 use Rattle.cq_records.specs.Frames.{frame_length, is_whole, frames}
 use Rattle.cq_records.specs.within.Blanks.{HasZerosBehind}
 use Rattle.cq_records.proofs.Zeros.{no_zero_at}
-use Rattle.cq_records.proofs.Frames.{whole_parts, none_whole, closed, index_front}
+use Rattle.cq_records.proofs.Frames.{whole_parts, none_whole, closed, index_prefix}
 
 pub zeros_on : (first old new bytes : List ℕ) (done many : ℕ) → bytes ≡ replicate many 0 → 1 ≤ done → length first ≡ 1 → take done old ≡ first ++ replicate (done - 1) 0 → Overlaid old done bytes new
     → take (done + many) new ≡ first ++ replicate (done + many - 1) 0
 zeros_on first old new bytes done many zeros some one so_far written =
     let rest = drop (done + length bytes) old in
     let sum : (done - 1) + many ≡ done + many - 1 = omega (arith, some) in
-    let front : List ℕ = first ++ replicate (done + many - 1) 0 in
-    let joined : (first ++ replicate (done - 1) 0) ++ replicate many 0 ≡ front =
+    let prefix : List ℕ = first ++ replicate (done + many - 1) 0 in
+    let joined : (first ++ replicate (done - 1) 0) ++ replicate many 0 ≡ prefix =
     append_assoc first (replicate (done - 1) 0) (replicate many 0) ∙ ap (λ (l : List ℕ). first ++ l) (replicate-append-replicate (done - 1) many 0 ∙ ap (λ (n : ℕ). replicate n 0) sum) in
-    let is : new ≡ front ++ rest = written ∙ (λ i. so_far i ++ (zeros i ++ rest)) ∙ sym (append_assoc (first ++ replicate (done - 1) 0) (replicate many 0) rest) ∙ ap (λ (l : List ℕ). l ++ rest) joined in
-    let long : length front ≡ done + many = omega (arith, length-append first (replicate (done + many - 1) 0), length-replicate {A = ℕ} (done + many - 1) 0, one, some) in
-    ap (λ (l : List ℕ). take (done + many) l) is ∙ take_at front rest (done + many) long
+    let is : new ≡ prefix ++ rest = written ∙ (λ i. so_far i ++ (zeros i ++ rest)) ∙ sym (append_assoc (first ++ replicate (done - 1) 0) (replicate many 0) rest) ∙ ap (λ (l : List ℕ). l ++ rest) joined in
+    let long : length prefix ≡ done + many = omega (arith, length-append first (replicate (done + many - 1) 0), length-replicate {A = ℕ} (done + many - 1) 0, one, some) in
+    ap (λ (l : List ℕ). take (done + many) l) is ∙ take_at prefix rest (done + many) long
 
 first_of : (at : ℕ) (d : List ℕ) → 1 ≤ at → 1 ≤ length d → slice_index (take at d) 0 ≡ slice_index d 0
-first_of at d some long = sym (index_front (take at d) (drop at d) 0 (omega (arith, length-take at d, some, long))) ∙ ap (λ (l : List ℕ). slice_index l 0) (take-append-drop at d)
+first_of at d some long = sym (index_prefix (take at d) (drop at d) 0 (omega (arith, length-take at d, some, long))) ∙ ap (λ (l : List ℕ). slice_index l 0) (take-append-drop at d)
 
 -- a write behind the first byte leaves that one
 pub torn_first : (torn : TornWrites) (at : ℕ) (bytes d c : List ℕ) → 1 ≤ at → Torn torn at bytes d c → slice_index c 0 ≡ slice_index d 0
 torn_first torn at bytes d c some t =
     let long : 1 ≤ length d = omega (arith, t.within, some) in
-    ap (λ (l : List ℕ). slice_index l 0) t.is ∙ index_front (take at d) (t.range ++ drop (at + length bytes) d) 0 (omega (arith, length-take at d, some, long)) ∙ first_of at d some long
+    ap (λ (l : List ℕ). slice_index l 0) t.is ∙ index_prefix (take at d) (t.range ++ drop (at + length bytes) d) 0 (omega (arith, length-take at d, some, long)) ∙ first_of at d some long
 
 pub no_records : (c : List ℕ) (g : ℕ) → slice_index c 0 ≡ g → g ≢ 1 → frames c ≡ []
 no_records c g is shut = closed c (λ one. shut (sym is ∙ one))
@@ -45,7 +45,7 @@ headless x (suc n) = none_whole (x ∷ replicate (suc n) 0) (⊎_elim (λ whole.
         let k = frame_length (x ∷ replicate (suc n) 0) in
         let long : length (take k (x ∷ replicate (suc n) 0)) ≡ k = omega (arith, length-take k (x ∷ replicate (suc n) 0), w.within) in
         let at : slice_index (take k (x ∷ replicate (suc n) 0)) 1 ≡ 0 =
-        sym (index_front (take k (x ∷ replicate (suc n) 0)) (drop k (x ∷ replicate (suc n) 0)) 1 (omega (arith, long))) ∙ ap (λ (l : List ℕ). slice_index l 1) (take-append-drop k (x ∷ replicate (suc n) 0)) in
+        sym (index_prefix (take k (x ∷ replicate (suc n) 0)) (drop k (x ∷ replicate (suc n) 0)) 1 (omega (arith, long))) ∙ ap (λ (l : List ℕ). slice_index l 1) (take-append-drop k (x ∷ replicate (suc n) 0)) in
         let some = no_zero_at (take k (x ∷ replicate (suc n) 0)) 1 w.full (omega (arith, long)) in
         omega (arith, some, at)
 

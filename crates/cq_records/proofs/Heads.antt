@@ -6,8 +6,8 @@ use Rattle.std.proofs.lemmas.Bool.Decides.{nat_tests}
 use Rattle.std.proofs.lemmas.List.{take_at, drop_at}
 use Rattle.cq_records.specs.Checksum.{checksum}
 use Rattle.cq_records.specs.Frames.{has_no_zero, text_length, frame_length, text_of, stored_sum, is_sound, is_whole, frames, BeginsWith, IsDamaged}
-use Rattle.cq_records.proofs.Zeros.{no_zero_front, no_zero_behind, no_zero_append}
-use Rattle.cq_records.proofs.Frames.{whole_parts, whole_from, index_front, first_whole, none_whole}
+use Rattle.cq_records.proofs.Zeros.{no_zero_prefix, no_zero_behind, no_zero_append}
+use Rattle.cq_records.proofs.Frames.{whole_parts, whole_from, index_prefix, first_whole, none_whole}
 
 module _ (rest head : List ℕ) (head_is : head ≡ take 9 rest) (nine : 9 ≤ length rest) where
   head_long : length head ≡ 9
@@ -17,7 +17,7 @@ module _ (rest head : List ℕ) (head_is : head ≡ take 9 rest) (nine : 9 ≤ l
   split = sym (take-append-drop 9 rest) ∙ ap (λ (l : List ℕ). l ++ drop 9 rest) (sym head_is)
 
   pub in_head : (i : ℕ) → i < 9 → slice_index rest i ≡ slice_index head i
-  in_head i below = ap (λ (l : List ℕ). slice_index l i) split ∙ index_front head (drop 9 rest) i (omega (arith, head_long, below))
+  in_head i below = ap (λ (l : List ℕ). slice_index l i) split ∙ index_prefix head (drop 9 rest) i (omega (arith, head_long, below))
 
   not_whole : (is_whole rest ≡ true → ⊥) → frames rest ≡ []
   not_whole never = none_whole rest (⊎_elim (λ whole. absurd (never whole)) (λ shut. shut) (cases_Bool (is_whole rest)))
@@ -27,7 +27,7 @@ module _ (rest head : List ℕ) (head_is : head ≡ take 9 rest) (nine : 9 ≤ l
   no_head torn = not_whole (λ whole.
       let w = whole_parts rest whole in
       let lost = torn (sym (in_head 0 (omega arith)) ∙ w.gate) in
-      let full : has_no_zero (take 9 rest) ≡ true = no_zero_front 9 (frame_length rest) rest (omega arith) w.full in
+      let full : has_no_zero (take 9 rest) ≡ true = no_zero_prefix 9 (frame_length rest) rest (omega arith) w.full in
       true≢false (sym full ∙ sym (ap has_no_zero head_is) ∙ lost))
 
   same_length : text_length rest ≡ text_length head
@@ -69,7 +69,7 @@ module _ (rest head : List ℕ) (head_is : head ≡ take 9 rest) (nine : 9 ≤ l
       })
 
       in_frame : (i : ℕ) → i < 9 → slice_index (take (9 + length text) rest) i ≡ slice_index head i
-      in_frame i below = ap (λ (l : List ℕ). slice_index l i) frame_is ∙ index_front head text i (omega (arith, head_long, below))
+      in_frame i below = ap (λ (l : List ℕ). slice_index l i) frame_is ∙ index_prefix head text i (omega (arith, head_long, below))
 
       same_sum : stored_sum (take (9 + length text) rest) ≡ stored_sum head
       same_sum = λ i. (in_frame 4 (omega arith) i - 1) + (255 * (in_frame 5 (omega arith) i - 1) + (65025 * (in_frame 6 (omega arith) i - 1)

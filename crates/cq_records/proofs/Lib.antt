@@ -4,6 +4,6 @@ mod Framing
 mod Gates
 mod Heads
 mod Outcomes
-mod Rows
+mod Examples
 mod Torn
 mod Zeros

@@ -81,13 +81,13 @@ found_none bytes (Some k) false first is =
     let zero_there : slice_index bytes k ≡ 0 = grind (arith, nat_tests, first.1) in
     sym (some_zero bytes k first.0.high zero_there)
 
-pub no_zero_front : (n k : ℕ) (bytes : List ℕ) → n ≤ k → has_no_zero (take k bytes) ≡ true → has_no_zero (take n bytes) ≡ true
-no_zero_front zero k bytes le full = refl
-no_zero_front (suc n) zero bytes le full = absurd (omega (arith, le))
-no_zero_front (suc n) (suc k) [] le full = refl
-no_zero_front (suc n) (suc k) (b ∷ bytes) le full =
+pub no_zero_prefix : (n k : ℕ) (bytes : List ℕ) → n ≤ k → has_no_zero (take k bytes) ≡ true → has_no_zero (take n bytes) ≡ true
+no_zero_prefix zero k bytes le full = refl
+no_zero_prefix (suc n) zero bytes le full = absurd (omega (arith, le))
+no_zero_prefix (suc n) (suc k) [] le full = refl
+no_zero_prefix (suc n) (suc k) (b ∷ bytes) le full =
     let parts = and_parts (nat_le 1 b) (has_no_zero (take k bytes)) full in
-    and_from (nat_le 1 b) (has_no_zero (take n bytes)) parts.0 (no_zero_front n k bytes (omega (arith, le)) parts.1)
+    and_from (nat_le 1 b) (has_no_zero (take n bytes)) parts.0 (no_zero_prefix n k bytes (omega (arith, le)) parts.1)
 
 pub no_zero_behind : (n : ℕ) (bytes : List ℕ) → has_no_zero bytes ≡ true → has_no_zero (drop n bytes) ≡ true
 no_zero_behind zero bytes full = full

@@ -10,6 +10,6 @@ pub record IsLog (bytes : List ℕ) (end : ℕ) : Type 0 where
   pub sound : all_sound (frames bytes) ≡ true
 
 -- they stand for these frames and so many of the others, from the first on
-pub record IsFrontOf (before batch : List (List ℕ)) (bytes : List ℕ) : Type 0 where
+pub record IsPrefixOf (before batch : List (List ℕ)) (bytes : List ℕ) : Type 0 where
   pub many : ℕ
   pub frames : frames bytes ≡ before ++ take many batch

@@ -1,10 +1,9 @@
 pub mod Batch
-pub mod Batches
 pub mod Checksum
 pub mod Faults
 pub mod Frames
 pub mod Layout
 pub mod Logs
 pub mod Outcomes
-pub mod Rows
+pub mod Examples
 pub mod within

@@ -1,6 +1,6 @@
 //! Records that are to be written together.
 ghost use Rattle.std.specs.Prelude.{◌≡◌, ◌++◌, [], ◌∷◌, true, OnOk, OnErr};
-ghost use Rattle.cq_records.specs.Batches.{IsBatch};
+ghost use Rattle.cq_records.specs.within.Batches.{IsBatch};
 ghost use Rattle.cq_records.specs.Frames.{is_text, framed, frames, records};
 
 use crate::frame::push_frame;

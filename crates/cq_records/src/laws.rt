@@ -1,12 +1,12 @@
 //! What the definitions say, row by row, and what follows from the contracts.
 ghost use Rattle.cq_records.specs.Outcomes.{ChangesAlone, NoneDamaged};
-ghost use Rattle.cq_records.specs.Rows.{Rows};
+ghost use Rattle.cq_records.specs.Examples.{Examples};
 
 use cq_disk::Device;
 
 /// What bytes of a log stand for.
 pub fn bytes_stand_for()
-    ensures { Rows }
+    ensures { Examples }
 {}
 
 /// A commit in a part of a device leaves at each moment a part that has so many of the batch's records behind those

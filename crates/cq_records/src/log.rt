@@ -18,7 +18,7 @@ pub struct Log<D: Device> {
 impl<D: Device> Log<D> {
     ghost use Rattle.cq_records.specs.Batch.{batch_bytes};
     ghost use Rattle.cq_records.specs.Logs.{IsSettled};
-    ghost use Rattle.cq_records.specs.Layout.{IsFrontOf};
+    ghost use Rattle.cq_records.specs.Layout.{IsPrefixOf};
 
     /// The empty log of a device that `blank` has made so.
     pub fn new(device: D) -> Log<D>
@@ -54,7 +54,7 @@ impl<D: Device> Log<D> {
 
         // A crash at any moment of the call leaves the records from before it, and some of the batch's from the first on.
         ensures any_moment { LeavesOnly D.moment D.left_since self.old.device self.new.device
-            (IsFrontOf (frames (D.seen self.old.device)) (frames (batch_bytes batch.now))) }
+            (IsPrefixOf (frames (D.seen self.old.device)) (frames (batch_bytes batch.now))) }
 
         // Nothing beside the log's device changes, and nothing is read.
         ensures keeps { D.keeps self.old.device self.new.device }

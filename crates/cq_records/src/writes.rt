@@ -2,9 +2,9 @@
 ghost use Rattle.std.specs.Prelude.{◌≡◌, ◌+◌, ◌^◌, ◌<◌, ◌≤◌, ◌++◌, length, replicate, OnOk};
 ghost use Rattle.cq_disk.specs.declared.device.TornWrites.TheVariants.{OldOrNew};
 ghost use Rattle.cq_disk.specs.Device.{Only, LeavesOnly, HasCause};
-ghost use Rattle.cq_records.specs.Batches.{IsBatch};
+ghost use Rattle.cq_records.specs.within.Batches.{IsBatch};
 ghost use Rattle.cq_records.specs.Frames.{frames};
-ghost use Rattle.cq_records.specs.Layout.{IsLog, IsFrontOf};
+ghost use Rattle.cq_records.specs.Layout.{IsLog, IsPrefixOf};
 
 use cq_disk::{Device, DeviceFault};
 
@@ -24,7 +24,7 @@ pub(crate) fn write_at_once<D: Device>(
     ensures log { OnOk result (IsLog (D.seen device.new) (end + length batch.now)) }
     ensures durable { OnOk result (Only (D.seen device.new) (D.may_leave device.new)) }
     ensures frames { OnOk result (frames (D.seen device.new) ≡ frames (D.seen device.old) ++ frames batch.now) }
-    ensures any_moment { LeavesOnly D.moment D.left_since device.old device.new (IsFrontOf (frames (D.seen device.old)) (frames batch.now)) }
+    ensures any_moment { LeavesOnly D.moment D.left_since device.old device.new (IsPrefixOf (frames (D.seen device.old)) (frames batch.now)) }
     ensures honest { D.is_honest device.new ≡ D.is_honest device.old }
     ensures keeps { D.keeps device.old device.new }
     ensures cause { HasCause (D.faults device.old) (D.faults device.new) result }
@@ -49,7 +49,7 @@ pub(crate) fn write_then_open<D: Device>(
     ensures log { OnOk result (IsLog (D.seen device.new) (end + length batch.now)) }
     ensures durable { OnOk result (Only (D.seen device.new) (D.may_leave device.new)) }
     ensures frames { OnOk result (frames (D.seen device.new) ≡ frames (D.seen device.old) ++ frames batch.now) }
-    ensures any_moment { LeavesOnly D.moment D.left_since device.old device.new (IsFrontOf (frames (D.seen device.old)) (frames batch.now)) }
+    ensures any_moment { LeavesOnly D.moment D.left_since device.old device.new (IsPrefixOf (frames (D.seen device.old)) (frames batch.now)) }
     ensures honest { D.is_honest device.new ≡ D.is_honest device.old }
     ensures keeps { D.keeps device.old device.new }
     ensures cause { HasCause (D.faults device.old) (D.faults device.new) result }

@@ -1,6 +1,6 @@
 -- What a run of lines is where they are a script's, and where they are a session's.
 use Rattle.std.proofs.Common.{◌≡◌, ℕ, ◌≤◌, length, List, ◌++◌, Option, None, Some, IfSome, Result, Ok, Err, inl, inr, refl, sym, ap, ◌∙◌, arith}
-use Rattle.cq_base.specs.Relations.{Front}
+use Rattle.cq_base.specs.Relations.{IsPrefix}
 use Rattle.cq_lines.specs.Lines.{ended_part}
 use Rattle.cq_lines.specs.Grammars.{parse_text}
 use Rattle.cq_lines.specs.declared.fault.ScriptFault.{ScriptFault}
@@ -11,9 +11,9 @@ use Rattle.cq_lines.proofs.Complete.{complete_ends, first_of_all, all_of_them}
 use Rattle.cq_script.specs.Lines.{script_grammar, script_limits, session_grammar, session_lines}
 use Rattle.cq_script.specs.Output.{text_of}
 use Rattle.cq_script.specs.Replays.{Replays, IsToldOfOneObject, WritesScript}
-use Rattle.cq_script.specs.Sessions.{Sessions, IsSessionFront, IsSessionEndedFront, SessionHeadlines, session_text}
-use Rattle.cq_script.specs.within.Played.{FailsAtFault, CountsAllBytes, RunsText, IsFrontOfText, IsFrontOfEnded, session_limits}
-use Rattle.cq_script.proofs.Played.{front_of_lines, lines_of_one_object}
+use Rattle.cq_script.specs.Sessions.{Sessions, IsSessionPrefix, IsSessionEndedPrefix, SessionHeadlines, session_text}
+use Rattle.cq_script.specs.within.Played.{FailsAtFault, CountsAllBytes, RunsText, IsPrefixOfText, IsPrefixOfEnded, session_limits}
+use Rattle.cq_script.proofs.Played.{prefix_of_lines, lines_of_one_object}
 
 -- ---- scripts
 
@@ -37,7 +37,7 @@ replays_of size (Err NoMemory) input left output runs = runs
 -- ---- sessions
 
 -- the lines that are run are the first ones of the session
-first_lines : (bytes : List ℕ) → Front (parse_text session_grammar session_limits bytes).values (session_lines bytes)
+first_lines : (bytes : List ℕ) → IsPrefix (parse_text session_grammar session_limits bytes).values (session_lines bytes)
 unfolding session_lines
 first_lines bytes = first_of_all session_grammar session_limits (λ n line. (_, refl)) (λ n. (_, refl)) bytes
 
@@ -46,19 +46,19 @@ all_lines : (bytes : List ℕ) → (parse_text session_grammar session_limits by
 unfolding session_lines
 all_lines bytes none = all_of_them session_grammar session_limits (λ n line. (_, refl)) (λ n. (_, refl)) bytes none
 
-front_of_session : (size : ℕ) (bytes output : List ℕ) → Front output (text_of size (parse_text session_grammar session_limits bytes).values) → Front output (session_text size bytes)
-front_of_session size bytes output part = front_of_lines size _ (session_lines bytes) output (first_lines bytes) part
+prefix_of_session : (size : ℕ) (bytes output : List ℕ) → IsPrefix output (text_of size (parse_text session_grammar session_limits bytes).values) → IsPrefix output (session_text size bytes)
+prefix_of_session size bytes output part = prefix_of_lines size _ (session_lines bytes) output (first_lines bytes) part
 
 text_of_session : (size : ℕ) (bytes output : List ℕ) → WritesScript size (parse_text session_grammar session_limits bytes) None output → output ≡ session_text size bytes
 text_of_session size bytes output writes = writes.text_is ∙ ap (text_of size) (sym (all_lines bytes writes.fault_is))
 
-session_front : (size : ℕ) (input : List ℕ) (left : Option (List ℕ)) (output : List ℕ) → IsFrontOfText session_grammar session_limits size input left output
-    → IsSessionFront size input left output
-session_front size input None output front = tt
-session_front size input (Some more) output front = front_of_session size (input ++ more) output front
+session_prefix : (size : ℕ) (input : List ℕ) (left : Option (List ℕ)) (output : List ℕ) → IsPrefixOfText session_grammar session_limits size input left output
+    → IsSessionPrefix size input left output
+session_prefix size input None output prefix = tt
+session_prefix size input (Some more) output prefix = prefix_of_session size (input ++ more) output prefix
 
-pub session_ended_front : (size : ℕ) (input output : List ℕ) → IsFrontOfEnded session_grammar session_limits size input output → IsSessionEndedFront size input output
-session_ended_front size input output front = front_of_session size (ended_part input) output front
+pub session_ended_prefix : (size : ℕ) (input output : List ℕ) → IsPrefixOfEnded session_grammar session_limits size input output → IsSessionEndedPrefix size input output
+session_ended_prefix size input output prefix = prefix_of_session size (ended_part input) output prefix
 
 -- no line of a session is a fault
 ends_session : (size : ℕ) (f : ScriptFault) (input output : List ℕ) (left : Option (List ℕ)) → FailsAtFault session_grammar session_limits size f input left output
@@ -67,28 +67,28 @@ ends_session size f input output left fails =
     complete_ends session_grammar session_limits (λ n line. (_, refl)) (λ n. (_, refl)) input f fails.here.fault_is
 
 pub sessions_of : (size : ℕ) (r : Result (Unit {0}) ScriptFault) (input : List ℕ) (left : Option (List ℕ)) (output : List ℕ) → RunsText session_grammar session_limits size r input left output
-    → IsFrontOfText session_grammar session_limits size input left output → Sessions size r input left output
-sessions_of size (Ok _) input left output runs front = (runs.0, text_of_session size input output runs.1)
-sessions_of size (Err (BadLine n)) input left output runs front =
+    → IsPrefixOfText session_grammar session_limits size input left output → Sessions size r input left output
+sessions_of size (Ok _) input left output runs prefix = (runs.0, text_of_session size input output runs.1)
+sessions_of size (Err (BadLine n)) input left output runs prefix =
     let never = (ends_session size (BadLine n) input output left runs).0 in
     cc
-sessions_of size (Err (LineTooLong n)) input left output runs front =
+sessions_of size (Err (LineTooLong n)) input left output runs prefix =
     let never = (ends_session size (LineTooLong n) input output left runs).0 in
     cc
-sessions_of size (Err TooManyLines) input left output (inl fails) front = (session_front size input left output front, (ends_session size TooManyLines input output left fails).1)
-sessions_of size (Err TooManyLines) input left output (inr all) front = (session_front size input left output front, all.many)
-sessions_of size (Err ReadFailed) input left output runs front = text_of_session size (ended_part input) output runs.0
-sessions_of size (Err WriteFailed) input left output runs front = session_front size input left output runs
-sessions_of size (Err NoMemory) input left output runs front = session_front size input left output runs
+sessions_of size (Err TooManyLines) input left output (inl fails) prefix = (session_prefix size input left output prefix, (ends_session size TooManyLines input output left fails).1)
+sessions_of size (Err TooManyLines) input left output (inr all) prefix = (session_prefix size input left output prefix, all.many)
+sessions_of size (Err ReadFailed) input left output runs prefix = text_of_session size (ended_part input) output runs.0
+sessions_of size (Err WriteFailed) input left output runs prefix = session_prefix size input left output runs
+sessions_of size (Err NoMemory) input left output runs prefix = session_prefix size input left output runs
 
 -- what a session writes is told of one object
-pub session_headlines : (size : ℕ) (input : List ℕ) (left : Option (List ℕ)) (output : List ℕ) → 1 ≤ size → IsFrontOfText session_grammar session_limits size input left output
+pub session_headlines : (size : ℕ) (input : List ℕ) (left : Option (List ℕ)) (output : List ℕ) → 1 ≤ size → IsPrefixOfText session_grammar session_limits size input left output
     → SessionHeadlines size input left output
-session_headlines size input None output some front = tt
-session_headlines size input (Some more) output some front = lines_of_one_object size (session_lines (input ++ more)) output some (front_of_session size (input ++ more) output front)
+session_headlines size input None output some prefix = tt
+session_headlines size input (Some more) output some prefix = lines_of_one_object size (session_lines (input ++ more)) output some (prefix_of_session size (input ++ more) output prefix)
 
 -- so is what a script writes
-pub script_headlines : (size : ℕ) (input : List ℕ) (left : Option (List ℕ)) (output : List ℕ) → 1 ≤ size → IsFrontOfText script_grammar script_limits size input left output
+pub script_headlines : (size : ℕ) (input : List ℕ) (left : Option (List ℕ)) (output : List ℕ) → 1 ≤ size → IsPrefixOfText script_grammar script_limits size input left output
     → IfSome left (λ more. IsToldOfOneObject size (parse_text script_grammar script_limits (input ++ more)).values output)
-script_headlines size input None output some front = tt
-script_headlines size input (Some more) output some front = lines_of_one_object size (parse_text script_grammar script_limits (input ++ more)).values output some front
+script_headlines size input None output some prefix = tt
+script_headlines size input (Some more) output some prefix = lines_of_one_object size (parse_text script_grammar script_limits (input ++ more)).values output some prefix

@@ -1,9 +1,9 @@
 -- lines out
-pub mod Fronts
+pub mod Prefixes
 pub mod Outcomes
 -- what lines do
 pub mod RunTold
 pub mod Played
 pub mod Answered
 -- worked lines
-pub mod Rows
+pub mod Examples

@@ -1,7 +1,7 @@
 -- Lines that are run as they are read: what was written before a chunk, and what its lines add to that.
 use Rattle.std.specs.Io.KnownBytes.{IsAtEnd}
 use Rattle.std.proofs.Common.{◌≡◌, ℕ, ◌≤◌, subst, Bool, true, false, cond, List, [], ◌∷◌, ◌++◌, length, Option, None, Some, IfSome, Result, Ok, Err, inl, inr, refl, sym, ap, ◌∙◌, append_assoc, append-nil}
-use Rattle.cq_base.specs.Relations.{Front}
+use Rattle.cq_base.specs.Relations.{IsPrefix}
 use Rattle.cq_lines.specs.Lines.{ended_part}
 use Rattle.cq_lines.specs.Grammars.{Grammar, Parsed, Yields, parse_text}
 use Rattle.cq_lines.specs.Faults.{ends_by_memory}
@@ -20,27 +20,27 @@ use Rattle.cq_script.specs.declared.script_line.ScriptLine.{ScriptLine}
 use Rattle.cq_script.specs.Output.{after_line, events_of, output, text_from, text_of}
 use Rattle.cq_script.specs.Laws.{TextIsOfTheRun}
 use Rattle.cq_script.specs.Replays.{WritesScript, IsToldOfOneObject}
-use Rattle.cq_script.specs.Runs.{WritesFront, EndsWriting}
-use Rattle.cq_script.specs.within.Played.{after_lines, IsFrontOfText, IsFrontOfEnded, FailsAtFault, RunsText, IsPlayed, StopsAtFault, Plays}
+use Rattle.cq_script.specs.Runs.{WritesPrefix, EndsWriting}
+use Rattle.cq_script.specs.within.Played.{after_lines, IsPrefixOfText, IsPrefixOfEnded, FailsAtFault, RunsText, IsPlayed, StopsAtFault, Plays}
 use Rattle.cq_script.proofs.RunTold.{text_is_of_the_run}
 use Rattle.cq_world.proofs.OfLaws.Headlines.{headline_holds}
 
--- ---- fronts
+-- ---- prefixes
 
-pub front-trans : {X : Type 0} → (whole text front : List X) → Front text whole → Front front text → Front front whole
-front-trans whole text front first second =
-    (second.0 ++ first.0, first.1 ∙ ap (λ t. t ++ first.0) second.1 ∙ append_assoc front second.0 first.0)
+pub prefix-trans : {X : Type 0} → (whole text prefix : List X) → IsPrefix text whole → IsPrefix prefix text → IsPrefix prefix whole
+prefix-trans whole text prefix first second =
+    (second.0 ++ first.0, first.1 ∙ ap (λ t. t ++ first.0) second.1 ∙ append_assoc prefix second.0 first.0)
 
-pub front_of_part : (f : ScriptFault) (text written : List ℕ) → WritesFront (Err f) text written → Front written text
-front_of_part (BadLine n) text written part = absurd part
-front_of_part (LineTooLong n) text written part = absurd part
-front_of_part TooManyLines text written part = absurd part
-front_of_part ReadFailed text written part = absurd part
-front_of_part WriteFailed text written part = part
-front_of_part NoMemory text written part = part
+pub prefix_of_part : (f : ScriptFault) (text written : List ℕ) → WritesPrefix (Err f) text written → IsPrefix written text
+prefix_of_part (BadLine n) text written part = absurd part
+prefix_of_part (LineTooLong n) text written part = absurd part
+prefix_of_part TooManyLines text written part = absurd part
+prefix_of_part ReadFailed text written part = absurd part
+prefix_of_part WriteFailed text written part = part
+prefix_of_part NoMemory text written part = part
 
-pub front_of_all : (text written : List ℕ) → written ≡ text → Front written text
-front_of_all text written all = ([], sym all ∙ sym (append-nil written))
+pub prefix_of_all : (text written : List ℕ) → written ≡ text → IsPrefix written text
+prefix_of_all text written all = ([], sym all ∙ sym (append-nil written))
 
 -- ---- text in two parts
 
@@ -60,42 +60,42 @@ text_of-split : (size : ℕ) (xs ys : List ScriptLine) → text_of size (xs ++ y
 unfolding text_of
 text_of-split size xs ys = text_from-split (first_world size) xs ys
 
-pub front_of_lines : (size : ℕ) (lines more : List ScriptLine) (written : List ℕ) → Front lines more → Front written (text_of size lines) → Front written (text_of size more)
-front_of_lines size lines more written read part =
+pub prefix_of_lines : (size : ℕ) (lines more : List ScriptLine) (written : List ℕ) → IsPrefix lines more → IsPrefix written (text_of size lines) → IsPrefix written (text_of size more)
+prefix_of_lines size lines more written read part =
     let all = ap (text_of size) read.1 ∙ text_of-split size lines read.0 in
-    front-trans (text_of size more) (text_of size lines) written (text_from (after_lines (first_world size) lines) read.0, all) part
+    prefix-trans (text_of size more) (text_of size lines) written (text_from (after_lines (first_world size) lines) read.0, all) part
 
 -- the text of the lines of a chunk comes behind what was written
 pub text_of-more : (size : ℕ) (lines new : List ScriptLine) (written output : List ℕ) → written ≡ text_of size lines
     → output ≡ text_from (after_lines (first_world size) lines) new → written ++ output ≡ text_of size (lines ++ new)
 text_of-more size lines new written output text more = rw (text, more) (sym (text_of-split size lines new))
 
-pub front_of-more : (size : ℕ) (lines new : List ScriptLine) (written output : List ℕ) → written ≡ text_of size lines
-    → Front output (text_from (after_lines (first_world size) lines) new) → Front (written ++ output) (text_of size (lines ++ new))
-front_of-more size lines new written output text more = (
+pub prefix_of-more : (size : ℕ) (lines new : List ScriptLine) (written output : List ℕ) → written ≡ text_of size lines
+    → IsPrefix output (text_from (after_lines (first_world size) lines) new) → IsPrefix (written ++ output) (text_of size (lines ++ new))
+prefix_of-more size lines new written output text more = (
   more.0,
   text_of-split size lines new ∙ ap (λ t. t ++ text_from (after_lines (first_world size) lines) new) (sym text)
       ∙ ap (λ t. written ++ t) more.1 ∙ sym (append_assoc written output more.0),
 )
 
 pub part_of-more : (size : ℕ) (f : ScriptFault) (lines new : List ScriptLine) (written output : List ℕ) → written ≡ text_of size lines
-    → WritesFront (Err f) (text_from (after_lines (first_world size) lines) new) output → WritesFront (Err f) (text_of size (lines ++ new)) (written ++ output)
+    → WritesPrefix (Err f) (text_from (after_lines (first_world size) lines) new) output → WritesPrefix (Err f) (text_of size (lines ++ new)) (written ++ output)
 part_of-more size (BadLine n) lines new written output text more = absurd more
 part_of-more size (LineTooLong n) lines new written output text more = absurd more
 part_of-more size TooManyLines lines new written output text more = absurd more
 part_of-more size ReadFailed lines new written output text more = absurd more
-part_of-more size WriteFailed lines new written output text more = front_of-more size lines new written output text more
-part_of-more size NoMemory lines new written output text more = front_of-more size lines new written output text more
+part_of-more size WriteFailed lines new written output text more = prefix_of-more size lines new written output text more
+part_of-more size NoMemory lines new written output text more = prefix_of-more size lines new written output text more
 
 -- a fault of the writing, or want of memory
-runs_short : (grammar : Grammar ScriptLine) (limits : Limits) (size : ℕ) (f : ScriptFault) (text input written : List ℕ) (left : Option (List ℕ)) → WritesFront (Err f) text written
-    → IsFrontOfText grammar limits size input left written → RunsText grammar limits size (Err f) input left written
-runs_short grammar limits size (BadLine n) text input written left part front = absurd part
-runs_short grammar limits size (LineTooLong n) text input written left part front = absurd part
-runs_short grammar limits size TooManyLines text input written left part front = absurd part
-runs_short grammar limits size ReadFailed text input written left part front = absurd part
-runs_short grammar limits size WriteFailed text input written left part front = front
-runs_short grammar limits size NoMemory text input written left part front = front
+runs_short : (grammar : Grammar ScriptLine) (limits : Limits) (size : ℕ) (f : ScriptFault) (text input written : List ℕ) (left : Option (List ℕ)) → WritesPrefix (Err f) text written
+    → IsPrefixOfText grammar limits size input left written → RunsText grammar limits size (Err f) input left written
+runs_short grammar limits size (BadLine n) text input written left part prefix = absurd part
+runs_short grammar limits size (LineTooLong n) text input written left part prefix = absurd part
+runs_short grammar limits size TooManyLines text input written left part prefix = absurd part
+runs_short grammar limits size ReadFailed text input written left part prefix = absurd part
+runs_short grammar limits size WriteFailed text input written left part prefix = prefix
+runs_short grammar limits size NoMemory text input written left part prefix = prefix
 
 -- ---- what was read
 
@@ -113,22 +113,22 @@ yields_values (Err WriteFailed) lines parsed lasts is = absurd is
 yields_values (Err NoMemory) lines parsed lasts is = cc
 
 module _ (grammar : Grammar ScriptLine) (limits : Limits) (size : ℕ) where
-  front_of_input : (lines : List ScriptLine) (input written : List ℕ) (left : Option (List ℕ)) → AreFirstValues grammar limits lines input → Front written (text_of size lines)
-      → IsFrontOfText grammar limits size input left written
-  front_of_input lines input written None first part = tt
-  front_of_input lines input written (Some more) first part = front_of_lines size lines (parse_text grammar limits (input ++ more)).values written (first.front more) part
+  prefix_of_input : (lines : List ScriptLine) (input written : List ℕ) (left : Option (List ℕ)) → AreFirstValues grammar limits lines input → IsPrefix written (text_of size lines)
+      → IsPrefixOfText grammar limits size input left written
+  prefix_of_input lines input written None first part = tt
+  prefix_of_input lines input written (Some more) first part = prefix_of_lines size lines (parse_text grammar limits (input ++ more)).values written (first.prefix more) part
 
-  front_of_ended : (lines : List ScriptLine) (input written : List ℕ) → AreFirstValues grammar limits lines input → Front written (text_of size lines) → IsFrontOfEnded grammar limits size input written
-  front_of_ended lines input written first part = front_of_lines size lines (parse_text grammar limits (ended_part input)).values written first.ended part
+  prefix_of_ended : (lines : List ScriptLine) (input written : List ℕ) → AreFirstValues grammar limits lines input → IsPrefix written (text_of size lines) → IsPrefixOfEnded grammar limits size input written
+  prefix_of_ended lines input written first part = prefix_of_lines size lines (parse_text grammar limits (ended_part input)).values written first.ended part
 
-  stops_at_writing : (f : ScriptFault) (lines : List ScriptLine) (input written : List ℕ) → AreFirstValues grammar limits lines input → WritesFront (Err f) (text_of size lines) written
+  stops_at_writing : (f : ScriptFault) (lines : List ScriptLine) (input written : List ℕ) → AreFirstValues grammar limits lines input → WritesPrefix (Err f) (text_of size lines) written
       → StopsAtFault grammar limits size f input written
   stops_at_writing f lines input written first part =
-      let front = front_of_part f (text_of size lines) written part in
+      let prefix = prefix_of_part f (text_of size lines) written part in
       record {
-        runs = λ left. runs_short grammar limits size f (text_of size lines) input written left part (front_of_input lines input written left first front);
-        front = λ left. front_of_input lines input written left first front;
-        ended = front_of_ended lines input written first front;
+        runs = λ left. runs_short grammar limits size f (text_of size lines) input written left part (prefix_of_input lines input written left first prefix);
+        prefix = λ left. prefix_of_input lines input written left first prefix;
+        ended = prefix_of_ended lines input written first prefix;
       }
 
   -- ---- one more chunk
@@ -147,13 +147,13 @@ module _ (grammar : Grammar ScriptLine) (limits : Limits) (size : ℕ) where
   plays_none (Err WriteFailed) input chunk written old new sim later out played = cc
   plays_none (Err NoMemory) input chunk written old new sim later out played =
       let first = subst (λ lines. AreFirstValues grammar limits lines (input ++ chunk)) (lines_before input written old sim played) (first_before_chunk grammar limits (with_earlier played.lines old) input chunk played.read) in
-      stops_at_writing NoMemory played.lines (input ++ chunk) (written ++ []) first (front_of_all _ (written ++ []) (append-nil written ∙ played.text))
+      stops_at_writing NoMemory played.lines (input ++ chunk) (written ++ []) first (prefix_of_all _ (written ++ []) (append-nil written ∙ played.text))
 
   -- the writing ended before all of the chunk was written
-  pub plays_front : (r : Result (Unit {0}) ScriptFault) (f : ScriptFault) (input chunk written output : List ℕ) (old new : Progress ScriptLine) (sim : Sim) → ends_by_memory r ≡ false
+  pub plays_prefix : (r : Result (Unit {0}) ScriptFault) (f : ScriptFault) (input chunk written output : List ℕ) (old new : Progress ScriptLine) (sim : Sim) → ends_by_memory r ≡ false
       → FeedsChunk grammar r old chunk new → (played : IsPlayed grammar limits size input old sim written)
-      → WritesFront (Err f) (text_from (after_lines (first_world size) played.lines) new.values) output → StopsAtFault grammar limits size f (input ++ chunk) (written ++ output)
-  plays_front r f input chunk written output old new sim lasts feeds played part =
+      → WritesPrefix (Err f) (text_from (after_lines (first_world size) played.lines) new.values) output → StopsAtFault grammar limits size f (input ++ chunk) (written ++ output)
+  plays_prefix r f input chunk written output old new sim lasts feeds played part =
       stops_at_writing f (played.lines ++ new.values) (input ++ chunk) (written ++ output) (fed_values grammar limits played.lines r old new input chunk lasts played.read feeds)
       (part_of-more size f played.lines new.values written output played.text part)
 
@@ -197,23 +197,23 @@ module _ (grammar : Grammar ScriptLine) (limits : Limits) (size : ℕ) where
   plays_chunk (Err f) input chunk written output old new sim later lasts feeds played all stands =
       let text = text_of-more size played.lines new.values written output played.text all in
       let first = fed_values grammar limits played.lines (Err f) old new input chunk lasts played.read feeds in
-      let front = front_of_all (text_of size (played.lines ++ new.values)) (written ++ output) text in
+      let prefix = prefix_of_all (text_of size (played.lines ++ new.values)) (written ++ output) text in
       record {
         runs = λ left. runs_to_fault f old new played.lines input chunk (written ++ output) left lasts played.read feeds text;
-        front = λ left. front_of_input (played.lines ++ new.values) (input ++ chunk) (written ++ output) left first front;
-        ended = front_of_ended (played.lines ++ new.values) (input ++ chunk) (written ++ output) first front;
+        prefix = λ left. prefix_of_input (played.lines ++ new.values) (input ++ chunk) (written ++ output) left first prefix;
+        ended = prefix_of_ended (played.lines ++ new.values) (input ++ chunk) (written ++ output) first prefix;
       }
 
   -- ---- the end
 
   -- what is claimed at the end
   abbrev pub EndsRun : Result (Unit {0}) ScriptFault → List ℕ → Option (List ℕ) → List ℕ → Type 0
-  EndsRun r input left written = RunsText grammar limits size r input left written × IsFrontOfText grammar limits size input left written
+  EndsRun r input left written = RunsText grammar limits size r input left written × IsPrefixOfText grammar limits size input left written
 
-  front_at_end : (lines : List ScriptLine) (input written : List ℕ) (left : Option (List ℕ)) → IsAtEnd left → (parse_text grammar limits input).values ≡ lines → Front written (text_of size lines)
-      → IsFrontOfText grammar limits size input left written
-  front_at_end lines input written None end is part = tt
-  front_at_end lines input written (Some more) end is part = rw (end, append-nil input, is) part
+  prefix_at_end : (lines : List ScriptLine) (input written : List ℕ) (left : Option (List ℕ)) → IsAtEnd left → (parse_text grammar limits input).values ≡ lines → IsPrefix written (text_of size lines)
+      → IsPrefixOfText grammar limits size input left written
+  prefix_at_end lines input written None end is part = tt
+  prefix_at_end lines input written (Some more) end is part = rw (end, append-nil input, is) part
 
   fails_at_last : (f : ScriptFault) (lines : List ScriptLine) (input written : List ℕ) (left : Option (List ℕ)) → IsAtEnd left → parse_text grammar limits input ≡ record { values = lines; fault = Some f }
       → written ≡ text_of size lines → FailsAtFault grammar limits size f input left written
@@ -243,18 +243,18 @@ module _ (grammar : Grammar ScriptLine) (limits : Limits) (size : ℕ) where
   ends_unread (Err WriteFailed) input written left old sim out played = cc
   ends_unread (Err NoMemory) input written left old sim out played =
       let first = subst (λ lines. AreFirstValues grammar limits lines input) (lines_before input written old sim played) (first_values grammar limits (with_earlier played.lines old) input played.read) in
-      let is = front_of_input played.lines input (written ++ []) left first (front_of_all _ (written ++ []) (append-nil written ∙ played.text)) in
+      let is = prefix_of_input played.lines input (written ++ []) left first (prefix_of_all _ (written ++ []) (append-nil written ∙ played.text)) in
       (is, is)
 
   -- the writing ended before all of the last line was written
-  pub ends_front : (r : Result (Unit {0}) ScriptFault) (f : ScriptFault) (input written output : List ℕ) (left : Option (List ℕ)) (old new : Progress ScriptLine) (sim : Sim)
+  pub ends_prefix : (r : Result (Unit {0}) ScriptFault) (f : ScriptFault) (input written output : List ℕ) (left : Option (List ℕ)) (old new : Progress ScriptLine) (sim : Sim)
       → IsAtEnd left → ends_by_memory r ≡ false → Yields r new.values (parse_after grammar old []) → (played : IsPlayed grammar limits size input old sim written)
-      → WritesFront (Err f) (text_from (after_lines (first_world size) played.lines) new.values) output → EndsRun (Err f) input left (written ++ output)
-  ends_front r f input written output left old new sim end lasts is played part =
+      → WritesPrefix (Err f) (text_from (after_lines (first_world size) played.lines) new.values) output → EndsRun (Err f) input left (written ++ output)
+  ends_prefix r f input written output left old new sim end lasts is played part =
       let lines = yields_values r (played.lines ++ new.values) (parse_text grammar limits input) lasts (fed_end grammar limits played.lines r old new input played.read is) in
       let whole = part_of-more size f played.lines new.values written output played.text part in
-      let front = front_at_end (played.lines ++ new.values) input (written ++ output) left end lines (front_of_part f _ (written ++ output) whole) in
-      (runs_short grammar limits size f (text_of size (played.lines ++ new.values)) input (written ++ output) left whole front, front)
+      let prefix = prefix_at_end (played.lines ++ new.values) input (written ++ output) left end lines (prefix_of_part f _ (written ++ output) whole) in
+      (runs_short grammar limits size f (text_of size (played.lines ++ new.values)) input (written ++ output) left whole prefix, prefix)
 
   -- all was run and written
   pub ends_whole : (r : Result (Unit {0}) ScriptFault) (input written output : List ℕ) (left : Option (List ℕ)) (old new : Progress ScriptLine) (sim : Sim)
@@ -265,7 +265,7 @@ module _ (grammar : Grammar ScriptLine) (limits : Limits) (size : ℕ) where
       let lines = yields_values r (played.lines ++ new.values) (parse_text grammar limits input) lasts yields in
       let text = text_of-more size played.lines new.values written output played.text all in (
         runs_to_end r (played.lines ++ new.values) input (written ++ output) left end lasts yields text,
-        front_at_end (played.lines ++ new.values) input (written ++ output) left end lines (front_of_all _ (written ++ output) text),
+        prefix_at_end (played.lines ++ new.values) input (written ++ output) left end lines (prefix_of_all _ (written ++ output) text),
       )
 
   -- ---- a read that failed
@@ -273,33 +273,33 @@ module _ (grammar : Grammar ScriptLine) (limits : Limits) (size : ℕ) where
   -- where a read failed, or memory ran out, all lines that have ended are written
   pub ends_at_read : (failed : Bool) (f : ScriptFault) (input written : List ℕ) (left : Option (List ℕ)) (progress : Progress ScriptLine) (sim : Sim) → f ≡ cond failed ReadFailed NoMemory
       → IsPlayed grammar limits size input progress sim written
-      → RunsText grammar limits size (Err f) input left written × IsFrontOfText grammar limits size input left written × IsFrontOfEnded grammar limits size input written
+      → RunsText grammar limits size (Err f) input left written × IsPrefixOfText grammar limits size input left written × IsPrefixOfEnded grammar limits size input written
   ends_at_read failed f input written left progress sim is played = go failed is where
     first : AreFirstValues grammar limits played.lines input
     first = subst (λ lines. AreFirstValues grammar limits lines input) (lines_before input written progress sim played) (first_values grammar limits (with_earlier played.lines progress) input played.read)
 
-    front : IsFrontOfText grammar limits size input left written
-    front = front_of_input played.lines input written left first (front_of_all _ written played.text)
+    prefix : IsPrefixOfText grammar limits size input left written
+    prefix = prefix_of_input played.lines input written left first (prefix_of_all _ written played.text)
 
-    ended : IsFrontOfEnded grammar limits size input written
-    ended = front_of_ended played.lines input written first (front_of_all _ written played.text)
+    ended : IsPrefixOfEnded grammar limits size input written
+    ended = prefix_of_ended played.lines input written first (prefix_of_all _ written played.text)
 
     whole : WritesScript size (parse_text grammar limits (ended_part input)) None written
     whole = writes_parsed size _ played.lines None written (played.read.ended ∙ ap (λ lines. record { values = lines; fault = None }) (lines_before input written progress sim played)) played.text
 
     go : (t : Bool) → f ≡ cond t ReadFailed NoMemory
-        → RunsText grammar limits size (Err f) input left written × IsFrontOfText grammar limits size input left written × IsFrontOfEnded grammar limits size input written
-    go true so = rw so ((whole, (no_fault_yet grammar limits (with_earlier played.lines progress) input played.read).goes_on), front, ended)
-    go false so = rw so (front, front, ended)
+        → RunsText grammar limits size (Err f) input left written × IsPrefixOfText grammar limits size input left written × IsPrefixOfEnded grammar limits size input written
+    go true so = rw so ((whole, (no_fault_yet grammar limits (with_earlier played.lines progress) input played.read).goes_on), prefix, ended)
+    go false so = rw so (prefix, prefix, ended)
 
   -- the bytes can't be counted any more
   pub ends_uncounted : (input written : List ℕ) (left : Option (List ℕ)) (progress : Progress ScriptLine) (sim : Sim) → BYTES_LIMIT ≤ length input → IsPlayed grammar limits size input progress sim written
-      → RunsText grammar limits size (Err TooManyLines) input left written × IsFrontOfText grammar limits size input left written × IsFrontOfEnded grammar limits size input written
+      → RunsText grammar limits size (Err TooManyLines) input left written × IsPrefixOfText grammar limits size input left written × IsPrefixOfEnded grammar limits size input written
   ends_uncounted input written left progress sim many played =
       let first = subst (λ lines. AreFirstValues grammar limits lines input) (lines_before input written progress sim played) (first_values grammar limits (with_earlier played.lines progress) input played.read) in
-      let front = front_of_input played.lines input written left first (front_of_all _ written played.text) in
+      let prefix = prefix_of_input played.lines input written left first (prefix_of_all _ written played.text) in
       let yet = no_fault_yet grammar limits (with_earlier played.lines progress) input played.read in
-      (inr (record { yet = yet; front = front; many = many }), front, front_of_ended played.lines input written first (front_of_all _ written played.text))
+      (inr (record { yet = yet; prefix = prefix; many = many }), prefix, prefix_of_ended played.lines input written first (prefix_of_all _ written played.text))
 
   -- ---- the start
 
@@ -307,7 +307,7 @@ module _ (grammar : Grammar ScriptLine) (limits : Limits) (size : ℕ) where
   unfolding after_lines text_of text_from
   nothing_played sim stands = record { lines = []; none_left = refl; read = nothing_is_read grammar limits; stands = stands; text = refl }
 
-  pub nothing_run : (left : Option (List ℕ)) → RunsText grammar limits size (Err NoMemory) [] left [] × IsFrontOfText grammar limits size [] left [] × IsFrontOfEnded grammar limits size [] []
+  pub nothing_run : (left : Option (List ℕ)) → RunsText grammar limits size (Err NoMemory) [] left [] × IsPrefixOfText grammar limits size [] left [] × IsPrefixOfEnded grammar limits size [] []
   nothing_run None = (tt, tt, (_, refl))
   nothing_run (Some more) = ((_, refl), (_, refl), (_, refl))
 
@@ -315,13 +315,13 @@ module _ (grammar : Grammar ScriptLine) (limits : Limits) (size : ℕ) where
 
   -- the flush failed
   pub runs_unflushed : (f : ScriptFault) (failed : Bool) (input : List ℕ) (left : Option (List ℕ)) (written : List ℕ) → EndsWriting (Err f) failed
-      → IsFrontOfText grammar limits size input left written → RunsText grammar limits size (Err f) input left written
-  runs_unflushed (BadLine n) failed input left written ends front = absurd ends
-  runs_unflushed (LineTooLong n) failed input left written ends front = absurd ends
-  runs_unflushed TooManyLines failed input left written ends front = absurd ends
-  runs_unflushed ReadFailed failed input left written ends front = absurd ends
-  runs_unflushed WriteFailed failed input left written ends front = front
-  runs_unflushed NoMemory failed input left written ends front = front
+      → IsPrefixOfText grammar limits size input left written → RunsText grammar limits size (Err f) input left written
+  runs_unflushed (BadLine n) failed input left written ends prefix = absurd ends
+  runs_unflushed (LineTooLong n) failed input left written ends prefix = absurd ends
+  runs_unflushed TooManyLines failed input left written ends prefix = absurd ends
+  runs_unflushed ReadFailed failed input left written ends prefix = absurd ends
+  runs_unflushed WriteFailed failed input left written ends prefix = prefix
+  runs_unflushed NoMemory failed input left written ends prefix = prefix
 
 pub failed_read : (failed : Bool) (f : ScriptFault) → f ≡ cond failed ReadFailed NoMemory → f ≡ ReadFailed → failed ≡ true
 failed_read true f is so = refl
@@ -332,9 +332,9 @@ no_failed_write true f is = λ so. let never = sym is ∙ so in cc
 no_failed_write false f is = λ so. let never = sym is ∙ so in cc
 
 -- the text of any lines is told of a run of which the headline holds
-pub lines_of_one_object : (size : ℕ) (lines : List ScriptLine) (written : List ℕ) → 1 ≤ size → Front written (text_of size lines) → IsToldOfOneObject size lines written
+pub lines_of_one_object : (size : ℕ) (lines : List ScriptLine) (written : List ℕ) → 1 ≤ size → IsPrefix written (text_of size lines) → IsToldOfOneObject size lines written
 unfolding TextIsOfTheRun
 lines_of_one_object size lines written some part = record {
-  text = subst (λ text. Front written text) (text_is_of_the_run size lines) part;
+  text = subst (λ text. IsPrefix written text) (text_is_of_the_run size lines) part;
   headline = headline_holds size (events_of lines) some;
 }

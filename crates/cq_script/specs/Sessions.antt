@@ -2,7 +2,7 @@
 -- their number, and a line that is bad or too long is told as refused and doesn't end it.
 use Rattle.std.specs.Prelude.{◌≡◌, ◌≤◌, ℕ, List, ◌++◌, length, Option, IfSome, Result, Ok, Err}
 use Rattle.std.specs.Io.KnownBytes.{IsAtEnd}
-use Rattle.cq_base.specs.Relations.{Front}
+use Rattle.cq_base.specs.Relations.{IsPrefix}
 use Rattle.cq_lines.specs.declared.fault.ScriptFault.{ScriptFault}
 use Rattle.cq_lines.specs.declared.fault.ScriptFault.TheVariants.{BadLine, LineTooLong, TooManyLines, ReadFailed, WriteFailed, NoMemory}
 use Rattle.cq_lines.specs.Lines.{ended_part}
@@ -15,13 +15,13 @@ use Rattle.cq_script.specs.Replays.{IsToldOfOneObject}
 abbrev pub session_text : ℕ → List ℕ → List ℕ
 session_text size bytes = text_of size (session_lines bytes)
 
--- a front of the text of what the reader held
-abbrev pub IsSessionFront : ℕ → List ℕ → Option (List ℕ) → List ℕ → Type 0
-IsSessionFront size input left output = IfSome left (λ more. Front output (session_text size (input ++ more)))
+-- a prefix of the text of what the reader held
+abbrev pub IsSessionPrefix : ℕ → List ℕ → Option (List ℕ) → List ℕ → Type 0
+IsSessionPrefix size input left output = IfSome left (λ more. IsPrefix output (session_text size (input ++ more)))
 
--- a front of the text of the lines of the input that have ended
-abbrev pub IsSessionEndedFront : ℕ → List ℕ → List ℕ → Type 0
-IsSessionEndedFront size input output = Front output (session_text size (ended_part input))
+-- a prefix of the text of the lines of the input that have ended
+abbrev pub IsSessionEndedPrefix : ℕ → List ℕ → List ℕ → Type 0
+IsSessionEndedPrefix size input output = IsPrefix output (session_text size (ended_part input))
 
 -- On so many servers: `input` was read, `left` is what the reader has left, if that is known, and `output` was
 -- written. No line ends a session; more bytes than can be counted do.
@@ -29,10 +29,10 @@ abbrev pub Sessions : ℕ → Result (Unit {0}) ScriptFault → List ℕ → Opt
 Sessions size (Ok _) input left output = IsAtEnd left × (output ≡ session_text size input)
 Sessions size (Err (BadLine n)) input left output = ⊥
 Sessions size (Err (LineTooLong n)) input left output = ⊥
-Sessions size (Err TooManyLines) input left output = IsSessionFront size input left output × BYTES_LIMIT ≤ length input
+Sessions size (Err TooManyLines) input left output = IsSessionPrefix size input left output × BYTES_LIMIT ≤ length input
 Sessions size (Err ReadFailed) input left output = output ≡ session_text size (ended_part input)
-Sessions size (Err WriteFailed) input left output = IsSessionFront size input left output
-Sessions size (Err NoMemory) input left output = IsSessionFront size input left output
+Sessions size (Err WriteFailed) input left output = IsSessionPrefix size input left output
+Sessions size (Err NoMemory) input left output = IsSessionPrefix size input left output
 
 -- what was written is told of the lines of what the reader held, of whose run the headline holds
 abbrev pub SessionHeadlines : ℕ → List ℕ → Option (List ℕ) → List ℕ → Type 0

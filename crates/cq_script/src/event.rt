@@ -5,7 +5,7 @@ ghost use Rattle.cq_json.specs.Readers.{Gives, same};
 
 use cq_base::{Party, Query, Request, ServerId};
 use cq_json::{
-    Stop, has_only, member_at, moment_at, party_at, queue_name, read_ask, server_at, text_at,
+    ReadFault, has_only, member_at, moment_at, party_at, queue_name, read_ask, server_at, text_at,
     u32_at, u64_at,
 };
 use cq_world::Event;
@@ -13,11 +13,11 @@ use serde_json::Value;
 use std::alloc::Global;
 
 #[tactic(auto, unfolding(crate::specs::Events::arrive_in))]
-fn read_arrive(alloc: Global, value: &Value) -> Result<Event, Stop>
+fn read_arrive(alloc: Global, value: &Value) -> Result<Event, ReadFault>
     ensures { Gives same result (spec.arrive_in (view value.now)) }
 {
     if !has_only(value, &["op", "at", "clock", "client", "number", "ask"]) {
-        return Err(Stop::Bad);
+        return Err(ReadFault::Bad);
     }
     let at = server_at(value, "at")?;
     let clock = moment_at(value, "clock")?;
@@ -36,11 +36,11 @@ fn read_arrive(alloc: Global, value: &Value) -> Result<Event, Stop>
 }
 
 #[tactic(auto, unfolding(crate::specs::Events::query_in))]
-fn read_query(alloc: Global, value: &Value) -> Result<Event, Stop>
+fn read_query(alloc: Global, value: &Value) -> Result<Event, ReadFault>
     ensures { Gives same result (spec.query_in (view value.now)) }
 {
     if !has_only(value, &["op", "at", "client", "tag", "queue"]) {
-        return Err(Stop::Bad);
+        return Err(ReadFault::Bad);
     }
     let at = server_at(value, "at")?;
     let client = u32_at(value, "client")?;
@@ -58,11 +58,11 @@ fn read_query(alloc: Global, value: &Value) -> Result<Event, Stop>
 
 /// Both ends of an event that has nothing else.
 #[tactic(auto, unfolding(crate::specs::Events::ends_in))]
-fn read_ends(value: &Value) -> Result<(Party, Party), Stop>
+fn read_ends(value: &Value) -> Result<(Party, Party), ReadFault>
     ensures { Gives same result (spec.ends_in (view value.now)) }
 {
     if !has_only(value, &["op", "from", "to"]) {
-        return Err(Stop::Bad);
+        return Err(ReadFault::Bad);
     }
     let from = party_at(value, "from")?;
     let to = party_at(value, "to")?;
@@ -71,18 +71,18 @@ fn read_ends(value: &Value) -> Result<(Party, Party), Stop>
 
 /// The server of an event that has nothing else.
 #[tactic(auto, unfolding(crate::specs::Events::server_in))]
-fn read_server(value: &Value) -> Result<ServerId, Stop>
+fn read_server(value: &Value) -> Result<ServerId, ReadFault>
     ensures { Gives same result (spec.server_in (view value.now)) }
 {
     if !has_only(value, &["op", "server"]) {
-        return Err(Stop::Bad);
+        return Err(ReadFault::Bad);
     }
     server_at(value, "server")
 }
 
 /// The event that the value says.
 #[tactic(auto, unfolding(crate::specs::Events::event_in))]
-pub(crate) fn read_event(alloc: Global, value: &Value) -> Result<Event, Stop>
+pub(crate) fn read_tree_event(alloc: Global, value: &Value) -> Result<Event, ReadFault>
     ensures { Gives same result (spec.event_in (view value.now)) }
 {
     let op = text_at(value, "op")?;
@@ -109,6 +109,6 @@ pub(crate) fn read_event(alloc: Global, value: &Value) -> Result<Event, Stop>
             server: read_server(value)?,
         })
     } else {
-        Err(Stop::Bad)
+        Err(ReadFault::Bad)
     }
 }

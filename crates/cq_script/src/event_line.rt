@@ -6,10 +6,10 @@ ghost use Rattle.cq_script.specs.Line.{event_from, line_of, Reads};
 ghost use Rattle.cq_json.specs.Readers.{Gives, same};
 ghost use Rattle.cq_script.specs.declared.event_line.Line.TheVariants as lines;
 
-use crate::event::read_event;
+use crate::event::read_tree_event;
 use crate::flat_event::read_flat_event;
 use cq_base::BaseFault;
-use cq_json::{FlatObject, LineScratch, Stop, parse};
+use cq_json::{FlatObject, LineScratch, ReadFault, parse};
 use cq_lines::{LineFault, is_blank};
 use cq_world::Event;
 use simdutf8::basic::from_utf8;
@@ -31,11 +31,11 @@ pub enum Line {
 
 /// What the bytes say, if their object is a flat one: read without a map, and with no memory but that of the scratch and of
 /// the event. None also where there is no memory for the scratch. O(bytes).
-fn read_at_once(
+fn read_flat(
     alloc: Global,
     scratch: &mut LineScratch,
     bytes: &[u8],
-) -> Option<Result<Event, Stop>>
+) -> Option<Result<Event, ReadFault>>
     ensures { IfSome result (λ read. Gives same read (event_from bytes.now)) }
 {
     let text = from_utf8(bytes).ok()?;
@@ -46,23 +46,23 @@ fn read_at_once(
     Some(read_flat_event(alloc, object.fields()))
 }
 
-fn read_object(alloc: Global, bytes: &[u8]) -> Result<Event, Stop>
+fn read_tree(alloc: Global, bytes: &[u8]) -> Result<Event, ReadFault>
     ensures { Gives same result (event_from bytes.now) }
 {
     let value = parse(alloc, bytes)?;
-    read_event(alloc, &value)
+    read_tree_event(alloc, &value)
 }
 
 /// The event that the bytes say, from a flat object, or else from any other. The memory of the scratch is let go before the
 /// bytes are read anew.
-fn read_line(alloc: Global, scratch: &mut LineScratch, bytes: &[u8]) -> Result<Event, Stop>
+fn read_event(alloc: Global, scratch: &mut LineScratch, bytes: &[u8]) -> Result<Event, ReadFault>
     ensures { Gives same result (event_from bytes.now) }
 {
-    match read_at_once(alloc, scratch, bytes) {
+    match read_flat(alloc, scratch, bytes) {
         Some(read) => read,
         None => {
             *scratch = LineScratch::new(alloc);
-            read_object(alloc, bytes)
+            read_tree(alloc, bytes)
         }
     }
 }
@@ -70,7 +70,7 @@ fn read_line(alloc: Global, scratch: &mut LineScratch, bytes: &[u8]) -> Result<E
 /// What the line with these bytes, its line feed left out, says, as `event_of` tells it. The scratch is kept from line to
 /// line, unless the line is a long one. O(bytes).
 #[tactic(auto, unfolding(crate::specs::Line::line_of))]
-pub(crate) fn event_with(
+pub(crate) fn parse_line(
     alloc: Global,
     scratch: &mut LineScratch,
     bytes: &[u8],
@@ -81,15 +81,15 @@ pub(crate) fn event_with(
     if is_blank(bytes) {
         return Ok(Line::Blank);
     }
-    let read = read_line(alloc, scratch, bytes);
+    let read = read_event(alloc, scratch, bytes);
     if bytes.len() > KEPT_LEN {
         *scratch = LineScratch::new(alloc);
     }
     match read {
         Ok(event) => Ok(Line::Event(event)),
-        Err(Stop::Bad) => Err(LineFault::Bad),
-        Err(Stop::Text(fault)) => Ok(Line::Refused(fault)),
-        Err(Stop::Memory) => Err(LineFault::NoMemory),
+        Err(ReadFault::Bad) => Err(LineFault::Bad),
+        Err(ReadFault::Text(fault)) => Ok(Line::Refused(fault)),
+        Err(ReadFault::Memory) => Err(LineFault::NoMemory),
     }
 }
 
@@ -101,5 +101,5 @@ pub fn event_of(alloc: Global, bytes: &[u8]) -> Result<Line, LineFault>
     ensures blank { list_all is_blank_byte bytes.now ≡ true → result ≡ Ok lines.Blank }
 {
     let mut scratch = LineScratch::new(alloc);
-    event_with(alloc, &mut scratch, bytes)
+    parse_line(alloc, &mut scratch, bytes)
 }

@@ -4,12 +4,12 @@ ghost use Rattle.cq_json.specs.Flat.{flat_data};
 ghost use Rattle.cq_json.specs.Readers.{Gives, same};
 
 use cq_base::{Party, Query, Request, ServerId};
-use cq_json::{Flat, Key, Stop, queue_name, read_flat_ask_at};
+use cq_json::{Flat, Key, ReadFault, queue_name, read_flat_ask_at};
 use cq_world::Event;
 use std::alloc::Global;
 
 #[tactic(auto, unfolding(crate::specs::Events::arrive_in))]
-fn read_arrive(alloc: Global, object: Flat<'_, '_>) -> Result<Event, Stop>
+fn read_arrive(alloc: Global, object: Flat<'_, '_>) -> Result<Event, ReadFault>
     ensures { Gives same result (spec.arrive_in (flat_data object.entry)) }
 {
     if !object.has_only(&[
@@ -20,7 +20,7 @@ fn read_arrive(alloc: Global, object: Flat<'_, '_>) -> Result<Event, Stop>
         Key::Number,
         Key::Ask,
     ]) {
-        return Err(Stop::Bad);
+        return Err(ReadFault::Bad);
     }
     let at = object.server_at(Key::At)?;
     let clock = object.moment_at(Key::Clock)?;
@@ -39,11 +39,11 @@ fn read_arrive(alloc: Global, object: Flat<'_, '_>) -> Result<Event, Stop>
 }
 
 #[tactic(auto, unfolding(crate::specs::Events::query_in))]
-fn read_query(alloc: Global, object: Flat<'_, '_>) -> Result<Event, Stop>
+fn read_query(alloc: Global, object: Flat<'_, '_>) -> Result<Event, ReadFault>
     ensures { Gives same result (spec.query_in (flat_data object.entry)) }
 {
     if !object.has_only(&[Key::Op, Key::At, Key::Client, Key::Tag, Key::Queue]) {
-        return Err(Stop::Bad);
+        return Err(ReadFault::Bad);
     }
     let at = object.server_at(Key::At)?;
     let client = object.u32_at(Key::Client)?;
@@ -61,11 +61,11 @@ fn read_query(alloc: Global, object: Flat<'_, '_>) -> Result<Event, Stop>
 
 /// Both ends of an event that has nothing else.
 #[tactic(auto, unfolding(crate::specs::Events::ends_in))]
-fn read_ends(object: Flat<'_, '_>) -> Result<(Party, Party), Stop>
+fn read_ends(object: Flat<'_, '_>) -> Result<(Party, Party), ReadFault>
     ensures { Gives same result (spec.ends_in (flat_data object.entry)) }
 {
     if !object.has_only(&[Key::Op, Key::From, Key::To]) {
-        return Err(Stop::Bad);
+        return Err(ReadFault::Bad);
     }
     let from = object.party_at(Key::From)?;
     let to = object.party_at(Key::To)?;
@@ -74,18 +74,18 @@ fn read_ends(object: Flat<'_, '_>) -> Result<(Party, Party), Stop>
 
 /// The server of an event that has nothing else.
 #[tactic(auto, unfolding(crate::specs::Events::server_in))]
-fn read_server(object: Flat<'_, '_>) -> Result<ServerId, Stop>
+fn read_server(object: Flat<'_, '_>) -> Result<ServerId, ReadFault>
     ensures { Gives same result (spec.server_in (flat_data object.entry)) }
 {
     if !object.has_only(&[Key::Op, Key::Server]) {
-        return Err(Stop::Bad);
+        return Err(ReadFault::Bad);
     }
     object.server_at(Key::Server)
 }
 
 /// The event that the object says.
 #[tactic(auto, unfolding(crate::specs::Events::event_in))]
-pub(crate) fn read_flat_event(alloc: Global, object: Flat<'_, '_>) -> Result<Event, Stop>
+pub(crate) fn read_flat_event(alloc: Global, object: Flat<'_, '_>) -> Result<Event, ReadFault>
     ensures { Gives same result (spec.event_in (flat_data object.entry)) }
 {
     let op = object.text_at(Key::Op)?;
@@ -112,6 +112,6 @@ pub(crate) fn read_flat_event(alloc: Global, object: Flat<'_, '_>) -> Result<Eve
             server: read_server(object)?,
         })
     } else {
-        Err(Stop::Bad)
+        Err(ReadFault::Bad)
     }
 }

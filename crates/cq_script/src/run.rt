@@ -2,7 +2,7 @@
 ghost use Rattle.std.specs.Prelude.{◌≡◌, ◌≤◌, ℕ, List, true, false, Err, OnOk};
 ghost use Rattle.std.specs.Io.KnownBytes.{Consumes, Appends};
 ghost use Rattle.cq_lines.specs.declared.fault.ScriptFault.TheVariants.{ReadFailed, WriteFailed};
-ghost use Rattle.cq_script.specs.Replays.{Headlines, IsEndedFront, Replays};
+ghost use Rattle.cq_script.specs.Replays.{Headlines, IsEndedPrefix, Replays};
 ghost use Rattle.cq_script.specs.Runs.{OnWritten};
 
 use crate::running::run_lines;
@@ -31,7 +31,7 @@ pub fn replay<R: Source, W: Sink>(
         × Consumes (R.remaining reader.old) (R.remaining reader.new) input
         × Appends (W.contents writer.old) (W.contents writer.new) output
         × Replays size result input (R.remaining reader.new) output
-        × (R.has_failed reader.new ≡ true → IsEndedFront size input output) }
+        × (R.has_failed reader.new ≡ true → IsEndedPrefix size input output) }
     ensures headline { 1 ≤ size → (input : List ℕ) × (output : List ℕ)
         × Consumes (R.remaining reader.old) (R.remaining reader.new) input
         × Appends (W.contents writer.old) (W.contents writer.new) output

@@ -5,7 +5,7 @@ ghost use Rattle.cq_lines.specs.Faults.{ends_by_memory};
 ghost use Rattle.cq_lines.specs.declared.limits.Limits.{Limits};
 ghost use Rattle.cq_lines.specs.declared.fault.ScriptFault.TheVariants.{ReadFailed, WriteFailed};
 ghost use Rattle.cq_script.specs.Runs.{OnWritten, is_cut_short};
-ghost use Rattle.cq_script.specs.within.Played.{IsFrontOfEnded, IsFrontOfText, IsPlayed, Plays, RunsText};
+ghost use Rattle.cq_script.specs.within.Played.{IsPrefixOfEnded, IsPrefixOfText, IsPlayed, Plays, RunsText};
 
 use crate::outcome::run_batch;
 use crate::script_line::ScriptLine;
@@ -34,8 +34,8 @@ pub(crate) fn run_lines<P: LineParser<ScriptLine>, R: Source, W: Sink>(
         × Consumes (R.remaining reader.old) (R.remaining reader.new) input
         × Appends (W.contents writer.old) (W.contents writer.new) output
         × RunsText P.grammar limits size result input (R.remaining reader.new) output
-        × IsFrontOfText P.grammar limits size input (R.remaining reader.new) output
-        × (R.has_failed reader.new ≡ true → IsFrontOfEnded P.grammar limits size input output) }
+        × IsPrefixOfText P.grammar limits size input (R.remaining reader.new) output
+        × (R.has_failed reader.new ≡ true → IsPrefixOfEnded P.grammar limits size input output) }
     ensures reader_sound { OnOk result (R.has_failed reader.new ≡ false) }
     ensures writer_sound { OnWritten result (W.has_failed writer.new ≡ false) }
     ensures flushed { OnWritten result (W.has_flushed writer.new ≡ true) }
@@ -80,8 +80,8 @@ fn run_chunks<P: LineParser<ScriptLine>, R: Source, W: Sink>(
         × Consumes (R.remaining reader.old) (R.remaining reader.new) input
         × Appends (W.contents writer.old) (W.contents writer.new) output
         × RunsText P.grammar limits size result input (R.remaining reader.new) output
-        × IsFrontOfText P.grammar limits size input (R.remaining reader.new) output
-        × (R.has_failed reader.new ≡ true → IsFrontOfEnded P.grammar limits size input output) }
+        × IsPrefixOfText P.grammar limits size input (R.remaining reader.new) output
+        × (R.has_failed reader.new ≡ true → IsPrefixOfEnded P.grammar limits size input output) }
     ensures sound { OnOk result (R.has_failed reader.new ≡ false) }
     ensures read_failed { result ≡ Err ReadFailed → R.has_failed reader.new ≡ true }
     ensures write_failed { result ≡ Err WriteFailed → W.has_failed writer.new ≡ true }
@@ -141,7 +141,7 @@ fn run_end<P: LineParser<ScriptLine>, W: Sink>(
         → IsPlayed P.grammar limits size input lines.old sim.old written
         → (output : List ℕ) × Appends (W.contents writer.old) (W.contents writer.new) output
         × RunsText P.grammar limits size result input left (written ++ output)
-        × IsFrontOfText P.grammar limits size input left (written ++ output) }
+        × IsPrefixOfText P.grammar limits size input left (written ++ output) }
     ensures not_read { ¬ (result ≡ Err ReadFailed) }
     ensures flushed { OnOk result (W.has_flushed writer.new ≡ true) }
     ensures failed { result ≡ Err WriteFailed → W.has_failed writer.new ≡ true }

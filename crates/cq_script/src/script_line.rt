@@ -2,7 +2,7 @@
 ghost use Rattle.std.specs.Prelude.{◌≡◌};
 ghost use Rattle.cq_script.specs.Lines.{numbered};
 
-use crate::event_line::{Line, event_with};
+use crate::event_line::{Line, parse_line};
 use crate::fault::LineRefusal;
 use cq_json::LineScratch;
 use cq_lines::{LineFault, LineParser};
@@ -52,7 +52,7 @@ impl LineParser<ScriptLine> for ScriptParser {
     ghost grammar = { script_grammar };
 
     fn parse(&mut self, number: u64, bytes: &[u8]) -> Result<Option<ScriptLine>, LineFault> {
-        match event_with(self.alloc, &mut self.scratch, bytes) {
+        match parse_line(self.alloc, &mut self.scratch, bytes) {
             Ok(line) => Ok(numbered(number, line)),
             Err(fault) => Err(fault),
         }

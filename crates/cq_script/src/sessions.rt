@@ -3,7 +3,7 @@ ghost use Rattle.std.specs.Prelude.{◌≡◌, ◌≤◌, ℕ, List, true, false
 ghost use Rattle.std.specs.Io.KnownBytes.{Consumes, Appends};
 ghost use Rattle.cq_lines.specs.declared.fault.ScriptFault.TheVariants.{ReadFailed, WriteFailed};
 ghost use Rattle.cq_script.specs.Runs.{OnWritten};
-ghost use Rattle.cq_script.specs.Sessions.{IsSessionEndedFront, SessionHeadlines, Sessions};
+ghost use Rattle.cq_script.specs.Sessions.{IsSessionEndedPrefix, SessionHeadlines, Sessions};
 
 use crate::running::run_lines;
 use crate::script_line::SessionParser;
@@ -30,7 +30,7 @@ pub fn session<R: Source, W: Sink>(
         × Consumes (R.remaining reader.old) (R.remaining reader.new) input
         × Appends (W.contents writer.old) (W.contents writer.new) output
         × Sessions size result input (R.remaining reader.new) output
-        × (R.has_failed reader.new ≡ true → IsSessionEndedFront size input output) }
+        × (R.has_failed reader.new ≡ true → IsSessionEndedPrefix size input output) }
     ensures headline { 1 ≤ size → (input : List ℕ) × (output : List ℕ)
         × Consumes (R.remaining reader.old) (R.remaining reader.new) input
         × Appends (W.contents writer.old) (W.contents writer.new) output

@@ -1,4 +1,4 @@
-//! Writing text, all of it or a front of it.
+//! Writing text, all of it or a prefix of it.
 ghost use Rattle.std.specs.Prelude.{◌≡◌, true, if◌then◌else◌, Err, OnOk};
 ghost use Rattle.std.specs.Io.KnownBytes.{Keeps};
 ghost use Rattle.cq_lines.specs.declared.fault.ScriptFault.TheVariants.{WriteFailed, NoMemory};
@@ -21,7 +21,7 @@ pub(crate) fn finish_writing<W: Sink>(writer: &mut W) -> Result<(), ScriptFault>
     Ok(())
 }
 
-/// Writes all of `text`, or a front of it where a write fails.
+/// Writes all of `text`, or a prefix of it where a write fails.
 pub(crate) fn write_text<W: Sink>(writer: &mut W, text: &[u8]) -> Result<(), ScriptFault>
     ensures takes { Takes result text.now (W.contents writer.old) (W.contents writer.new) }
     ensures failed { result ≡ Err WriteFailed → W.has_failed writer.new ≡ true }

@@ -39,8 +39,8 @@ impl Read for Pieces<'_> {
             return Err(io::Error::other("gone"));
         }
         let count = self.step.min(self.good).min(self.rest.len()).min(buf.len());
-        let (front, later) = self.rest.split_at(count);
-        buf[..count].copy_from_slice(front);
+        let (prefix, later) = self.rest.split_at(count);
+        buf[..count].copy_from_slice(prefix);
         self.rest = later;
         self.good -= count;
         Ok(count)
@@ -211,9 +211,9 @@ fn reads_and_writes_in_parts(rt: HostRuntime) {
 fn reads_may_end_anywhere(rt: HostRuntime) {
     let one = ChainSize::one();
     for place in 0..=FIRST_PATH.len() {
-        let (front, later) = FIRST_PATH.as_bytes().split_at(place);
+        let (prefix, later) = FIRST_PATH.as_bytes().split_at(place);
         let mut taken = Vec::new(rt.alloc());
-        let mut source = Checked::new(front.chain(later));
+        let mut source = Checked::new(prefix.chain(later));
         let answer = replay(rt.alloc(), one, &mut source, &mut Checked::new(&mut taken));
         assert_eq!(rt; answer, Ok(()), "a script cut at {place}");
         assert_eq!(rt;
@@ -222,7 +222,7 @@ fn reads_may_end_anywhere(rt: HostRuntime) {
             "a script cut at {place}"
         );
         let mut told = Vec::new(rt.alloc());
-        let mut source = Checked::new(front.chain(later));
+        let mut source = Checked::new(prefix.chain(later));
         let answer = session(rt.alloc(), one, &mut source, &mut Checked::new(&mut told));
         assert_eq!(rt; answer, Ok(()), "a session cut at {place}");
         assert_eq!(rt;
@@ -246,8 +246,8 @@ impl Read for Watcher<'_> {
         self.noted.push(self.passed.get())?;
         let ended = self.rest.iter().position(|byte| *byte == b'\n');
         let count = ended.map_or(0, |place| place + 1).min(buf.len());
-        let (front, later) = self.rest.split_at(count);
-        buf[..count].copy_from_slice(front);
+        let (prefix, later) = self.rest.split_at(count);
+        buf[..count].copy_from_slice(prefix);
         self.rest = later;
         Ok(count)
     }
@@ -339,7 +339,7 @@ fn runs_the_lines_before_a_failed_read(rt: HostRuntime) {
 }
 
 #[test]
-fn writes_the_front_that_fits(rt: HostRuntime) -> Result<(), Fail> {
+fn writes_the_prefix_that_fits(rt: HostRuntime) -> Result<(), Fail> {
     let mut script = String::from_str(rt.alloc(), PUTS)?;
     script.push_str("x")?;
     for silent in [false, true] {

@@ -2,8 +2,8 @@ pub mod AsksStand
 pub mod ClientsStand
 pub mod Copies
 pub mod Lookups
-pub mod NamesStand
-mod Rows
-pub mod FreshFacts
+pub mod QueuesStand
+mod Examples
+pub mod FreshOutcomes
 pub mod StoreStands
 pub mod OfLaws

@@ -5,20 +5,20 @@ use Rattle.cq_base.specs.declared.ask.Ask.{Ask}
 use Rattle.cq_base.specs.declared.reply.Reply.{Reply}
 use Rattle.cq_store.specs.within.Asked.{IsAnswer}
 use Rattle.cq_store.specs.within.Rooms.{IsWithin}
-use Rattle.cq_store.specs.Stands.{NameKept, name_at, or_unknown}
+use Rattle.cq_store.specs.Stands.{QueueRecord, name_at, or_unknown}
 
 -- what is found in a map is found under the name
-pub found : (inside now : List (List ℕ × NameKept)) (key queue : List ℕ) (kept : NameKept) → inside ≡ now → key ≡ queue → Some kept ≡ name_at inside key → name_at now queue ≡ Some kept
+pub found : (inside now : List (List ℕ × QueueRecord)) (key queue : List ℕ) (kept : QueueRecord) → inside ≡ now → key ≡ queue → Some kept ≡ name_at inside key → name_at now queue ≡ Some kept
 found inside now key queue kept view same h = ap (λ es. name_at es queue) (sym view) ∙ ap (λ q. name_at inside q) (sym same) ∙ sym h
 
 -- an answer about a name that was found, and written in its place
-pub written : (before after : Option NameKept) (old new : NameKept) (moment : ℕ) (ask : Ask) (reply : Reply) → before ≡ Some old → after ≡ Some new → IsAnswer old new moment ask reply → IsAnswer (or_unknown before) (or_unknown after) moment ask reply
+pub written : (before after : Option QueueRecord) (old new : QueueRecord) (moment : ℕ) (ask : Ask) (reply : Reply) → before ≡ Some old → after ≡ Some new → IsAnswer old new moment ask reply → IsAnswer (or_unknown before) (or_unknown after) moment ask reply
 written before after old new moment ask reply is_old is_new h =
     subst (λ o. IsAnswer (or_unknown o) (or_unknown after) moment ask reply) (sym is_old)
     (subst (λ o. IsAnswer old (or_unknown o) moment ask reply) (sym is_new) h)
 
 -- and its bounds
-pub bounded : (before after : Option NameKept) (old new : NameKept) (count later last : ℕ) → before ≡ Some old → after ≡ Some new → (IsWithin count last old → IsWithin later last new) → IsWithin count last (or_unknown before) → IsWithin later last (or_unknown after)
+pub bounded : (before after : Option QueueRecord) (old new : QueueRecord) (count later last : ℕ) → before ≡ Some old → after ≡ Some new → (IsWithin count last old → IsWithin later last new) → IsWithin count last (or_unknown before) → IsWithin later last (or_unknown after)
 bounded before after old new count later last is_old is_new h within = subst (λ o. IsWithin later last (or_unknown o)) (sym is_new) (h (subst (λ o. IsWithin count last (or_unknown o)) is_old within))
 
 -- what follows of a result follows of what it gives

@@ -3,7 +3,7 @@ pub mod Alike
 pub mod Alone
 pub mod FirstHandings
 pub mod Flights
-pub mod Fronts
+pub mod Prefixes
 pub mod Groups
 pub mod Incarnations
 pub mod Inductions

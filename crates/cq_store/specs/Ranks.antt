@@ -4,11 +4,11 @@ use Rattle.std.specs.List.{filter, find}
 use Rattle.cq_base.specs.declared.ask.Ask.TheVariants.{Receive}
 use Rattle.cq_base.specs.declared.ask.Entry.{Entry}
 use Rattle.cq_base.specs.declared.reply.Reply.TheVariants.{Received}
-use Rattle.cq_base.specs.Effects.{visibility_by}
-use Rattle.cq_base.specs.Facts.{Fact}
-use Rattle.cq_base.specs.Messages.{Message, standing}
-use Rattle.cq_base.specs.Receiving.{is_same_group, is_open, delivery_of}
-use Rattle.cq_base.specs.History.{reply_to}
+use Rattle.cq_base.specs.queue.Effects.{visibility_by}
+use Rattle.cq_base.specs.queue.Outcomes.{Outcome}
+use Rattle.cq_base.specs.queue.Messages.{Message, remaining}
+use Rattle.cq_base.specs.queue.Receiving.{is_same_group, is_open, delivery_of}
+use Rattle.cq_base.specs.queue.History.{reply_to}
 use Rattle.cq_store.specs.Laws.{IsFresh, LivesBy, so_far, handed_by}
 use Rattle.cq_base.specs.Relations.{Among, Pairwise}
 
@@ -42,13 +42,13 @@ pub record IsByRank (size : ℕ) (messages cs handed : List Message) : Type 0 wh
   pub all : (x : Message) → Among x cs → rank messages cs x < size → Among x handed
 
 -- the messages of the incarnation of that creation, as they stand after these entries
-abbrev pub stood : List Entry → Entry → Fact → List Message
-stood entries e creation = standing (visibility_by creation) (so_far entries e creation)
+abbrev pub stood : List Entry → Entry → Outcome → List Message
+stood entries e creation = remaining (visibility_by creation) (so_far entries e creation)
 
 -- A fresh receive from a queue that lives hands out, by rank, the first so many of the messages of open
 -- groups, and is answered with these.
 abbrev pub HandedByRank : Type 0
-HandedByRank = (entries : List Entry) (e : Entry) (creation : Fact) (queue : List ℕ) (size : ℕ) (visibility : Option ℕ) → IsFresh entries e → LivesBy entries e creation
+HandedByRank = (entries : List Entry) (e : Entry) (creation : Outcome) (queue : List ℕ) (size : ℕ) (visibility : Option ℕ) → IsFresh entries e → LivesBy entries e creation
     → e.request.ask ≡ Receive queue size visibility
     → (handed : List Message)
     × IsByRank size (stood entries e creation) (candidates e.moment (stood entries e creation)) handed

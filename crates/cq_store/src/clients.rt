@@ -10,34 +10,34 @@ use std::alloc::Global;
 use std::marker::Model;
 
 /// What is kept of a client.
-pub struct ClientKept {
+pub struct ClientRecord {
     /// The largest number that it used.
     pub number: u64,
     /// The reply that this number had.
     pub reply: Reply,
 }
 
-/// By hand, so that whoever lets one go makes one call, and has no case for each part.
-impl Drop for ClientKept {
+/// Written out, not derived: CONTRIBUTING.md, "Drop".
+impl Drop for ClientRecord {
     fn drop(self) {
-        let ClientKept {
+        let ClientRecord {
             number: _,
             reply: _,
         } = self;
     }
 }
 
-impl Model for ClientKept {
+impl Model for ClientRecord {
     ghost use Rattle.cq_store.specs.Stands as spec;
 
-    ghost Value = { spec.ClientKept };
+    ghost Value = { spec.ClientRecord };
 
     ghost view = { λ c. record { number = c.number; reply = c.reply } };
 }
 
-impl ClientKept {
-    fn again(&self, number: u64) -> Result<Option<Reply>, NoMemory>
-        ensures { IfOk result (λ again. again ≡ again_of (Some self.now) number) }
+impl ClientRecord {
+    fn repeat_reply(&self, number: u64) -> Result<Option<Reply>, NoMemory>
+        ensures { IfOk result (λ reply. reply ≡ again_of (Some self.now) number) }
     {
         if self.number < number {
             return Ok(None);
@@ -49,10 +49,10 @@ impl ClientKept {
     }
 
     /// The same. It shares the texts.
-    fn try_copy(&self) -> Result<ClientKept, NoMemory>
+    fn try_copy(&self) -> Result<ClientRecord, NoMemory>
         ensures { IfOk result (λ copy. copy ≡ self.now) }
     {
-        Ok(ClientKept {
+        Ok(ClientRecord {
             number: self.number,
             reply: self.reply.try_copy()?,
         })
@@ -60,38 +60,38 @@ impl ClientKept {
 }
 
 /// What is kept of all clients, found by a hash of the client.
-pub struct Clients {
-    kept: IndexMap<u32, ClientKept>,
+pub struct ClientTable {
+    kept: IndexMap<u32, ClientRecord>,
 }
 
-/// By hand, so that whoever lets one go makes one call, and has no case for each part.
-impl Drop for Clients {
+/// Written out, not derived: CONTRIBUTING.md, "Drop".
+impl Drop for ClientTable {
     fn drop(self) {
-        let Clients { kept: _ } = self;
+        let ClientTable { kept: _ } = self;
     }
 }
 
-impl Model for Clients {
+impl Model for ClientTable {
     ghost use Rattle.indexmap.specs.IndexMap.{spare};
     ghost use Rattle.cq_store.specs.within.Rooms as rooms;
 
-    ghost Value = { rooms.Clients };
+    ghost Value = { rooms.ClientTable };
 
     ghost view = { λ c. record { kept = c.kept.entries; room = spare c.kept } };
 }
 
-impl Clients {
+impl ClientTable {
     /// No client is kept yet.
-    pub fn new(alloc: Global) -> Clients
+    pub fn new(alloc: Global) -> ClientTable
         ensures { (client : ℕ) → client_at result.kept client ≡ None }
     {
-        Clients {
+        ClientTable {
             kept: IndexMap::new(alloc),
         }
     }
 
     /// What is kept of the client: O(1).
-    pub fn get(&self, client: u32) -> Option<&ClientKept>
+    pub fn get(&self, client: u32) -> Option<&ClientRecord>
         ensures { option_map (λ kept. kept.now) result ≡ client_at self.now.kept client }
     {
         self.kept.get(&client)
@@ -112,7 +112,7 @@ impl Clients {
         ensures { (other : ℕ) → client_at self.new.kept other
             ≡ cond (client == other) (Some (record { number = number; reply = reply })) (client_at self.old.kept other) }
     {
-        match self.kept.insert(client, ClientKept { number, reply }) {
+        match self.kept.insert(client, ClientRecord { number, reply }) {
             Ok(_) => (),
             Err(_) => unreachable!(),
         }
@@ -120,17 +120,17 @@ impl Clients {
 
     /// What the client is answered again under that number: the kept reply under the largest number that it
     /// used, a refusal under a smaller one, nothing under a greater one. It copies the kept reply.
-    pub fn again(&self, client: u32, number: u64) -> Result<Option<Reply>, NoMemory>
-        ensures { IfOk result (λ again. again ≡ again_of (client_at self.now.kept client) number) }
+    pub fn repeat_reply(&self, client: u32, number: u64) -> Result<Option<Reply>, NoMemory>
+        ensures { IfOk result (λ reply. reply ≡ again_of (client_at self.now.kept client) number) }
     {
         match self.get(client) {
-            Some(kept) => kept.again(number),
+            Some(kept) => kept.repeat_reply(number),
             None => Ok(None),
         }
     }
 
     /// The same of each client. It shares the texts: O(clients and what is kept of each).
-    pub fn try_copy(&self) -> Result<Clients, NoMemory>
+    pub fn try_copy(&self) -> Result<ClientTable, NoMemory>
         ensures { IfOk result (λ copy. (client : ℕ) → client_at copy.kept client ≡ client_at self.now.kept client) }
     {
         let mut kept = IndexMap::new(*self.kept.allocator());
@@ -142,6 +142,6 @@ impl Clients {
                 None => unreachable!(),
             }
         }
-        Ok(Clients { kept })
+        Ok(ClientTable { kept })
     }
 }

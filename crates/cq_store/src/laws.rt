@@ -15,7 +15,7 @@ pub fn one_effect_per_number()
 /// What the fresh entries that name a queue do, and what they are answered with, follows from these
 /// alone. What entries do on one incarnation of a queue follows from those that came to it.
 pub fn other_queues_do_not_matter()
-    ensures facts { EachQueueAlone }
+    ensures outcomes { EachQueueAlone }
     ensures replies { EachReplyAlone }
     ensures incarnations { EachIncarnationAlone }
 {}

@@ -5,8 +5,8 @@ mod answered;
 mod clients;
 /// Laws of the queue object, each the contract of a function, for every list of entries.
 pub mod laws;
-mod name;
-mod names;
+mod queue_record;
+mod queues;
 mod store;
 
 pub use store::Store;

@@ -2,14 +2,14 @@
 ghost use Rattle.std.specs.Prelude.{◌≡◌, ◌<◌, ◌≤◌, ◌+◌, ℕ, List, [], ◌∷◌, ◌++◌, true, Some, cond, ◌==◌, IfOk, OnOk, OnErr};
 ghost use Rattle.cq_base.specs.declared.limits.TheConstants.{HISTORY_LIMIT};
 ghost use Rattle.cq_base.specs.declared.ask.Entry.{Entry};
-ghost use Rattle.cq_base.specs.Clients.{is_fresh};
-ghost use Rattle.cq_base.specs.History as object;
+ghost use Rattle.cq_base.specs.queue.Clients.{is_fresh};
+ghost use Rattle.cq_base.specs.queue.History as object;
 ghost use Rattle.cq_store.specs.Stands.{StandsFor, count_of, last_of};
 
 mod reads;
 
-use crate::clients::Clients;
-use crate::names::Names;
+use crate::clients::ClientTable;
+use crate::queues::Queues;
 use cq_base::{Entry, Moment, NoMemory, Query, Reply};
 use std::alloc::Global;
 use std::marker::Model;
@@ -20,11 +20,11 @@ pub struct Store {
     alloc: Global,
     count: u64,
     last: Moment,
-    clients: Clients,
-    names: Names,
+    clients: ClientTable,
+    queues: Queues,
 }
 
-/// By hand, so that whoever lets one go makes one call, and has no case for each part.
+/// Written out, not derived: CONTRIBUTING.md, "Drop".
 impl Drop for Store {
     fn drop(self) {
         let Store {
@@ -32,7 +32,7 @@ impl Drop for Store {
             count: _,
             last: _,
             clients: _,
-            names: _,
+            queues: _,
         } = self;
     }
 }
@@ -49,10 +49,10 @@ impl Model for Store {
       count = s.count;
       last = s.last;
       clients = s.clients.kept;
-      names = s.names;
+      queues = s.queues;
     } };
 
-    ghost invariant = { λ s. (queue : List ℕ) → IsWithin s.count s.last (or_unknown (name_at s.names queue)) };
+    ghost invariant = { λ s. (queue : List ℕ) → IsWithin s.count s.last (or_unknown (name_at s.queues queue)) };
 }
 
 impl Store {
@@ -64,8 +64,8 @@ impl Store {
             alloc,
             count: 0,
             last: Moment::zero(),
-            clients: Clients::new(alloc),
-            names: Names::new(alloc),
+            clients: ClientTable::new(alloc),
+            queues: Queues::new(alloc),
         })
     }
 
@@ -76,7 +76,7 @@ impl Store {
         ensures count { self.new.count ≡ self.old.count + 1 }
         ensures last { self.new.last ≡ entry.now.moment }
         ensures clients { self.new.clients ≡ self.old.clients }
-        ensures names { self.new.names ≡ self.old.names }
+        ensures queues { self.new.queues ≡ self.old.queues }
     {
         self.count += 1;
         self.last = entry.moment;
@@ -98,7 +98,7 @@ impl Store {
     {
         self.clients.reserve()?;
         let request = &entry.request;
-        let answered = self.names.apply(self.alloc, entry.moment, &request.ask)?;
+        let answered = self.queues.apply(self.alloc, entry.moment, &request.ask)?;
         self.clients
             .keep(request.client, request.number, answered.kept);
         self.count += 1;
@@ -122,7 +122,7 @@ impl Store {
         ensures err_last { OnErr result (last_of self.new ≡ last_of self.old) }
     {
         let request = &entry.request;
-        match self.clients.again(request.client, request.number)? {
+        match self.clients.repeat_reply(request.client, request.number)? {
             Some(reply) => {
                 self.pass(entry);
                 Ok(reply)
@@ -137,7 +137,7 @@ impl Store {
         ensures stands { (entries : List Entry) → StandsFor self.now entries
             → result ≡ object.counts_after entries query.now.queue }
     {
-        self.names.counts(self.last, &query.queue)
+        self.queues.counts(self.last, &query.queue)
     }
 
     /// A store of its own that stands for the same entries, so that each goes on from here alone. It shares the
@@ -152,7 +152,7 @@ impl Store {
             count: self.count,
             last: self.last,
             clients: self.clients.try_copy()?,
-            names: self.names.try_copy()?,
+            queues: self.queues.try_copy()?,
         })
     }
 }

@@ -6,7 +6,7 @@ use Rattle.std.specs.declared.thread.Promise as Promise
 use Rattle.std.specs.declared.thread.PromisedHandle.{PromisedHandle}
 use Rattle.std.specs.Option.{option_map}
 use Rattle.std.specs.PromisedHandle.{KeepsEach}
-use Rattle.cq_live.specs.Nodes.{Held, IsSameServer}
+use Rattle.cq_nodes.specs.Nodes.{Held, IsSameServer}
 use Rattle.cq_threads.specs.SameNodes.{AreSame}
 
 -- the result at a place keeps the promise of the thread there

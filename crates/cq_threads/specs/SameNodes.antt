@@ -1,6 +1,6 @@
 -- Nodes that come back with ends of the links that they were made with.
 use Rattle.std.specs.Prelude.{◌≡◌, ℕ, List, length, slice_get, Some}
-use Rattle.cq_live.specs.Nodes.{Held, IsSameServer}
+use Rattle.cq_nodes.specs.Nodes.{Held, IsSameServer}
 
 module _ {P T I L M N : Type 0} (put : P → L) (taken : T → M) (got : I → N) where
   -- at each place the node of the same server

@@ -1,7 +1,7 @@
 //! All nodes of a run.
 ghost use Rattle.std.specs.Prelude.{IfOk};
-ghost use Rattle.cq_live.specs.ClientNodes.{IsSameClient};
-ghost use Rattle.cq_live.specs.MasterNodes.{IsSameNode};
+ghost use Rattle.cq_nodes.specs.ClientNodes.{IsSameClient};
+ghost use Rattle.cq_nodes.specs.MasterNodes.{IsSameNode};
 ghost use Rattle.cq_threads.specs.SameNodes.{AreSame};
 
 use crate::fault::ThreadFault;
@@ -9,7 +9,7 @@ use crate::threads::run_all;
 use cq_base::Request;
 use cq_chain::Message;
 use cq_link::{PutEnd, TakeEnd};
-use cq_live::{ClientNode, Flags, Gate, MasterNode, ServerNode};
+use cq_nodes::{ClientNode, Flags, Gate, MasterNode, ServerNode};
 use std::alloc::Global;
 use std::sync::Wait;
 use std::thread::Threads;

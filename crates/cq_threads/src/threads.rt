@@ -1,7 +1,7 @@
 //! Nodes on threads of their own.
-ghost use Rattle.cq_live.specs.ClientNodes.{IsSameClient};
-ghost use Rattle.cq_live.specs.MasterNodes.{IsSameNode};
-ghost use Rattle.cq_live.specs.Nodes.{IsSameServer};
+ghost use Rattle.cq_nodes.specs.ClientNodes.{IsSameClient};
+ghost use Rattle.cq_nodes.specs.MasterNodes.{IsSameNode};
+ghost use Rattle.cq_nodes.specs.Nodes.{IsSameServer};
 ghost use Rattle.cq_threads.specs.SameNodes.{AreSame};
 ghost use Rattle.std.specs.Prelude.{◌≡◌, IfOk, map};
 
@@ -9,7 +9,7 @@ use crate::fault::ThreadFault;
 use cq_base::Request;
 use cq_chain::Message;
 use cq_link::{PutEnd, TakeEnd};
-use cq_live::{ClientNode, Flags, Gate, MasterNode, ServerNode, Stop};
+use cq_nodes::{ClientNode, Flags, Gate, MasterNode, ServerNode, Stop};
 use std::alloc::Global;
 use std::snapshot::Snapshot;
 use std::sync::Wait;

@@ -1,3 +1,3 @@
 pub mod OfAudit
 pub mod OfLaws
-pub mod Rows
+pub mod Examples

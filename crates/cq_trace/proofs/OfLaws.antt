@@ -1,8 +1,8 @@
 -- What the law of agreement rests on.
-pub mod DeedLists
+pub mod ActionLists
 pub mod Casts
 pub mod LinkLaws
-pub mod NextDeeds
+pub mod NextActions
 pub mod Moments
 pub mod GivenAnswers
 pub mod Agreeing

@@ -42,7 +42,7 @@ pub record IsMerge (size : ℕ) (traces : List Trace) (order : List Event) : Typ
   pub enabled : AreEnabled (first_world size) order
   pub each : (p : Party) → of_party p order ≡ trace_of p traces
 
--- One order of a front of each trace, in which each event is enabled, leaves events of just these parties, at least of one,
+-- One order of a prefix of each trace, in which each event is enabled, leaves events of just these parties, at least of one,
 -- and the next one of none of them is enabled.
 pub record IsStuck (size : ℕ) (traces : List Trace) (parties : List Party) : Type 0 where
   pub order : List Event

@@ -8,9 +8,9 @@ use cq_base::{
     ServerId,
 };
 use cq_events::Event;
-use cq_live::Always;
-use cq_live_chain::live;
-use cq_plan::LiveStep;
+use cq_live::live;
+use cq_live_plan::LiveStep;
+use cq_nodes::Always;
 use std::alloc::Global;
 use std::io;
 use std::sync::Wait;

@@ -1,14 +1,14 @@
--- The order of the members of a chain, or of the servers of the line, and of their histories.
+-- The order of the members of a chain, or of the servers of the extended chain, and of their histories.
 use Rattle.std.proofs.Common.{◌≡◌, ℕ, ◌∙◌, ap, sym, List, [], ◌∷◌, ◌++◌, ◌&&◌, ◌⊎◌, not, Option, Some, None, Bool, true, false, cond, eqb, subst, refl, inl, inr}
 use Rattle.std.proofs.lemmas.Bool.{eqb-true, eq-eqb, false≢true, both_ways, and_from, and_parts, or_cases, or_left, or_right, cases_Bool}
-use Rattle.cq_base.specs.Relations.{Among, Front}
+use Rattle.cq_base.specs.Relations.{Among, IsPrefix}
 use Rattle.cq_chain.specs.Masters.{is_in, is_last, without, stands_before}
 use Rattle.cq_world.proofs.Prefixes.Climbing.{climbs-top, ups}
-use Rattle.cq_world.proofs.Eaches.{front-trans}
-use Rattle.cq_world.proofs.Prefixes.{Prefixes, Linked, LinkedLine}
-use Rattle.cq_world.proofs.Lines.{in_left, member-line, apart-members}
-pub use Rattle.cq_world.proofs.Lines.{Apart}
-use Rattle.cq_world.proofs.Sights.{Sight, line_of, line}
+use Rattle.cq_world.proofs.Eaches.{prefix-trans}
+use Rattle.cq_world.proofs.Prefixes.{Prefixes, Linked, LinkedExtended}
+use Rattle.cq_world.proofs.ExtendedChains.{in_left, member-extended, apart-members}
+pub use Rattle.cq_world.proofs.ExtendedChains.{Apart}
+use Rattle.cq_world.proofs.Views.{View, extended_of, extended}
 
 -- ---- members
 
@@ -190,39 +190,39 @@ before-only (a ∷ b ∷ rest) p s z apart h last (inr later) = elim (or_cases (
 
 -- ---- histories
 
--- the history of each behind a member is a front of that member's
-below_first : (v : Sight) (a : ℕ) (rest : List ℕ) (s : ℕ) → Prefixes v → Linked v a rest → is_in rest s ≡ true → Front (v.server s).entries (v.server a).entries
+-- the history of each behind a member is a prefix of that member's
+below_first : (v : View) (a : ℕ) (rest : List ℕ) (s : ℕ) → Prefixes v → Linked v a rest → is_in rest s ≡ true → IsPrefix (v.server s).entries (v.server a).entries
 below_first v a [] s h l member = absurd (false≢true member)
 below_first v a (b ∷ rest) s h l member = let next = climbs-top v.server b (ups v b) a (h.climbs b) l.0 in elim (or_cases (eqb b s) (is_in rest s) member) [
-  | inl e ↦ subst (λ i. Front (v.server i).entries (v.server a).entries) (eqb-true b s e) next
-  | inr r ↦ front-trans (v.server s).entries (v.server b).entries (v.server a).entries (below_first v b rest s h l.1 r) next
+  | inl e ↦ subst (λ i. IsPrefix (v.server i).entries (v.server a).entries) (eqb-true b s e) next
+  | inr r ↦ prefix-trans (v.server s).entries (v.server b).entries (v.server a).entries (below_first v b rest s h l.1 r) next
 ]
 
-below_linked : (v : Sight) (a : ℕ) (rest : List ℕ) (p s : ℕ) → Prefixes v → Linked v a rest → Before p s (a ∷ rest) → Front (v.server s).entries (v.server p).entries
-below_linked v a rest p s h l (inl first) = subst (λ i. Front (v.server s).entries (v.server i).entries) (eqb-true a p first.0) (below_first v a rest s h l first.1)
+below_linked : (v : View) (a : ℕ) (rest : List ℕ) (p s : ℕ) → Prefixes v → Linked v a rest → Before p s (a ∷ rest) → IsPrefix (v.server s).entries (v.server p).entries
+below_linked v a rest p s h l (inl first) = subst (λ i. IsPrefix (v.server s).entries (v.server i).entries) (eqb-true a p first.0) (below_first v a rest s h l first.1)
 below_linked v a [] p s h l (inr later) = absurd later
 below_linked v a (b ∷ rest) p s h l (inr later) = below_linked v b rest p s h l.1 later
 
--- The history of a server of the line is a front of that of each before it, and so along the chain.
-pub line-order : (v : Sight) (p s : ℕ) → Prefixes v → Before p s (line v.master) → Front (v.server s).entries (v.server p).entries
-line-order v p s h before = go (line v.master) h.linked before where
-  go : (ids : List ℕ) → LinkedLine v ids → Before p s ids → Front (v.server s).entries (v.server p).entries
+-- The history of a server of the extended chain is a prefix of that of each before it, and so along the chain.
+pub extended-order : (v : View) (p s : ℕ) → Prefixes v → Before p s (extended v.master) → IsPrefix (v.server s).entries (v.server p).entries
+extended-order v p s h before = go (extended v.master) h.linked before where
+  go : (ids : List ℕ) → LinkedExtended v ids → Before p s ids → IsPrefix (v.server s).entries (v.server p).entries
   go [] l b = absurd b
   go (a ∷ rest) l b = below_linked v a rest p s h l b
 
--- what stands before another one in the chain does so in the line
-pub before-front : (ids : List ℕ) (o : Option ℕ) (p s : ℕ) → Before p s ids → Before p s (line_of ids o)
-before-front ids None p s h = h
-before-front [] (Some j) p s h = absurd h
-before-front (a ∷ rest) (Some j) p s (inl first) = inl (first.0, in_left rest j s first.1)
-before-front (a ∷ rest) (Some j) p s (inr later) = inr (before-front rest (Some j) p s later)
+-- what stands before another one in the chain does so in the extended chain
+pub before-prefix : (ids : List ℕ) (o : Option ℕ) (p s : ℕ) → Before p s ids → Before p s (extended_of ids o)
+before-prefix ids None p s h = h
+before-prefix [] (Some j) p s h = absurd h
+before-prefix (a ∷ rest) (Some j) p s (inl first) = inl (first.0, in_left rest j s first.1)
+before-prefix (a ∷ rest) (Some j) p s (inr later) = inr (before-prefix rest (Some j) p s later)
 
-pub chain-order : (v : Sight) (p s : ℕ) → Prefixes v → Before p s v.master.chain → Front (v.server s).entries (v.server p).entries
-chain-order v p s h before = line-order v p s h (before-front v.master.chain v.master.joiner p s before)
+pub chain-order : (v : View) (p s : ℕ) → Prefixes v → Before p s v.master.chain → IsPrefix (v.server s).entries (v.server p).entries
+chain-order v p s h before = extended-order v p s h (before-prefix v.master.chain v.master.joiner p s before)
 
 -- the members are apart, and have been used
-pub chain-apart : (v : Sight) → Prefixes v → Apart v.master.chain
+pub chain-apart : (v : View) → Prefixes v → Apart v.master.chain
 chain-apart v h = apart-members v.master.chain v.master.joiner h.apart
 
-pub chain-used : (v : Sight) (id : ℕ) → Prefixes v → is_in v.master.chain id ≡ true → is_in v.master.used id ≡ true
-chain-used v id h member = h.members id (member-line v.master.chain v.master.joiner id member)
+pub chain-used : (v : View) (id : ℕ) → Prefixes v → is_in v.master.chain id ≡ true → is_in v.master.used id ≡ true
+chain-used v id h member = h.members id (member-extended v.master.chain v.master.joiner id member)

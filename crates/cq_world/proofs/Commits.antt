@@ -8,7 +8,7 @@ use Rattle.std.proofs.lemmas.Bool.{eqb-true, eq-eqb, false≢true, both_ways, or
 use Rattle.std.specs.List.{fold}
 use Rattle.cq_base.specs.declared.ask.Entry.{Entry}
 use Rattle.cq_base.specs.declared.party.Party.TheVariants as parties
-use Rattle.cq_base.specs.Relations.{Front}
+use Rattle.cq_base.specs.Relations.{IsPrefix}
 use Rattle.cq_chain.specs.Masters.{is_in, is_last, stands_before}
 use Rattle.cq_chain.specs.Messages.{Message, Adopt, BeTail, Adopted, Ready}
 use Rattle.cq_chain.specs.Servers.{Server, acts, reaches, is_that}
@@ -17,7 +17,7 @@ use Rattle.cq_events.specs.Worlds.{World, set_at}
 use Rattle.cq_world.proofs.Chains.{Before, before-either, before-not-last, before-only, last-some, chain-apart}
 use Rattle.cq_world.proofs.Eaches.{Each}
 use Rattle.cq_world.proofs.Prefixes.{Prefixes, Harmless}
-use Rattle.cq_world.proofs.Sights.{Sight}
+use Rattle.cq_world.proofs.Views.{View}
 
 -- ---- words on messages
 
@@ -72,7 +72,7 @@ NotOn j (Adopt s n) = eqb s j ≡ false
 NotOn j (Adopted s n) = eqb s j ≡ false
 NotOn j m = Unit {0}
 
--- what a bystander is told doesn't tell it to be the tail
+-- what an outsider is told doesn't tell it to be the tail
 pub harmless_tails : (ms : List Message) → Each Harmless ms → tails ms ≡ 0
 harmless_tails [] h = refl
 harmless_tails (m ∷ ms) h = step m h.0 (harmless_tails ms h.1) where
@@ -91,16 +91,16 @@ abbrev pub waits : Server → Bool
 waits s = is_some s.at_least && not (acts s)
 
 -- at how many stages it stands on its way to act as tail
-abbrev pub busy : Sight → ℕ → ℕ
+abbrev pub busy : View → ℕ → ℕ
 busy v id = tails (v.channel parties.Master (parties.Server id)) + (readies (v.channel (parties.Server id) parties.Master) + bit (waits (v.server id)))
 
 -- no member is the tail, or to be it
-abbrev pub Free : Sight → Type 0
+abbrev pub Free : View → Type 0
 Free v = (id : ℕ) → is_in v.master.chain id ≡ true → (v.server id).at_least ≡ None
 
 -- ---- the sentences
 
-pub record Commits (v : Sight) (c : List Entry) : Type 0 where
+pub record Commits (v : View) (c : List Entry) : Type 0 where
   -- who acts is full
   pub acting : (id : ℕ) → acts (v.server id) ≡ true → (v.server id).full ≡ true
   -- a server that was never used has said nothing to the master
@@ -129,7 +129,7 @@ pub record Commits (v : Sight) (c : List Entry) : Type 0 where
   pub young_told : (id : ℕ) → is_in v.master.chain id ≡ true → (v.server id).full ≡ false → Each (Enough (length c)) (v.channel parties.Master (parties.Server id))
   pub young : v.master.told ≡ false → (id : ℕ) → is_last v.master.chain id ≡ true → (v.server id).full ≡ false
   -- a full member has all that is committed, and waits for nothing
-  pub old : (id : ℕ) → is_in v.master.chain id ≡ true → (v.server id).full ≡ true → Front c (v.server id).entries
+  pub old : (id : ℕ) → is_in v.master.chain id ≡ true → (v.server id).full ≡ true → IsPrefix c (v.server id).entries
   pub old_least : (id least : ℕ) → is_in v.master.chain id ≡ true → (v.server id).full ≡ true → (v.server id).at_least ≡ Some least → least ≤ length (v.server id).entries
   pub old_told : (id : ℕ) → is_in v.master.chain id ≡ true → (v.server id).full ≡ true → Each Zero (v.channel parties.Master (parties.Server id))
   -- while a server joins the last member acts, no word names the new one as a successor, and it doesn't say that it acts
@@ -164,14 +164,14 @@ some-least None h = absurd (false≢true h)
 some-least (Some n) h = (n, refl)
 
 -- of two members that are tails none stands before the other one
-pub acts-before : (v : Sight) (c : List Entry) (p s : ℕ) → Prefixes v → Commits v c → Before p s v.master.chain → is_in v.master.chain p ≡ true → is_some (v.server p).at_least ≡ true → is_some (v.server s).at_least ≡ true → is_in v.master.chain s ≡ true → ⊥
+pub acts-before : (v : View) (c : List Entry) (p s : ℕ) → Prefixes v → Commits v c → Before p s v.master.chain → is_in v.master.chain p ≡ true → is_some (v.server p).at_least ≡ true → is_some (v.server s).at_least ≡ true → is_in v.master.chain s ≡ true → ⊥
 acts-before v c p s h k before member here there other =
     let rule = k.alone p member here (before-not-last v.master.chain p s (chain-apart v h) before) in
     elim (cases_Bool (is_last v.master.chain s)) [
       | inl last ↦ both_ways (is_some (v.server s).at_least) (ap (λ o. is_some o) (k.untold s last rule.0)) there
       | inr not_last ↦ both_ways (is_last v.master.chain s) not_last (last_there v c p s h k before rule)
     ] where
-      last_there : (w : Sight) (d : List Entry) (q t : ℕ) → Prefixes w → Commits w d → Before q t w.master.chain → (w.master.told ≡ false) × ((z : ℕ) → is_last w.master.chain z ≡ true → stands_before q z w.master.chain ≡ true) → is_last w.master.chain t ≡ true
+      last_there : (w : View) (d : List Entry) (q t : ℕ) → Prefixes w → Commits w d → Before q t w.master.chain → (w.master.told ≡ false) × ((z : ℕ) → is_last w.master.chain z ≡ true → stands_before q z w.master.chain ≡ true) → is_last w.master.chain t ≡ true
       last_there w d q t g m b r = go w.master.chain refl where
         go : (chain : List ℕ) → w.master.chain ≡ chain → is_last w.master.chain t ≡ true
         go [] is = absurd (subst (λ us. Before q t us) is b)
@@ -180,7 +180,7 @@ acts-before v c p s h k before member here there other =
             subst (λ i. is_last w.master.chain i ≡ true) (sym (before-only w.master.chain q t z.0 (chain-apart w g) (r.1 z.0 last) last b)) last
 
 -- At most one member is the tail, or is to be it.
-pub one-tail : (v : Sight) (c : List Entry) (p s : ℕ) → Prefixes v → Commits v c → is_in v.master.chain p ≡ true → is_in v.master.chain s ≡ true → is_some (v.server p).at_least ≡ true → is_some (v.server s).at_least ≡ true → p ≡ s
+pub one-tail : (v : View) (c : List Entry) (p s : ℕ) → Prefixes v → Commits v c → is_in v.master.chain p ≡ true → is_in v.master.chain s ≡ true → is_some (v.server p).at_least ≡ true → is_some (v.server s).at_least ≡ true → p ≡ s
 one-tail v c p s h k member other here there = go (eqb p s) refl where
   go : (t : Bool) → eqb p s ≡ t → p ≡ s
   go true e = eqb-true p s e
@@ -202,9 +202,9 @@ longer-length xs ys = go (nat_lt (length xs) (length ys)) refl where
   go true e = (omega (arith, ltb-true (length xs) (length ys) e), omega arith)
   go false e = (omega arith, omega (arith, ltb-false (length xs) (length ys) e))
 
--- of a list and a front of it the list is the longer one
-pub longer-front : (xs ys : List Entry) → Front xs ys → longer xs ys ≡ ys
-longer-front xs ys h = go (nat_lt (length xs) (length ys)) refl where
+-- of a list and a prefix of it the list is the longer one
+pub longer-prefix : (xs ys : List Entry) → IsPrefix xs ys → longer xs ys ≡ ys
+longer-prefix xs ys h = go (nat_lt (length xs) (length ys)) refl where
   nothing : (rest : List Entry) → length rest ≤ 0 → rest ≡ []
   nothing [] le = refl
   nothing (e ∷ rest) le = absurd (omega (arith, le))
@@ -249,13 +249,13 @@ acting-within s n h = go (acts s) s.down refl refl where
   go false false e f = omega arith
 
 -- The longest history, where no server has changed.
-pub longest-same : (w : World) (v : Sight) (c : List Entry) → w.server ≡ v.server → Commits v c → longest_at w c ≡ c
+pub longest-same : (w : World) (v : View) (c : List Entry) → w.server ≡ v.server → Commits v c → longest_at w c ≡ c
 unfolding longest_at
 longest-same w v c is k = ap (λ server. fold (λ longest id. longer longest (acting_history (server id))) c w.master.used) is
     ∙ longest_still v.server c w.master.used (λ id. acting-within (v.server id) (length c) (k.reached id))
 
 -- The same, where one has.
-pub longest-turn : (w : World) (v : Sight) (c : List Entry) (k : ℕ) (s : Server) → w.server ≡ set_at v.server k s → is_in w.master.used k ≡ true → Commits v c → longest_at w c ≡ longer c (acting_history s)
+pub longest-turn : (w : World) (v : View) (c : List Entry) (k : ℕ) (s : Server) → w.server ≡ set_at v.server k s → is_in w.master.used k ≡ true → Commits v c → longest_at w c ≡ longer c (acting_history s)
 unfolding longest_at
 longest-turn w v c k s is known h = ap (λ server. fold (λ longest id. longer longest (acting_history (server id))) c w.master.used) is
     ∙ longest_one (set_at v.server k s) c k w.master.used others known ∙ ap (λ b. longer c (acting_history (cond b s (v.server k)))) (eq-eqb k k refl) where

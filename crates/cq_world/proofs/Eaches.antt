@@ -4,7 +4,7 @@ use Rattle.std.proofs.Math.Seq.{take-append_seam}
 use Rattle.std.proofs.lemmas.Bool.{eqb-true}
 use Rattle.cq_base.specs.declared.party.Party.{Party}
 use Rattle.cq_base.specs.declared.party.Party.TheVariants as parties
-use Rattle.cq_base.specs.Relations.{Among, Front}
+use Rattle.cq_base.specs.Relations.{Among, IsPrefix}
 use Rattle.cq_chain.specs.Messages.{Message}
 use Rattle.cq_chain.specs.Parties.{same, addressed}
 use Rattle.cq_chain.specs.Steps.{to_server, when}
@@ -69,24 +69,24 @@ by_id P f k a own others j = go (eqb j k) refl where
   go true e = subst (λ i. P i a) (sym (eqb-true j k e)) own
   go false e = others j
 
--- a front of a front is one
-pub front-trans : {X : Type 0} (xs ys zs : List X) → Front xs ys → Front ys zs → Front xs zs
-front-trans xs ys zs h k = (h.0 ++ k.0, k.1 ∙ ap (λ us. us ++ k.0) h.1 ∙ append_assoc xs h.0 k.0)
+-- a prefix of a prefix is one
+pub prefix-trans : {X : Type 0} (xs ys zs : List X) → IsPrefix xs ys → IsPrefix ys zs → IsPrefix xs zs
+prefix-trans xs ys zs h k = (h.0 ++ k.0, k.1 ∙ ap (λ us. us ++ k.0) h.1 ∙ append_assoc xs h.0 k.0)
 
--- a list is a front of itself
-pub front-refl : {X : Type 0} (xs : List X) → Front xs xs
-front-refl xs = ([], sym (append-nil xs))
+-- a list is a prefix of itself
+pub prefix-refl : {X : Type 0} (xs : List X) → IsPrefix xs xs
+prefix-refl xs = ([], sym (append-nil xs))
 
--- an empty list is a front of each
-pub front-none : {X : Type 0} (xs ys : List X) → xs ≡ [] → Front xs ys
-front-none xs ys e = (ys, sym (ap (λ us. us ++ ys) e))
+-- an empty list is a prefix of each
+pub prefix-none : {X : Type 0} (xs ys : List X) → xs ≡ [] → IsPrefix xs ys
+prefix-none xs ys e = (ys, sym (ap (λ us. us ++ ys) e))
 
 -- with more at its end
-pub front-more : {X : Type 0} (xs ys : List X) → Front xs (xs ++ ys)
-front-more xs ys = (ys, refl)
+pub prefix-more : {X : Type 0} (xs ys : List X) → IsPrefix xs (xs ++ ys)
+prefix-more xs ys = (ys, refl)
 
--- a front of a list, with the element that comes next there
-pub front-next : {X : Type 0} (xs zs before rest : List X) (x : X) → Front xs zs → zs ≡ before ++ (x ∷ rest) → length before ≡ length xs → Front (xs ++ x ∷ []) zs
-front-next xs zs before rest x h split long = (rest, split ∙ ap (λ us. us ++ (x ∷ rest)) same_front ∙ sym (append_assoc xs (x ∷ []) rest)) where
-  same_front : before ≡ xs
-  same_front = sym (take-append_seam before (x ∷ rest)) ∙ ap (λ us. take (length before) us) (sym split ∙ h.1) ∙ ap (λ n. take n (xs ++ h.0)) long ∙ take-append_seam xs h.0
+-- a prefix of a list, with the element that comes next there
+pub prefix-next : {X : Type 0} (xs zs before rest : List X) (x : X) → IsPrefix xs zs → zs ≡ before ++ (x ∷ rest) → length before ≡ length xs → IsPrefix (xs ++ x ∷ []) zs
+prefix-next xs zs before rest x h split long = (rest, split ∙ ap (λ us. us ++ (x ∷ rest)) same_prefix ∙ sym (append_assoc xs (x ∷ []) rest)) where
+  same_prefix : before ≡ xs
+  same_prefix = sym (take-append_seam before (x ∷ rest)) ∙ ap (λ us. take (length before) us) (sym split ∙ h.1) ∙ ap (λ n. take n (xs ++ h.0)) long ∙ take-append_seam xs h.0

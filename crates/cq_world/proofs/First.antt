@@ -9,9 +9,9 @@ use Rattle.cq_events.specs.Worlds.{first_world}
 use Rattle.cq_world.proofs.Chains.{last-one}
 use Rattle.cq_world.proofs.Prefixes.Climbing.{one, ups, Climbs}
 use Rattle.cq_world.proofs.Commits.{Commits, bit, waits}
-use Rattle.cq_world.proofs.Eaches.{front-none, some_none}
-use Rattle.cq_world.proofs.Prefixes.{Prefixes, Linked, LinkedLine}
-use Rattle.cq_world.proofs.Sights.{Sight, sight}
+use Rattle.cq_world.proofs.Eaches.{prefix-none, some_none}
+use Rattle.cq_world.proofs.Prefixes.{Prefixes, Linked, LinkedExtended}
+use Rattle.cq_world.proofs.Views.{View, view}
 
 -- ---- numbers
 
@@ -39,14 +39,14 @@ first_entries false size id = refl
 -- what a climb begins with, where nothing is in any history
 first_climb : (f : ℕ → Server) (x : ℕ) (o : Option ℕ) → (f x).entries ≡ [] → Climbs f x (one o ++ [])
 first_climb f x None e = tt
-first_climb f x (Some p) e = front-none (f x).entries (f p).entries e
+first_climb f x (Some p) e = prefix-none (f x).entries (f p).entries e
 
 first_fresh : (t : Bool) (size id : ℕ) → t ≡ false → at_first t size id ≡ joining
 first_fresh true size id e = absurd (false≢true (sym e))
 first_fresh false size id e = refl
 
 -- each of the numbers after the first one is linked to the one before it
-first_linked : (size : ℕ) (v : Sight) (n k : ℕ) → ((id : ℕ) → 1 ≤ id → id ≤ size → ups v id ≡ one (first_member size id).pred) → 1 ≤ k → k + n ≤ size → Linked v k (numbers_from (k + 1) n)
+first_linked : (size : ℕ) (v : View) (n k : ℕ) → ((id : ℕ) → 1 ≤ id → id ≤ size → ups v id ≡ one (first_member size id).pred) → 1 ≤ k → k + n ≤ size → Linked v k (numbers_from (k + 1) n)
 unfolding numbers_from
 first_linked size v zero k h some within = tt
 first_linked size v (suc n) k h some within = (
@@ -54,10 +54,10 @@ first_linked size v (suc n) k h some within = (
   first_linked size v n (k + 1) h (omega arith) (omega (arith, within)),
 )
 
-first_line : (size : ℕ) (v : Sight) → ((id : ℕ) → 1 ≤ id → id ≤ size → ups v id ≡ one (first_member size id).pred) → LinkedLine v (numbers_from 1 size)
+first_extended : (size : ℕ) (v : View) → ((id : ℕ) → 1 ≤ id → id ≤ size → ups v id ≡ one (first_member size id).pred) → LinkedExtended v (numbers_from 1 size)
 unfolding numbers_from
-first_line zero v h = tt
-first_line (suc n) v h = first_linked (suc n) v n 1 h (omega arith) (omega arith)
+first_extended zero v h = tt
+first_extended (suc n) v h = first_linked (suc n) v n 1 h (omega arith) (omega arith)
 
 first_ups : (t : Bool) (size id : ℕ) → t ≡ true → one (at_first t size id).pred ++ [] ≡ one (first_member size id).pred
 first_ups true size id e = append-nil (one (first_member size id).pred)
@@ -67,7 +67,7 @@ first_head : (t : Bool) (size id : ℕ) → (at_first t size id).head ≡ true �
 first_head true size id is = ap (λ b. one (cond b None (Some (id - 1))) ++ []) is
 first_head false size id is = absurd (false≢true is)
 
-pub prefixes-first : (size : ℕ) → Prefixes (sight (first_world size))
+pub prefixes-first : (size : ℕ) → Prefixes (view (first_world size))
 unfolding first_world
 prefixes-first size = record {
   apart = numbers_apart size 1;
@@ -77,7 +77,7 @@ prefixes-first size = record {
   fresh = λ id unused. (first_fresh (is_in (numbers_from 1 size) id) size id unused, refl);
   speaks = λ id to. tt;
   climbs = λ id. first_climb (first_world size).server id (at_first (is_in (numbers_from 1 size) id) size id).pred (first_entries (is_in (numbers_from 1 size) id) size id);
-  linked = first_line size (sight (first_world size)) (λ id low high. first_ups (is_in (numbers_from 1 size) id) size id (in-numbers size 1 id low (omega (arith, high))));
+  linked = first_extended size (view (first_world size)) (λ id low high. first_ups (is_in (numbers_from 1 size) id) size id (in-numbers size 1 id low (omega (arith, high))));
   heads = λ id h. tt;
   headless = λ id h is. first_head (is_in (numbers_from 1 size) id) size id is;
 }
@@ -143,7 +143,7 @@ no_stage : (b : Bool) → bit (b && (true && not true)) ≡ 0
 no_stage true = refl
 no_stage false = refl
 
-pub commits-first : (size : ℕ) → 1 ≤ size → Commits (sight (first_world size)) []
+pub commits-first : (size : ℕ) → 1 ≤ size → Commits (view (first_world size)) []
 unfolding first_world
 commits-first size some = record {
   acting = λ id does. at_first_acting (known id) size id does;
@@ -163,7 +163,7 @@ commits-first size some = record {
   young_least = λ id least member young. absurd (both_ways (at_first (known id) size id).full young (at_first_full (known id) size id member));
   young_told = λ id member young. tt;
   young = λ told. absurd (false≢true (sym told));
-  old = λ id member full. front-none [] (at_first (known id) size id).entries refl;
+  old = λ id member full. prefix-none [] (at_first (known id) size id).entries refl;
   old_least = λ id least member full is. omega (arith, at_first_least (known id) size id least is);
   old_told = λ id member full. tt;
   joins_ready = λ none. absurd (false≢true none);

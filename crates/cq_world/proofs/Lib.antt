@@ -1,9 +1,9 @@
-pub mod Rows
+pub mod Examples
 pub mod Eaches
 pub mod Settled
 pub mod Unrefused
-pub mod Sights
-pub mod Lines
+pub mod Views
+pub mod ExtendedChains
 pub mod Prefixes
 pub mod Chains
 pub mod Commits

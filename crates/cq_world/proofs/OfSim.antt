@@ -3,7 +3,7 @@ pub mod FirstWorld
 pub mod Joining
 pub mod LinksKept
 pub mod Meanings
-pub mod PairKeys
+pub mod LinkKeys
 pub mod Refused
 pub mod Remaining
 pub mod RunSteps

@@ -22,8 +22,8 @@ use Rattle.cq_world.proofs.Prefixes.Climbing.{reports, one, ups}
 use Rattle.cq_world.proofs.Commits.{bit}
 use Rattle.cq_world.proofs.Eaches.{Each}
 use Rattle.cq_world.proofs.Wholes.Feeding.{NoData, NoSnap, OfSnap, Feeds}
-use Rattle.cq_world.proofs.Prefixes.{Prefixes, Linked, LinkedLine}
-use Rattle.cq_world.proofs.Sights.{Sight, line}
+use Rattle.cq_world.proofs.Prefixes.{Prefixes, Linked, LinkedExtended}
+use Rattle.cq_world.proofs.Views.{View, extended}
 
 -- ---- words on messages
 
@@ -59,12 +59,12 @@ OnlyTo s (Feed None) = ⊥
 OnlyTo s (BeTail least) = ⊥
 OnlyTo s m = Unit {0}
 
--- behind a word on a server of the line as successor there is none on another one
+-- behind a word on a server of the extended chain as successor there is none on another one
 abbrev pub Ends : List ℕ → List Message → Type 0
-Ends line [] = Unit {0}
-Ends line (Adopt s n ∷ ms) = (is_in line s ≡ true → Each (OnlyTo s) ms) × Ends line ms
-Ends line (Feed (Some s) ∷ ms) = (is_in line s ≡ true → Each (OnlyTo s) ms) × Ends line ms
-Ends line (m ∷ ms) = Ends line ms
+Ends extended [] = Unit {0}
+Ends extended (Adopt s n ∷ ms) = (is_in extended s ≡ true → Each (OnlyTo s) ms) × Ends extended ms
+Ends extended (Feed (Some s) ∷ ms) = (is_in extended s ≡ true → Each (OnlyTo s) ms) × Ends extended ms
+Ends extended (m ∷ ms) = Ends extended ms
 
 -- who is to be fed is no member
 abbrev pub FeedsOut : List ℕ → Message → Type 0
@@ -105,12 +105,12 @@ abbrev pub links : Option ℕ → ℕ → List Message → ℕ
 links succ s ms = feeds_of s ms + cond (is_that succ s) 1 (adopts_of s ms)
 
 -- at how many stages the making of a pair stands
-abbrev pub tokens : Sight → ℕ → ℕ → ℕ
+abbrev pub tokens : View → ℕ → ℕ → ℕ
 tokens v p s = reports_of p (v.channel parties.Master (parties.Server s)) + (haves_of p (v.channel (parties.Server s) parties.Master) + links (v.server p).succ s (v.channel parties.Master (parties.Server p)))
 
 -- ---- the sentences
 
-pub record Whole (v : Sight) (c : List Entry) : Type 0 where
+pub record Whole (v : View) (c : List Entry) : Type 0 where
   -- who is named has been used, and no entry is on its way to one that hasn't
   pub pred_known : (id p : ℕ) → (v.server id).pred ≡ Some p → is_in v.master.used p ≡ true
   pub succ_known : (id s : ℕ) → (v.server id).succ ≡ Some s → is_in v.master.used s ≡ true
@@ -118,18 +118,18 @@ pub record Whole (v : Sight) (c : List Entry) : Type 0 where
   pub reports_known : (id : ℕ) → Each (Known v.master.used) (v.channel (parties.Server id) parties.Master)
   pub unheard : (p id : ℕ) → is_in v.master.used id ≡ false → Each NoData (v.channel (parties.Server p) (parties.Server id))
   -- the making of a pair of neighbours stands at one stage, and that of others at none
-  pub token : (p s : ℕ) → is_in (line v.master) p ≡ true → is_in (line v.master) s ≡ true → tokens v p s ≡ bit (stands_before p s (line v.master))
-  -- a server of the line that is a successor stays it
-  pub ends : (p : ℕ) → is_in (line v.master) p ≡ true → Ends (line v.master) (v.channel parties.Master (parties.Server p))
-  pub follows : (p s : ℕ) → is_in (line v.master) p ≡ true → is_in (line v.master) s ≡ true → is_that (v.server p).succ s ≡ true → Each (OnlyTo s) (v.channel parties.Master (parties.Server p))
+  pub token : (p s : ℕ) → is_in (extended v.master) p ≡ true → is_in (extended v.master) s ≡ true → tokens v p s ≡ bit (stands_before p s (extended v.master))
+  -- a server of the extended chain that is a successor stays it
+  pub ends : (p : ℕ) → is_in (extended v.master) p ≡ true → Ends (extended v.master) (v.channel parties.Master (parties.Server p))
+  pub follows : (p s : ℕ) → is_in (extended v.master) p ≡ true → is_in (extended v.master) s ≡ true → is_that (v.server p).succ s ≡ true → Each (OnlyTo s) (v.channel parties.Master (parties.Server p))
   -- what is told of a neighbour's entries is so
-  pub counts : (p s : ℕ) → stands_before p s (line v.master) ≡ true → Each (HaveIs p (length (v.server s).entries)) (v.channel (parties.Server s) parties.Master)
-  pub adopts : (p s : ℕ) → stands_before p s (line v.master) ≡ true → is_that (v.server p).succ s ≡ false → Each (AdoptIs s (length (v.server s).entries)) (v.channel parties.Master (parties.Server p))
+  pub counts : (p s : ℕ) → stands_before p s (extended v.master) ≡ true → Each (HaveIs p (length (v.server s).entries)) (v.channel (parties.Server s) parties.Master)
+  pub adopts : (p s : ℕ) → stands_before p s (extended v.master) ≡ true → is_that (v.server p).succ s ≡ false → Each (AdoptIs s (length (v.server s).entries)) (v.channel parties.Master (parties.Server p))
   -- entries go to the successor alone, and where there is one its predecessor has been told
-  pub data_none : (p s : ℕ) → is_in (line v.master) s ≡ true → is_that (v.server p).succ s ≡ false → Each NoData (v.channel (parties.Server p) (parties.Server s))
-  pub linked_told : (p s : ℕ) → is_in (line v.master) s ≡ true → is_that (v.server p).succ s ≡ true → reports_of p (v.channel parties.Master (parties.Server s)) ≡ 0
+  pub data_none : (p s : ℕ) → is_in (extended v.master) s ≡ true → is_that (v.server p).succ s ≡ false → Each NoData (v.channel (parties.Server p) (parties.Server s))
+  pub linked_told : (p s : ℕ) → is_in (extended v.master) s ≡ true → is_that (v.server p).succ s ≡ true → reports_of p (v.channel parties.Master (parties.Server s)) ≡ 0
   -- what is on its way takes the successor to what the predecessor has
-  pub feed : (p s : ℕ) → is_in (line v.master) s ≡ true → (v.server s).pred ≡ Some p → is_that (v.server p).succ s ≡ true → Feeds (length (v.server s).entries) (v.channel (parties.Server p) (parties.Server s)) (length (v.server p).entries)
+  pub feed : (p s : ℕ) → is_in (extended v.master) s ≡ true → (v.server s).pred ≡ Some p → is_that (v.server p).succ s ≡ true → Feeds (length (v.server s).entries) (v.channel (parties.Server p) (parties.Server s)) (length (v.server p).entries)
   -- a snapshot is for one that lacks something of what is committed, and has no successor
   pub snap : (p s : ℕ) → is_in v.master.chain s ≡ true → (v.server s).pred ≡ Some p → Each (OfSnap (length (v.server s).entries < length c)) (v.channel (parties.Server p) (parties.Server s))
   pub young_succ : (id : ℕ) → is_in v.master.chain id ≡ true → (v.server id).full ≡ false → (v.server id).succ ≡ None
@@ -147,7 +147,7 @@ pub record Whole (v : Sight) (c : List Entry) : Type 0 where
 -- ---- neighbours
 
 -- no server stands before itself
-pub before-self : (p : ℕ) (line : List ℕ) → Apart line → stands_before p p line ≡ true → ⊥
+pub before-self : (p : ℕ) (extended : List ℕ) → Apart extended → stands_before p p extended ≡ true → ⊥
 before-self p [] apart h = false≢true h
 before-self p (a ∷ []) apart h = false≢true h
 before-self p (a ∷ b ∷ rest) apart h = elim (or_cases (eqb a p && eqb b p) (stands_before p p (b ∷ rest)) h) [
@@ -156,16 +156,16 @@ before-self p (a ∷ b ∷ rest) apart h = elim (or_cases (eqb a p && eqb b p) (
 ]
 
 -- the predecessors of a neighbour end with the other one
-linked_before : (v : Sight) (a : ℕ) (rest : List ℕ) (p s : ℕ) → Linked v a rest → stands_before p s (a ∷ rest) ≡ true → is_last (ups v s) p ≡ true
+linked_before : (v : View) (a : ℕ) (rest : List ℕ) (p s : ℕ) → Linked v a rest → stands_before p s (a ∷ rest) ≡ true → is_last (ups v s) p ≡ true
 linked_before v a [] p s l h = absurd (false≢true h)
 linked_before v a (b ∷ rest) p s l h = elim (or_cases (eqb a p && eqb b s) (stands_before p s (b ∷ rest)) h) [
   | inl here ↦ let both = and_parts (eqb a p) (eqb b s) here in subst (λ i. is_last (ups v i) p ≡ true) (eqb-true b s both.1) (subst (λ i. is_last (ups v b) i ≡ true) (eqb-true a p both.0) l.0)
   | inr later ↦ linked_before v b rest p s l.1 later
 ]
 
-pub last-pred : (v : Sight) (p s : ℕ) → Prefixes v → stands_before p s (line v.master) ≡ true → is_last (ups v s) p ≡ true
-last-pred v p s g h = go (line v.master) g.linked h where
-  go : (line : List ℕ) → LinkedLine v line → stands_before p s line ≡ true → is_last (ups v s) p ≡ true
+pub last-pred : (v : View) (p s : ℕ) → Prefixes v → stands_before p s (extended v.master) ≡ true → is_last (ups v s) p ≡ true
+last-pred v p s g h = go (extended v.master) g.linked h where
+  go : (extended : List ℕ) → LinkedExtended v extended → stands_before p s extended ≡ true → is_last (ups v s) p ≡ true
   go [] l before = absurd (false≢true before)
   go (a ∷ rest) l before = linked_before v a rest p s l before
 
@@ -191,7 +191,7 @@ last_told (m ∷ ms) p h = skip m h (λ l. last_told ms p l) where
   skip x l later = later l
 
 -- A neighbour whose predecessor isn't on its way to it has it, and is told of no other.
-pub stage-past : (v : Sight) (p s : ℕ) → Prefixes v → stands_before p s (line v.master) ≡ true → reports_of p (v.channel parties.Master (parties.Server s)) ≡ 0
+pub stage-past : (v : View) (p s : ℕ) → Prefixes v → stands_before p s (extended v.master) ≡ true → reports_of p (v.channel parties.Master (parties.Server s)) ≡ 0
     → ((v.server s).pred ≡ Some p) × (reports (v.channel parties.Master (parties.Server s)) ≡ [])
 stage-past v p s g before none = go (v.server s).pred (reports (v.channel parties.Master (parties.Server s))) refl refl (last-pred v p s g before) where
   ms : List Message
@@ -206,7 +206,7 @@ stage-past v p s g before none = go (v.server s).pred (reports (v.channel partie
   go (Some q) (u ∷ us) e f last = absurd (not_told (u ∷ us) f last)
 
 -- the predecessor that the server has which joins is the last member
-pub linked_ups : (v : Sight) (c : List Entry) (j p t : ℕ) → Whole v c → is_that v.master.joiner j ≡ true → is_last v.master.chain t ≡ true → (v.server j).pred ≡ Some p → p ≡ t
+pub linked_ups : (v : View) (c : List Entry) (j p t : ℕ) → Whole v c → is_that v.master.joiner j ≡ true → is_last v.master.chain t ≡ true → (v.server j).pred ≡ Some p → p ≡ t
 linked_ups v c j p t h joins last is_pred = same p t (reports (v.channel parties.Master (parties.Server j))) [] (sym (ap (λ o. one o ++ reports (v.channel parties.Master (parties.Server j))) is_pred) ∙ h.fed_by j t joins last) where
   same : (a b : ℕ) (us ws : List ℕ) → a ∷ us ≡ b ∷ ws → a ≡ b
   same a b us ws e = cc

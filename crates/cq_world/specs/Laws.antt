@@ -5,7 +5,7 @@ use Rattle.cq_base.specs.declared.ask.Query.{Query}
 use Rattle.cq_base.specs.declared.ask.Request.{Request}
 use Rattle.cq_base.specs.declared.party.Party.{Party}
 use Rattle.cq_base.specs.declared.party.Party.TheVariants as parties
-use Rattle.cq_base.specs.Relations.{Among, Front, Pairwise}
+use Rattle.cq_base.specs.Relations.{Among, IsPrefix, Pairwise}
 use Rattle.cq_chain.specs.declared.fault.WorldFault.{WorldFault}
 use Rattle.cq_chain.specs.declared.message.Answer.{Answer}
 use Rattle.cq_chain.specs.Masters.{Master, is_last}
@@ -35,7 +35,7 @@ pub record AnswersQuery (list : List Entry) (w : World) (events : List Event) (a
   pub query : Query
   pub asked : events ≡ earlier ++ (Ask at query ∷ later)
   pub free : refusal_of (world_after w earlier) (Ask at query) ≡ None
-  pub front : Front ((world_after w earlier).server at).entries list
+  pub prefix : IsPrefix ((world_after w earlier).server at).entries list
   pub answer : a ≡ answer_to_query ((world_after w earlier).server at).entries query
 
 -- The answer is the one that a single queue object gives that takes the entries of the list in order: the reply
@@ -58,21 +58,21 @@ GivenWereMade = (size : ℕ) (events : List Event) (n : ℕ) (a : Answer) → Am
 
 -- ---- the committed list
 
--- The committed list is a front of the history of a head that lives.
+-- The committed list is a prefix of the history of a head that lives.
 abbrev pub CommittedIsOfTheHead : Type 0
 CommittedIsOfTheHead = (size : ℕ) (events : List Event) (id : ℕ) → 1 ≤ size
     → is_in (world_after (first_world size) events).master.used id ≡ true → ((world_after (first_world size) events).server id).head ≡ true
-    → ((world_after (first_world size) events).server id).down ≡ false → Front (committed size events) ((world_after (first_world size) events).server id).entries
+    → ((world_after (first_world size) events).server id).down ≡ false → IsPrefix (committed size events) ((world_after (first_world size) events).server id).entries
 
--- It is a front of the history of each full server that lives.
+-- It is a prefix of the history of each full server that lives.
 abbrev pub CommittedIsOfFullServers : Type 0
 CommittedIsOfFullServers = (size : ℕ) (events : List Event) (id : ℕ) → 1 ≤ size
     → is_in (world_after (first_world size) events).master.used id ≡ true → ((world_after (first_world size) events).server id).full ≡ true
-    → ((world_after (first_world size) events).server id).down ≡ false → Front (committed size events) ((world_after (first_world size) events).server id).entries
+    → ((world_after (first_world size) events).server id).down ≡ false → IsPrefix (committed size events) ((world_after (first_world size) events).server id).entries
 
 -- The committed list only grows.
 abbrev pub CommittedGrows : Type 0
-CommittedGrows = (size : ℕ) (before more : List Event) → 1 ≤ size → Front (committed size before) (committed size (before ++ more))
+CommittedGrows = (size : ℕ) (before more : List Event) → 1 ≤ size → IsPrefix (committed size before) (committed size (before ++ more))
 
 -- a request that arrived, with the clock that it met
 pub record Arrival : Type 0 where
@@ -104,10 +104,10 @@ CommittedIsOfArrivals = (size : ℕ) (events : List Event) → 1 ≤ size
 -- ---- histories
 
 -- What a message says of its sender's history: a forwarded entry stands at its place there, and a snapshot is a
--- front of it.
+-- prefix of it.
 abbrev pub Speaks : List Entry → Message → Type 0
 Speaks entries (Fwd place e) = (before rest : List Entry) × (entries ≡ before ++ (e ∷ rest)) × (length before + 1 ≡ place)
-Speaks entries (Snap snapshot) = Front snapshot entries
+Speaks entries (Snap snapshot) = IsPrefix snapshot entries
 Speaks entries m = Unit {0}
 
 -- What is on its way from a server is of its history.
@@ -115,16 +115,16 @@ abbrev pub MessagesAreOfTheHistory : Type 0
 MessagesAreOfTheHistory = (size : ℕ) (events : List Event) (id : ℕ) (to : Party) (m : Message) → 1 ≤ size
     → Among m (channel (world_after (first_world size) events) (parties.Server id) to) → Speaks ((world_after (first_world size) events).server id).entries m
 
--- The history of a server that has a predecessor is a front of the predecessor's.
-abbrev pub HistoriesAreFronts : Type 0
-HistoriesAreFronts = (size : ℕ) (events : List Event) (id p : ℕ) → 1 ≤ size → ((world_after (first_world size) events).server id).pred ≡ Some p
-    → Front ((world_after (first_world size) events).server id).entries ((world_after (first_world size) events).server p).entries
+-- The history of a server that has a predecessor is a prefix of the predecessor's.
+abbrev pub HistoriesArePrefixes : Type 0
+HistoriesArePrefixes = (size : ℕ) (events : List Event) (id p : ℕ) → 1 ≤ size → ((world_after (first_world size) events).server id).pred ≡ Some p
+    → IsPrefix ((world_after (first_world size) events).server id).entries ((world_after (first_world size) events).server p).entries
 
--- Along the chain the history of each member is a front of that of each member before it.
+-- Along the chain the history of each member is a prefix of that of each member before it.
 abbrev pub HistoriesFallAlongTheChain : Type 0
 HistoriesFallAlongTheChain = (size : ℕ) (events : List Event) (before between behind : List ℕ) (p s : ℕ) → 1 ≤ size
     → (world_after (first_world size) events).master.chain ≡ before ++ (p ∷ (between ++ (s ∷ behind)))
-    → Front ((world_after (first_world size) events).server s).entries ((world_after (first_world size) events).server p).entries
+    → IsPrefix ((world_after (first_world size) events).server s).entries ((world_after (first_world size) events).server p).entries
 
 -- ---- who acts
 
@@ -208,18 +208,18 @@ OfCommitted P = (size : ℕ) (events : List Event) → 1 ≤ size → P (committ
 -- ---- the headline
 
 -- For one run: every answer is one queue object's over one growing list of requests; in each group first handings
--- are a front of the accepted sends, no message is handed while one of its group is in flight, nothing is handed
+-- are a prefix of the accepted sends, no message is handed while one of its group is in flight, nothing is handed
 -- after its or its queue's deletion, and repeats within five minutes add nothing.
 pub record Headline (size : ℕ) (events : List Event) : Type 0 where
   -- every answer is one queue object's
   pub answers : (a : Answer) → Among a (made size events) → IsOfTheObject size events a
   pub given : (n : ℕ) (a : Answer) → Among (n, a) (given_from 1 (first_world size) events) → IsOfTheObject size events a
   -- over one growing list
-  pub grows : (before more : List Event) → events ≡ before ++ more → Front (committed size before) (committed size events)
+  pub grows : (before more : List Event) → events ≡ before ++ more → IsPrefix (committed size before) (committed size events)
   pub stamped : Stamped (committed size events)
   -- of requests
   pub arrivals : AreArrivals 0 (committed size events) (arrivals_from (first_world size) events)
-  -- in each group first handings are a front of the accepted sends
+  -- in each group first handings are a prefix of the accepted sends
   pub in_order : FirstHandingsInOrderIn (committed size events)
   -- only accepted messages are handed, and none while one of its group is in flight
   pub sent : AtEachPlace HandsWhatWasSentAt (committed size events)

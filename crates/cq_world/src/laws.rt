@@ -4,7 +4,7 @@
 ghost use Rattle.std.specs.Prelude.{List};
 ghost use Rattle.cq_base.specs.declared.ask.Entry.{Entry};
 ghost use Rattle.cq_store.specs.Laws.{FreshOnceIn, RepeatsAreAnsweredAt, OthersDoNothingAt, EachQueueAloneIn, EachReplyAloneAt, HandsWhatWasSentAt, NoneInFlightAt, NoneDeletedAt, NoneRemovedAt, OneAcceptancePerWindowAt, FirstHandingsInOrderIn};
-ghost use Rattle.cq_world.specs.Laws.{AtEachPlace, OfCommitted, AnswersAreOfTheObject, GivenWereMade, CommittedIsOfTheHead, CommittedIsOfFullServers, CommittedGrows, CommittedIsOfArrivals, DroppedServersStayOut, MessagesAreOfTheHistory, HistoriesAreFronts, HistoriesFallAlongTheChain, OneActs, LengthsNeverFall, LaterArrivalsStandAbove, LaterQueriesSeeAsMuch, QuietMembersAgree, QuietTailActs, HeadlineHolds};
+ghost use Rattle.cq_world.specs.Laws.{AtEachPlace, OfCommitted, AnswersAreOfTheObject, GivenWereMade, CommittedIsOfTheHead, CommittedIsOfFullServers, CommittedGrows, CommittedIsOfArrivals, DroppedServersStayOut, MessagesAreOfTheHistory, HistoriesArePrefixes, HistoriesFallAlongTheChain, OneActs, LengthsNeverFall, LaterArrivalsStandAbove, LaterQueriesSeeAsMuch, QuietMembersAgree, QuietTailActs, HeadlineHolds};
 
 /// Every answer that a server makes is the one that a single queue object gives which takes the committed list:
 /// to a request at the place that the answer bears, to a query after so many entries. Only answers that were
@@ -14,7 +14,7 @@ pub fn answers_are_of_one_object()
     ensures given { GivenWereMade }
 {}
 
-/// The committed list is a front of the history of each full server that lives, and of a head that lives, which is
+/// The committed list is a prefix of the history of each full server that lives, and of a head that lives, which is
 /// full.
 pub fn committed_is_of_full_servers()
     ensures full { CommittedIsOfFullServers }
@@ -32,12 +32,12 @@ pub fn committed_is_of_arrivals()
     ensures { CommittedIsOfArrivals }
 {}
 
-/// Along the chain the history of each member is a front of that of each member before it, and the history of a
-/// server that has a predecessor is a front of the predecessor's. What is on its way from a server is of its history: a
-/// forwarded entry stands there at the place that it bears, and a snapshot is a front of it.
-pub fn histories_are_fronts()
+/// Along the chain the history of each member is a prefix of that of each member before it, and the history of a
+/// server that has a predecessor is a prefix of the predecessor's. What is on its way from a server is of its history: a
+/// forwarded entry stands there at the place that it bears, and a snapshot is a prefix of it.
+pub fn histories_are_prefixes()
     ensures members { HistoriesFallAlongTheChain }
-    ensures predecessors { HistoriesAreFronts }
+    ensures predecessors { HistoriesArePrefixes }
     ensures messages { MessagesAreOfTheHistory }
 {}
 
@@ -82,7 +82,7 @@ pub fn one_effect_per_number()
 /// On the committed list, what the fresh entries that name a queue do, and what they are answered with, follows from
 /// these alone.
 pub fn other_queues_do_not_matter()
-    ensures facts { OfCommitted EachQueueAloneIn }
+    ensures outcomes { OfCommitted EachQueueAloneIn }
     ensures replies { OfCommitted (AtEachPlace EachReplyAloneAt) }
 {}
 

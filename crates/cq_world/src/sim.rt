@@ -6,7 +6,7 @@ ghost use Rattle.cq_base.specs.Relations.{Among};
 ghost use Rattle.cq_chain.specs.Stands.{MasterStandsFor};
 ghost use Rattle.cq_chain.specs.declared.fault.WorldFault.TheVariants as faults;
 ghost use Rattle.cq_chain.specs.declared.message.Answer.{Answer};
-ghost use Rattle.cq_events.specs.Events.{knows, is_down, refusal_of, after};
+ghost use Rattle.cq_events.specs.Events.{has_party, is_down, refusal_of, after};
 ghost use Rattle.cq_world.specs.Laws.{Headline, IsOfTheObject};
 ghost use Rattle.cq_events.specs.Runs.{world_after, given_from, refused_from, given_if, numbered};
 ghost use Rattle.cq_world.specs.Stands.{StandsFor, Shows, Happens, Gives, IsRefused, IsFound, HasRoomFor, WantsMemory};
@@ -18,7 +18,7 @@ mod changes;
 mod passing;
 mod requests;
 
-use crate::links::{Links, Pair};
+use crate::links::{LinkKey, Links};
 use crate::ran::Ran;
 use cq_base::{ChainSize, NoMemory, Party, ServerId};
 use cq_chain::{Answer, Master, Server, WorldFault};
@@ -35,7 +35,7 @@ pub struct Sim {
     master: Master,
 }
 
-/// By hand, so that whoever lets one go makes one call, and has no case for each part.
+/// Written out, not derived: CONTRIBUTING.md, "Drop".
 impl Drop for Sim {
     fn drop(self) {
         let Sim {
@@ -88,7 +88,7 @@ impl Sim {
     pub fn waiting(&self, from: Party, to: Party) -> (u64, u64)
         ensures { Shows self.now (λ w. (result.0 ≡ length (w.outbox from to)) × (result.1 ≡ length (w.link from to))) }
     {
-        let pair = Pair { from, to };
+        let pair = LinkKey { from, to };
         (self.outbox_count(&pair), self.links.waiting(&pair))
     }
 
@@ -113,7 +113,7 @@ impl Sim {
     }
 
     /// How many messages from one party wait for the other.
-    fn outbox_count(&self, pair: &Pair) -> u64
+    fn outbox_count(&self, pair: &LinkKey) -> u64
         ensures { Shows self.now (λ w. result ≡ length (w.outbox pair.now.from pair.now.to)) }
     {
         match pair.from {
@@ -124,8 +124,8 @@ impl Sim {
     }
 
     /// The party is the master, the clients, or a server that there is.
-    fn knows(&self, party: &Party) -> bool
-        ensures { Shows self.now (λ w. result ≡ knows w party.now) }
+    fn has_party(&self, party: &Party) -> bool
+        ensures { Shows self.now (λ w. result ≡ has_party w party.now) }
     {
         match party {
             Party::Server(id) => self.servers.contains_key(id),
@@ -134,15 +134,15 @@ impl Sim {
     }
 
     /// Both ends of a link are known.
-    fn knows_both(&self, pair: &Pair) -> bool
-        ensures { Shows self.now (λ w. result ≡ (knows w pair.now.from && knows w pair.now.to)) }
+    fn has_parties(&self, pair: &LinkKey) -> bool
+        ensures { Shows self.now (λ w. result ≡ (has_party w pair.now.from && has_party w pair.now.to)) }
     {
-        self.knows(&pair.from) && self.knows(&pair.to)
+        self.has_party(&pair.from) && self.has_party(&pair.to)
     }
 
     /// The party is a server that has crashed.
     fn is_down(&self, party: &Party) -> bool
-        ensures { Shows self.now (λ w. knows w party.now ≡ true → result ≡ is_down w party.now) }
+        ensures { Shows self.now (λ w. has_party w party.now ≡ true → result ≡ is_down w party.now) }
     {
         match party {
             Party::Server(id) => match self.servers.get(id) {
@@ -172,12 +172,12 @@ impl Sim {
                 self.ask(*at, query)?;
                 Ok(None)
             }
-            Event::Put { from, to } => self.put(&Pair {
+            Event::Put { from, to } => self.put(&LinkKey {
                 from: *from,
                 to: *to,
             }),
             Event::Take { from, to } => {
-                self.take(&Pair {
+                self.take(&LinkKey {
                     from: *from,
                     to: *to,
                 })?;
@@ -206,7 +206,7 @@ impl Sim {
     {
         match next {
             Event::Put { from, to } => match to {
-                Party::Clients => self.may_put(&Pair {
+                Party::Clients => self.may_put(&LinkKey {
                     from: *from,
                     to: Party::Clients,
                 }),

@@ -2,7 +2,7 @@
 ghost use Rattle.std.specs.Prelude.{◌≡◌, ◌<◌, ◌≤◌, ℕ, List, OnOk, OnErr};
 ghost use Rattle.cq_base.specs.declared.limits.TheConstants.{HISTORY_LIMIT};
 ghost use Rattle.cq_base.specs.declared.party.Party as rust_party;
-ghost use Rattle.cq_base.specs.History.{reply_to};
+ghost use Rattle.cq_base.specs.queue.History.{reply_to};
 ghost use Rattle.cq_chain.specs.Messages as sent;
 ghost use Rattle.cq_chain.specs.Servers as states;
 ghost use Rattle.cq_chain.specs.Servers.{acts};
@@ -70,7 +70,7 @@ impl Server {
     }
 
     /// Tells the predecessor what the tail has, and the master that the server acts if it did not before.
-    pub(super) fn tell(&mut self, acted: bool)
+    pub(super) fn send_ack(&mut self, acted: bool)
         requires { HasRoom self.old.outboxes 2 self.old.pred self.old.succ }
         ensures { (old now : states.Server) (outbox : rust_party.Party → List sent.Message) → StandsFor self.old now outbox
             → acted ≡ acts old → old.pred ≡ now.pred → StandsFor self.new now (posted outbox (tail_news old now)) }
@@ -85,7 +85,7 @@ impl Server {
     }
 
     /// A server that acts has nothing more to send on.
-    pub(super) fn settle(&mut self)
+    pub(super) fn acknowledge_all(&mut self)
         ensures { (s : states.Server) (outbox : rust_party.Party → List sent.Message) → StandsFor self.old s outbox
             → StandsFor self.new (settled s) outbox }
     {

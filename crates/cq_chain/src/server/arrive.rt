@@ -34,7 +34,7 @@ impl Server {
     }
 
     /// A request becomes the next entry.
-    fn enter(&mut self, request: &Request, clock: Moment) -> Result<(), NoMemory>
+    fn append_request(&mut self, request: &Request, clock: Moment) -> Result<(), NoMemory>
         requires { count_of self.old.replica.store < HISTORY_LIMIT }
         ensures ok { OnOk result (Does self.old self.new (arrived clock request.now)) }
         ensures err { OnErr result (Keeps self.old self.new) }
@@ -42,7 +42,7 @@ impl Server {
         let entry = self.stamped(clock, request)?;
         self.reserve()?;
         self.append(entry)?;
-        self.settle();
+        self.acknowledge_all();
         Ok(())
     }
 
@@ -64,7 +64,7 @@ impl Server {
         if self.is_at_limit() {
             return Err(WorldFault::HistoryFull);
         }
-        self.enter(request, clock)?;
+        self.append_request(request, clock)?;
         Ok(())
     }
 

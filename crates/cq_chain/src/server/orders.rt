@@ -64,8 +64,8 @@ impl Server {
         self.reserve()?;
         self.at_least = Some(least);
         self.succ = None;
-        self.tell(false);
-        self.settle();
+        self.send_ack(false);
+        self.acknowledge_all();
         Ok(())
     }
 

@@ -14,8 +14,8 @@ ghost use Rattle.cq_store.specs.Stands as stores;
 ghost use Rattle.cq_store.specs.Stands.{count_of};
 
 use super::Server;
+use crate::fifo::Fifo;
 use crate::identity::is_that;
-use crate::lane::Lane;
 use crate::message::Message;
 use crate::replica::Replica;
 use crate::snapshot::Snapshot;
@@ -24,41 +24,41 @@ use cq_store::Store;
 use std::alloc::Global;
 
 /// The entries after so many, all of which are kept, each as a message: O(entries after these).
-fn missing(alloc: Global, have: u64, replica: &Replica) -> Result<Lane, NoMemory>
+fn missing(alloc: Global, have: u64, replica: &Replica) -> Result<Fifo, NoMemory>
     requires { count_of replica.now.store - length replica.now.entries ≤ have }
     ensures { (history : List rust_entry.Entry) (floor : ℕ) → Recalls replica.now history floor
-        → IfOk result (λ lane. (to : ℕ)
-        → AllFor (parties.Server to) lane.messages (forwards to (have + 1) (drop have history))) }
+        → IfOk result (λ fifo. (to : ℕ)
+        → AllFor (parties.Server to) fifo.messages (forwards to (have + 1) (drop have history))) }
 {
-    let mut lane = Lane::new(alloc);
+    let mut fifo = Fifo::new(alloc);
     for before in have..replica.count() {
         let entry = replica.entry_after(before).try_copy()?;
         let place = before + 1;
-        lane.reserve(1)?;
-        lane.push(Message::Fwd { place, entry });
+        fifo.reserve(1)?;
+        fifo.push(Message::Fwd { place, entry });
     }
-    Ok(lane)
+    Ok(fifo)
 }
 
 /// The whole state in one message: what a copy of the store takes.
-fn snapshot(alloc: Global, store: &Store) -> Result<Lane, NoMemory>
+fn snapshot(alloc: Global, store: &Store) -> Result<Fifo, NoMemory>
     ensures { (history : List rust_entry.Entry) → stores.StandsFor store.now history
-        → IfOk result (λ lane. (to : ℕ)
-        → AllFor (parties.Server to) lane.messages ((parties.Server to, sent.Snap history) ∷ [])) }
+        → IfOk result (λ fifo. (to : ℕ)
+        → AllFor (parties.Server to) fifo.messages ((parties.Server to, sent.Snap history) ∷ [])) }
 {
-    let mut lane = Lane::new(alloc);
+    let mut fifo = Fifo::new(alloc);
     let state = Snapshot::of(store)?;
-    lane.reserve(1)?;
-    lane.push(Message::Snap { state });
-    Ok(lane)
+    fifo.reserve(1)?;
+    fifo.push(Message::Snap { state });
+    Ok(fifo)
 }
 
 impl Server {
     /// What a new successor that has so many entries is to be sent: the entries that it lacks, or the whole
     /// state where the server has forgotten some of these.
-    fn repair(&self, have: u64) -> Result<Lane, NoMemory>
+    fn repair(&self, have: u64) -> Result<Fifo, NoMemory>
         ensures { (s : states.Server) (outbox : rust_party.Party → List sent.Message) → StandsFor self.now s outbox
-            → IfOk result (λ lane. (to : ℕ) → AllFor (parties.Server to) lane.messages (repair to have s)) }
+            → IfOk result (λ fifo. (to : ℕ) → AllFor (parties.Server to) fifo.messages (repair to have s)) }
     {
         if self.replica.floor() <= have {
             missing(self.alloc, have, &self.replica)
@@ -69,12 +69,12 @@ impl Server {
 
     /// What a successor that has so many entries is to be sent. One that the server feeds already lacks none that
     /// isn't on its way.
-    pub(super) fn handover(&self, succ: ServerId, have: u64) -> Result<Lane, NoMemory>
+    pub(super) fn handover(&self, succ: ServerId, have: u64) -> Result<Fifo, NoMemory>
         ensures { (s : states.Server) (outbox : rust_party.Party → List sent.Message) → StandsFor self.now s outbox
-            → IfOk result (λ lane. AllFor (parties.Server succ) lane.messages (when (not (is_that s.succ succ)) (repair succ have s))) }
+            → IfOk result (λ fifo. AllFor (parties.Server succ) fifo.messages (when (not (is_that s.succ succ)) (repair succ have s))) }
     {
         if is_that(self.succ, succ) {
-            Ok(Lane::new(self.alloc))
+            Ok(Fifo::new(self.alloc))
         } else {
             self.repair(have)
         }

@@ -47,7 +47,7 @@ impl Server {
             ++ when (is_none now.at_least) ((parties.Master, sent.Caught pred (length now.entries)) ∷ []))) }
     {
         match self.at_least {
-            Some(_) => self.tell(acted),
+            Some(_) => self.send_ack(acted),
             None => self.tell_caught(pred),
         }
     }
@@ -63,7 +63,7 @@ impl Server {
         self.reserve()?;
         self.replica.restore(store);
         self.tell_restored(from, acted);
-        self.settle();
+        self.acknowledge_all();
         Ok(())
     }
 

@@ -47,8 +47,8 @@ impl Server {
         let entry = entry.try_copy()?;
         self.reserve()?;
         self.append(entry)?;
-        self.tell(acted);
-        self.settle();
+        self.send_ack(acted);
+        self.acknowledge_all();
         Ok(())
     }
 

@@ -2,8 +2,8 @@
 use Rattle.std.specs.Prelude.{ℕ, ◌<◌, ◌≤◌, List, length}
 use Rattle.std.specs.List.{All}
 use Rattle.cq_base.specs.declared.limits.TheConstants.{HISTORY_LIMIT}
-use Rattle.cq_base.specs.Incarnations.{Accepted}
-use Rattle.cq_base.specs.Messages.{Message}
+use Rattle.cq_base.specs.queue.Incarnations.{Accepted}
+use Rattle.cq_base.specs.queue.Messages.{Message}
 use Rattle.cq_queue.specs.within.Windows.{IsBy}
 
 -- the message wasn't handed out more often than so

@@ -4,7 +4,7 @@ use Rattle.std.specs.List.{find}
 use Rattle.std.specs.Map.{lookup}
 use Rattle.std.specs.Str.{bytes_eq}
 use Rattle.cq_base.specs.declared.limits.TheConstants.{DEDUPLICATION_WINDOW}
-use Rattle.cq_base.specs.Incarnations.{Accepted}
+use Rattle.cq_base.specs.queue.Incarnations.{Accepted}
 use Rattle.cq_queue.specs.declared.accepted.Known.{Known}
 
 -- What is seen of a window.

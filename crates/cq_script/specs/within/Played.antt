@@ -1,7 +1,7 @@
 -- Lines that are run as they are read, by the grammar of a script or of a session.
 use Rattle.std.specs.Prelude.{◌≡◌, ◌≤◌, ◌⊎◌, ℕ, List, [], ◌∷◌, ◌++◌, length, Option, None, Some, IfSome, Result, Ok, Err}
 use Rattle.std.specs.Io.KnownBytes.{IsAtEnd}
-use Rattle.cq_base.specs.Relations.{Front}
+use Rattle.cq_base.specs.Relations.{IsPrefix}
 use Rattle.cq_lines.specs.Lines.{ended_part}
 use Rattle.cq_lines.specs.Grammars.{Grammar, IsOpen, parse_text}
 use Rattle.cq_lines.specs.Texts.{HasNoFaultYet}
@@ -27,13 +27,13 @@ after_lines w (line ∷ lines) = after_lines (after_line w line.event) lines
 abbrev pub session_limits : Limits
 session_limits = record { line_len = LINE_LIMIT; line_count = BYTES_LIMIT }
 
--- a front of the text of what the reader held
-abbrev pub IsFrontOfText : Grammar ScriptLine → Limits → ℕ → List ℕ → Option (List ℕ) → List ℕ → Type 0
-IsFrontOfText grammar limits size input left output = IfSome left (λ more. Front output (text_of size (parse_text grammar limits (input ++ more)).values))
+-- a prefix of the text of what the reader held
+abbrev pub IsPrefixOfText : Grammar ScriptLine → Limits → ℕ → List ℕ → Option (List ℕ) → List ℕ → Type 0
+IsPrefixOfText grammar limits size input left output = IfSome left (λ more. IsPrefix output (text_of size (parse_text grammar limits (input ++ more)).values))
 
--- a front of the text of the lines of the input that have ended
-abbrev pub IsFrontOfEnded : Grammar ScriptLine → Limits → ℕ → List ℕ → List ℕ → Type 0
-IsFrontOfEnded grammar limits size input output = Front output (text_of size (parse_text grammar limits (ended_part input)).values)
+-- a prefix of the text of the lines of the input that have ended
+abbrev pub IsPrefixOfEnded : Grammar ScriptLine → Limits → ℕ → List ℕ → List ℕ → Type 0
+IsPrefixOfEnded grammar limits size input output = IsPrefix output (text_of size (parse_text grammar limits (ended_part input)).values)
 
 -- what was read has this fault, and so has what the reader held, and the lines before it have written their text
 pub record FailsAtFault (grammar : Grammar ScriptLine) (limits : Limits) (size : ℕ) (f : ScriptFault) (input : List ℕ) (left : Option (List ℕ)) (output : List ℕ) : Type 0 where
@@ -43,7 +43,7 @@ pub record FailsAtFault (grammar : Grammar ScriptLine) (limits : Limits) (size :
 -- the bytes can't be counted any more
 pub record CountsAllBytes (grammar : Grammar ScriptLine) (limits : Limits) (size : ℕ) (input : List ℕ) (left : Option (List ℕ)) (output : List ℕ) : Type 0 where
   pub yet : HasNoFaultYet grammar limits input
-  pub front : IsFrontOfText grammar limits size input left output
+  pub prefix : IsPrefixOfText grammar limits size input left output
   pub many : BYTES_LIMIT ≤ length input
 
 -- what a run of lines has written, by its answer
@@ -53,8 +53,8 @@ RunsText grammar limits size (Err (BadLine n)) input left output = FailsAtFault 
 RunsText grammar limits size (Err (LineTooLong n)) input left output = FailsAtFault grammar limits size (LineTooLong n) input left output
 RunsText grammar limits size (Err TooManyLines) input left output = FailsAtFault grammar limits size TooManyLines input left output ⊎ CountsAllBytes grammar limits size input left output
 RunsText grammar limits size (Err ReadFailed) input left output = WritesScript size (parse_text grammar limits (ended_part input)) None output × IsOpen (parse_text grammar limits input).fault
-RunsText grammar limits size (Err WriteFailed) input left output = IsFrontOfText grammar limits size input left output
-RunsText grammar limits size (Err NoMemory) input left output = IsFrontOfText grammar limits size input left output
+RunsText grammar limits size (Err WriteFailed) input left output = IsPrefixOfText grammar limits size input left output
+RunsText grammar limits size (Err NoMemory) input left output = IsPrefixOfText grammar limits size input left output
 
 -- All lines that have ended in the input were run, and their text is the output.
 pub record IsPlayed (grammar : Grammar ScriptLine) (limits : Limits) (size : ℕ) (input : List ℕ) (progress : Progress ScriptLine) (sim : Sim) (output : List ℕ) : Type 0 where
@@ -67,8 +67,8 @@ pub record IsPlayed (grammar : Grammar ScriptLine) (limits : Limits) (size : ℕ
 -- The run ended at this fault, whatever the reader has left.
 pub record StopsAtFault (grammar : Grammar ScriptLine) (limits : Limits) (size : ℕ) (f : ScriptFault) (input output : List ℕ) : Type 0 where
   pub runs : (left : Option (List ℕ)) → RunsText grammar limits size (Err f) input left output
-  pub front : (left : Option (List ℕ)) → IsFrontOfText grammar limits size input left output
-  pub ended : IsFrontOfEnded grammar limits size input output
+  pub prefix : (left : Option (List ℕ)) → IsPrefixOfText grammar limits size input left output
+  pub ended : IsPrefixOfEnded grammar limits size input output
 
 -- what was run and written, by the answer
 abbrev pub Plays : Grammar ScriptLine → Limits → ℕ → Result (Unit {0}) ScriptFault → List ℕ → Progress ScriptLine → Sim → List ℕ → Type 0

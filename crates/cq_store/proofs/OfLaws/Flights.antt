@@ -8,24 +8,24 @@ use Rattle.std.proofs.lemmas.Slice.Eq.{bytes_eq-Decides}
 use Rattle.cq_base.specs.declared.ask.Ask.{Ask}
 use Rattle.cq_base.specs.declared.ask.Ask.TheVariants.{Create, Remove, Send, Receive, Delete, Change}
 use Rattle.cq_base.specs.declared.ask.Entry.{Entry}
-use Rattle.cq_base.specs.Asks.{queue_of, group_of}
-use Rattle.cq_base.specs.Facts.{Fact, about}
-use Rattle.cq_base.specs.Clients.{is_fresh}
-use Rattle.cq_base.specs.Lifetimes.{live, creations, removed_lately}
+use Rattle.cq_base.specs.queue.Asks.{queue_of, group_of}
+use Rattle.cq_base.specs.queue.Outcomes.{Outcome, about}
+use Rattle.cq_base.specs.queue.Clients.{is_fresh}
+use Rattle.cq_base.specs.queue.Lifetimes.{live, creations, removed_lately}
 use Rattle.cq_base.specs.declared.reply.Reply.TheVariants.{Created, Refused}
 use Rattle.cq_base.specs.declared.reply.Refusal.TheVariants.{QueueDeletedRecently}
-use Rattle.cq_base.specs.Effects.{only_replies, takes_effect, effect_off, visibility_by}
-use Rattle.cq_base.specs.History.{fact_of, history}
-use Rattle.cq_base.specs.Messages.{Message, messages, is_deleted, is_kept, message_of, standing, until}
-use Rattle.cq_base.specs.Receiving.{is_same_group, is_in_flight, is_blocked_by, is_oldest, is_open, leads, group_with, in_turn, to_hand}
-use Rattle.cq_base.proofs.Histories.{entry-fact_of}
+use Rattle.cq_base.specs.queue.Effects.{only_replies, takes_effect, effect_off, visibility_by}
+use Rattle.cq_base.specs.queue.History.{outcome_of, history}
+use Rattle.cq_base.specs.queue.Messages.{Message, messages, is_deleted, is_kept, message_of, remaining, until}
+use Rattle.cq_base.specs.queue.Receiving.{is_same_group, is_in_flight, is_blocked_by, is_oldest, is_open, leads, group_with, delivery_order, to_hand}
+use Rattle.cq_base.proofs.Histories.{entry-outcome_of}
 use Rattle.cq_store.specs.Laws.{IsFresh, LivesBy, so_far, handed_by, HandsWhatWasSent, NoneInFlight, NoneDeleted}
 use Rattle.cq_base.specs.Relations.{Among}
 use Rattle.cq_base.proofs.Among.{among-filter, among-kept, among-map, among-image, among-flat_map, among-take, none-any}
 use Rattle.cq_base.proofs.Numbers.{same_number}
-use Rattle.cq_store.proofs.OfLaws.Incarnations.{numbered, fact-fresh, hands-live}
-use Rattle.cq_store.proofs.FreshFacts.{fresh-dead}
-use Rattle.cq_base.proofs.OneMoreFact.{IsHanding, chosen_handed}
+use Rattle.cq_store.proofs.OfLaws.Incarnations.{numbered, outcome-fresh, hands-live}
+use Rattle.cq_store.proofs.FreshOutcomes.{fresh-dead}
+use Rattle.cq_base.proofs.OneMoreOutcome.{IsHanding, chosen_handed}
 
 -- texts that are equal by the test are equal
 pub same-text : (xs ys : List ℕ) → bytes_eq xs ys ≡ true → xs ≡ ys
@@ -48,8 +48,8 @@ open_with moment ms l m y opens same at e = elim (and_cases (is_same_group l y) 
 ]
 
 -- what stands in turn is so
-pub turn-among : (moment : ℕ) (ms : List Message) (m : Message) → Among m (in_turn moment ms) → IsInTurn moment ms m
-unfolding in_turn
+pub turn-among : (moment : ℕ) (ms : List Message) (m : Message) → Among m (delivery_order moment ms) → IsInTurn moment ms m
+unfolding delivery_order
 turn-among moment ms m h = let found = among-flat_map (group_with ms) m (filter (leads moment ms) ms) h in
     let leading = among-filter (leads moment ms) found.0 ms found.1 in
     let own = among-filter (is_same_group found.0) m ms found.2 in
@@ -59,31 +59,31 @@ turn-among moment ms m h = let found = among-flat_map (group_with ms) m (filter 
 -- and so is what is handed out
 pub to_hand-among : (size moment : ℕ) (ms : List Message) (m : Message) → Among m (to_hand size moment ms) → IsInTurn moment ms m
 unfolding to_hand
-to_hand-among size moment ms m h = turn-among moment ms m (among-take size m (in_turn moment ms) h)
+to_hand-among size moment ms m h = turn-among moment ms m (among-take size m (delivery_order moment ms) h)
 
 -- A number that is handed out is that of a message in turn.
-pub record IsHandedOut (default moment : ℕ) (xs : List Fact) (sequence : ℕ) (x : Fact) : Type 0 where
+pub record IsHandedOut (default moment : ℕ) (xs : List Outcome) (sequence : ℕ) (x : Outcome) : Type 0 where
   pub sent : Among x (messages xs)
   pub number : x.count ≡ sequence
   pub kept : is_kept xs x ≡ true
-  pub turn : IsInTurn moment (standing default xs) (message_of default xs x)
+  pub turn : IsInTurn moment (remaining default xs) (message_of default xs x)
 
 -- each number that is handed out is so
-pub handed-among : (default : ℕ) (xs : List Fact) (f : Fact) (sequence : ℕ) → IsHanding default xs f → Among sequence f.handed → (x : Fact) × IsHandedOut default f.entry.moment xs sequence x
-unfolding standing message_of
-handed-among default xs f sequence hands h = let found = among-map (λ m. m.sequence) sequence (to_hand hands.size f.entry.moment (standing default xs)) (subst (λ ns. Among sequence ns) hands.handed h) in
-    let turn = to_hand-among hands.size f.entry.moment (standing default xs) found.0 found.1 in
+pub handed-among : (default : ℕ) (xs : List Outcome) (f : Outcome) (sequence : ℕ) → IsHanding default xs f → Among sequence f.handed → (x : Outcome) × IsHandedOut default f.entry.moment xs sequence x
+unfolding remaining message_of
+handed-among default xs f sequence hands h = let found = among-map (λ m. m.sequence) sequence (to_hand hands.size f.entry.moment (remaining default xs)) (subst (λ ns. Among sequence ns) hands.handed h) in
+    let turn = to_hand-among hands.size f.entry.moment (remaining default xs) found.0 found.1 in
     let made = among-map (message_of default xs) found.0 (filter (is_kept xs) (messages xs)) turn.stands in
     let own = among-filter (is_kept xs) made.0 (messages xs) made.1 in
-    (made.0, record { sent = own.0; number = sym (found.2 ∙ ap (λ m. m.sequence) made.2); kept = own.1; turn = subst (λ m. IsInTurn f.entry.moment (standing default xs) m) made.2 turn })
+    (made.0, record { sent = own.0; number = sym (found.2 ∙ ap (λ m. m.sequence) made.2); kept = own.1; turn = subst (λ m. IsInTurn f.entry.moment (remaining default xs) m) made.2 turn })
 
 -- what is handed out was sent to the incarnation by which the queue lives
-sent_live : (entries : List Entry) (e : Entry) (creation : Fact) (sequence : ℕ) → IsFresh entries e → LivesBy entries e creation → Among sequence (handed_by entries e) → (x : Fact) × Among x (messages (so_far entries e creation)) × (x.count ≡ sequence)
-sent_live entries e creation sequence fresh lives h = let found = handed-among (visibility_by creation) (so_far entries e creation) (fact_of (history entries) e) sequence (hands-live (history entries) e creation fresh lives) h in
+sent_live : (entries : List Entry) (e : Entry) (creation : Outcome) (sequence : ℕ) → IsFresh entries e → LivesBy entries e creation → Among sequence (handed_by entries e) → (x : Outcome) × Among x (messages (so_far entries e creation)) × (x.count ≡ sequence)
+sent_live entries e creation sequence fresh lives h = let found = handed-among (visibility_by creation) (so_far entries e creation) (outcome_of (history entries) e) sequence (hands-live (history entries) e creation fresh lives) h in
     (found.0, found.1.sent, found.1.number)
 
 -- a queue that doesn't live hands out nothing
-off_handed : (moment : ℕ) (own : List Fact) (ask : Ask) → (effect_off moment own ask).handed ≡ []
+off_handed : (moment : ℕ) (own : List Outcome) (ask : Ask) → (effect_off moment own ask).handed ≡ []
 unfolding effect_off
 off_handed moment own (Create queue visibility content) = chosen_handed (removed_lately moment own) (only_replies (Refused QueueDeletedRecently)) (takes_effect (creations own + 1) (Created (creations own + 1))) refl refl
 off_handed moment own (Remove queue) = refl
@@ -92,17 +92,17 @@ off_handed moment own (Receive queue size visibility) = refl
 off_handed moment own (Delete queue receipt) = refl
 off_handed moment own (Change queue receipt visibility) = refl
 
--- the fact of a fresh entry while its queue doesn't live hands out nothing
-dead_handed : (facts : List Fact) (e : Entry) → is_fresh e.request.client e.request.number facts ≡ true → live (about (queue_of e.request.ask) facts) ≡ None → (fact_of facts e).handed ≡ []
-dead_handed facts e fresh dead = ap (λ f. f.handed) (fact-fresh facts e fresh ∙ sym (fresh-dead e (about (queue_of e.request.ask) facts) dead)) ∙ off_handed e.moment (about (queue_of e.request.ask) facts) e.request.ask
+-- the outcome of a fresh entry while its queue doesn't live hands out nothing
+dead_handed : (outcomes : List Outcome) (e : Entry) → is_fresh e.request.client e.request.number outcomes ≡ true → live (about (queue_of e.request.ask) outcomes) ≡ None → (outcome_of outcomes e).handed ≡ []
+dead_handed outcomes e fresh dead = ap (λ f. f.handed) (outcome-fresh outcomes e fresh ∙ sym (fresh-dead e (about (queue_of e.request.ask) outcomes) dead)) ∙ off_handed e.moment (about (queue_of e.request.ask) outcomes) e.request.ask
 
 -- an entry that isn't fresh hands out nothing
-idle_handed : (facts : List Fact) (e : Entry) → is_fresh e.request.client e.request.number facts ≡ false → (fact_of facts e).handed ≡ []
-unfolding fact_of
-idle_handed facts e idle = rw idle
+idle_handed : (outcomes : List Outcome) (e : Entry) → is_fresh e.request.client e.request.number outcomes ≡ false → (outcome_of outcomes e).handed ≡ []
+unfolding outcome_of
+idle_handed outcomes e idle = rw idle
 
 -- a fresh entry hands out what was sent, by whether its queue lives
-sent_fresh : (entries : List Entry) (e : Entry) (sequence : ℕ) (creation : Option Fact) → IsFresh entries e → live (about (queue_of e.request.ask) (history entries)) ≡ creation → Among sequence (handed_by entries e) → (c : Fact) × LivesBy entries e c × ((x : Fact) × Among x (messages (so_far entries e c)) × (x.count ≡ sequence))
+sent_fresh : (entries : List Entry) (e : Entry) (sequence : ℕ) (creation : Option Outcome) → IsFresh entries e → live (about (queue_of e.request.ask) (history entries)) ≡ creation → Among sequence (handed_by entries e) → (c : Outcome) × LivesBy entries e c × ((x : Outcome) × Among x (messages (so_far entries e c)) × (x.count ≡ sequence))
 sent_fresh entries e sequence None fresh dead h = absurd (subst (λ ns. Among sequence ns) (dead_handed (history entries) e fresh dead) h)
 sent_fresh entries e sequence (Some creation) fresh lives h = (creation, lives, sent_live entries e creation sequence fresh lives h)
 
@@ -119,21 +119,21 @@ landed_kept true hidden h = refl
 landed_kept false hidden h = h refl
 
 -- a message in turn has no other of its group in flight
-landed : (default moment : ℕ) (xs : List Fact) (x y : Fact) → IsInTurn moment (standing default xs) (message_of default xs x) → Among y (messages xs) → group_of y.entry.request.ask ≡ group_of x.entry.request.ask → (not (is_deleted y.count xs) && nat_lt moment (until default y.count xs)) ≡ false
-unfolding standing message_of
+landed : (default moment : ℕ) (xs : List Outcome) (x y : Outcome) → IsInTurn moment (remaining default xs) (message_of default xs x) → Among y (messages xs) → group_of y.entry.request.ask ≡ group_of x.entry.request.ask → (not (is_deleted y.count xs) && nat_lt moment (until default y.count xs)) ≡ false
+unfolding remaining message_of
 landed default moment xs x y turn at e = landed_kept (is_deleted y.count xs) (nat_lt moment (until default y.count xs)) (λ kept.
     turn.open_group (message_of default xs y) (among-image (message_of default xs) y (filter (is_kept xs) (messages xs)) (among-kept (is_kept xs) y (messages xs) (not_from_false (is_deleted y.count xs) kept) at)) (sym e))
 
 -- none of the group of what is handed out is in flight
 pub none_in_flight : NoneInFlight
 none_in_flight entries e creation x y fresh lives sent h at same = let xs = so_far entries e creation in
-    let found = handed-among (visibility_by creation) xs (fact_of (history entries) e) x.count (hands-live (history entries) e creation fresh lives) h in
+    let found = handed-among (visibility_by creation) xs (outcome_of (history entries) e) x.count (hands-live (history entries) e creation fresh lives) h in
     let one : found.0 ≡ x = same_number (messages xs) found.0 x (numbered (queue_of e.request.ask) creation.count entries).rising found.1.sent sent found.1.number in
-    ap (λ d. not (is_deleted y.count xs) && nat_lt d.moment (until (visibility_by creation) y.count xs)) (sym (entry-fact_of (history entries) e))
-    ∙ landed (visibility_by creation) (fact_of (history entries) e).entry.moment xs found.0 y found.1.turn at (same ∙ ap (λ f. group_of f.entry.request.ask) (sym one))
+    ap (λ d. not (is_deleted y.count xs) && nat_lt d.moment (until (visibility_by creation) y.count xs)) (sym (entry-outcome_of (history entries) e))
+    ∙ landed (visibility_by creation) (outcome_of (history entries) e).entry.moment xs found.0 y found.1.turn at (same ∙ ap (λ f. group_of f.entry.request.ask) (sym one))
 
 -- what is handed out isn't deleted
 pub none_deleted : NoneDeleted
 none_deleted entries e creation sequence fresh lives deleted h = let xs = so_far entries e creation in
-    let found = handed-among (visibility_by creation) xs (fact_of (history entries) e) sequence (hands-live (history entries) e creation fresh lives) h in
+    let found = handed-among (visibility_by creation) xs (outcome_of (history entries) e) sequence (hands-live (history entries) e creation fresh lives) h in
     both_ways (is_deleted found.0.count xs) (not-true (is_deleted found.0.count xs) found.1.kept) (ap (λ n. is_deleted n xs) found.1.number ∙ deleted)

@@ -1,22 +1,22 @@
--- Of each group, a receive hands out a front of its messages.
+-- Of each group, a receive hands out a prefix of its messages.
 use Rattle.std.proofs.Common.{◌≡◌, ℕ, ◌<◌, ◌∙◌, ap, sym, List, [], map, Bool, true, false, not, inl, inr, subst, refl}
 use Rattle.std.specs.List.{filter, list_any}
 use Rattle.std.specs.Prelude.{nat_lt}
 use Rattle.std.specs.Str.{bytes_eq}
 use Rattle.std.proofs.lemmas.Bool.{and_parts, and_cases, not-true, both_ways, false_from_ne_true, lt-ltb}
 use Rattle.std.proofs.lemmas.Simd.{map-map}
-use Rattle.cq_base.specs.Facts.{Fact}
-use Rattle.cq_base.specs.Messages.{Message, messages, is_deleted, is_kept, message_of, standing}
-use Rattle.cq_base.specs.Receiving.{is_same_group, is_preceded_by, is_oldest, is_open, leads, group_with, in_turn, to_hand}
+use Rattle.cq_base.specs.queue.Outcomes.{Outcome}
+use Rattle.cq_base.specs.queue.Messages.{Message, messages, is_deleted, is_kept, message_of, remaining}
+use Rattle.cq_base.specs.queue.Receiving.{is_same_group, is_preceded_by, is_oldest, is_open, leads, group_with, delivery_order, to_hand}
 use Rattle.cq_store.specs.Laws.{is_in, is_of_group, numbers_of}
-use Rattle.cq_base.specs.Relations.{Among, Pairwise, Front}
+use Rattle.cq_base.specs.Relations.{Among, Pairwise, IsPrefix}
 use Rattle.cq_base.proofs.Among.{among-filter, among-kept, among-map, among-image, none-any}
 use Rattle.cq_base.proofs.Filters.{filter-none, filter-flat_map, filter-map, filter-agrees, filter-twice, filter-swapped}
 use Rattle.cq_store.proofs.OfLaws.Flights.{same-text, text-same, to_hand-among}
-use Rattle.cq_store.proofs.OfLaws.Fronts.{front-front, front-filter, front-map, front-take, flat-front, in-among, among-in}
+use Rattle.cq_store.proofs.OfLaws.Prefixes.{prefix-prefix, prefix-filter, prefix-map, prefix-take, flat-prefix, in-among, among-in}
 use Rattle.cq_base.proofs.Numbers.{IsNumbered, same_number}
 use Rattle.cq_base.proofs.Pairs.{pairwise-filter, pairwise-follows, pairwise-map}
-use Rattle.cq_base.proofs.OneMoreFact.{IsHanding}
+use Rattle.cq_base.proofs.OneMoreOutcome.{IsHanding}
 
 -- the message is of the group
 abbrev belongs : List ℕ → Message → Bool
@@ -52,38 +52,38 @@ one_leads group moment ms rising = pairwise-follows (λ a b. a.sequence < b.sequ
     (λ a b at_a at_b less own. not_oldest group ms a b (and_parts (is_oldest ms b) (is_open moment ms b) (among-filter (leads moment ms) b ms at_b).1).0 (among-filter (leads moment ms) a ms at_a).0 less own)
     (pairwise-filter (λ a b. a.sequence < b.sequence) (leads moment ms) ms rising)
 
--- of what stands in turn, the messages of a group are a front of them
-turn-front : (group : List ℕ) (moment : ℕ) (ms : List Message) → Rising ms → Front (filter (belongs group) (in_turn moment ms)) (filter (belongs group) ms)
-unfolding in_turn
-turn-front group moment ms rising = subst (λ us. Front us (filter (belongs group) ms)) (sym (filter-flat_map (belongs group) (group_with ms) (filter (leads moment ms) ms)))
-    (flat-front (belongs group) (λ l. filter (belongs group) (group_with ms l)) (filter (belongs group) ms) (filter (leads moment ms) ms) (group-own group ms) (group-other group ms) (one_leads group moment ms rising))
+-- of what stands in turn, the messages of a group are a prefix of them
+turn-prefix : (group : List ℕ) (moment : ℕ) (ms : List Message) → Rising ms → IsPrefix (filter (belongs group) (delivery_order moment ms)) (filter (belongs group) ms)
+unfolding delivery_order
+turn-prefix group moment ms rising = subst (λ us. IsPrefix us (filter (belongs group) ms)) (sym (filter-flat_map (belongs group) (group_with ms) (filter (leads moment ms) ms)))
+    (flat-prefix (belongs group) (λ l. filter (belongs group) (group_with ms l)) (filter (belongs group) ms) (filter (leads moment ms) ms) (group-own group ms) (group-other group ms) (one_leads group moment ms rising))
 
--- what is handed out of a group is a front of it
-to_hand-front : (group : List ℕ) (size moment : ℕ) (ms : List Message) → Rising ms → Front (filter (belongs group) (to_hand size moment ms)) (filter (belongs group) ms)
+-- what is handed out of a group is a prefix of it
+to_hand-prefix : (group : List ℕ) (size moment : ℕ) (ms : List Message) → Rising ms → IsPrefix (filter (belongs group) (to_hand size moment ms)) (filter (belongs group) ms)
 unfolding to_hand
-to_hand-front group size moment ms rising = front-front (filter (belongs group) (to_hand size moment ms)) (filter (belongs group) (in_turn moment ms)) (filter (belongs group) ms)
-    (front-filter (belongs group) (to_hand size moment ms) (in_turn moment ms) (front-take size (in_turn moment ms))) (turn-front group moment ms rising)
+to_hand-prefix group size moment ms rising = prefix-prefix (filter (belongs group) (to_hand size moment ms)) (filter (belongs group) (delivery_order moment ms)) (filter (belongs group) ms)
+    (prefix-filter (belongs group) (to_hand size moment ms) (delivery_order moment ms) (prefix-take size (delivery_order moment ms))) (turn-prefix group moment ms rising)
 
 -- the messages of numbered sends rise
-pub standing-rises : (default : ℕ) (xs : List Fact) → IsNumbered (messages xs) → Rising (standing default xs)
-unfolding standing message_of
-standing-rises default xs numbered = pairwise-map (λ a b. a.sequence < b.sequence) (message_of default xs) (filter (is_kept xs) (messages xs)) (pairwise-filter (λ a b. a.count < b.count) (is_kept xs) (messages xs) numbered.rising)
+pub remaining-rises : (default : ℕ) (xs : List Outcome) → IsNumbered (messages xs) → Rising (remaining default xs)
+unfolding remaining message_of
+remaining-rises default xs numbered = pairwise-map (λ a b. a.sequence < b.sequence) (message_of default xs) (filter (is_kept xs) (messages xs)) (pairwise-filter (λ a b. a.count < b.count) (is_kept xs) (messages xs) numbered.rising)
 
 -- the message of that number isn't deleted
-abbrev pub is_left : List Fact → ℕ → Bool
+abbrev pub is_left : List Outcome → ℕ → Bool
 is_left xs n = not (is_deleted n xs)
 
 -- the numbers of the group that are left are those of its messages
-standing-numbers : (group : List ℕ) (default : ℕ) (xs : List Fact) → map (λ m. m.sequence) (filter (belongs group) (standing default xs)) ≡ filter (is_left xs) (numbers_of group xs)
-unfolding standing message_of
-standing-numbers group default xs =
+remaining-numbers : (group : List ℕ) (default : ℕ) (xs : List Outcome) → map (λ m. m.sequence) (filter (belongs group) (remaining default xs)) ≡ filter (is_left xs) (numbers_of group xs)
+unfolding remaining message_of
+remaining-numbers group default xs =
     ap (λ ms. map (λ m. m.sequence) ms) (filter-map (belongs group) (message_of default xs) (filter (is_kept xs) (messages xs)))
     ∙ map-map (λ m. m.sequence) (message_of default xs) (filter (is_of_group group) (filter (is_kept xs) (messages xs)))
     ∙ ap (λ fs. map (λ f. f.count) fs) (filter-swapped (is_kept xs) (is_of_group group) (messages xs))
     ∙ sym (filter-map (is_left xs) (λ f. f.count) (filter (is_of_group group) (messages xs)))
 
 -- a number is of the group if its send is
-number_in : (group : List ℕ) (xs : List Fact) (x : Fact) → IsNumbered (messages xs) → Among x (messages xs) → (r : Bool) → is_of_group group x ≡ r → is_in (numbers_of group xs) x.count ≡ r
+number_in : (group : List ℕ) (xs : List Outcome) (x : Outcome) → IsNumbered (messages xs) → Among x (messages xs) → (r : Bool) → is_of_group group x ≡ r → is_in (numbers_of group xs) x.count ≡ r
 number_in group xs x numbered at true own = among-in (numbers_of group xs) x.count (among-image (λ f. f.count) x (filter (is_of_group group) (messages xs)) (among-kept (is_of_group group) x (messages xs) own at))
 number_in group xs x numbered at false other = false_from_ne_true (is_in (numbers_of group xs) x.count) (λ h.
     let found = among-map (λ f. f.count) x.count (filter (is_of_group group) (messages xs)) (in-among (numbers_of group xs) x.count h) in
@@ -91,21 +91,21 @@ number_in group xs x numbered at false other = false_from_ne_true (is_in (number
     both_ways (is_of_group group x) other (ap (is_of_group group) (same_number (messages xs) x found.0 numbered.rising at own.0 found.2) ∙ own.1))
 
 -- the same for a message as it stands
-standing-in : (group : List ℕ) (default : ℕ) (xs : List Fact) (m : Message) → IsNumbered (messages xs) → Among m (standing default xs) → is_in (numbers_of group xs) m.sequence ≡ belongs group m
-unfolding standing message_of
-standing-in group default xs m numbered at = let made = among-map (message_of default xs) m (filter (is_kept xs) (messages xs)) at in
+remaining-in : (group : List ℕ) (default : ℕ) (xs : List Outcome) (m : Message) → IsNumbered (messages xs) → Among m (remaining default xs) → is_in (numbers_of group xs) m.sequence ≡ belongs group m
+unfolding remaining message_of
+remaining-in group default xs m numbered at = let made = among-map (message_of default xs) m (filter (is_kept xs) (messages xs)) at in
     let sent = (among-filter (is_kept xs) made.0 (messages xs) made.1).0 in
     subst (λ y. is_in (numbers_of group xs) y.sequence ≡ belongs group y) (sym made.2) (number_in group xs made.0 numbered sent (is_of_group group made.0) refl)
 
--- what a fact hands out of a group is a front of its accepted sends that are left
-pub handed-front : (group : List ℕ) (default : ℕ) (xs : List Fact) (f : Fact) → IsNumbered (messages xs) → IsHanding default xs f → Front (filter (is_in (numbers_of group xs)) f.handed) (filter (is_left xs) (numbers_of group xs))
-handed-front group default xs f numbered hands =
-    let ms = standing default xs in
+-- what an outcome hands out of a group is a prefix of its accepted sends that are left
+pub handed-prefix : (group : List ℕ) (default : ℕ) (xs : List Outcome) (f : Outcome) → IsNumbered (messages xs) → IsHanding default xs f → IsPrefix (filter (is_in (numbers_of group xs)) f.handed) (filter (is_left xs) (numbers_of group xs))
+handed-prefix group default xs f numbered hands =
+    let ms = remaining default xs in
     let handed = to_hand hands.size f.entry.moment ms in
     let own : filter (is_in (numbers_of group xs)) f.handed ≡ map (λ m. m.sequence) (filter (belongs group) handed)
     = ap (λ ns. filter (is_in (numbers_of group xs)) ns) hands.handed
     ∙ filter-map (is_in (numbers_of group xs)) (λ m. m.sequence) handed
-    ∙ ap (λ us. map (λ m. m.sequence) us) (filter-agrees (λ m. is_in (numbers_of group xs) m.sequence) (belongs group) handed (λ m at. standing-in group default xs m numbered (to_hand-among hands.size f.entry.moment ms m at).stands)) in
-    let front = front-map (λ m. m.sequence) (filter (belongs group) handed) (filter (belongs group) ms) (to_hand-front group hands.size f.entry.moment ms (standing-rises default xs numbered)) in
-    subst (λ ns. Front (filter (is_in (numbers_of group xs)) f.handed) ns) (standing-numbers group default xs)
-    (subst (λ ns. Front ns (map (λ m. m.sequence) (filter (belongs group) ms))) (sym own) front)
+    ∙ ap (λ us. map (λ m. m.sequence) us) (filter-agrees (λ m. is_in (numbers_of group xs) m.sequence) (belongs group) handed (λ m at. remaining-in group default xs m numbered (to_hand-among hands.size f.entry.moment ms m at).stands)) in
+    let prefix = prefix-map (λ m. m.sequence) (filter (belongs group) handed) (filter (belongs group) ms) (to_hand-prefix group hands.size f.entry.moment ms (remaining-rises default xs numbered)) in
+    subst (λ ns. IsPrefix (filter (is_in (numbers_of group xs)) f.handed) ns) (remaining-numbers group default xs)
+    (subst (λ ns. IsPrefix ns (map (λ m. m.sequence) (filter (belongs group) ms))) (sym own) prefix)

@@ -6,51 +6,51 @@ use Rattle.std.proofs.lemmas.Bool.{cases_Bool, and_parts, or_left, or_right, bot
 use Rattle.cq_base.specs.declared.ask.Ask.{Ask}
 use Rattle.cq_base.specs.declared.ask.Ask.TheVariants.{Create, Remove, Send, Receive, Delete, Change}
 use Rattle.cq_base.specs.declared.ask.Entry.{Entry}
-use Rattle.cq_base.specs.Asks.{Attributes, queue_of, are_same, dedup_or_made, is_given_or_made}
-use Rattle.cq_base.specs.Effects.{Effect, only_replies, create, create_again, send_if, delete, change, effect_on, effect_off, effect_by, effect_of, attributes_by}
-use Rattle.cq_base.specs.Facts.{Fact, is_about, about, on}
-use Rattle.cq_base.specs.History.{fact_with, fresh_fact, fact_of, history, reply_to}
+use Rattle.cq_base.specs.queue.Asks.{Attributes, queue_of, are_same, dedup_or_made, is_given_or_made}
+use Rattle.cq_base.specs.queue.Effects.{Effect, only_replies, create, create_again, send_if, delete, change, effect_on, effect_off, effect_by, effect_of, attributes_by}
+use Rattle.cq_base.specs.queue.Outcomes.{Outcome, is_about, about, on}
+use Rattle.cq_base.specs.queue.History.{outcome_with, fresh_outcome, outcome_of, history, reply_to}
 use Rattle.cq_base.specs.declared.reply.Reply.TheVariants.{Created, Refused}
 use Rattle.cq_base.specs.declared.reply.Refusal.TheVariants.{QueueNameExists}
-use Rattle.cq_base.specs.Clients.{is_fresh}
-use Rattle.cq_base.specs.Messages.{messages, duplicate, standing}
-use Rattle.cq_base.proofs.OneMoreFact.{asked, not_both}
-use Rattle.cq_base.specs.Lifetimes.{removed_lately, is_creation, is_removal, is_turn, if_creation, live, creations, incarnation_of}
+use Rattle.cq_base.specs.queue.Clients.{is_fresh}
+use Rattle.cq_base.specs.queue.Messages.{messages, duplicate, remaining}
+use Rattle.cq_base.proofs.OneMoreOutcome.{asked, not_both}
+use Rattle.cq_base.specs.queue.Lifetimes.{removed_lately, is_creation, is_removal, is_creation_or_removal, if_creation, live, creations, incarnation_of}
 use Rattle.cq_base.specs.Relations.{Among}
 use Rattle.cq_base.proofs.Among.{among-append}
 use Rattle.cq_base.proofs.Ends.{filter-passes, filter-fails}
 use Rattle.cq_base.proofs.Histories.{told}
 use Rattle.cq_store.specs.Laws.{NoneComes, NoneRemoved}
-use Rattle.cq_store.proofs.OfLaws.Incarnations.{fact-fresh}
-use Rattle.cq_store.proofs.OfLaws.Inductions.{by_fact}
+use Rattle.cq_store.proofs.OfLaws.Incarnations.{outcome-fresh}
+use Rattle.cq_store.proofs.OfLaws.Inductions.{by_outcome}
 use Rattle.cq_store.proofs.OfLaws.Lasts.{last_or-more}
 use Rattle.cq_store.proofs.OfLaws.Listed.{deliveries_of, listed}
 use Rattle.cq_store.proofs.OfLaws.OneQueue.{about-more, about-same, names}
 
--- the fact of an entry that is about the queue is made of the facts about it
-own-fact : (queue : List ℕ) (facts : List Fact) (e : Entry) → is_about queue (fact_of facts e) ≡ true → fact_of facts e ≡ fresh_fact e (about queue facts)
-own-fact queue facts e own = let named = names queue facts e own in
-    subst (λ q. fact_of facts e ≡ fresh_fact e (about q facts)) named.1 (fact-fresh facts e named.0)
+-- the outcome of an entry that is about the queue is made of the outcomes about it
+own-outcome : (queue : List ℕ) (outcomes : List Outcome) (e : Entry) → is_about queue (outcome_of outcomes e) ≡ true → outcome_of outcomes e ≡ fresh_outcome e (about queue outcomes)
+own-outcome queue outcomes e own = let named = names queue outcomes e own in
+    subst (λ q. outcome_of outcomes e ≡ fresh_outcome e (about q outcomes)) named.1 (outcome-fresh outcomes e named.0)
 
 -- what stays with a fresh entry more about the queue stays with any entry more
-own_more : (queue : List ℕ) (P : List Fact → Type 0) → ((xs : List Fact) (e : Entry) → P xs → P (xs ++ fresh_fact e xs ∷ [])) → (facts : List Fact) (e : Entry) → P (about queue facts) → P (about queue (told facts e))
-own_more queue P more facts e h = elim (cases_Bool (is_about queue (fact_of facts e))) [
-  | inl own ↦ subst P (sym (about-more queue facts e own ∙ ap (λ f. about queue facts ++ f ∷ []) (own-fact queue facts e own))) (more (about queue facts) e h)
-  | inr other ↦ subst P (sym (about-same queue facts e other)) h
+own_more : (queue : List ℕ) (P : List Outcome → Type 0) → ((xs : List Outcome) (e : Entry) → P xs → P (xs ++ fresh_outcome e xs ∷ [])) → (outcomes : List Outcome) (e : Entry) → P (about queue outcomes) → P (about queue (told outcomes e))
+own_more queue P more outcomes e h = elim (cases_Bool (is_about queue (outcome_of outcomes e))) [
+  | inl own ↦ subst P (sym (about-more queue outcomes e own ∙ ap (λ f. about queue outcomes ++ f ∷ []) (own-outcome queue outcomes e own))) (more (about queue outcomes) e h)
+  | inr other ↦ subst P (sym (about-same queue outcomes e other)) h
 ]
 
--- no facts are about a queue at the start
+-- no outcomes are about a queue at the start
 none_about : (queue : List ℕ) → about queue [] ≡ []
 unfolding about
 none_about queue = refl
 
--- what holds of no facts, and stays with a fresh entry more, holds of the facts about each queue
-pub by_own : (queue : List ℕ) (P : List Fact → Type 0) → P [] → ((xs : List Fact) (e : Entry) → P xs → P (xs ++ fresh_fact e xs ∷ [])) → (entries : List Entry) → P (about queue (history entries))
-by_own queue P none more entries = by_fact (λ facts. P (about queue facts)) (subst P (sym (none_about queue)) none) (own_more queue P more) entries
+-- what holds of no outcomes, and stays with a fresh entry more, holds of the outcomes about each queue
+pub by_own : (queue : List ℕ) (P : List Outcome → Type 0) → P [] → ((xs : List Outcome) (e : Entry) → P xs → P (xs ++ fresh_outcome e xs ∷ [])) → (entries : List Entry) → P (about queue (history entries))
+by_own queue P none more entries = by_outcome (λ outcomes. P (about queue outcomes)) (subst P (sym (none_about queue)) none) (own_more queue P more) entries
 
 -- What a fresh entry may do to the life of its queue, by the creation by which it lives: it creates only where
 -- there is none, with the next number, and removes only where there is one.
-pub record IsTurn (xs : List Fact) (living : Option Fact) (f : Fact) : Type 0 where
+pub record IsTurn (xs : List Outcome) (living : Option Outcome) (f : Outcome) : Type 0 where
   pub incarnation : f.incarnation ≡ incarnation_of living
   pub creates : is_creation f ≡ true → (living ≡ None) × (f.count ≡ creations xs + 1)
   pub removes : is_removal f ≡ true → living ≡ None → ⊥
@@ -73,17 +73,17 @@ again_idle : {X : Type 0} (incarnation : ℕ) (own given : Attributes) → ((cre
 again_idle incarnation own given h = absurd (both_ways _ (chosen_idle (are_same given own) (only_replies (Created incarnation)) (only_replies (Refused QueueNameExists)) refl refl) (and_parts (create_again incarnation own given).effective true h).0)
 
 -- nothing creates a queue that lives
-no_creation : {X : Type 0} (incarnation : ℕ) (own : Attributes) (xs : List Fact) (moment client number : ℕ) (ask : Ask) → is_creation (fact_with (asked moment client number ask) incarnation (effect_on incarnation own moment xs ask)) ≡ true → X
+no_creation : {X : Type 0} (incarnation : ℕ) (own : Attributes) (xs : List Outcome) (moment client number : ℕ) (ask : Ask) → is_creation (outcome_with (asked moment client number ask) incarnation (effect_on incarnation own moment xs ask)) ≡ true → X
 unfolding effect_on
 no_creation incarnation own xs moment client number (Create queue visibility content) h = again_idle incarnation own (record { visibility = visibility; content = content }) h
 no_creation incarnation own xs moment client number (Remove queue) h = absurd (false≢true h)
 no_creation incarnation own xs moment client number (Send queue group dedup body) h = neither (send_if (is_given_or_made own.content dedup) (length (messages xs) + 1) (duplicate (dedup_or_made body dedup) moment xs)).effective h
 no_creation incarnation own xs moment client number (Receive queue size visibility) h = absurd (false≢true h)
-no_creation incarnation own xs moment client number (Delete queue receipt) h = neither (delete incarnation xs (standing own.visibility xs) receipt).effective h
-no_creation incarnation own xs moment client number (Change queue receipt visibility) h = neither (change incarnation moment visibility xs (standing own.visibility xs) receipt).effective h
+no_creation incarnation own xs moment client number (Delete queue receipt) h = neither (delete incarnation xs (remaining own.visibility xs) receipt).effective h
+no_creation incarnation own xs moment client number (Change queue receipt visibility) h = neither (change incarnation moment visibility xs (remaining own.visibility xs) receipt).effective h
 
 -- nothing removes a queue that doesn't live
-no_removal : {X : Type 0} (xs : List Fact) (n moment client number : ℕ) (ask : Ask) → is_removal (fact_with (asked moment client number ask) n (effect_off moment xs ask)) ≡ true → X
+no_removal : {X : Type 0} (xs : List Outcome) (n moment client number : ℕ) (ask : Ask) → is_removal (outcome_with (asked moment client number ask) n (effect_off moment xs ask)) ≡ true → X
 unfolding effect_off
 no_removal xs n moment client number (Create queue visibility content) h = neither (create (removed_lately moment xs) (creations xs + 1)).effective h
 no_removal xs n moment client number (Remove queue) h = absurd (false≢true h)
@@ -98,7 +98,7 @@ created_count true n h = absurd (false≢true h)
 created_count false n h = refl
 
 -- a queue that doesn't live is created with the next number
-next_number : (xs : List Fact) (n moment client number : ℕ) (ask : Ask) → is_creation (fact_with (asked moment client number ask) n (effect_off moment xs ask)) ≡ true → (effect_off moment xs ask).count ≡ creations xs + 1
+next_number : (xs : List Outcome) (n moment client number : ℕ) (ask : Ask) → is_creation (outcome_with (asked moment client number ask) n (effect_off moment xs ask)) ≡ true → (effect_off moment xs ask).count ≡ creations xs + 1
 unfolding effect_off
 next_number xs n moment client number (Create queue visibility content) h = created_count (removed_lately moment xs) (creations xs + 1) h
 next_number xs n moment client number (Remove queue) h = absurd (false≢true h)
@@ -107,8 +107,8 @@ next_number xs n moment client number (Receive queue size visibility) h = absurd
 next_number xs n moment client number (Delete queue receipt) h = absurd (false≢true h)
 next_number xs n moment client number (Change queue receipt visibility) h = absurd (false≢true h)
 
--- a fresh entry's fact is so, by the creation by which its queue lives
-turn_by : (xs : List Fact) (living : Option Fact) (e : Entry) → IsTurn xs living (fact_with e (incarnation_of living) (effect_by living e.moment xs e.request.ask))
+-- a fresh entry's outcome is so, by the creation by which its queue lives
+turn_by : (xs : List Outcome) (living : Option Outcome) (e : Entry) → IsTurn xs living (outcome_with e (incarnation_of living) (effect_by living e.moment xs e.request.ask))
 turn_by xs None e = record {
   incarnation = refl;
   creates = λ h. (refl, next_number xs 0 e.moment e.request.client e.request.number e.request.ask h);
@@ -120,54 +120,54 @@ turn_by xs (Some creation) e = record {
   removes = λ h none. some_none creation none;
 }
 
--- a fresh entry's fact is so
-pub turn : (xs : List Fact) (e : Entry) → IsTurn xs (live xs) (fresh_fact e xs)
-unfolding fresh_fact effect_of
+-- a fresh entry's outcome is so
+pub turn : (xs : List Outcome) (e : Entry) → IsTurn xs (live xs) (fresh_outcome e xs)
+unfolding fresh_outcome effect_of
 turn xs e = turn_by xs (live xs) e
 
 -- a creation is the last turn
-turned : (xs : List Fact) (f : Fact) → is_turn f ≡ true → live (xs ++ f ∷ []) ≡ if_creation (Some f)
+turned : (xs : List Outcome) (f : Outcome) → is_creation_or_removal f ≡ true → live (xs ++ f ∷ []) ≡ if_creation (Some f)
 unfolding live
-turned xs f h = ap (λ fs. if_creation (last_or None fs)) (filter-passes is_turn xs f h) ∙ ap if_creation (last_or-more None (filter is_turn xs) f)
+turned xs f h = ap (λ fs. if_creation (last_or None fs)) (filter-passes is_creation_or_removal xs f h) ∙ ap if_creation (last_or-more None (filter is_creation_or_removal xs) f)
 
 -- with a creation, a queue lives by it
-pub live-created : (xs : List Fact) (f : Fact) → is_creation f ≡ true → live (xs ++ f ∷ []) ≡ Some f
+pub live-created : (xs : List Outcome) (f : Outcome) → is_creation f ≡ true → live (xs ++ f ∷ []) ≡ Some f
 live-created xs f h = turned xs f (or_left (is_creation f) (is_removal f) h) ∙ ap (λ b. cond b (Some f) None) h
 
 -- with a removal, it doesn't live
-pub live-removed : (xs : List Fact) (f : Fact) → is_creation f ≡ false → is_removal f ≡ true → live (xs ++ f ∷ []) ≡ None
+pub live-removed : (xs : List Outcome) (f : Outcome) → is_creation f ≡ false → is_removal f ≡ true → live (xs ++ f ∷ []) ≡ None
 live-removed xs f other h = turned xs f (or_right (is_creation f) (is_removal f) h) ∙ ap (λ b. cond b (Some f) None) other
 
--- with any other fact, it lives as before
-pub live-same : (xs : List Fact) (f : Fact) → is_creation f ≡ false → is_removal f ≡ false → live (xs ++ f ∷ []) ≡ live xs
+-- with any other outcome, it lives as before
+pub live-same : (xs : List Outcome) (f : Outcome) → is_creation f ≡ false → is_removal f ≡ false → live (xs ++ f ∷ []) ≡ live xs
 unfolding live
-live-same xs f other also = ap (λ fs. if_creation (last_or None fs)) (filter-fails is_turn xs f (ap (λ b. b || is_removal f) other ∙ also))
+live-same xs f other also = ap (λ fs. if_creation (last_or None fs)) (filter-fails is_creation_or_removal xs f (ap (λ b. b || is_removal f) other ∙ also))
 
 -- a creation more
-pub creations-more : (xs : List Fact) (f : Fact) → is_creation f ≡ true → creations (xs ++ f ∷ []) ≡ creations xs + 1
+pub creations-more : (xs : List Outcome) (f : Outcome) → is_creation f ≡ true → creations (xs ++ f ∷ []) ≡ creations xs + 1
 unfolding creations
 creations-more xs f h = ap (λ fs. length fs) (filter-passes is_creation xs f h) ∙ length-append (filter is_creation xs) (f ∷ [])
 
--- any other fact more
-pub creations-same : (xs : List Fact) (f : Fact) → is_creation f ≡ false → creations (xs ++ f ∷ []) ≡ creations xs
+-- any other outcome more
+pub creations-same : (xs : List Outcome) (f : Outcome) → is_creation f ≡ false → creations (xs ++ f ∷ []) ≡ creations xs
 unfolding creations
 creations-same xs f h = ap (λ fs. length fs) (filter-fails is_creation xs f h)
 
 -- What stays with each fresh entry: the creation by which the queue lives has the largest number so far,
 -- nothing came to an incarnation with a larger one, and each removal ended one that was before.
-pub record IsLived (xs : List Fact) (living : Option Fact) (n : ℕ) : Type 0 where
-  pub counted : (creation : Fact) → living ≡ Some creation → (creation.count ≡ n) × (0 < creation.count)
-  pub within : (f : Fact) → Among f xs → f.incarnation ≤ n
-  pub placed : (r : Fact) → Among r xs → is_removal r ≡ true → 0 < r.incarnation
-  pub ended : (r : Fact) → Among r xs → is_removal r ≡ true → (creation : Fact) → living ≡ Some creation → r.incarnation < creation.count
+pub record IsLived (xs : List Outcome) (living : Option Outcome) (n : ℕ) : Type 0 where
+  pub counted : (creation : Outcome) → living ≡ Some creation → (creation.count ≡ n) × (0 < creation.count)
+  pub within : (f : Outcome) → Among f xs → f.incarnation ≤ n
+  pub placed : (r : Outcome) → Among r xs → is_removal r ≡ true → 0 < r.incarnation
+  pub ended : (r : Outcome) → Among r xs → is_removal r ≡ true → (creation : Outcome) → living ≡ Some creation → r.incarnation < creation.count
 
 -- the number of what it lives by
-living_count : (living : Option Fact) (n : ℕ) → ((creation : Fact) → living ≡ Some creation → (creation.count ≡ n) × (0 < creation.count)) → incarnation_of living ≤ n
+living_count : (living : Option Outcome) (n : ℕ) → ((creation : Outcome) → living ≡ Some creation → (creation.count ≡ n) × (0 < creation.count)) → incarnation_of living ≤ n
 living_count None n h = omega arith
 living_count (Some creation) n h = omega (arith, (h creation refl).0)
 
 -- and that it is one
-living_positive : (living : Option Fact) (n : ℕ) → ((creation : Fact) → living ≡ Some creation → (creation.count ≡ n) × (0 < creation.count)) → (living ≡ None → ⊥) → 0 < incarnation_of living
+living_positive : (living : Option Outcome) (n : ℕ) → ((creation : Outcome) → living ≡ Some creation → (creation.count ≡ n) × (0 < creation.count)) → (living ≡ None → ⊥) → 0 < incarnation_of living
 living_positive None n h some = absurd (some refl)
 living_positive (Some creation) n h some = (h creation refl).1
 
@@ -180,21 +180,21 @@ pub some_same : {X : Type 0} (x y : X) → Some x ≡ Some y → x ≡ y
 some_same x y h = cc
 
 -- all that came to incarnations so far, and this, is within
-within_more : (xs : List Fact) (living : Option Fact) (f : Fact) (n m : ℕ) → IsLived xs living n → IsTurn xs living f → n ≤ m → (g : Fact) → Among g (xs ++ f ∷ []) → g.incarnation ≤ m
+within_more : (xs : List Outcome) (living : Option Outcome) (f : Outcome) (n m : ℕ) → IsLived xs living n → IsTurn xs living f → n ≤ m → (g : Outcome) → Among g (xs ++ f ∷ []) → g.incarnation ≤ m
 within_more xs living f n m lived turns more g at = elim (among-one_more g f xs at) [
   | inl old ↦ omega (arith, lived.within g old, more)
   | inr e ↦ omega (arith, ap (λ d. d.incarnation) e, turns.incarnation, living_count living n lived.counted, more)
 ]
 
 -- each removal is of an incarnation
-placed_more : (xs : List Fact) (living : Option Fact) (f : Fact) (n : ℕ) → IsLived xs living n → IsTurn xs living f → (r : Fact) → Among r (xs ++ f ∷ []) → is_removal r ≡ true → 0 < r.incarnation
+placed_more : (xs : List Outcome) (living : Option Outcome) (f : Outcome) (n : ℕ) → IsLived xs living n → IsTurn xs living f → (r : Outcome) → Among r (xs ++ f ∷ []) → is_removal r ≡ true → 0 < r.incarnation
 placed_more xs living f n lived turns r at removes = elim (among-one_more r f xs at) [
   | inl old ↦ lived.placed r old removes
   | inr e ↦ omega (arith, ap (λ d. d.incarnation) e, turns.incarnation, living_positive living n lived.counted (turns.removes (ap (λ d. is_removal d) (sym e) ∙ removes)))
 ]
 
 -- it stays with a creation
-lived_created : (xs : List Fact) (living : Option Fact) (f : Fact) (n : ℕ) → is_creation f ≡ true → f.count ≡ n + 1 → IsLived xs living n → IsTurn xs living f → IsLived (xs ++ f ∷ []) (Some f) (n + 1)
+lived_created : (xs : List Outcome) (living : Option Outcome) (f : Outcome) (n : ℕ) → is_creation f ≡ true → f.count ≡ n + 1 → IsLived xs living n → IsTurn xs living f → IsLived (xs ++ f ∷ []) (Some f) (n + 1)
 lived_created xs living f n creates count lived turns = record {
   counted = λ c e. let same = ap (λ d. d.count) (some_same f c e) in (omega (arith, same, count), omega (arith, same, count));
   within = within_more xs living f n (n + 1) lived turns (omega arith);
@@ -203,7 +203,7 @@ lived_created xs living f n creates count lived turns = record {
 }
 
 -- it stays with a removal
-lived_removed : (xs : List Fact) (living : Option Fact) (f : Fact) (n : ℕ) → IsLived xs living n → IsTurn xs living f → IsLived (xs ++ f ∷ []) None n
+lived_removed : (xs : List Outcome) (living : Option Outcome) (f : Outcome) (n : ℕ) → IsLived xs living n → IsTurn xs living f → IsLived (xs ++ f ∷ []) None n
 lived_removed xs living f n lived turns = record {
   counted = λ c e. absurd (some_none c (sym e));
   within = within_more xs living f n n lived turns (omega arith);
@@ -211,8 +211,8 @@ lived_removed xs living f n lived turns = record {
   ended = λ r at removes c e. absurd (some_none c (sym e));
 }
 
--- it stays with any other fact
-lived_same : (xs : List Fact) (living : Option Fact) (f : Fact) (n : ℕ) → is_removal f ≡ false → IsLived xs living n → IsTurn xs living f → IsLived (xs ++ f ∷ []) living n
+-- it stays with any other outcome
+lived_same : (xs : List Outcome) (living : Option Outcome) (f : Outcome) (n : ℕ) → is_removal f ≡ false → IsLived xs living n → IsTurn xs living f → IsLived (xs ++ f ∷ []) living n
 lived_same xs living f n other lived turns = record {
   counted = lived.counted;
   within = within_more xs living f n n lived turns (omega arith);
@@ -223,13 +223,13 @@ lived_same xs living f n other lived turns = record {
   ];
 }
 
--- so lived the facts about a queue
-abbrev pub Lived : List Fact → Type 0
+-- so lived the outcomes about a queue
+abbrev pub Lived : List Outcome → Type 0
 Lived xs = IsLived xs (live xs) (creations xs)
 
 -- it stays with each fresh entry
-pub lived-more : (xs : List Fact) (e : Entry) → Lived xs → Lived (xs ++ fresh_fact e xs ∷ [])
-lived-more xs e h = let f = fresh_fact e xs in
+pub lived-more : (xs : List Outcome) (e : Entry) → Lived xs → Lived (xs ++ fresh_outcome e xs ∷ [])
+lived-more xs e h = let f = fresh_outcome e xs in
     let turns = turn xs e in
     elim (cases_Bool (is_creation f)) [
       | inl creates ↦ rw (live-created xs f creates, creations-more xs f creates) (lived_created xs (live xs) f (creations xs) creates (turns.creates creates).1 h turns)
@@ -239,24 +239,24 @@ lived-more xs e h = let f = fresh_fact e xs in
       ]
     ]
 
--- it holds of no facts
+-- it holds of no outcomes
 pub lived-none : Lived []
 unfolding live creations
 lived-none = record { counted = λ c e. absurd (some_none c (sym e)); within = λ f at. absurd at; placed = λ r at. absurd at; ended = λ r at. absurd at }
 
--- it holds of the facts about each queue
+-- it holds of the outcomes about each queue
 pub lived : (queue : List ℕ) (entries : List Entry) → Lived (about queue (history entries))
 lived queue entries = by_own queue Lived lived-none lived-more entries
 
 -- nothing comes to an incarnation that was removed
-nothing_after : (xs : List Fact) (living : Option Fact) (n : ℕ) (r : Fact) → IsLived xs living n → Among r xs → is_removal r ≡ true → incarnation_of living ≡ r.incarnation → ⊥
+nothing_after : (xs : List Outcome) (living : Option Outcome) (n : ℕ) (r : Outcome) → IsLived xs living n → Among r xs → is_removal r ≡ true → incarnation_of living ≡ r.incarnation → ⊥
 nothing_after xs None n r h at removes same = let own = h.placed r at removes in omega arith
 nothing_after xs (Some c) n r h at removes same = let own = h.ended r at removes c refl in omega arith
 
--- the fact of a fresh entry is on the incarnation by which its queue lives
-incarnation-fresh : (facts : List Fact) (e : Entry) → is_fresh e.request.client e.request.number facts ≡ true → (fact_of facts e).incarnation ≡ incarnation_of (live (about (queue_of e.request.ask) facts))
-unfolding fresh_fact
-incarnation-fresh facts e fresh = ap (λ f. f.incarnation) (fact-fresh facts e fresh)
+-- the outcome of a fresh entry is on the incarnation by which its queue lives
+incarnation-fresh : (outcomes : List Outcome) (e : Entry) → is_fresh e.request.client e.request.number outcomes ≡ true → (outcome_of outcomes e).incarnation ≡ incarnation_of (live (about (queue_of e.request.ask) outcomes))
+unfolding fresh_outcome
+incarnation-fresh outcomes e fresh = ap (λ f. f.incarnation) (outcome-fresh outcomes e fresh)
 
 -- no fresh entry comes to an incarnation that was removed
 pub none_comes : NoneComes
@@ -268,6 +268,6 @@ pub none_removed : NoneRemoved
 unfolding reply_to
 none_removed entries e removal deliveries d fresh at removes received inside same =
     let own = about (queue_of e.request.ask) (history entries) in
-    let made = fact-fresh (history entries) e fresh in
+    let made = outcome-fresh (history entries) e fresh in
     let shown = subst (λ ds. Among d ds) (sym (ap deliveries_of received) ∙ ap (λ f. deliveries_of f.reply) made) inside in
     none_comes entries e removal fresh at removes (ap (λ f. f.incarnation) made ∙ sym (listed e own d shown) ∙ same)

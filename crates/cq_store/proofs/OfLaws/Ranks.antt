@@ -6,19 +6,19 @@ use Rattle.std.specs.Str.{bytes_eq}
 use Rattle.std.proofs.lemmas.Bool.{cases_Bool, and_parts, and_cases, and_from, or_cases, or_left, or_right, not-true, not_from_false, both_ways, false_from_ne_true, lt-ltb, ltb-true, ltb-false, eqb-true, eq-eqb}
 use Rattle.cq_base.specs.declared.ask.Ask.{Ask}
 use Rattle.cq_base.specs.declared.ask.Ask.TheVariants.{Receive}
-use Rattle.cq_base.specs.Asks.{Attributes, queue_of}
-use Rattle.cq_base.specs.Facts.{Fact}
-use Rattle.cq_base.specs.Messages.{Message, standing}
-use Rattle.cq_base.specs.Receiving.{is_same_group, is_in_flight, is_preceded_by, is_oldest, is_open, leads, group_with, in_turn, to_hand}
-use Rattle.cq_base.specs.Effects.{effect_on, hand, attributes_by, visibility_by}
-use Rattle.cq_base.specs.History.{fact_with, history, reply_to}
+use Rattle.cq_base.specs.queue.Asks.{Attributes, queue_of}
+use Rattle.cq_base.specs.queue.Outcomes.{Outcome}
+use Rattle.cq_base.specs.queue.Messages.{Message, remaining}
+use Rattle.cq_base.specs.queue.Receiving.{is_same_group, is_in_flight, is_preceded_by, is_oldest, is_open, leads, group_with, delivery_order, to_hand}
+use Rattle.cq_base.specs.queue.Effects.{effect_on, hand, attributes_by, visibility_by}
+use Rattle.cq_base.specs.queue.History.{outcome_with, history, reply_to}
 use Rattle.cq_store.specs.Laws.{so_far}
 use Rattle.cq_store.specs.Ranks.{number_of, group_place, stands_before, candidates, rank, IsByRank, stood, HandedByRank, OneListByRank}
 use Rattle.cq_base.specs.Relations.{Among, Pairwise}
 use Rattle.cq_base.proofs.Among.{among-filter, among-kept, among-flat_map, among-take, none-any}
 use Rattle.cq_store.proofs.OfLaws.Flights.{same-text, text-same}
-use Rattle.cq_store.proofs.OfLaws.Groups.{Rising, standing-rises}
-use Rattle.cq_store.proofs.OfLaws.Incarnations.{numbered, fact-live}
+use Rattle.cq_store.proofs.OfLaws.Groups.{Rising, remaining-rises}
+use Rattle.cq_store.proofs.OfLaws.Incarnations.{numbered, outcome-live}
 use Rattle.cq_base.proofs.Pairs.{pairwise-filter, pairwise-follows}
 use Rattle.cq_store.proofs.OfLaws.Sorted.{IsStrict, pairwise-flat_map, pairwise-take, among-joined, any-none, count-within, sorted-apart, first-few, few-first, one_order}
 
@@ -126,8 +126,8 @@ place-leads : (moment : ℕ) (ms : List Message) (a : Message) → Rising ms →
 place-leads moment ms a rising at = let own = among-filter (leads moment ms) a ms at in place-oldest ms a rising own.0 (and_parts (is_oldest ms a) (is_open moment ms a) own.1).0
 
 -- what stands in turn is in order
-turn-ordered : (moment : ℕ) (ms : List Message) → Rising ms → Pairwise (λ x y. stands_before ms x y ≡ true) (in_turn moment ms)
-unfolding in_turn
+turn-ordered : (moment : ℕ) (ms : List Message) → Rising ms → Pairwise (λ x y. stands_before ms x y ≡ true) (delivery_order moment ms)
+unfolding delivery_order
 turn-ordered moment ms rising = pairwise-flat_map (λ x y. stands_before ms x y ≡ true) (group_with ms) (filter (leads moment ms) ms)
     (λ l _. pairwise-follows (λ x y. x.sequence < y.sequence) (λ x y. stands_before ms x y ≡ true) (group_with ms l)
     (λ x y m o less. before-within ms l x y (among-filter (is_same_group l) x ms m).1 (among-filter (is_same_group l) y ms o).1 less)
@@ -137,16 +137,16 @@ turn-ordered moment ms rising = pairwise-flat_map (λ x y. stands_before ms x y 
     (pairwise-filter (λ a b. a.sequence < b.sequence) (leads moment ms) ms rising))
 
 -- what stands in turn is a candidate
-turn-candidate : (moment : ℕ) (ms : List Message) (x : Message) → Among x (in_turn moment ms) → Among x (candidates moment ms)
-unfolding in_turn candidates
+turn-candidate : (moment : ℕ) (ms : List Message) (x : Message) → Among x (delivery_order moment ms) → Among x (candidates moment ms)
+unfolding delivery_order candidates
 turn-candidate moment ms x at = let found = among-flat_map (group_with ms) x (filter (leads moment ms) ms) at in
     let leading = among-filter (leads moment ms) found.0 ms found.1 in
     let own = among-filter (is_same_group found.0) x ms found.2 in
     among-kept (is_open moment ms) x ms (sym (open-same moment ms found.0 x (same-text found.0.group x.group own.1)) ∙ (and_parts (is_oldest ms found.0) (is_open moment ms found.0) leading.1).1) own.0
 
 -- each candidate stands in turn, with the first of its group
-candidate-turn : (moment : ℕ) (ms : List Message) (x : Message) → Rising ms → Among x (candidates moment ms) → Among x (in_turn moment ms)
-unfolding in_turn candidates
+candidate-turn : (moment : ℕ) (ms : List Message) (x : Message) → Rising ms → Among x (candidates moment ms) → Among x (delivery_order moment ms)
+unfolding delivery_order candidates
 candidate-turn moment ms x rising at = let own = among-filter (is_open moment ms) x ms at in
     let first = first_of ms x rising own.0 in
     let opens = sym (open-same moment ms x first.0 first.1.same) ∙ own.1 in
@@ -161,22 +161,22 @@ candidates-apart moment ms rising = pairwise-filter (λ x y. x ≡ y → ⊥) (i
     (pairwise-follows (λ x y. x.sequence < y.sequence) (λ x y. x ≡ y → ⊥) ms (λ x y _ _ less e. omega (arith, less, ap (λ z. z.sequence) e)) rising)
 
 -- no more of the candidates stand before a message than of what stands in turn
-rank-least : (moment : ℕ) (ms : List Message) (x : Message) → Rising ms → rank ms (candidates moment ms) x ≤ length (filter (λ y. stands_before ms y x) (in_turn moment ms))
+rank-least : (moment : ℕ) (ms : List Message) (x : Message) → Rising ms → rank ms (candidates moment ms) x ≤ length (filter (λ y. stands_before ms y x) (delivery_order moment ms))
 unfolding rank
-rank-least moment ms x rising = count-within (λ y. stands_before ms y x) (candidates moment ms) (in_turn moment ms) (candidates-apart moment ms rising) (λ y m. candidate-turn moment ms y rising m)
+rank-least moment ms x rising = count-within (λ y. stands_before ms y x) (candidates moment ms) (delivery_order moment ms) (candidates-apart moment ms rising) (λ y m. candidate-turn moment ms y rising m)
 
 -- and no fewer
-rank-most : (moment : ℕ) (ms : List Message) (x : Message) → Rising ms → length (filter (λ y. stands_before ms y x) (in_turn moment ms)) ≤ rank ms (candidates moment ms) x
+rank-most : (moment : ℕ) (ms : List Message) (x : Message) → Rising ms → length (filter (λ y. stands_before ms y x) (delivery_order moment ms)) ≤ rank ms (candidates moment ms) x
 unfolding rank
-rank-most moment ms x rising = count-within (λ y. stands_before ms y x) (in_turn moment ms) (candidates moment ms) (sorted-apart (stands_before ms) (before_strict ms) (in_turn moment ms) (turn-ordered moment ms rising)) (λ y m. turn-candidate moment ms y m)
+rank-most moment ms x rising = count-within (λ y. stands_before ms y x) (delivery_order moment ms) (candidates moment ms) (sorted-apart (stands_before ms) (before_strict ms) (delivery_order moment ms) (turn-ordered moment ms rising)) (λ y m. turn-candidate moment ms y m)
 
 -- what is handed out is so by rank
 pub to_hand-by_rank : (size moment : ℕ) (ms : List Message) → Rising ms → IsByRank size ms (candidates moment ms) (to_hand size moment ms)
 unfolding to_hand
 to_hand-by_rank size moment ms rising = let ordered = turn-ordered moment ms rising in record {
-  in_order = pairwise-take (λ x y. stands_before ms x y ≡ true) size (in_turn moment ms) ordered;
-  only = λ x at. (turn-candidate moment ms x (among-take size x (in_turn moment ms) at), omega (arith, rank-least moment ms x rising, first-few (stands_before ms) (before_strict ms) size x (in_turn moment ms) ordered at));
-  all = λ x at few. few-first (stands_before ms) size x (in_turn moment ms) ordered (candidate-turn moment ms x rising at) (omega (arith, few, rank-most moment ms x rising));
+  in_order = pairwise-take (λ x y. stands_before ms x y ≡ true) size (delivery_order moment ms) ordered;
+  only = λ x at. (turn-candidate moment ms x (among-take size x (delivery_order moment ms) at), omega (arith, rank-least moment ms x rising, first-few (stands_before ms) (before_strict ms) size x (delivery_order moment ms) ordered at));
+  all = λ x at few. few-first (stands_before ms) size x (delivery_order moment ms) ordered (candidate-turn moment ms x rising at) (omega (arith, few, rank-most moment ms x rising));
 }
 
 -- one list alone is by rank
@@ -186,7 +186,7 @@ one_list size ms cs xs ys left right = one_order (stands_before ms) (before_stri
     (λ y m. let own = right.only y m in left.all y own.0 own.1)
 
 -- what a receive does to a queue that lives
-pub received : (incarnation : ℕ) (own : Attributes) (moment : ℕ) (xs : List Fact) (ask : Ask) (queue : List ℕ) (size : ℕ) (visibility : Option ℕ) → ask ≡ Receive queue size visibility → effect_on incarnation own moment xs ask ≡ hand incarnation (to_hand size moment (standing own.visibility xs))
+pub received : (incarnation : ℕ) (own : Attributes) (moment : ℕ) (xs : List Outcome) (ask : Ask) (queue : List ℕ) (size : ℕ) (visibility : Option ℕ) → ask ≡ Receive queue size visibility → effect_on incarnation own moment xs ask ≡ hand incarnation (to_hand size moment (remaining own.visibility xs))
 unfolding effect_on
 received incarnation own moment xs ask queue size visibility e = ap (λ a. effect_on incarnation own moment xs a) e
 
@@ -194,6 +194,6 @@ received incarnation own moment xs ask queue size visibility e = ap (λ a. effec
 pub handed_by_rank : HandedByRank
 unfolding reply_to
 handed_by_rank entries e creation queue size visibility fresh lives receives = let ms = stood entries e creation in
-    let made = fact-live (history entries) e creation fresh lives ∙ ap (λ effect. fact_with e creation.count effect) (received creation.count (attributes_by creation) e.moment (so_far entries e creation) e.request.ask queue size visibility receives) in
-    let rising = standing-rises (visibility_by creation) (so_far entries e creation) (numbered (queue_of e.request.ask) creation.count entries) in
+    let made = outcome-live (history entries) e creation fresh lives ∙ ap (λ effect. outcome_with e creation.count effect) (received creation.count (attributes_by creation) e.moment (so_far entries e creation) e.request.ask queue size visibility receives) in
+    let rising = remaining-rises (visibility_by creation) (so_far entries e creation) (numbered (queue_of e.request.ask) creation.count entries) in
     (to_hand size e.moment ms, to_hand-by_rank size e.moment ms rising, ap (λ f. f.handed) made, ap (λ f. f.reply) made)

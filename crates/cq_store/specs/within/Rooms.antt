@@ -3,12 +3,12 @@ use Rattle.std.specs.Prelude.{ℕ, ◌≤◌, List, Option, None, Some, ⊤, nat
 use Rattle.cq_base.specs.declared.reply.Reply.{Reply}
 use Rattle.cq_base.specs.declared.reply.Reply.TheVariants.{Refused}
 use Rattle.cq_base.specs.declared.reply.Refusal.TheVariants.{StaleNumber}
-use Rattle.cq_base.specs.Incarnations.{Incarnation}
-use Rattle.cq_store.specs.Stands.{ClientKept, NameKept}
+use Rattle.cq_base.specs.queue.Incarnations.{Incarnation}
+use Rattle.cq_store.specs.Stands.{ClientRecord, QueueRecord}
 
 -- what is kept of clients
-pub record Clients : Type 0 where
-  pub kept : List (ℕ × ClientKept)
+pub record ClientTable : Type 0 where
+  pub kept : List (ℕ × ClientRecord)
   -- how many more clients can be kept without memory
   pub room : ℕ
 
@@ -18,7 +18,7 @@ IsQueueWithin count last None = ⊤
 IsQueueWithin count last (Some q) = (q.used ≤ count) × (q.last ≤ last)
 
 -- the name has no more creations than so many, and its queue is within the same
-pub record IsWithin (count last : ℕ) (kept : NameKept) : Type 0 where
+pub record IsWithin (count last : ℕ) (kept : QueueRecord) : Type 0 where
   pub creations : kept.creations ≤ count
   pub living : IsQueueWithin count last kept.living
 
@@ -29,6 +29,6 @@ CameBy moment (Some q) = q.last ≤ moment
 
 -- What a client is answered again under that number, by what is kept of it; nothing, if the number is above the
 -- kept one.
-abbrev pub again_of : Option ClientKept → ℕ → Option Reply
+abbrev pub again_of : Option ClientRecord → ℕ → Option Reply
 again_of None number = None
 again_of (Some kept) number = if nat_lt kept.number number then None else if nat_lt number kept.number then Some (Refused StaleNumber) else Some kept.reply

@@ -1,7 +1,7 @@
 //! The calls that read a store.
 ghost use Rattle.std.specs.Prelude.{◌≡◌, List, length};
 ghost use Rattle.cq_base.specs.declared.ask.Entry.{Entry};
-ghost use Rattle.cq_base.specs.History.{last_moment};
+ghost use Rattle.cq_base.specs.queue.History.{last_moment};
 ghost use Rattle.cq_store.specs.Stands.{StandsFor, AreIdsKept, ids_kept, count_of, last_of};
 
 use super::Store;
@@ -31,6 +31,6 @@ impl Store {
         ensures value { result ≡ ids_kept self.now queue.now }
         ensures stands { (entries : List Entry) → StandsFor self.now entries → AreIdsKept result entries queue.now }
     {
-        self.names.kept_ids(queue)
+        self.queues.kept_ids(queue)
     }
 }

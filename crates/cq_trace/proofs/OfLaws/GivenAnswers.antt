@@ -7,7 +7,7 @@ use Rattle.cq_base.specs.Relations.{Among}
 use Rattle.cq_base.proofs.Among.{among-append, among-left, among-right}
 use Rattle.cq_chain.specs.declared.message.Answer.{Answer}
 use Rattle.cq_chain.specs.declared.message.Message as rust
-use Rattle.cq_chain.specs.declared.message.Message.TheVariants as kept
+use Rattle.cq_chain.specs.declared.message.Message.TheVariants as stored
 use Rattle.cq_chain.specs.Messages.{Message, Snap, Answers}
 use Rattle.cq_chain.specs.Parties.{same}
 use Rattle.cq_chain.specs.Stands.{Means, AllMean}
@@ -21,38 +21,38 @@ use Rattle.cq_events.proofs.Parties.{same-refl}
 use Rattle.cq_trace.proofs.OfLaws.Moments.{enabled_parts, put_none, put_first}
 
 -- the answers that mean the same
-mean_right : (a : Answer) (x : rust.Message) (m : Message) → kept.Answer a ≡ x → Means x m → m ≡ Answers a
+mean_right : (a : Answer) (x : rust.Message) (m : Message) → stored.Answer a ≡ x → Means x m → m ≡ Answers a
 mean_right a x m is h = subst (λ z. Means z m) (sym is) h
 
 -- a message that stands for an answer is that answer
-mean_left : (a : Answer) (x : rust.Message) → Means x (Answers a) → kept.Answer a ≡ x
-mean_left a (kept.Answer b) h = ap kept.Answer (same_answer h) where
+mean_left : (a : Answer) (x : rust.Message) → Means x (Answers a) → stored.Answer a ≡ x
+mean_left a (stored.Answer b) h = ap stored.Answer (same_answer h) where
   same_answer : {b : Answer} → Answers a ≡ Answers b → a ≡ b
   same_answer e = cc
-mean_left a (kept.Fwd place entry) h = absurd cc
-mean_left a (kept.Snap state) h = absurd (differs h.is) where
+mean_left a (stored.Fwd place entry) h = absurd cc
+mean_left a (stored.Snap state) h = absurd (differs h.is) where
   differs : {es : List Entry} → Answers a ≡ Snap es → ⊥
   differs e = cc
-mean_left a (kept.Ack place) h = absurd cc
-mean_left a kept.BeHead h = absurd cc
-mean_left a (kept.Report pred) h = absurd cc
-mean_left a (kept.Adopt succ have) h = absurd cc
-mean_left a (kept.BeTail least) h = absurd cc
-mean_left a (kept.Feed succ) h = absurd cc
-mean_left a (kept.Have pred count) h = absurd cc
-mean_left a (kept.Adopted succ count) h = absurd cc
-mean_left a (kept.Caught pred count) h = absurd cc
-mean_left a kept.Ready h = absurd cc
+mean_left a (stored.Ack place) h = absurd cc
+mean_left a stored.BeHead h = absurd cc
+mean_left a (stored.Report pred) h = absurd cc
+mean_left a (stored.Adopt succ have) h = absurd cc
+mean_left a (stored.BeTail least) h = absurd cc
+mean_left a (stored.Feed succ) h = absurd cc
+mean_left a (stored.Have pred count) h = absurd cc
+mean_left a (stored.Adopted succ count) h = absurd cc
+mean_left a (stored.Caught pred count) h = absurd cc
+mean_left a stored.Ready h = absurd cc
 
 -- an answer among kept messages is among those that they stand for
-pub among_right : (a : Answer) (xs : List rust.Message) (ms : List Message) → AllMean xs ms → Among (kept.Answer a) xs → Among (Answers a) ms
+pub among_right : (a : Answer) (xs : List rust.Message) (ms : List Message) → AllMean xs ms → Among (stored.Answer a) xs → Among (Answers a) ms
 among_right a [] ms h i = absurd i
 among_right a (x ∷ xs) [] h i = absurd h
 among_right a (x ∷ xs) (m ∷ ms) h (inl e) = inl (sym (mean_right a x m e h.0))
 among_right a (x ∷ xs) (m ∷ ms) h (inr i) = inr (among_right a xs ms h.1 i)
 
 -- and the other way
-pub among_left : (a : Answer) (xs : List rust.Message) (ms : List Message) → AllMean xs ms → Among (Answers a) ms → Among (kept.Answer a) xs
+pub among_left : (a : Answer) (xs : List rust.Message) (ms : List Message) → AllMean xs ms → Among (Answers a) ms → Among (stored.Answer a) xs
 among_left a xs [] h i = absurd i
 among_left a [] (m ∷ ms) h i = absurd h
 among_left a (x ∷ xs) (m ∷ ms) h (inl e) = inl (mean_left a x (subst (Means x) (sym e) h.0))

@@ -12,10 +12,10 @@ use Rattle.cq_world.proofs.Commits.{Commits, tails, readies, Names, Pairs, Retir
 use Rattle.cq_world.proofs.Commits.Orders.{Neutral, neutral_not_on, feed-commits, neutral_tails, neutral_names, neutral_pairs, neutral_enough, neutral_zero, neutral_retires, retires_append, retires_tail, each_one, one_more}
 use Rattle.cq_world.proofs.Commits.Turns.{tails-append}
 use Rattle.cq_world.proofs.Eaches.{Each, each-append, each-follows}
-use Rattle.cq_world.proofs.Lines.{in_left, out_more}
+use Rattle.cq_world.proofs.ExtendedChains.{in_left, out_more}
 use Rattle.cq_world.proofs.Prefixes.Orders.{told_to, one_told, in-without, join_told, last_told, last_of, alone}
 use Rattle.cq_world.proofs.Prefixes.{Prefixes}
-use Rattle.cq_world.proofs.Sights.{Sight, said}
+use Rattle.cq_world.proofs.Views.{View, said}
 
 -- ---- what is said of a loss
 
@@ -96,7 +96,7 @@ hands_fewer n free now x m h k = pass m k where
   pass (Adopted s i) g = λ e. ((g e).0, h (g e).1)
   pass y g = tt
 
-other_commits : (v : Sight) (c : List Entry) (id : ℕ) → Prefixes v → Commits v c → is_last v.master.chain id ≡ false → Commits (said v (record v.master { chain = without id v.master.chain }) (said_of_loss id v.master.chain)) c
+other_commits : (v : View) (c : List Entry) (id : ℕ) → Prefixes v → Commits v c → is_last v.master.chain id ≡ false → Commits (said v (record v.master { chain = without id v.master.chain }) (said_of_loss id v.master.chain)) c
 other_commits v c id g h not_last = record {
   acting = h.acting;
   silent = h.silent;
@@ -131,7 +131,7 @@ other_commits v c id g h not_last = record {
   chain : List ℕ
   chain = v.master.chain
 
-  w : Sight
+  w : View
   w = said v (record v.master { chain = without id v.master.chain }) (said_of_loss id v.master.chain)
 
   row : ℕ → List Message
@@ -159,7 +159,7 @@ other_commits v c id g h not_last = record {
 
 -- ---- detections of the last
 
-last_commits : (v : Sight) (c : List Entry) (id q : ℕ) → Prefixes v → Commits v c → is_last v.master.chain id ≡ true → stands_before q id v.master.chain ≡ true → is_last (without id v.master.chain) q ≡ true
+last_commits : (v : View) (c : List Entry) (id q : ℕ) → Prefixes v → Commits v c → is_last v.master.chain id ≡ true → stands_before q id v.master.chain ≡ true → is_last (without id v.master.chain) q ≡ true
     → Commits (said v (record v.master { chain = without id v.master.chain; told = true; ready = false; joiner = None }) ((parties.Server q, BeTail 0) ∷ [])) c
 last_commits v c id q g h last before now_last = record {
   acting = h.acting;
@@ -239,7 +239,7 @@ last_commits v c id q g h last before now_last = record {
 
 -- ---- a server that joins is dropped
 
-dropped_commits : (v : Sight) (c : List Entry) → Commits v c → Commits (record v { master = alone v.master }) c
+dropped_commits : (v : View) (c : List Entry) → Commits v c → Commits (record v { master = alone v.master }) c
 dropped_commits v c h = record {
   acting = h.acting;
   silent = h.silent;
@@ -271,7 +271,7 @@ dropped_commits v c h = record {
 -- ---- all detections
 
 -- A detection keeps all sentences: of the server that joins, or of a member, while others remain.
-pub detected-commits : (v : Sight) (c : List Entry) (id a : ℕ) (rest : List ℕ) → Prefixes v → Commits v c → v.master.chain ≡ a ∷ rest → (is_that v.master.joiner id ≡ false → length v.master.chain ≡ 1 → ⊥)
+pub detected-commits : (v : View) (c : List Entry) (id a : ℕ) (rest : List ℕ) → Prefixes v → Commits v c → v.master.chain ≡ a ∷ rest → (is_that v.master.joiner id ≡ false → length v.master.chain ≡ 1 → ⊥)
     → Commits (said v (detected id v.master).master (detected id v.master).said) c
 unfolding detected
 detected-commits v c id a rest g h is more = by (is_that v.master.joiner id) refl where
@@ -288,7 +288,7 @@ detected-commits v c id a rest g h is more = by (is_that v.master.joiner id) ref
 -- ---- joins
 
 -- A new server joins behind the last member, which acts. The chain stays.
-join_commits : (v : Sight) (c : List Entry) (id t : ℕ) → Prefixes v → Commits v c → is_in v.master.used id ≡ false → v.master.ready ≡ true
+join_commits : (v : View) (c : List Entry) (id t : ℕ) → Prefixes v → Commits v c → is_in v.master.used id ≡ false → v.master.ready ≡ true
     → Commits (said v (record v.master { joiner = Some id; used = v.master.used ++ id ∷ [] }) ((parties.Server id, Report t) ∷ [])) c
 join_commits v c id t g h unused ready = record {
   acting = h.acting;
@@ -341,7 +341,7 @@ join_commits v c id t g h unused ready = record {
   same_tails j = one_more j id (Report t) (λ us. tails us ≡ tails (v.channel parties.Master (parties.Server j))) (v.channel parties.Master (parties.Server j)) (λ e. omega (arith, tails-append (v.channel parties.Master (parties.Server j)) (Report t ∷ []))) (λ e. refl)
 
 -- A join of a number that wasn't used, where the last member acts, keeps all sentences.
-pub joined-commits : (v : Sight) (c : List Entry) (id a : ℕ) (rest : List ℕ) → Prefixes v → Commits v c → is_in v.master.used id ≡ false → v.master.ready ≡ true → v.master.chain ≡ a ∷ rest
+pub joined-commits : (v : View) (c : List Entry) (id a : ℕ) (rest : List ℕ) → Prefixes v → Commits v c → is_in v.master.used id ≡ false → v.master.ready ≡ true → v.master.chain ≡ a ∷ rest
     → Commits (said v (joined id v.master).master (joined id v.master).said) c
 unfolding joined
 joined-commits v c id a rest g h unused ready is = subst (λ out. Commits (said v (record v.master { joiner = Some id; used = v.master.used ++ id ∷ [] }) out) c) (sym (ap (λ us. said_of_join id us) is ∙ join_told id a rest))

@@ -12,11 +12,11 @@ use Rattle.cq_world.proofs.Chains.{last-in, last-one, last-end, before-in, befor
 use Rattle.cq_world.proofs.Commits.{Commits, harmless_tails, tails, readies, Names, Pairs, Retires, HandsOver, Enough, Zero, NotOn, bit, waits, busy, Free}
 use Rattle.cq_world.proofs.Commits.Turns.{tails-append, if_false, stage_one, ready-idle, ready-acts}
 use Rattle.cq_world.proofs.Eaches.{Each, each-append, some_none, cons_nil}
-use Rattle.cq_world.proofs.Lines.{in_more, member-other}
+use Rattle.cq_world.proofs.ExtendedChains.{in_more, member-other}
 use Rattle.cq_world.proofs.Prefixes.Orders.{told_to, one_told, still_said, said-keeps}
-use Rattle.cq_world.proofs.Prefixes.{Prefixes, Harmless, Bystander}
+use Rattle.cq_world.proofs.Prefixes.{Prefixes, Harmless, Outsider}
 use Rattle.cq_world.proofs.Settled.{that_some}
-use Rattle.cq_world.proofs.Sights.{Sight, line_of, said, drained, same_channels}
+use Rattle.cq_world.proofs.Views.{View, extended_of, said, drained, same_channels}
 
 -- ---- words without a meaning for who acts
 
@@ -78,21 +78,21 @@ neutral_retires (m ∷ ms) h = skip m h (neutral_retires ms h.1) where
 -- ---- what is heard
 
 -- where nothing is said the channels stay
-pub said_nothing : (v : Sight) (m : Master) → said v m [] ≡ record v { master = m }
+pub said_nothing : (v : View) (m : Master) → said v m [] ≡ record v { master = m }
 said_nothing v m = ap (λ c. record { server = v.server; channel = c; master = m }) (same_channels _ _ (λ x y. go x y (same x parties.Master))) where
   go : (x y : Party) (t : Bool) → cond t (v.channel x y ++ []) (v.channel x y) ≡ v.channel x y
   go x y true = append-nil (v.channel x y)
   go x y false = refl
 
 -- what is left of what a server told the master
-pub left_row : (v : Sight) (from : ℕ) (rest : List Message) (j : ℕ) → (drained v (parties.Server from) parties.Master rest).channel (parties.Server j) parties.Master ≡ cond (eqb j from) rest (v.channel (parties.Server j) parties.Master)
+pub left_row : (v : View) (from : ℕ) (rest : List Message) (j : ℕ) → (drained v (parties.Server from) parties.Master rest).channel (parties.Server j) parties.Master ≡ cond (eqb j from) rest (v.channel (parties.Server j) parties.Master)
 left_row v from rest j = go (eqb j from) where
   go : (t : Bool) → cond (t && true) rest (v.channel (parties.Server j) parties.Master) ≡ cond t rest (v.channel (parties.Server j) parties.Master)
   go true = refl
   go false = refl
 
 -- what holds of all that a server told the master holds of the rest
-by_left : (v : Sight) (from : ℕ) (word : Message) (rest : List Message) (P : ℕ → Message → Type 0) → v.channel (parties.Server from) parties.Master ≡ word ∷ rest
+by_left : (v : View) (from : ℕ) (word : Message) (rest : List Message) (P : ℕ → Message → Type 0) → v.channel (parties.Server from) parties.Master ≡ word ∷ rest
     → ((j : ℕ) → Each (P j) (v.channel (parties.Server j) parties.Master)) → (j : ℕ) → Each (P j) ((drained v (parties.Server from) parties.Master rest).channel (parties.Server j) parties.Master)
 by_left v from word rest P at all j = subst (λ ms. Each (P j) ms) (sym (left_row v from rest j)) (go (eqb j from) refl) where
   go : (t : Bool) → eqb j from ≡ t → Each (P j) (cond t rest (v.channel (parties.Server j) parties.Master))
@@ -105,7 +105,7 @@ readies_rest Ready rest h = absurd (omega (arith, h))
 readies_rest word rest h = h
 
 -- a word that doesn't say that a member acts, or nothing
-drained_commits : (v : Sight) (c : List Entry) (from : ℕ) (word : Message) (rest : List Message) → Commits v c → v.channel (parties.Server from) parties.Master ≡ word ∷ rest
+drained_commits : (v : View) (c : List Entry) (from : ℕ) (word : Message) (rest : List Message) → Commits v c → v.channel (parties.Server from) parties.Master ≡ word ∷ rest
     → (is_in v.master.chain from ≡ true → readies rest ≡ readies (word ∷ rest)) → Commits (drained v (parties.Server from) parties.Master rest) c
 drained_commits v c from word rest h at quiet = record {
   acting = h.acting;
@@ -158,7 +158,7 @@ one_more j to m P ms yes_so not_so = subst (λ us. P (ms ++ us)) (sym (one_told 
 pub each_one : (P : Message → Type 0) (j to : ℕ) (m : Message) (ms : List Message) → Each P ms → (eqb j to ≡ true → P m) → Each P (ms ++ told_to j ((parties.Server to, m) ∷ []))
 each_one P j to m ms h k = one_more j to m (λ us. Each P us) ms (λ e. each-append P ms (m ∷ []) h (k e, tt)) (λ e. h)
 
-adopt_commits : (v : Sight) (c : List Entry) (p s count : ℕ) → Prefixes v → Commits v c → stands_before p s v.master.chain ≡ true → Commits (said v v.master ((parties.Server p, Adopt s count) ∷ [])) c
+adopt_commits : (v : View) (c : List Entry) (p s count : ℕ) → Prefixes v → Commits v c → stands_before p s v.master.chain ≡ true → Commits (said v v.master ((parties.Server p, Adopt s count) ∷ [])) c
 adopt_commits v c p s count g h before = record {
   acting = h.acting;
   silent = h.silent;
@@ -210,7 +210,7 @@ retires_tail (m ∷ xs) least = skip m (retires_tail xs least) where
   skip (Adopt s n) g = ((λ none. omega (arith, tails-append xs (BeTail least ∷ []), none)), g)
   skip y g = g
 
-told_commits : (v : Sight) (c : List Entry) (s count : ℕ) → Prefixes v → Commits v c → is_last v.master.chain s ≡ true → v.master.told ≡ false → length c ≤ count → Free v
+told_commits : (v : View) (c : List Entry) (s count : ℕ) → Prefixes v → Commits v c → is_last v.master.chain s ≡ true → v.master.told ≡ false → length c ≤ count → Free v
     → Commits (said v (record v.master { told = true }) ((parties.Server s, BeTail count) ∷ [])) c
 told_commits v c s count g h last untold enough free = record {
   acting = h.acting;
@@ -271,7 +271,7 @@ told_commits v c s count g h last untold enough free = record {
 
 -- ---- the last one acts
 
-ready_commits : (v : Sight) (c : List Entry) (from : ℕ) (rest : List Message) → Commits v c → v.channel (parties.Server from) parties.Master ≡ Ready ∷ rest → is_last v.master.chain from ≡ true
+ready_commits : (v : View) (c : List Entry) (from : ℕ) (rest : List Message) → Commits v c → v.channel (parties.Server from) parties.Master ≡ Ready ∷ rest → is_last v.master.chain from ≡ true
     → Commits (record (drained v (parties.Server from) parties.Master rest) { master = record v.master { ready = true } }) c
 ready_commits v c from rest h at last = record {
   acting = h.acting;
@@ -340,7 +340,7 @@ retires_fed : (xs : List Message) (succ : Option ℕ) → Retires xs → Retires
 retires_fed xs succ h = retires_append xs (Feed succ ∷ []) h tt
 
 -- What is said of feeding says nothing of who acts.
-pub feed-commits : (v : Sight) (c : List Entry) (to : ℕ) (succ : Option ℕ) → Commits v c → Commits (said v v.master ((parties.Server to, Feed succ) ∷ [])) c
+pub feed-commits : (v : View) (c : List Entry) (to : ℕ) (succ : Option ℕ) → Commits v c → Commits (said v v.master ((parties.Server to, Feed succ) ∷ [])) c
 feed-commits v c to succ h = record {
   acting = h.acting;
   silent = h.silent;
@@ -402,7 +402,7 @@ harmless_enough n (m ∷ ms) h = (one m h.0, harmless_enough n ms h.1) where
   one y g = tt
 
 -- The server that joins is put at the end of the chain, and isn't told yet.
-grow_commits : (v : Sight) (c : List Entry) (id : ℕ) → Prefixes v → Commits v c → is_that v.master.joiner id ≡ true
+grow_commits : (v : View) (c : List Entry) (id : ℕ) → Prefixes v → Commits v c → is_that v.master.joiner id ≡ true
     → Commits (record v { master = record v.master { chain = v.master.chain ++ id ∷ []; told = false; ready = false; joiner = None } }) c
 grow_commits v c id g h joins = record {
   acting = h.acting;
@@ -455,9 +455,9 @@ grow_commits v c id g h joins = record {
   ready : v.master.ready ≡ true
   ready = h.joins_ready (ap (λ o. is_some o) (that_some v.master.joiner id joins))
 
-  -- the new one is a bystander until now
-  by : (j : ℕ) → eqb id j ≡ true → Bystander (v.server j) (v.channel parties.Master (parties.Server j))
-  by j same = subst (λ i. Bystander (v.server i) (v.channel parties.Master (parties.Server i))) (eqb-true id j same) (g.aside id joins)
+  -- the new one is an outsider until now
+  by : (j : ℕ) → eqb id j ≡ true → Outsider (v.server j) (v.channel parties.Master (parties.Server j))
+  by j same = subst (λ i. Outsider (v.server i) (v.channel parties.Master (parties.Server i))) (eqb-true id j same) (g.aside id joins)
 
   new_last : (j : ℕ) → is_last (v.master.chain ++ id ∷ []) j ≡ true → eqb id j ≡ true
   new_last j is = eq-eqb id j (last-one (v.master.chain ++ id ∷ []) id j (last-end v.master.chain id) is)
@@ -517,23 +517,23 @@ grow_commits v c id g h joins = record {
   ]
 
 -- It is put there, and the old last one is told.
-caught_commits : (v : Sight) (c : List Entry) (p from count : ℕ) → Prefixes v → Commits v c → is_that v.master.joiner from ≡ true → is_last v.master.chain p ≡ true → Commits (said v (admitted p from count v.master).master (admitted p from count v.master).said) c
+caught_commits : (v : View) (c : List Entry) (p from count : ℕ) → Prefixes v → Commits v c → is_that v.master.joiner from ≡ true → is_last v.master.chain p ≡ true → Commits (said v (admitted p from count v.master).master (admitted p from count v.master).said) c
 caught_commits v c p from count g h joins last = adopt_commits w c p from count grown (grow_commits v c from g h joins) (before-end p from v.master.chain last) where
-  w : Sight
+  w : View
   w = record v { master = (admitted p from count v.master).master }
 
   grown : Prefixes (record v { master = (admitted p from count v.master).master })
   grown = subst Prefixes (said_nothing v (admitted p from count v.master).master) (said-keeps v (admitted p from count v.master).master [] g
-      (still_said v (admitted p from count v.master).master g (sym (ap (λ o. line_of v.master.chain o) (that_some v.master.joiner from joins))) refl (λ j none. absurd (false≢true none))))
+      (still_said v (admitted p from count v.master).master g (sym (ap (λ o. extended_of v.master.chain o) (that_some v.master.joiner from joins))) refl (λ j none. absurd (false≢true none))))
 
 -- ---- all that is heard
 
 -- Whatever the master hears, its order keeps all sentences.
-pub heard-commits : (v : Sight) (c : List Entry) (from : ℕ) (word : Message) (rest : List Message) → Prefixes (drained v (parties.Server from) parties.Master rest) → Commits v c → v.channel (parties.Server from) parties.Master ≡ word ∷ rest
+pub heard-commits : (v : View) (c : List Entry) (from : ℕ) (word : Message) (rest : List Message) → Prefixes (drained v (parties.Server from) parties.Master rest) → Commits v c → v.channel (parties.Server from) parties.Master ≡ word ∷ rest
     → Commits (said (drained v (parties.Server from) parties.Master rest) (hears from word v.master).master (hears from word v.master).said) c
 unfolding hears
 heard-commits v c from (Have p count) rest g h at = go (stands_before p from v.master.chain) (joins_behind p from v.master) refl where
-  d : Sight
+  d : View
   d = drained v (parties.Server from) parties.Master rest
 
   quiet : Commits (drained v (parties.Server from) parties.Master rest) c
@@ -546,7 +546,7 @@ heard-commits v c from (Have p count) rest g h at = go (stands_before p from v.m
   go false true e = feed-commits d c p (Some from) quiet
   go false false e = subst (λ w. Commits w c) (sym (said_nothing d v.master)) quiet
 heard-commits v c from (Caught p count) rest g h at = go (joins_behind p from v.master) refl where
-  d : Sight
+  d : View
   d = drained v (parties.Server from) parties.Master rest
 
   quiet : Commits (drained v (parties.Server from) parties.Master rest) c
@@ -556,7 +556,7 @@ heard-commits v c from (Caught p count) rest g h at = go (joins_behind p from v.
   go true e = let both = and_parts (is_that v.master.joiner from) (is_last v.master.chain p) e in caught_commits d c p from count g quiet both.0 both.1
   go false e = subst (λ w. Commits w c) (sym (said_nothing d v.master)) quiet
 heard-commits v c from (Adopted s count) rest g h at = go (is_last v.master.chain s && not v.master.told) refl where
-  d : Sight
+  d : View
   d = drained v (parties.Server from) parties.Master rest
 
   quiet : Commits (drained v (parties.Server from) parties.Master rest) c
@@ -574,7 +574,7 @@ heard-commits v c from (Adopted s count) rest g h at = go (is_last v.master.chai
       told_commits d c s count g quiet both.0 untold over.0 over.1
   go false e = subst (λ w. Commits w c) (sym (said_nothing d v.master)) quiet
 heard-commits v c from Ready rest g h at = go (is_last v.master.chain from) refl where
-  d : Sight
+  d : View
   d = drained v (parties.Server from) parties.Master rest
 
   strange : is_last v.master.chain from ≡ false → is_in v.master.chain from ≡ true → ⊥

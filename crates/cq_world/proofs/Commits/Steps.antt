@@ -12,15 +12,15 @@ use Rattle.cq_chain.specs.Parties.{same, addressed}
 use Rattle.cq_chain.specs.Servers.{Server, acts, reaches, is_that}
 use Rattle.cq_chain.specs.Steps.{silent, to_server, when, appended, settled, begins_to_act, answer_to, passed_on, tail_news, stamped, arrived, asked, is_next, forwarded, is_restoring, with_history, restored, forwards, repair, adopting, feeding, as_tail, tailed, takes, crashed}
 use Rattle.cq_events.specs.Worlds.{set_at}
-use Rattle.cq_world.proofs.Chains.{Before, among-in, last-in, before-last, before-either, before-not-last, before-only, before-front, chain-apart}
+use Rattle.cq_world.proofs.Chains.{Before, among-in, last-in, before-last, before-either, before-not-last, before-only, before-prefix, chain-apart}
 use Rattle.cq_world.proofs.Commits.{Commits, harmless_tails, tails, readies, Names, Pairs, Retires, HandsOver, Enough, Zero, NotOn, bit, waits, Free, acts-least, least-none, some-least}
 use Rattle.cq_world.proofs.Commits.Turns.{Acting, by_server, readies-append, stage_one}
 use Rattle.cq_world.proofs.Eaches.{Each, each-append, each-follows, some_none}
 use Rattle.cq_world.proofs.Settled.{IsSettled, is_settled}
 use Rattle.cq_world.proofs.Prefixes.Orders.{linked_some}
-use Rattle.cq_world.proofs.Lines.{member-line, member-other}
-use Rattle.cq_world.proofs.Prefixes.{Prefixes, LinkedLine, Harmless, Bystander, master_after}
-use Rattle.cq_world.proofs.Sights.{Sight, line, turn}
+use Rattle.cq_world.proofs.ExtendedChains.{member-extended, member-other}
+use Rattle.cq_world.proofs.Prefixes.{Prefixes, LinkedExtended, Harmless, Outsider, master_after}
+use Rattle.cq_world.proofs.Views.{View, extended, turn}
 use Rattle.cq_world.proofs.Prefixes.Steps.{Placed, lives-placed, full-member, aside-acts, take-turn}
 
 -- ---- what is said to the master
@@ -136,7 +136,7 @@ ready_not_on j false = tt
 -- ---- who lives
 
 -- a full server lives after a turn in which this one stays what it was
-still_lives : (v : Sight) (c : List Entry) (k : ℕ) (s : Server) → Commits v c → ((v.server k).full ≡ true → s.full ≡ true) → s.down ≡ (v.server k).down
+still_lives : (v : View) (c : List Entry) (k : ℕ) (s : Server) → Commits v c → ((v.server k).full ≡ true → s.full ≡ true) → s.down ≡ (v.server k).down
     → (id : ℕ) × (is_in v.master.used id ≡ true) × ((set_at v.server k s id).full ≡ true) × ((set_at v.server k s id).down ≡ false)
 still_lives v c k s h full down = let both = go (eqb h.lives.0 k) refl in (h.lives.0, h.lives.1, both.0, both.1) where
   go : (t : Bool) → eqb h.lives.0 k ≡ t → ((cond t s (v.server h.lives.0)).full ≡ true) × ((cond t s (v.server h.lives.0)).down ≡ false)
@@ -145,7 +145,7 @@ still_lives v c k s h full down = let both = go (eqb h.lives.0 k) refl in (h.liv
 
 -- ---- steps that leave all that matters
 
-pub plain-acting : (v : Sight) (c : List Entry) (from : Party) (k : ℕ) (rest : List Message) (s : Server) (out : List (Party × Message)) → Prefixes v → Commits v c → is_in v.master.chain k ≡ true
+pub plain-acting : (v : View) (c : List Entry) (from : Party) (k : ℕ) (rest : List Message) (s : Server) (out : List (Party × Message)) → Prefixes v → Commits v c → is_in v.master.chain k ≡ true
     → s.entries ≡ (v.server k).entries → s.at_least ≡ (v.server k).at_least → s.full ≡ (v.server k).full
     → tails (master_after v from k rest) ≡ tails (v.channel parties.Master (parties.Server k)) → Each Calm (addressed parties.Master out)
     → (id : ℕ) × (is_in v.master.used id ≡ true) × ((set_at v.server k s id).full ≡ true) × ((set_at v.server k s id).down ≡ false) → Acting v c from k rest s out
@@ -209,7 +209,7 @@ settled_stays x h = go (acts x) where
 settled_acts : (x : Server) → acts (settled x) ≡ acts x
 settled_acts x = let now = is_settled x in ap (λ us. reaches (length us) (settled x).at_least) now.entries ∙ ap (λ o. reaches (length x.entries) o) now.at_least
 
-pub grown-acting : (v : Sight) (c : List Entry) (from : Party) (k : ℕ) (rest : List Message) (x : Server) (out : List (Party × Message)) (more : List Message) → Prefixes v → Commits v c → is_in v.master.chain k ≡ true
+pub grown-acting : (v : View) (c : List Entry) (from : Party) (k : ℕ) (rest : List Message) (x : Server) (out : List (Party × Message)) (more : List Message) → Prefixes v → Commits v c → is_in v.master.chain k ≡ true
     → length (v.server k).entries ≤ length x.entries → x.at_least ≡ (v.server k).at_least → x.full ≡ (v.server k).full → x.down ≡ (v.server k).down
     → tails (master_after v from k rest) ≡ tails (v.channel parties.Master (parties.Server k)) → addressed parties.Master out ≡ when (begins_to_act (v.server k) x) (Ready ∷ []) ++ more → Each Calm more → Acting v c from k rest (settled x) out
 grown-acting v c from k rest x out more g h member grows least full down same_tails news calm = record {
@@ -258,7 +258,7 @@ grown-acting v c from k rest x out more g h member grows least full down same_ta
 -- ---- orders of the master
 
 -- a server that is told to be the tail is the last
-told_last : (v : Sight) (c : List Entry) (k least : ℕ) (rest : List Message) → Commits v c → is_in v.master.chain k ≡ true → v.channel parties.Master (parties.Server k) ≡ BeTail least ∷ rest
+told_last : (v : View) (c : List Entry) (k least : ℕ) (rest : List Message) → Commits v c → is_in v.master.chain k ≡ true → v.channel parties.Master (parties.Server k) ≡ BeTail least ∷ rest
     → (is_last v.master.chain k ≡ true) × (v.master.told ≡ true) × (waits (v.server k) ≡ false)
 told_last v c k least rest h member taken = go (is_last v.master.chain k) v.master.told v.master.ready (waits (v.server k)) refl refl refl refl where
   one : 1 ≤ tails (v.channel parties.Master (parties.Server k))
@@ -270,7 +270,7 @@ told_last v c k least rest h member taken = go (is_last v.master.chain k) v.mast
   go true false r w ea eb er ew = absurd (omega (arith, one, h.stages k member, ap (λ x. bit (x && (v.master.told && not v.master.ready))) ea, ap (λ x. bit (x && not v.master.ready)) eb))
   go false b r w ea eb er ew = absurd (omega (arith, one, h.stages k member, ap (λ x. bit (x && (v.master.told && not v.master.ready))) ea))
 
-tail_acting : (v : Sight) (c : List Entry) (k least : ℕ) (rest : List Message) → Prefixes v → Commits v c → is_in v.master.chain k ≡ true → v.channel parties.Master (parties.Server k) ≡ BeTail least ∷ rest
+tail_acting : (v : View) (c : List Entry) (k least : ℕ) (rest : List Message) → Prefixes v → Commits v c → is_in v.master.chain k ≡ true → v.channel parties.Master (parties.Server k) ≡ BeTail least ∷ rest
     → Acting v c parties.Master k rest (tailed least (v.server k)).server (tailed least (v.server k)).sent
 tail_acting v c k least rest g h member taken = record {
   acting = λ does. settled_acting x (sym (settled_acts x) ∙ does);
@@ -315,7 +315,7 @@ tail_acting v c k least rest g h member taken = record {
     go false = refl
 
 -- who stands directly before the last, while that isn't told, is the only one that may have been the tail
-adopt_acting : (v : Sight) (c : List Entry) (k succ have : ℕ) (rest : List Message) → Prefixes v → Commits v c → is_in v.master.chain k ≡ true → v.channel parties.Master (parties.Server k) ≡ Adopt succ have ∷ rest
+adopt_acting : (v : View) (c : List Entry) (k succ have : ℕ) (rest : List Message) → Prefixes v → Commits v c → is_in v.master.chain k ≡ true → v.channel parties.Master (parties.Server k) ≡ Adopt succ have ∷ rest
     → Acting v c parties.Master k rest (adopting succ have (v.server k)).server (adopting succ have (v.server k)).sent
 adopt_acting v c k succ have rest g h member taken = record {
   acting = λ does. absurd (false≢true does);
@@ -338,7 +338,7 @@ adopt_acting v c k succ have rest g h member taken = record {
   s : Server
   s = record (v.server k) { at_least = None; succ = Some succ }
 
-  w : Sight
+  w : View
   w = turn v parties.Master k rest (adopting succ have (v.server k)).server (adopting succ have (v.server k)).sent
 
   news : addressed parties.Master (adopting succ have (v.server k)).sent ≡ Adopted succ (length (v.server k).entries) ∷ []
@@ -359,7 +359,7 @@ adopt_acting v c k succ have rest g h member taken = record {
       (enough (before-last k z v.master.chain (chain-apart v g) before), λ j m. by_server v k s (λ i y. is_in v.master.chain i ≡ true → y.at_least ≡ None) (λ own. refl) (λ i other there. none i other there before) j m) where
         enough : (is_last v.master.chain k ≡ true → ⊥) → length c ≤ length (v.server k).entries
         enough not_last = elim (cases_Bool (v.server k).full) [
-          | inl full ↦ let front = h.old k member full in omega (arith, ap length front.1, length-append c front.0)
+          | inl full ↦ let prefix = h.old k member full in omega (arith, ap length prefix.1, length-append c prefix.0)
           | inr young ↦ absurd (not_last (h.young_last k member young))
         ]
 
@@ -378,13 +378,13 @@ adopt_acting v c k succ have rest g h member taken = record {
 -- ---- all messages
 
 -- the server keeps all that matters
-abbrev Keeping : Sight → List Entry → ℕ → Server → Type 0
+abbrev Keeping : View → List Entry → ℕ → Server → Type 0
 Keeping v c k s = (id : ℕ) × (is_in v.master.used id ≡ true) × ((set_at v.server k s id).full ≡ true) × ((set_at v.server k s id).down ≡ false)
 
-as_it_was : (v : Sight) (c : List Entry) (k : ℕ) → Commits v c → Keeping v c k (v.server k)
+as_it_was : (v : View) (c : List Entry) (k : ℕ) → Commits v c → Keeping v c k (v.server k)
 as_it_was v c k h = still_lives v c k (v.server k) h (λ was. was) refl
 
-server_acting : (v : Sight) (c : List Entry) (p k : ℕ) (m : Message) (rest : List Message) → Prefixes v → Commits v c → is_in v.master.chain k ≡ true
+server_acting : (v : View) (c : List Entry) (p k : ℕ) (m : Message) (rest : List Message) → Prefixes v → Commits v c → is_in v.master.chain k ≡ true
     → Acting v c (parties.Server p) k rest (takes (parties.Server p) m (v.server k)).server (takes (parties.Server p) m (v.server k)).sent
 unfolding takes
 server_acting v c p k (Fwd place e) rest g h member = go (is_next (v.server k) p place e) where
@@ -411,7 +411,7 @@ server_acting v c p k (Ack n) rest g h member = go (nat_lt (v.server k).acked (m
   go false = plain-acting v c (parties.Server p) k rest (v.server k) [] g h member refl refl refl refl tt (as_it_was v c k h)
 server_acting v c p k m rest g h member = plain-acting v c (parties.Server p) k rest (v.server k) [] g h member refl refl refl refl tt (as_it_was v c k h)
 
-told_acting : (v : Sight) (c : List Entry) (k : ℕ) (m : Message) (rest : List Message) → Prefixes v → Commits v c → is_in v.master.chain k ≡ true → v.channel parties.Master (parties.Server k) ≡ m ∷ rest
+told_acting : (v : View) (c : List Entry) (k : ℕ) (m : Message) (rest : List Message) → Prefixes v → Commits v c → is_in v.master.chain k ≡ true → v.channel parties.Master (parties.Server k) ≡ m ∷ rest
     → Acting v c parties.Master k rest (takes parties.Master m (v.server k)).server (takes parties.Master m (v.server k)).sent
 unfolding takes
 told_acting v c k BeHead rest g h member taken = plain-acting v c parties.Master k rest (record (v.server k) { head = true; pred = None }) [] g h member refl refl refl (sym (ap tails taken)) tt (still_lives v c k (record (v.server k) { head = true; pred = None }) h (λ was. was) refl)
@@ -426,17 +426,17 @@ told_acting v c k (Feed succ) rest g h member taken = go (acts (v.server k)) whe
 told_acting v c k m rest g h member taken = plain-acting v c parties.Master k rest (v.server k) [] g h member refl refl refl (sym (ap tails taken)) tt (as_it_was v c k h)
 
 -- a member that takes any message
-member_acting : (v : Sight) (c : List Entry) (from : Party) (k : ℕ) (m : Message) (rest : List Message) → Prefixes v → Commits v c → is_in v.master.chain k ≡ true → v.channel from (parties.Server k) ≡ m ∷ rest
+member_acting : (v : View) (c : List Entry) (from : Party) (k : ℕ) (m : Message) (rest : List Message) → Prefixes v → Commits v c → is_in v.master.chain k ≡ true → v.channel from (parties.Server k) ≡ m ∷ rest
     → Acting v c from k rest (takes from m (v.server k)).server (takes from m (v.server k)).sent
 unfolding takes
 member_acting v c parties.Master k m rest g h member taken = told_acting v c k m rest g h member taken
 member_acting v c parties.Clients k m rest g h member taken = plain-acting v c parties.Clients k rest (v.server k) [] g h member refl refl refl refl tt (as_it_was v c k h)
 member_acting v c (parties.Server p) k m rest g h member taken = server_acting v c p k m rest g h member
 
--- ---- bystanders
+-- ---- outsiders
 
 -- another server is full and lives
-aside_lives : (v : Sight) (c : List Entry) (k : ℕ) (s : Server) → Commits v c → (v.server k).full ≡ false → Keeping v c k s
+aside_lives : (v : View) (c : List Entry) (k : ℕ) (s : Server) → Commits v c → (v.server k).full ≡ false → Keeping v c k s
 aside_lives v c k s h young = (h.lives.0, h.lives.1, ap (λ b. (cond b s (v.server h.lives.0)).full) other ∙ h.lives.2, ap (λ b. (cond b s (v.server h.lives.0)).down) other ∙ h.lives.3) where
   other : eqb h.lives.0 k ≡ false
   other = elim (cases_Bool (eqb h.lives.0 k)) [
@@ -447,9 +447,9 @@ aside_lives v c k s h young = (h.lives.0, h.lives.1, ap (λ b. (cond b s (v.serv
 aside_waits : (s : Server) → s.at_least ≡ None → bit (waits s) ≡ 0
 aside_waits s none = ap (λ o. bit (is_some o && not (acts s))) none
 
--- A turn of a bystander, of which it tells the master nothing of who acts.
-aside_acting : (v : Sight) (c : List Entry) (from : Party) (k : ℕ) (rest : List Message) (s : Server) (out : List (Party × Message)) → Commits v c → is_in v.master.chain k ≡ false → Bystander (v.server k) (v.channel parties.Master (parties.Server k))
-    → Bystander s (master_after v from k rest) → Each Calm (addressed parties.Master out) → Acting v c from k rest s out
+-- A turn of an outsider, of which it tells the master nothing of who acts.
+aside_acting : (v : View) (c : List Entry) (from : Party) (k : ℕ) (rest : List Message) (s : Server) (out : List (Party × Message)) → Commits v c → is_in v.master.chain k ≡ false → Outsider (v.server k) (v.channel parties.Master (parties.Server k))
+    → Outsider s (master_after v from k rest) → Each Calm (addressed parties.Master out) → Acting v c from k rest s out
 aside_acting v c from k rest s out h outside b now calm = record {
   acting = λ does. absurd (both_ways (acts s) (aside-acts s now.at_least) does);
   fulls = λ is. absurd (both_ways s.full now.full is);
@@ -476,12 +476,12 @@ aside_acting v c from k rest s out h outside b now calm = record {
   lives = aside_lives v c k s h b.full;
 }
 
--- a bystander doesn't begin to act
+-- an outsider doesn't begin to act
 aside_begins : (before now : Server) → now.at_least ≡ None → begins_to_act before now ≡ false
 aside_begins before now none = ap (λ b. b && not (acts before)) (aside-acts now none)
 
 -- what it tells the master when it takes a message
-aside_says : (v : Sight) (from : Party) (k : ℕ) (m : Message) (rest : List Message) → v.channel from (parties.Server k) ≡ m ∷ rest → Bystander (v.server k) (v.channel parties.Master (parties.Server k)) → Each Calm (addressed parties.Master (takes from m (v.server k)).sent)
+aside_says : (v : View) (from : Party) (k : ℕ) (m : Message) (rest : List Message) → v.channel from (parties.Server k) ≡ m ∷ rest → Outsider (v.server k) (v.channel parties.Master (parties.Server k)) → Each Calm (addressed parties.Master (takes from m (v.server k)).sent)
 unfolding takes
 aside_says v parties.Master k BeHead rest taken b = tt
 aside_says v parties.Master k (Report p) rest taken b = (tt, tt)
@@ -512,7 +512,7 @@ aside_says v (parties.Server p) k (Ack n) rest taken b = go (nat_lt (v.server k)
 aside_says v (parties.Server p) k m rest taken b = tt
 
 -- A server that takes any message.
-pub take-acting : (v : Sight) (c : List Entry) (from : Party) (k : ℕ) (m : Message) (rest : List Message) → Prefixes v → Commits v c → is_in v.master.used k ≡ true → (v.server k).down ≡ false → v.channel from (parties.Server k) ≡ m ∷ rest
+pub take-acting : (v : View) (c : List Entry) (from : Party) (k : ℕ) (m : Message) (rest : List Message) → Prefixes v → Commits v c → is_in v.master.used k ≡ true → (v.server k).down ≡ false → v.channel from (parties.Server k) ≡ m ∷ rest
     → Acting v c from k rest (takes from m (v.server k)).server (takes from m (v.server k)).sent
 take-acting v c from k m rest g h known lives taken = elim (lives-placed v k g known lives) [
   | inl member ↦ member_acting v c from k m rest g h member taken
@@ -528,14 +528,14 @@ behind_first a [] p s (inr later) = absurd later
 behind_first a (b ∷ rest) p s (inr later) = or_right (eqb b s) (is_in rest s) (behind_first b rest p s later)
 
 -- a head isn't behind another one
-head_behind : (v : Sight) (p k : ℕ) → Prefixes v → is_in (line v.master) k ≡ true → (v.server k).head ≡ true → Before p k (line v.master) → ⊥
-head_behind v p k g there is_head before = go (line v.master) g.linked before where
-  go : (ids : List ℕ) → LinkedLine v ids → Before p k ids → ⊥
+head_behind : (v : View) (p k : ℕ) → Prefixes v → is_in (extended v.master) k ≡ true → (v.server k).head ≡ true → Before p k (extended v.master) → ⊥
+head_behind v p k g there is_head before = go (extended v.master) g.linked before where
+  go : (ids : List ℕ) → LinkedExtended v ids → Before p k ids → ⊥
   go [] l b = absurd b
   go (a ∷ rest) l b = linked_some v a rest k l (among-in rest k (behind_first a rest p k b)) (g.headless k there is_head)
 
 -- the head is full
-pub head-full : (v : Sight) (c : List Entry) (k : ℕ) → Prefixes v → Commits v c → is_in v.master.chain k ≡ true → (v.server k).head ≡ true → (v.server k).full ≡ true
+pub head-full : (v : View) (c : List Entry) (k : ℕ) → Prefixes v → Commits v c → is_in v.master.chain k ≡ true → (v.server k).head ≡ true → (v.server k).full ≡ true
 head-full v c k g h member is_head = elim (cases_Bool (v.server k).full) [ inl full ↦ full | inr young ↦ absurd (no_head young) ] where
   no_head : (v.server k).full ≡ false → ⊥
   no_head young =
@@ -544,11 +544,11 @@ head-full v c k g h member is_head = elim (cases_Bool (v.server k).full) [ inl f
       let other : eqb k q.0 ≡ false = elim (cases_Bool (eqb k q.0)) [ inl e ↦ absurd (both_ways (v.server k).full young (subst (λ i. (v.server i).full ≡ true) (sym (eqb-true k q.0 e)) q.2)) | inr others ↦ others ] in
       elim (before-either v.master.chain k q.0 member q_member other) [
         | inl first ↦ both_ways (is_last v.master.chain k) (before-not-last v.master.chain k q.0 (chain-apart v g) first) (h.young_last k member young)
-        | inr second ↦ head_behind v q.0 k g (member-line v.master.chain v.master.joiner k member) is_head (before-front v.master.chain v.master.joiner q.0 k second)
+        | inr second ↦ head_behind v q.0 k g (member-extended v.master.chain v.master.joiner k member) is_head (before-prefix v.master.chain v.master.joiner q.0 k second)
       ]
 
 -- a full server waits for nothing
-full_begins : (v : Sight) (c : List Entry) (k : ℕ) (x : Server) → Commits v c → is_in v.master.chain k ≡ true → (v.server k).full ≡ true → x.at_least ≡ (v.server k).at_least → begins_to_act (v.server k) x ≡ false
+full_begins : (v : View) (c : List Entry) (k : ℕ) (x : Server) → Commits v c → is_in v.master.chain k ≡ true → (v.server k).full ≡ true → x.at_least ≡ (v.server k).at_least → begins_to_act (v.server k) x ≡ false
 full_begins v c k x h member full least = go (acts (v.server k)) (acts x) refl refl where
   go : (a b : Bool) → acts (v.server k) ≡ a → acts x ≡ b → (b && not a) ≡ false
   go true true e f = refl
@@ -558,7 +558,7 @@ full_begins v c k x h member full least = go (acts (v.server k)) (acts x) refl r
       absurd (both_ways (acts (v.server k)) e (ap (λ o. reaches (length (v.server k).entries) o) (sym least ∙ some.1) ∙ le-leb some.0 (length (v.server k).entries) (h.old_least k some.0 member full (sym least ∙ some.1))))
 
 -- A request arrives at the head.
-pub arrive-acting : (v : Sight) (c : List Entry) (k clock : ℕ) (request : Request) → Prefixes v → Commits v c → is_in v.master.chain k ≡ true → (v.server k).head ≡ true
+pub arrive-acting : (v : View) (c : List Entry) (k clock : ℕ) (request : Request) → Prefixes v → Commits v c → is_in v.master.chain k ≡ true → (v.server k).head ≡ true
     → Acting v c parties.Clients k (v.channel parties.Clients (parties.Server k)) (arrived clock request (v.server k)).server (arrived clock request (v.server k)).sent
 unfolding arrived
 arrive-acting v c k clock request g h member is_head =
@@ -567,13 +567,13 @@ arrive-acting v c k clock request g h member is_head =
     (passed_news (v.server k) e ∙ sym (ap (λ b. when b (Ready ∷ []) ++ []) (full_begins v c k (appended (v.server k) e) h member (head-full v c k g h member is_head) refl))) tt
 
 -- A query comes.
-pub ask-acting : (v : Sight) (c : List Entry) (k : ℕ) (query : Query) → Prefixes v → Commits v c → is_in v.master.chain k ≡ true
+pub ask-acting : (v : View) (c : List Entry) (k : ℕ) (query : Query) → Prefixes v → Commits v c → is_in v.master.chain k ≡ true
     → Acting v c parties.Clients k (v.channel parties.Clients (parties.Server k)) (asked query (v.server k)).server (asked query (v.server k)).sent
 unfolding asked
 ask-acting v c k query g h member = plain-acting v c parties.Clients k (v.channel parties.Clients (parties.Server k)) (v.server k) _ g h member refl refl refl refl tt (as_it_was v c k h)
 
 -- A server crashes while another full one lives.
-pub crash-acting : (v : Sight) (c : List Entry) (k : ℕ) → Prefixes v → Commits v c → Placed v k
+pub crash-acting : (v : View) (c : List Entry) (k : ℕ) → Prefixes v → Commits v c → Placed v k
     → (id : ℕ) → eqb id k ≡ false → is_in v.master.used id ≡ true → (v.server id).full ≡ true → (v.server id).down ≡ false
     → Acting v c parties.Clients k (v.channel parties.Clients (parties.Server k)) (crashed (v.server k)).server (crashed (v.server k)).sent
 crash-acting v c k g h (inr b) id other known full lives = aside_acting v c parties.Clients k (v.channel parties.Clients (parties.Server k)) (record (v.server k) { down = true }) [] h b.0 b.1

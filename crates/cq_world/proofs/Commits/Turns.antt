@@ -4,7 +4,7 @@ use Rattle.std.proofs.lemmas.Bool.{eqb-true, eq-eqb, false≢true, both_ways, ca
 use Rattle.cq_base.specs.declared.ask.Entry.{Entry}
 use Rattle.cq_base.specs.declared.party.Party.{Party}
 use Rattle.cq_base.specs.declared.party.Party.TheVariants as parties
-use Rattle.cq_base.specs.Relations.{Front}
+use Rattle.cq_base.specs.Relations.{IsPrefix}
 use Rattle.cq_chain.specs.Masters.{is_in, is_last, stands_before}
 use Rattle.cq_chain.specs.Messages.{Message, Adopt, BeTail, Adopted, Ready}
 use Rattle.cq_chain.specs.Parties.{same, addressed}
@@ -12,15 +12,15 @@ use Rattle.cq_chain.specs.Servers.{Server, acts, reaches, is_that}
 use Rattle.cq_events.specs.Runs.{longer, acting_history}
 use Rattle.cq_events.specs.Worlds.{set_at}
 use Rattle.cq_world.proofs.Chains.{Before, last-in, last-one, last-some, before-either, before-not-last, before-only, chain-order, chain-apart}
-use Rattle.cq_world.proofs.Commits.{Commits, tails, readies, Names, Pairs, Retires, HandsOver, Enough, Zero, NotOn, bit, waits, busy, Free, acts-least, acts-none, some-least, longer-front, longer-still, longer-length}
-use Rattle.cq_world.proofs.Eaches.{Each, each-append, each-follows, some_none, front-refl, front-trans}
+use Rattle.cq_world.proofs.Commits.{Commits, tails, readies, Names, Pairs, Retires, HandsOver, Enough, Zero, NotOn, bit, waits, busy, Free, acts-least, acts-none, some-least, longer-prefix, longer-still, longer-length}
+use Rattle.cq_world.proofs.Eaches.{Each, each-append, each-follows, some_none, prefix-refl, prefix-trans}
 use Rattle.cq_world.proofs.Prefixes.Orders.{eqb_turned}
 use Rattle.cq_world.proofs.Prefixes.{Prefixes, Turn, turn-keeps, master_after, row_after, rest_of, each-end}
-use Rattle.cq_world.proofs.Sights.{Sight, turn}
-use Rattle.cq_world.proofs.Prefixes.Steps.{Placed, lives-placed, full-member, aside-acts, shorter-front}
+use Rattle.cq_world.proofs.Views.{View, turn}
+use Rattle.cq_world.proofs.Prefixes.Steps.{Placed, lives-placed, full-member, aside-acts, shorter-prefix}
 
 -- What a turn of a live server has to show, beside what histories ask for. All of it is about that server.
-pub record Acting (v : Sight) (c : List Entry) (from : Party) (k : ℕ) (rest : List Message) (s : Server) (out : List (Party × Message)) : Type 0 where
+pub record Acting (v : View) (c : List Entry) (from : Party) (k : ℕ) (rest : List Message) (s : Server) (out : List (Party × Message)) : Type 0 where
   pub acting : acts s ≡ true → s.full ≡ true
   pub fulls : s.full ≡ true → ((v.server k).full ≡ true) ⊎ (acts s ≡ true)
   pub stays_full : (v.server k).full ≡ true → s.full ≡ true
@@ -50,7 +50,7 @@ if_false true a d e = absurd (false≢true (sym e))
 if_false false a d e = refl
 
 -- what the server has for the master after its turn, and what others have
-pub report_row : (v : Sight) (from : Party) (k : ℕ) (rest : List Message) (s : Server) (out : List (Party × Message)) (j : ℕ)
+pub report_row : (v : View) (from : Party) (k : ℕ) (rest : List Message) (s : Server) (out : List (Party × Message)) (j : ℕ)
     → (turn v from k rest s out).channel (parties.Server j) parties.Master ≡ cond (eqb j k) (v.channel (parties.Server j) parties.Master ++ addressed parties.Master out) (v.channel (parties.Server j) parties.Master)
 report_row v from k rest s out j = ap (λ ms. cond (eqb j k) (ms ++ addressed parties.Master out) ms) (if_false (same (parties.Server j) from && false) rest (v.channel (parties.Server j) parties.Master) (and_none (same (parties.Server j) from))) where
   and_none : (b : Bool) → (b && false) ≡ false
@@ -84,7 +84,7 @@ retires-end (m ∷ xs) ys h = retires-end xs ys (skip m (xs ++ ys) h) where
 -- ---- after a turn
 
 -- All that is known of a turn.
-record Turning (v : Sight) (c : List Entry) (from : Party) (k : ℕ) (rest : List Message) (s : Server) (out : List (Party × Message)) : Type 0 where
+record Turning (v : View) (c : List Entry) (from : Party) (k : ℕ) (rest : List Message) (s : Server) (out : List (Party × Message)) : Type 0 where
   prefixes : Prefixes v
   commits : Commits v c
   moves : Turn v from k rest s out
@@ -94,11 +94,11 @@ record Turning (v : Sight) (c : List Entry) (from : Party) (k : ℕ) (rest : Lis
 abbrev after_it : List Entry → Server → List Entry
 after_it c s = longer c (acting_history s)
 
-placed_of : (v : Sight) (c : List Entry) (from : Party) (k : ℕ) (rest : List Message) (s : Server) (out : List (Party × Message)) → Turning v c from k rest s out → Placed v k
+placed_of : (v : View) (c : List Entry) (from : Party) (k : ℕ) (rest : List Message) (s : Server) (out : List (Party × Message)) → Turning v c from k rest s out → Placed v k
 placed_of v c from k rest s out t = lives-placed v k t.prefixes t.moves.known t.moves.lives
 
 -- who acts after it is a member
-acts_member : (v : Sight) (c : List Entry) (from : Party) (k : ℕ) (rest : List Message) (s : Server) (out : List (Party × Message)) → Turning v c from k rest s out → acts s ≡ true → is_in v.master.chain k ≡ true
+acts_member : (v : View) (c : List Entry) (from : Party) (k : ℕ) (rest : List Message) (s : Server) (out : List (Party × Message)) → Turning v c from k rest s out → acts s ≡ true → is_in v.master.chain k ≡ true
 acts_member v c from k rest s out t does = elim (placed_of v c from k rest s out t) [
   | inl member ↦ member
   | inr b ↦ absurd (both_ways (acts s) (aside-acts s (t.moves.aside b.1).at_least) does)
@@ -113,14 +113,14 @@ same_committed : (c : List Entry) (s : Server) → acts s ≡ false → after_it
 same_committed c s h = ap (λ us. longer c us) (counts_none s h) ∙ longer-still c [] (omega arith)
 
 -- a property of the server, or of another one
-pub by_server : (v : Sight) (k : ℕ) (s : Server) (P : ℕ → Server → Type 0) → P k s → ((j : ℕ) → eqb j k ≡ false → P j (v.server j)) → (j : ℕ) → P j (set_at v.server k s j)
+pub by_server : (v : View) (k : ℕ) (s : Server) (P : ℕ → Server → Type 0) → P k s → ((j : ℕ) → eqb j k ≡ false → P j (v.server j)) → (j : ℕ) → P j (set_at v.server k s j)
 by_server v k s P own others j = go (eqb j k) refl where
   go : (t : Bool) → eqb j k ≡ t → P j (cond t s (v.server j))
   go true e = subst (λ i. P i s) (sym (eqb-true j k e)) own
   go false e = others j e
 
 -- a property of a server and of what the master has for it
-pub by_told : (v : Sight) (from : Party) (k : ℕ) (rest : List Message) (s : Server) (out : List (Party × Message)) (P : ℕ → Server → List Message → Type 0) → P k s (master_after v from k rest)
+pub by_told : (v : View) (from : Party) (k : ℕ) (rest : List Message) (s : Server) (out : List (Party × Message)) (P : ℕ → Server → List Message → Type 0) → P k s (master_after v from k rest)
     → ((j : ℕ) → eqb j k ≡ false → P j (v.server j) (v.channel parties.Master (parties.Server j))) → (j : ℕ) → P j (set_at v.server k s j) ((turn v from k rest s out).channel parties.Master (parties.Server j))
 by_told v from k rest s out P own others j = go (eqb j k) refl where
   go : (t : Bool) → eqb j k ≡ t → P j (cond t s (v.server j)) ((turn v from k rest s out).channel parties.Master (parties.Server j))
@@ -128,7 +128,7 @@ by_told v from k rest s out P own others j = go (eqb j k) refl where
   go false e = subst (λ ms. P j (v.server j) ms) (sym (row_after v from k rest s out j false e)) (others j e)
 
 -- a property of what a server has for the master
-pub by_report : (v : Sight) (from : Party) (k : ℕ) (rest : List Message) (s : Server) (out : List (Party × Message)) (P : ℕ → List Message → Type 0) → ((j : ℕ) → P j (v.channel (parties.Server j) parties.Master))
+pub by_report : (v : View) (from : Party) (k : ℕ) (rest : List Message) (s : Server) (out : List (Party × Message)) (P : ℕ → List Message → Type 0) → ((j : ℕ) → P j (v.channel (parties.Server j) parties.Master))
     → (P k (v.channel (parties.Server k) parties.Master) → P k (v.channel (parties.Server k) parties.Master ++ addressed parties.Master out)) → (j : ℕ) → P j ((turn v from k rest s out).channel (parties.Server j) parties.Master)
 by_report v from k rest s out P all more j = subst (λ ms. P j ms) (sym (report_row v from k rest s out j)) (go (eqb j k) refl) where
   go : (t : Bool) → eqb j k ≡ t → P j (cond t (v.channel (parties.Server j) parties.Master ++ addressed parties.Master out) (v.channel (parties.Server j) parties.Master))
@@ -138,7 +138,7 @@ by_report v from k rest s out P all more j = subst (λ ms. P j ms) (sym (report_
 -- ---- what follows of the server that made the turn
 
 -- it is the last if it was young
-was_young : (v : Sight) (c : List Entry) (from : Party) (k : ℕ) (rest : List Message) (s : Server) (out : List (Party × Message)) → Turning v c from k rest s out → s.full ≡ false → (v.server k).full ≡ false
+was_young : (v : View) (c : List Entry) (from : Party) (k : ℕ) (rest : List Message) (s : Server) (out : List (Party × Message)) → Turning v c from k rest s out → s.full ≡ false → (v.server k).full ≡ false
 was_young v c from k rest s out t young = elim (cases_Bool (v.server k).full) [ inl full ↦ absurd (both_ways s.full young (t.acts_so.stays_full full)) | inr young ↦ young ]
 
 -- who isn't full doesn't act
@@ -146,19 +146,19 @@ not_acting : (s : Server) → (acts s ≡ true → s.full ≡ true) → s.full �
 not_acting s h young = elim (cases_Bool (acts s)) [ inl does ↦ absurd (both_ways s.full young (h does)) | inr not ↦ not ]
 
 -- its stage counts
-stage_own : (v : Sight) (c : List Entry) (from : Party) (k : ℕ) (rest : List Message) (s : Server) (out : List (Party × Message)) → Turning v c from k rest s out
+stage_own : (v : View) (c : List Entry) (from : Party) (k : ℕ) (rest : List Message) (s : Server) (out : List (Party × Message)) → Turning v c from k rest s out
     → tails (master_after v from k rest) + (readies (v.channel (parties.Server k) parties.Master ++ addressed parties.Master out) + bit (waits s)) ≡ busy v k
 stage_own v c from k rest s out t = omega (arith, t.acts_so.stages, readies-append (v.channel (parties.Server k) parties.Master) (addressed parties.Master out))
 
 -- a stage is one at most
-pub stage_one : (v : Sight) (c : List Entry) (k : ℕ) → Commits v c → is_in v.master.chain k ≡ true → busy v k ≤ 1
+pub stage_one : (v : View) (c : List Entry) (k : ℕ) → Commits v c → is_in v.master.chain k ≡ true → busy v k ≤ 1
 stage_one v c k h member = subst (λ n. n ≤ 1) (sym (h.stages k member)) (go (is_last v.master.chain k && (v.master.told && not v.master.ready))) where
   go : (b : Bool) → bit b ≤ 1
   go true = omega arith
   go false = omega arith
 
 -- where the master knows that the last member acts, no member is on its way to act
-pub ready-idle : (v : Sight) (c : List Entry) (k : ℕ) → Commits v c → v.master.ready ≡ true → is_in v.master.chain k ≡ true → busy v k ≡ 0
+pub ready-idle : (v : View) (c : List Entry) (k : ℕ) → Commits v c → v.master.ready ≡ true → is_in v.master.chain k ≡ true → busy v k ≡ 0
 ready-idle v c k h ready member = h.stages k member ∙ ap (λ b. bit (is_last v.master.chain k && (v.master.told && not b))) ready ∙ go (is_last v.master.chain k) v.master.told where
   go : (x y : Bool) → bit (x && (y && false)) ≡ 0
   go true true = refl
@@ -166,7 +166,7 @@ ready-idle v c k h ready member = h.stages k member ∙ ap (λ b. bit (is_last v
   go false y = refl
 
 -- and so the last one acts
-pub ready-acts : (v : Sight) (c : List Entry) (z : ℕ) → Commits v c → v.master.ready ≡ true → is_last v.master.chain z ≡ true → acts (v.server z) ≡ true
+pub ready-acts : (v : View) (c : List Entry) (z : ℕ) → Commits v c → v.master.ready ≡ true → is_last v.master.chain z ≡ true → acts (v.server z) ≡ true
 ready-acts v c z h ready last =
     let idle = ready-idle v c z h ready (last-in v.master.chain z last) in
     let some = h.heard z last (h.ready ready) (omega (arith, idle)) in
@@ -181,7 +181,7 @@ pub reached_so : (s : Server) (n : ℕ) → s.at_least ≡ Some n → acts s ≡
 reached_so s n is so = leb-true n (length s.entries) (sym (ap (λ o. reaches (length s.entries) o) is) ∙ so)
 
 -- it has all that is committed when it begins to act
-begins_with_all : (v : Sight) (c : List Entry) (from : Party) (k : ℕ) (rest : List Message) (s : Server) (out : List (Party × Message)) → Turning v c from k rest s out → (v.server k).full ≡ false → acts s ≡ true → Front c s.entries
+begins_with_all : (v : View) (c : List Entry) (from : Party) (k : ℕ) (rest : List Message) (s : Server) (out : List (Party × Message)) → Turning v c from k rest s out → (v.server k).full ≡ false → acts s ≡ true → IsPrefix c s.entries
 begins_with_all v c from k rest s out t young does =
     let q = t.commits.lives in
     let member = acts_member v c from k rest s out t does in
@@ -192,28 +192,28 @@ begins_with_all v c from k rest s out t young does =
       | inr second ↦ second
     ] in
     let order = chain-order (turn v from k rest s out) q.0 k (turn-keeps v from k rest s out t.prefixes t.moves) before in
-    let own = subst (λ x. Front x.entries (set_at v.server k s q.0).entries) (if_true (eqb k k) s (v.server k) (eq-eqb k k refl)) order in
-    let theirs = subst (λ x. Front s.entries x.entries) (if_false (eqb q.0 k) s (v.server q.0) (eqb_turned k q.0 other)) own in
+    let own = subst (λ x. IsPrefix x.entries (set_at v.server k s q.0).entries) (if_true (eqb k k) s (v.server k) (eq-eqb k k refl)) order in
+    let theirs = subst (λ x. IsPrefix s.entries x.entries) (if_false (eqb q.0 k) s (v.server q.0) (eqb_turned k q.0 other)) own in
     let least = some-least s.at_least (acts-least s does) in
-    shorter-front c s.entries (v.server q.0).entries (t.commits.old q.0 q_member q.2) theirs (omega (arith, t.acts_so.young_least least.0 young least.1, reached_so s least.0 least.1 does))
+    shorter-prefix c s.entries (v.server q.0).entries (t.commits.old q.0 q_member q.2) theirs (omega (arith, t.acts_so.young_least least.0 young least.1, reached_so s least.0 least.1 does))
 
 -- all that was committed is in its history, if it is full
-own_front : (v : Sight) (c : List Entry) (from : Party) (k : ℕ) (rest : List Message) (s : Server) (out : List (Party × Message)) → Turning v c from k rest s out → s.full ≡ true → Front c s.entries
-own_front v c from k rest s out t full = elim (cases_Bool (v.server k).full) [
-  | inl was ↦ front-trans c (v.server k).entries s.entries (t.commits.old k (full-member v k (placed_of v c from k rest s out t) was) was) t.moves.grows
+own_prefix : (v : View) (c : List Entry) (from : Party) (k : ℕ) (rest : List Message) (s : Server) (out : List (Party × Message)) → Turning v c from k rest s out → s.full ≡ true → IsPrefix c s.entries
+own_prefix v c from k rest s out t full = elim (cases_Bool (v.server k).full) [
+  | inl was ↦ prefix-trans c (v.server k).entries s.entries (t.commits.old k (full-member v k (placed_of v c from k rest s out t) was) was) t.moves.grows
   | inr young ↦ elim (t.acts_so.fulls full) [ inl was ↦ absurd (both_ways (v.server k).full young was) | inr does ↦ begins_with_all v c from k rest s out t young does ]
 ]
 
 -- what is committed after it: as before, or its own history
-committed_cases : (v : Sight) (c : List Entry) (from : Party) (k : ℕ) (rest : List Message) (s : Server) (out : List (Party × Message)) → Turning v c from k rest s out → (after_it c s ≡ c) ⊎ ((after_it c s ≡ s.entries) × (acts s ≡ true))
+committed_cases : (v : View) (c : List Entry) (from : Party) (k : ℕ) (rest : List Message) (s : Server) (out : List (Party × Message)) → Turning v c from k rest s out → (after_it c s ≡ c) ⊎ ((after_it c s ≡ s.entries) × (acts s ≡ true))
 committed_cases v c from k rest s out t = go (acts s) s.down refl refl where
   go : (a d : Bool) → acts s ≡ a → s.down ≡ d → (longer c (cond (a && not d) s.entries []) ≡ c) ⊎ ((longer c (cond (a && not d) s.entries []) ≡ s.entries) × (a ≡ true))
   go true true e f = inl (longer-still c [] (omega arith))
-  go true false e f = inr (longer-front c s.entries (own_front v c from k rest s out t (t.acts_so.acting e)), refl)
+  go true false e f = inr (longer-prefix c s.entries (own_prefix v c from k rest s out t (t.acts_so.acting e)), refl)
   go false d e f = inl (longer-still c [] (omega arith))
 
 -- another member that isn't full, where it acts: the master hasn't told it yet
-young_other : (v : Sight) (c : List Entry) (from : Party) (k : ℕ) (rest : List Message) (s : Server) (out : List (Party × Message)) → Turning v c from k rest s out → (j : ℕ) → eqb j k ≡ false → is_in v.master.chain j ≡ true → (v.server j).full ≡ false → acts s ≡ true
+young_other : (v : View) (c : List Entry) (from : Party) (k : ℕ) (rest : List Message) (s : Server) (out : List (Party × Message)) → Turning v c from k rest s out → (j : ℕ) → eqb j k ≡ false → is_in v.master.chain j ≡ true → (v.server j).full ≡ false → acts s ≡ true
     → v.master.told ≡ false
 young_other v c from k rest s out t j other member young does = (t.acts_so.alone (acts-least s does) (not_last (is_last v.master.chain k) refl)).0 where
   not_last : (b : Bool) → is_last v.master.chain k ≡ b → is_last v.master.chain k ≡ false
@@ -221,7 +221,7 @@ young_other v c from k rest s out t j other member young does = (t.acts_so.alone
   not_last false e = e
 
 -- it has no number then, and is told none
-young_silent : (v : Sight) (c : List Entry) (j : ℕ) → Commits v c → is_in v.master.chain j ≡ true → v.master.told ≡ false → tails (v.channel parties.Master (parties.Server j)) ≡ 0
+young_silent : (v : View) (c : List Entry) (j : ℕ) → Commits v c → is_in v.master.chain j ≡ true → v.master.told ≡ false → tails (v.channel parties.Master (parties.Server j)) ≡ 0
 young_silent v c j h member told = omega (arith, h.stages j member, none) where
   none : bit (is_last v.master.chain j && (v.master.told && not v.master.ready)) ≡ 0
   none = go (is_last v.master.chain j) v.master.told told where
@@ -267,7 +267,7 @@ hands_follow count more free now x m h g = hands_other m g where
 
 -- ---- all together
 
-commits_keep : (v : Sight) (c : List Entry) (from : Party) (k : ℕ) (rest : List Message) (s : Server) (out : List (Party × Message)) → Turning v c from k rest s out → Commits (turn v from k rest s out) (after_it c s)
+commits_keep : (v : View) (c : List Entry) (from : Party) (k : ℕ) (rest : List Message) (s : Server) (out : List (Party × Message)) → Turning v c from k rest s out → Commits (turn v from k rest s out) (after_it c s)
 commits_keep v c from k rest s out t = record {
   acting = λ j. by_server v k s (λ i x. acts x ≡ true → x.full ≡ true) a.acting (λ i other. h.acting i) j;
   silent = λ j unused. report_row v from k rest s out j ∙ if_false (eqb j k) (v.channel (parties.Server j) parties.Master ++ addressed parties.Master out) (v.channel (parties.Server j) parties.Master) (unknown j unused) ∙ h.silent j unused;
@@ -298,14 +298,14 @@ commits_keep v c from k rest s out t = record {
         | inr not ↦ subst (λ us. Each (Enough (length us)) (v.channel parties.Master (parties.Server i))) (sym (same_committed c s not)) (h.young_told i m young)
       ]) j;
   young = λ told j. by_server v k s (λ i x. is_last v.master.chain i ≡ true → x.full ≡ false) (λ last. still_young told last s.full refl) (λ i other. h.young told i) j;
-  old = λ j. by_server v k s (λ i x. is_in v.master.chain i ≡ true → x.full ≡ true → Front (after_it c s) x.entries)
+  old = λ j. by_server v k s (λ i x. is_in v.master.chain i ≡ true → x.full ≡ true → IsPrefix (after_it c s) x.entries)
       (λ m full. elim (committed_cases v c from k rest s out t) [
-        | inl same ↦ subst (λ us. Front us s.entries) (sym same) (own_front v c from k rest s out t full)
-        | inr own ↦ subst (λ us. Front us s.entries) (sym own.0) (front-refl s.entries)
+        | inl same ↦ subst (λ us. IsPrefix us s.entries) (sym same) (own_prefix v c from k rest s out t full)
+        | inr own ↦ subst (λ us. IsPrefix us s.entries) (sym own.0) (prefix-refl s.entries)
       ])
       (λ i other m full. elim (committed_cases v c from k rest s out t) [
-        | inl same ↦ subst (λ us. Front us (v.server i).entries) (sym same) (h.old i m full)
-        | inr own ↦ subst (λ us. Front us (v.server i).entries) (sym own.0) (others_have i other m full own.1)
+        | inl same ↦ subst (λ us. IsPrefix us (v.server i).entries) (sym same) (h.old i m full)
+        | inr own ↦ subst (λ us. IsPrefix us (v.server i).entries) (sym own.0) (others_have i other m full own.1)
       ]) j;
   old_least = λ j least. by_server v k s (λ i x. is_in v.master.chain i ≡ true → x.full ≡ true → x.at_least ≡ Some least → least ≤ length x.entries)
       (λ m full is. elim (a.fulls full) [ inl was ↦ a.old_least least was is | inr does ↦ reached_so s least is does ]) (λ i other. h.old_least i least) j;
@@ -325,11 +325,11 @@ commits_keep v c from k rest s out t = record {
   a : Acting v c from k rest s out
   a = t.acts_so
 
-  w : Sight
+  w : View
   w = turn v from k rest s out
 
   left : (us : List Message) × (v.channel parties.Master (parties.Server k) ≡ us ++ master_after v from k rest)
-  left = rest_of v from k t.moves.front rest t.moves.taken
+  left = rest_of v from k t.moves.prefix rest t.moves.taken
 
   end_of : (P : Message → Type 0) → Each P (v.channel parties.Master (parties.Server k)) → Each P (master_after v from k rest)
   end_of P g = each-end P left.0 (master_after v from k rest) (subst (λ ms. Each P ms) left.1 g)
@@ -370,10 +370,10 @@ commits_keep v c from k rest s out t = record {
     | inr does ↦ absurd (both_ways (is_some s.at_least) (ap (λ o. is_some o) (t.acts_so.untold last told)) (acts-least s does))
   ]
 
-  others_have : (i : ℕ) → eqb i k ≡ false → is_in v.master.chain i ≡ true → (v.server i).full ≡ true → acts s ≡ true → Front s.entries (v.server i).entries
+  others_have : (i : ℕ) → eqb i k ≡ false → is_in v.master.chain i ≡ true → (v.server i).full ≡ true → acts s ≡ true → IsPrefix s.entries (v.server i).entries
   others_have i other m full does = elim (before-either v.master.chain i k m (acts_member v c from k rest s out t does) other) [
-    | inl before ↦ subst (λ x. Front s.entries x.entries) (if_false (eqb i k) s (v.server i) other)
-        (subst (λ x. Front x.entries (set_at v.server k s i).entries) (if_true (eqb k k) s (v.server k) (eq-eqb k k refl)) (chain-order (turn v from k rest s out) i k (turn-keeps v from k rest s out t.prefixes t.moves) before))
+    | inl before ↦ subst (λ x. IsPrefix s.entries x.entries) (if_false (eqb i k) s (v.server i) other)
+        (subst (λ x. IsPrefix x.entries (set_at v.server k s i).entries) (if_true (eqb k k) s (v.server k) (eq-eqb k k refl)) (chain-order (turn v from k rest s out) i k (turn-keeps v from k rest s out t.prefixes t.moves) before))
     | inr behind ↦ absurd (both_ways (v.server i).full (not_full behind) full)
   ] where
     not_full : Before k i v.master.chain → (v.server i).full ≡ false
@@ -386,25 +386,25 @@ commits_keep v c from k rest s out t = record {
               t.commits.young rule.0 i (subst (λ j. is_last v.master.chain j ≡ true) (sym (before-only v.master.chain k i z.0 (chain-apart v t.prefixes) (rule.1 z.0 last) last behind)) last)
 
   old_told : is_in v.master.chain k ≡ true → s.full ≡ true → (b : Bool) → (v.server k).full ≡ b → Each Zero (master_after v from k rest)
-  old_told m full true was = each-end Zero (rest_of v from k t.moves.front rest t.moves.taken).0 (master_after v from k rest) (subst (λ ms. Each Zero ms) (rest_of v from k t.moves.front rest t.moves.taken).1 (t.commits.old_told k m was))
+  old_told m full true was = each-end Zero (rest_of v from k t.moves.prefix rest t.moves.taken).0 (master_after v from k rest) (subst (λ ms. Each Zero ms) (rest_of v from k t.moves.prefix rest t.moves.taken).1 (t.commits.old_told k m was))
   old_told m full false young = elim (t.acts_so.fulls full) [
     | inl was ↦ absurd (both_ways (v.server k).full young was)
     | inr does ↦ zero_none (master_after v from k rest) (omega (arith, t.acts_so.tells young does, stage_own v c from k rest s out t, stage_one v c k t.commits m, readies-append (v.channel (parties.Server k) parties.Master) (addressed parties.Master out)))
   ]
 
 -- A turn keeps all sentences, with what is committed after it.
-pub turn-commits : (v : Sight) (c : List Entry) (from : Party) (k : ℕ) (rest : List Message) (s : Server) (out : List (Party × Message)) → Prefixes v → Commits v c → Turn v from k rest s out → Acting v c from k rest s out → Commits (turn v from k rest s out) (longer c (acting_history s))
+pub turn-commits : (v : View) (c : List Entry) (from : Party) (k : ℕ) (rest : List Message) (s : Server) (out : List (Party × Message)) → Prefixes v → Commits v c → Turn v from k rest s out → Acting v c from k rest s out → Commits (turn v from k rest s out) (longer c (acting_history s))
 turn-commits v c from k rest s out h g t a = commits_keep v c from k rest s out (record { prefixes = h; commits = g; moves = t; acts_so = a })
 
 -- What is committed only grows by a turn.
-pub turn-grows : (v : Sight) (c : List Entry) (from : Party) (k : ℕ) (rest : List Message) (s : Server) (out : List (Party × Message)) → Prefixes v → Commits v c → Turn v from k rest s out → Acting v c from k rest s out → Front c (longer c (acting_history s))
+pub turn-grows : (v : View) (c : List Entry) (from : Party) (k : ℕ) (rest : List Message) (s : Server) (out : List (Party × Message)) → Prefixes v → Commits v c → Turn v from k rest s out → Acting v c from k rest s out → IsPrefix c (longer c (acting_history s))
 turn-grows v c from k rest s out h g t a = let all : Turning v c from k rest s out = record { prefixes = h; commits = g; moves = t; acts_so = a } in elim (committed_cases v c from k rest s out all) [
-  | inl same ↦ subst (λ us. Front c us) (sym same) (front-refl c)
-  | inr own ↦ subst (λ us. Front c us) (sym own.0) (own_front v c from k rest s out all (a.acting own.1))
+  | inl same ↦ subst (λ us. IsPrefix c us) (sym same) (prefix-refl c)
+  | inr own ↦ subst (λ us. IsPrefix c us) (sym own.0) (own_prefix v c from k rest s out all (a.acting own.1))
 ]
 
 -- Where it acts after the turn, its history is what is committed.
-pub turn-own : (v : Sight) (c : List Entry) (from : Party) (k : ℕ) (rest : List Message) (s : Server) (out : List (Party × Message)) → Prefixes v → Commits v c → Turn v from k rest s out → Acting v c from k rest s out → acts s ≡ true → s.down ≡ false → longer c (acting_history s) ≡ s.entries
+pub turn-own : (v : View) (c : List Entry) (from : Party) (k : ℕ) (rest : List Message) (s : Server) (out : List (Party × Message)) → Prefixes v → Commits v c → Turn v from k rest s out → Acting v c from k rest s out → acts s ≡ true → s.down ≡ false → longer c (acting_history s) ≡ s.entries
 turn-own v c from k rest s out h g t a does lives =
     ap (λ us. longer c us) (ap (λ b. cond (b && not s.down) s.entries []) does ∙ ap (λ b. cond (not b) s.entries []) lives)
-    ∙ longer-front c s.entries (own_front v c from k rest s out (record { prefixes = h; commits = g; moves = t; acts_so = a }) (a.acting does))
+    ∙ longer-prefix c s.entries (own_prefix v c from k rest s out (record { prefixes = h; commits = g; moves = t; acts_so = a }) (a.acting does))

@@ -6,7 +6,7 @@ use Rattle.cq_base.specs.declared.ask.Query.{Query}
 use Rattle.cq_base.specs.declared.ask.Request.{Request}
 use Rattle.cq_base.specs.declared.party.Party.{Party}
 use Rattle.cq_base.specs.declared.party.Party.TheVariants as parties
-use Rattle.cq_base.specs.Relations.{Front, Pairwise}
+use Rattle.cq_base.specs.Relations.{IsPrefix, Pairwise}
 use Rattle.cq_base.proofs.Among.{among-append}
 use Rattle.cq_chain.specs.declared.fault.WorldFault.{WorldFault}
 use Rattle.cq_chain.specs.declared.message.Answer.{Answer}
@@ -16,18 +16,18 @@ use Rattle.cq_chain.specs.Refusals.{refusal_of_arrival, refusal_of_query}
 use Rattle.cq_chain.specs.Servers.{Server, acts, reaches, is_that}
 use Rattle.cq_chain.specs.Steps.{silent, to_server, when, appended, settled, begins_to_act, answer_to, passed_on, tail_news, stamped, arrived, asked, is_next, forwarded, is_restoring, with_history, restored, feeding, forwards, repair, as_tail, tailed, takes}
 use Rattle.cq_events.specs.Worlds.{World, is_in, channel, stepped}
-use Rattle.cq_events.specs.Events.{knows, unless_down, is_down, refusal_of, refusal_of_take, after, next, unless_refused, answers_in, after_take}
+use Rattle.cq_events.specs.Events.{has_party, unless_down, is_down, refusal_of, refusal_of_take, after, next, unless_refused, answers_in, after_take}
 use Rattle.cq_world.specs.Laws.{IsAnswered}
 use Rattle.cq_events.specs.Runs.{world_after, longer, acting_history, longest_at, longest_from, sent_by, sent_by_taking, made_if, made_from}
 use Rattle.cq_events.specs.declared.event.Event.{Event}
 use Rattle.cq_events.specs.declared.event.Event.TheVariants.{Arrive, Ask, Put, Take, Crash, Detect, Join}
 use Rattle.cq_world.proofs.Commits.Steps.{take-acting, arrive-acting, ask-acting}
 use Rattle.cq_world.proofs.Commits.Turns.{Acting, turn-own}
-use Rattle.cq_world.proofs.Eaches.{Each, each-append, each-among, each-follows, each-when, each-to_server, front-trans}
+use Rattle.cq_world.proofs.Eaches.{Each, each-append, each-among, each-follows, each-when, each-to_server, prefix-trans}
 use Rattle.cq_world.proofs.Prefixes.{Turn}
 use Rattle.cq_world.proofs.Running.{Good, onward, list-turned, runs-grow}
 use Rattle.cq_world.proofs.Settled.{is_settled}
-use Rattle.cq_world.proofs.Sights.{sight, sight-step, sight-taken}
+use Rattle.cq_world.proofs.Views.{view, view-step, view-taken}
 use Rattle.cq_world.proofs.Prefixes.Steps.{lives-placed, acting-member, head-member, take-turn, arrive-turn, ask-turn}
 use Rattle.cq_world.proofs.Unrefused.{known-parts, lives-parts, server-parts, at-head, at-tail}
 
@@ -58,7 +58,7 @@ each-made P ((parties.Clients, m) ∷ xs) h = answers_first P m (answers_in_all 
 -- ---- answers and lists
 
 -- an answer over a list is one over a longer list
-answered-longer : (xs ys : List Entry) (w : World) (events : List Event) (a : Answer) → Front xs ys → IsAnswered xs w events a → IsAnswered ys w events a
+answered-longer : (xs ys : List Entry) (w : World) (events : List Event) (a : Answer) → IsPrefix xs ys → IsAnswered xs w events a → IsAnswered ys w events a
 answered-longer xs ys w events a h (inl (before, rest, e, split, is)) = inl (before, rest ++ h.0, e, h.1 ∙ ap (λ us. us ++ h.0) split ∙ append_assoc before (e ∷ rest) h.0, is)
 answered-longer xs ys w events a h (inr q) = inr (record {
   earlier = q.earlier;
@@ -67,7 +67,7 @@ answered-longer xs ys w events a h (inr q) = inr (record {
   query = q.query;
   asked = q.asked;
   free = q.free;
-  front = front-trans ((world_after w q.earlier).server q.at).entries xs ys q.front h;
+  prefix = prefix-trans ((world_after w q.earlier).server q.at).entries xs ys q.prefix h;
   answer = q.answer;
 })
 
@@ -81,7 +81,7 @@ answered-first list w event events a (inr q) = inr (record {
   query = q.query;
   asked = ap (λ us. us ++ events) q.asked ∙ append_assoc q.earlier (Ask q.at q.query ∷ q.later) events;
   free = q.free;
-  front = q.front;
+  prefix = q.prefix;
   answer = q.answer;
 })
 
@@ -96,7 +96,7 @@ answered-later list w event events a (inr q) = inr (record {
   query = q.query;
   asked = ap (λ us. event ∷ us) q.asked;
   free = q.free;
-  front = q.front;
+  prefix = q.prefix;
   answer = q.answer;
 })
 
@@ -165,7 +165,7 @@ asked_tells w k query list free is = (
       query = query;
       asked = refl;
       free = free;
-      front = ([], is ∙ sym (append-nil (w.server k).entries));
+      prefix = ([], is ∙ sym (append-nil (w.server k).entries));
       answer = refl;
     }),
     sym (ap length is),
@@ -188,14 +188,14 @@ told_taking : (w new : World) (c : List Entry) (p k : ℕ) (m : Message) (rest :
     → longest_at new c ≡ longer c (acting_history (takes (parties.Server p) m (w.server k)).server) → AllTell (IsRight (longest_at new c) w events) (takes (parties.Server p) m (w.server k)).sent
 unfolding takes
 told_taking w new c p k (Fwd place e) rest events good known lives at is =
-    go (is_next (w.server k) p place e) is (take-turn (sight w) (parties.Server p) k (Fwd place e) rest good.prefixes known lives at) (take-acting (sight w) c (parties.Server p) k (Fwd place e) rest good.prefixes good.commits known lives at) where
+    go (is_next (w.server k) p place e) is (take-turn (view w) (parties.Server p) k (Fwd place e) rest good.prefixes known lives at) (take-acting (view w) c (parties.Server p) k (Fwd place e) rest good.prefixes good.commits known lives at) where
       go : (t : Bool) → longest_at new c ≡ longer c (acting_history (cond t (forwarded e (w.server k)) (silent (w.server k))).server)
-          → Turn (sight w) (parties.Server p) k rest (cond t (forwarded e (w.server k)) (silent (w.server k))).server (cond t (forwarded e (w.server k)) (silent (w.server k))).sent
-          → Acting (sight w) c (parties.Server p) k rest (cond t (forwarded e (w.server k)) (silent (w.server k))).server (cond t (forwarded e (w.server k)) (silent (w.server k))).sent
+          → Turn (view w) (parties.Server p) k rest (cond t (forwarded e (w.server k)) (silent (w.server k))).server (cond t (forwarded e (w.server k)) (silent (w.server k))).sent
+          → Acting (view w) c (parties.Server p) k rest (cond t (forwarded e (w.server k)) (silent (w.server k))).server (cond t (forwarded e (w.server k)) (silent (w.server k))).sent
           → AllTell (IsRight (longest_at new c) w events) (cond t (forwarded e (w.server k)) (silent (w.server k))).sent
       go true list t a = each-append (λ x. TellsTo (IsRight (longest_at new c) w events) x.0 x.1) (passed_on (w.server k) e) (tail_news (w.server k) (appended (w.server k) e))
           (told_entry (IsRight (longest_at new c) w events) (w.server k) e (λ does. entry_right (w.server k) e (longest_at new c) w events
-          (list ∙ turn-own (sight w) c (parties.Server p) k rest (forwarded e (w.server k)).server (forwarded e (w.server k)).sent good.prefixes good.commits t a (settled_does (appended (w.server k) e) does) ((is_settled (appended (w.server k) e)).down ∙ lives))))
+          (list ∙ turn-own (view w) c (parties.Server p) k rest (forwarded e (w.server k)).server (forwarded e (w.server k)).sent good.prefixes good.commits t a (settled_does (appended (w.server k) e) does) ((is_settled (appended (w.server k) e)).down ∙ lives))))
           (told_tail (IsRight (longest_at new c) w events) (w.server k) (appended (w.server k) e))
       go false list t a = tt
 told_taking w new c p k (Snap entries) rest events good known lives at is = go (is_restoring (w.server k) p entries) where
@@ -223,7 +223,7 @@ told_order P s (BeTail least) = told_tailed P least s
 told_order P s m = tt
 
 -- what is said by the taking of the first message of a link
-told_taken : (w : World) (c : List Entry) (from to : Party) (ms : List Message) (events : List Event) → w.link from to ≡ ms → knows w to ≡ true → is_down w to ≡ false → Good w c
+told_taken : (w : World) (c : List Entry) (from to : Party) (ms : List Message) (events : List Event) → w.link from to ≡ ms → has_party w to ≡ true → is_down w to ≡ false → Good w c
     → AllTell (IsRight (longest_at (after_take w from to ms) c) w events) (sent_by_taking w from to ms)
 unfolding takes
 told_taken w c from to [] events at known lives good = tt
@@ -235,17 +235,17 @@ told_taken w c (parties.Server p) (parties.Server k) (m ∷ ms) events at known 
     let new = after_take w (parties.Server p) (parties.Server k) (m ∷ ms) in
     let step = takes (parties.Server p) m (w.server k) in
     told_taking w new c p k m (ms ++ w.outbox (parties.Server p) (parties.Server k)) events good known lives (ap (λ us. us ++ w.outbox (parties.Server p) (parties.Server k)) at)
-    (list-turned w new c (parties.Server p) k (ms ++ w.outbox (parties.Server p) (parties.Server k)) step.server step.sent good (sight-taken w (parties.Server p) k m ms step at) known)
+    (list-turned w new c (parties.Server p) k (ms ++ w.outbox (parties.Server p) (parties.Server k)) step.server step.sent good (view-taken w (parties.Server p) k m ms step at) known)
 
 -- what is said when a request arrives
 arrive_right : (w : World) (c : List Entry) (k clock : ℕ) (request : Request) → Good w c → (is_in w.master.used k ≡ true) × ((w.server k).down ≡ false) × (refusal_of_arrival (w.server k) ≡ None)
     → AllTell (IsRight (longest_at (stepped w k (arrived clock request (w.server k))) c) w (Arrive k clock request ∷ [])) (arrived clock request (w.server k)).sent
 arrive_right w c k clock request good parts = arrived_tells clock request (w.server k) (IsRight (longest_at (stepped w k (arrived clock request (w.server k))) c) w (Arrive k clock request ∷ [])) right where
   own : acts (arrived clock request (w.server k)).server ≡ true → (arrived clock request (w.server k)).server.down ≡ false → longest_at (stepped w k (arrived clock request (w.server k))) c ≡ (arrived clock request (w.server k)).server.entries
-  own does lives = list-turned w (stepped w k (arrived clock request (w.server k))) c parties.Clients k (channel w parties.Clients (parties.Server k)) (arrived clock request (w.server k)).server (arrived clock request (w.server k)).sent good (sight-step w k (arrived clock request (w.server k))) parts.0
-      ∙ turn-own (sight w) c parties.Clients k (channel w parties.Clients (parties.Server k)) (arrived clock request (w.server k)).server (arrived clock request (w.server k)).sent good.prefixes good.commits
-      (arrive-turn (sight w) k clock request good.prefixes parts.0 parts.1 (at-head (w.server k) parts.2))
-      (arrive-acting (sight w) c k clock request good.prefixes good.commits (head-member (sight w) k (lives-placed (sight w) k good.prefixes parts.0 parts.1) (at-head (w.server k) parts.2)) (at-head (w.server k) parts.2)) does lives
+  own does lives = list-turned w (stepped w k (arrived clock request (w.server k))) c parties.Clients k (channel w parties.Clients (parties.Server k)) (arrived clock request (w.server k)).server (arrived clock request (w.server k)).sent good (view-step w k (arrived clock request (w.server k))) parts.0
+      ∙ turn-own (view w) c parties.Clients k (channel w parties.Clients (parties.Server k)) (arrived clock request (w.server k)).server (arrived clock request (w.server k)).sent good.prefixes good.commits
+      (arrive-turn (view w) k clock request good.prefixes parts.0 parts.1 (at-head (w.server k) parts.2))
+      (arrive-acting (view w) c k clock request good.prefixes good.commits (head-member (view w) k (lives-placed (view w) k good.prefixes parts.0 parts.1) (at-head (w.server k) parts.2)) (at-head (w.server k) parts.2)) does lives
 
   right : acts (appended (w.server k) (stamped (w.server k).entries clock request)) ≡ true → IsRight (longest_at (stepped w k (arrived clock request (w.server k))) c) w (Arrive k clock request ∷ []) (answer_to (w.server k).entries (stamped (w.server k).entries clock request))
   right does = entry_right (w.server k) (stamped (w.server k).entries clock request) (longest_at (stepped w k (arrived clock request (w.server k))) c) w (Arrive k clock request ∷ [])
@@ -255,9 +255,9 @@ arrive_right w c k clock request good parts = arrived_tells clock request (w.ser
 query_right : (w : World) (c : List Entry) (k : ℕ) (query : Query) → Good w c → refusal_of w (Ask k query) ≡ None → (is_in w.master.used k ≡ true) × ((w.server k).down ≡ false) × (refusal_of_query (w.server k) ≡ None)
     → AllTell (IsRight (longest_at (stepped w k (asked query (w.server k))) c) w (Ask k query ∷ [])) (asked query (w.server k)).sent
 query_right w c k query good free parts = asked_tells w k query (longest_at (stepped w k (asked query (w.server k))) c) free
-    (list-turned w (stepped w k (asked query (w.server k))) c parties.Clients k (channel w parties.Clients (parties.Server k)) (asked query (w.server k)).server (asked query (w.server k)).sent good (sight-step w k (asked query (w.server k))) parts.0
-    ∙ query_own query (w.server k) c parts.1 (at-tail (w.server k) parts.2) (λ does lives. turn-own (sight w) c parties.Clients k (channel w parties.Clients (parties.Server k)) (asked query (w.server k)).server (asked query (w.server k)).sent good.prefixes good.commits
-    (ask-turn (sight w) k query good.prefixes parts.0 parts.1) (ask-acting (sight w) c k query good.prefixes good.commits (acting-member (sight w) k (lives-placed (sight w) k good.prefixes parts.0 parts.1) (at-tail (w.server k) parts.2))) does lives))
+    (list-turned w (stepped w k (asked query (w.server k))) c parties.Clients k (channel w parties.Clients (parties.Server k)) (asked query (w.server k)).server (asked query (w.server k)).sent good (view-step w k (asked query (w.server k))) parts.0
+    ∙ query_own query (w.server k) c parts.1 (at-tail (w.server k) parts.2) (λ does lives. turn-own (view w) c parties.Clients k (channel w parties.Clients (parties.Server k)) (asked query (w.server k)).server (asked query (w.server k)).sent good.prefixes good.commits
+    (ask-turn (view w) k query good.prefixes parts.0 parts.1) (ask-acting (view w) c k query good.prefixes good.commits (acting-member (view w) k (lives-placed (view w) k good.prefixes parts.0 parts.1) (at-tail (w.server k) parts.2))) does lives))
 
 -- what is said by an event that isn't refused
 told_event : (w : World) (c : List Entry) (event : Event) → Good w c → refusal_of w event ≡ None → AllTell (IsRight (longest_at (next w event) c) w (event ∷ [])) (sent_by w event)
@@ -266,9 +266,9 @@ told_event w c (Arrive at clock request) good free = arrive_right w c at clock r
 told_event w c (Ask at query) good free = query_right w c at query good free (server-parts w at (refusal_of_query (w.server at)) free)
 told_event w c (Put from to) good free = tt
 told_event w c (Take from to) good free =
-    let known = known-parts (knows w from && knows w to) (unless_down (is_down w to) (refusal_of_take w from to (w.link from to))) free in
+    let known = known-parts (has_party w from && has_party w to) (unless_down (is_down w to) (refusal_of_take w from to (w.link from to))) free in
     let lives = lives-parts (is_down w to) (refusal_of_take w from to (w.link from to)) known.1 in
-    told_taken w c from to (w.link from to) (Take from to ∷ []) refl (and_parts (knows w from) (knows w to) known.0).1 lives.0 good
+    told_taken w c from to (w.link from to) (Take from to ∷ []) refl (and_parts (has_party w from) (has_party w to) known.0).1 lives.0 good
 told_event w c (Crash id) good free = tt
 told_event w c (Detect id) good free = tt
 told_event w c (Join id) good free = tt
@@ -298,9 +298,9 @@ all-answered (event ∷ events) w c good =
     (each-follows (IsAnswered last (after w event) events) (IsAnswered last w (event ∷ events)) (made_from (after w event) events)
     (λ a. answered-later last w event events a) (all-answered events (after w event) now step.good))
 
--- a front isn't longer
-pub front_length : (xs ys : List Entry) → Front xs ys → length xs ≤ length ys
-front_length xs ys h = omega (arith, ap length h.1, length-append xs h.0)
+-- a prefix isn't longer
+pub prefix_length : (xs ys : List Entry) → IsPrefix xs ys → length xs ≤ length ys
+prefix_length xs ys h = omega (arith, ap length h.1, length-append xs h.0)
 
 -- No answer bears a length below what was committed before.
 pub all-long : (events : List Event) (w : World) (c : List Entry) → Good w (longest_at w c) → Each (λ a. length (longest_at w c) ≤ a.length) (made_from w events)
@@ -309,7 +309,7 @@ all-long [] w c good = tt
 all-long (event ∷ events) w c good =
     let now = longest_at w c in
     let step = onward w now event good in
-    let grows = front_length now (longest_at (after w event) now) step.grows in
+    let grows = prefix_length now (longest_at (after w event) now) step.grows in
     each-append (λ a. length now ≤ a.length) (made_if w event (refusal_of w event)) (made_from (after w event) events)
     (each-follows (IsRight (longest_at (after w event) now) w (event ∷ [])) (λ a. length now ≤ a.length) (made_if w event (refusal_of w event)) (λ a right. omega (arith, right.1, grows)) (made-right w now event good))
     (each-follows (λ a. length (longest_at (after w event) now) ≤ a.length) (λ a. length now ≤ a.length) (made_from (after w event) events) (λ a long. omega (arith, long, grows)) (all-long events (after w event) now step.good))
@@ -322,7 +322,7 @@ all-within (event ∷ events) w c good =
     let now = longest_at w c in
     let step = onward w now event good in
     let last = longest_from now (after w event) events in
-    let grows = front_length (longest_at (after w event) now) last (runs-grow events (after w event) now step.good) in
+    let grows = prefix_length (longest_at (after w event) now) last (runs-grow events (after w event) now step.good) in
     each-append (λ a. a.length ≤ length last) (made_if w event (refusal_of w event)) (made_from (after w event) events)
     (each-follows (IsRight (longest_at (after w event) now) w (event ∷ [])) (λ a. a.length ≤ length last) (made_if w event (refusal_of w event)) (λ a right. omega (arith, right.1, grows)) (made-right w now event good))
     (all-within events (after w event) now step.good)

@@ -7,8 +7,8 @@ use Rattle.cq_base.specs.declared.ask.Query.{Query}
 use Rattle.cq_base.specs.declared.ask.Request.{Request}
 use Rattle.cq_base.specs.declared.party.Party.{Party}
 use Rattle.cq_base.specs.declared.party.Party.TheVariants as parties
-use Rattle.cq_base.specs.History.{last_moment}
-use Rattle.cq_base.specs.Relations.{Among, Front}
+use Rattle.cq_base.specs.queue.History.{last_moment}
+use Rattle.cq_base.specs.Relations.{Among, IsPrefix}
 use Rattle.cq_chain.specs.declared.fault.WorldFault.{WorldFault}
 use Rattle.cq_chain.specs.Messages.{Message, Fwd, Snap, Ack, BeHead, Report, Adopt, BeTail, Feed}
 use Rattle.cq_chain.specs.Servers.{Server, acts, is_that, first_member, joining}
@@ -24,8 +24,8 @@ use Rattle.cq_world.proofs.Eaches.{Each, by_id}
 use Rattle.cq_world.proofs.Prefixes.{Prefixes}
 use Rattle.cq_world.proofs.Running.{Good, onward}
 use Rattle.cq_world.proofs.Settled.{is_settled, that_some}
-use Rattle.cq_world.proofs.Sights.{sight}
-use Rattle.cq_world.proofs.Prefixes.Steps.{below-pred, forwarded_front}
+use Rattle.cq_world.proofs.Views.{view}
+use Rattle.cq_world.proofs.Prefixes.Steps.{below-pred, forwarded_prefix}
 
 -- ---- lists of arrivals
 
@@ -45,12 +45,12 @@ arrivals-more last (d ∷ entries) [] a e request moment h = absurd h
 arrivals-more last (d ∷ entries) (b ∷ arrivals) a e request moment (inl (own, stamp, rest)) = inl (own, stamp, arrivals-more d.moment entries arrivals a e request moment rest)
 arrivals-more last (d ∷ entries) (b ∷ arrivals) a e request moment (inr rest) = inr (arrivals-more last (d ∷ entries) arrivals a e request moment rest)
 
--- a front of arrivals is arrivals
-pub arrivals-front : (last : ℕ) (xs ys : List Entry) (arrivals : List Arrival) → AreArrivals last (xs ++ ys) arrivals → AreArrivals last xs arrivals
-arrivals-front last [] ys arrivals h = tt
-arrivals-front last (x ∷ xs) ys [] h = absurd h
-arrivals-front last (x ∷ xs) ys (a ∷ arrivals) (inl (request, moment, rest)) = inl (request, moment, arrivals-front x.moment xs ys arrivals rest)
-arrivals-front last (x ∷ xs) ys (a ∷ arrivals) (inr rest) = inr (arrivals-front last (x ∷ xs) ys arrivals rest)
+-- a prefix of arrivals is arrivals
+pub arrivals-prefix : (last : ℕ) (xs ys : List Entry) (arrivals : List Arrival) → AreArrivals last (xs ++ ys) arrivals → AreArrivals last xs arrivals
+arrivals-prefix last [] ys arrivals h = tt
+arrivals-prefix last (x ∷ xs) ys [] h = absurd h
+arrivals-prefix last (x ∷ xs) ys (a ∷ arrivals) (inl (request, moment, rest)) = inl (request, moment, arrivals-prefix x.moment xs ys arrivals rest)
+arrivals-prefix last (x ∷ xs) ys (a ∷ arrivals) (inr rest) = inr (arrivals-prefix last (x ∷ xs) ys arrivals rest)
 
 -- arrivals are stamped, and no entry is before the moment that came first
 pub arrivals-stamped : (last : ℕ) (entries : List Entry) (arrivals : List Arrival) → AreArrivals last entries arrivals → ((e : Entry) → Among e entries → last ≤ e.moment) × Stamped entries
@@ -62,9 +62,9 @@ arrivals-stamped last (e ∷ entries) (a ∷ arrivals) (inl (request, moment, re
     ((λ d among. elim among [ inl is ↦ subst (λ x. last ≤ x.moment) (sym is) first | inr there ↦ omega (arith, first, later.0 d there) ]), (later.0, later.1))
 arrivals-stamped last (e ∷ entries) (a ∷ arrivals) (inr rest) = arrivals-stamped last (e ∷ entries) arrivals rest
 
--- the same, of a front
-pub arrivals-below : (last : ℕ) (xs ys : List Entry) (arrivals : List Arrival) → Front xs ys → AreArrivals last ys arrivals → AreArrivals last xs arrivals
-arrivals-below last xs ys arrivals h k = arrivals-front last xs h.0 arrivals (subst (λ us. AreArrivals last us arrivals) h.1 k)
+-- the same, of a prefix
+pub arrivals-below : (last : ℕ) (xs ys : List Entry) (arrivals : List Arrival) → IsPrefix xs ys → AreArrivals last ys arrivals → AreArrivals last xs arrivals
+arrivals-below last xs ys arrivals h k = arrivals-prefix last xs h.0 arrivals (subst (λ us. AreArrivals last us arrivals) h.1 k)
 
 -- ---- histories
 
@@ -79,25 +79,25 @@ wider arrivals more w h id = arrivals-wider 0 (w.server id).entries arrivals mor
 stepped_arrived : (arrivals more : List Arrival) (w : World) (k : ℕ) (step : Step) → AreArrivals 0 step.server.entries (arrivals ++ more) → Arrived arrivals w → Arrived (arrivals ++ more) (stepped w k step)
 stepped_arrived arrivals more w k step own h = by_id (λ id s. AreArrivals 0 s.entries (arrivals ++ more)) w.server k step.server own (wider arrivals more w h)
 
--- the history of a server that takes a message: as before, or a front of the sender's
-taken_front : (w : World) (p k : ℕ) (m : Message) → Prefixes (sight w) → Speaks (w.server p).entries m → (arrivals : List Arrival) → AreArrivals 0 (w.server k).entries arrivals → AreArrivals 0 (w.server p).entries arrivals → AreArrivals 0 (takes (parties.Server p) m (w.server k)).server.entries arrivals
+-- the history of a server that takes a message: as before, or a prefix of the sender's
+taken_prefix : (w : World) (p k : ℕ) (m : Message) → Prefixes (view w) → Speaks (w.server p).entries m → (arrivals : List Arrival) → AreArrivals 0 (w.server k).entries arrivals → AreArrivals 0 (w.server p).entries arrivals → AreArrivals 0 (takes (parties.Server p) m (w.server k)).server.entries arrivals
 unfolding takes
-taken_front w p k (Fwd place e) g says arrivals own theirs = go (is_next (w.server k) p place e) refl where
+taken_prefix w p k (Fwd place e) g says arrivals own theirs = go (is_next (w.server k) p place e) refl where
   go : (t : Bool) → is_next (w.server k) p place e ≡ t → AreArrivals 0 (cond t (forwarded e (w.server k)) (silent (w.server k))).server.entries arrivals
   go true accepts =
       let is_pred = that_some (w.server k).pred p (and_parts (is_that (w.server k).pred p) (eqb place (length (w.server k).entries + 1)) (and_parts (is_that (w.server k).pred p && eqb place (length (w.server k).entries + 1)) (nat_le (last_moment (w.server k).entries) e.moment) accepts).0).0 in
       subst (λ us. AreArrivals 0 us arrivals) (sym (is_settled (appended (w.server k) e)).entries)
-      (arrivals-below 0 ((w.server k).entries ++ e ∷ []) (w.server p).entries arrivals (forwarded_front (w.server k) (w.server p).entries p place e (below-pred (sight w) k p g is_pred) accepts says) theirs)
+      (arrivals-below 0 ((w.server k).entries ++ e ∷ []) (w.server p).entries arrivals (forwarded_prefix (w.server k) (w.server p).entries p place e (below-pred (view w) k p g is_pred) accepts says) theirs)
   go false ignores = own
-taken_front w p k (Snap entries) g says arrivals own theirs = go (is_restoring (w.server k) p entries) where
+taken_prefix w p k (Snap entries) g says arrivals own theirs = go (is_restoring (w.server k) p entries) where
   go : (t : Bool) → AreArrivals 0 (cond t (restored p entries (w.server k)) (silent (w.server k))).server.entries arrivals
   go true = subst (λ us. AreArrivals 0 us arrivals) (sym (is_settled (with_history (w.server k) entries)).entries) (arrivals-below 0 entries (w.server p).entries arrivals says theirs)
   go false = own
-taken_front w p k (Ack n) g says arrivals own theirs = go (nat_lt (w.server k).acked (min n (length (w.server k).entries))) where
+taken_prefix w p k (Ack n) g says arrivals own theirs = go (nat_lt (w.server k).acked (min n (length (w.server k).entries))) where
   go : (t : Bool) → AreArrivals 0 (cond t (record { server = record (w.server k) { acked = min n (length (w.server k).entries); floor = max (w.server k).floor (min n (length (w.server k).entries)) }; sent = to_server (w.server k).pred (Ack (min n (length (w.server k).entries))) }) (silent (w.server k))).server.entries arrivals
   go true = own
   go false = own
-taken_front w p k m g says arrivals own theirs = own
+taken_prefix w p k m g says arrivals own theirs = own
 
 -- one that takes a message of the master keeps its history
 told_same : (s : Server) (m : Message) → (takes parties.Master m s).server.entries ≡ s.entries
@@ -112,7 +112,7 @@ told_same s (Feed succ) = go (acts s) where
   go false = refl
 told_same s m = refl
 
-taken_arrived : (w : World) (from to : Party) (ms : List Message) (arrivals : List Arrival) → w.link from to ≡ ms → Prefixes (sight w) → Arrived arrivals w → Arrived (arrivals ++ []) (after_take w from to ms)
+taken_arrived : (w : World) (from to : Party) (ms : List Message) (arrivals : List Arrival) → w.link from to ≡ ms → Prefixes (view w) → Arrived arrivals w → Arrived (arrivals ++ []) (after_take w from to ms)
 unfolding takes
 taken_arrived w from to [] arrivals at g h = wider arrivals [] w h
 taken_arrived w from parties.Master (m ∷ ms) arrivals at g h = wider arrivals [] w h
@@ -121,7 +121,7 @@ taken_arrived w parties.Master (parties.Server k) (m ∷ ms) arrivals at g h = s
     (subst (λ us. AreArrivals 0 us (arrivals ++ [])) (sym (told_same (w.server k) m)) (wider arrivals [] w h k)) h
 taken_arrived w parties.Clients (parties.Server k) (m ∷ ms) arrivals at g h = stepped_arrived arrivals [] (without_first w parties.Clients (parties.Server k)) k (takes parties.Clients m (w.server k)) (wider arrivals [] w h k) h
 taken_arrived w (parties.Server p) (parties.Server k) (m ∷ ms) arrivals at g h = stepped_arrived arrivals [] (without_first w (parties.Server p) (parties.Server k)) k (takes (parties.Server p) m (w.server k))
-    (taken_front w p k m g (subst (λ us. Each (Speaks (w.server p).entries) (us ++ w.outbox (parties.Server p) (parties.Server k))) at (g.speaks p (parties.Server k))).0 (arrivals ++ []) (wider arrivals [] w h k) (wider arrivals [] w h p)) h
+    (taken_prefix w p k m g (subst (λ us. Each (Speaks (w.server p).entries) (us ++ w.outbox (parties.Server p) (parties.Server k))) at (g.speaks p (parties.Server k))).0 (arrivals ++ []) (wider arrivals [] w h k) (wider arrivals [] w h p)) h
 
 -- an arrival
 arrived_entry : (clock : ℕ) (request : Request) (s : Server) (arrivals : List Arrival) → AreArrivals 0 s.entries arrivals → AreArrivals 0 (arrived clock request s).server.entries (arrivals ++ record { clock = clock; request = request } ∷ [])
@@ -135,7 +135,7 @@ asked_entries w k query arrivals h = h k
 
 -- ---- events
 
-next_arrived : (w : World) (event : Event) (arrivals : List Arrival) → Prefixes (sight w) → Arrived arrivals w → Arrived (arrivals ++ arrival_if event None) (next w event)
+next_arrived : (w : World) (event : Event) (arrivals : List Arrival) → Prefixes (view w) → Arrived arrivals w → Arrived (arrivals ++ arrival_if event None) (next w event)
 unfolding next
 next_arrived w (Arrive at clock request) arrivals g h = stepped_arrived arrivals (record { clock = clock; request = request } ∷ []) w at (arrived clock request (w.server at)) (arrived_entry clock request (w.server at) arrivals (h at)) h
 next_arrived w (Ask at query) arrivals g h = stepped_arrived arrivals [] w at (asked query (w.server at)) (asked_entries w at query (arrivals ++ []) (wider arrivals [] w h)) h
@@ -145,11 +145,11 @@ next_arrived w (Crash id) arrivals g h = stepped_arrived arrivals [] w id (crash
 next_arrived w (Detect id) arrivals g h = wider arrivals [] w h
 next_arrived w (Join id) arrivals g h = wider arrivals [] w h
 
-unless_arrived : (w : World) (event : Event) (refusal : Option WorldFault) (arrivals : List Arrival) → Prefixes (sight w) → Arrived arrivals w → Arrived (arrivals ++ arrival_if event refusal) (unless_refused w event refusal)
+unless_arrived : (w : World) (event : Event) (refusal : Option WorldFault) (arrivals : List Arrival) → Prefixes (view w) → Arrived arrivals w → Arrived (arrivals ++ arrival_if event refusal) (unless_refused w event refusal)
 unless_arrived w event None arrivals g h = next_arrived w event arrivals g h
 unless_arrived w event (Some fault) arrivals g h = wider arrivals (arrival_if event (Some fault)) w h
 
-pub after-arrived : (w : World) (event : Event) (arrivals : List Arrival) → Prefixes (sight w) → Arrived arrivals w → Arrived (arrivals ++ arrival_if event (refusal_of w event)) (after w event)
+pub after-arrived : (w : World) (event : Event) (arrivals : List Arrival) → Prefixes (view w) → Arrived arrivals w → Arrived (arrivals ++ arrival_if event (refusal_of w event)) (after w event)
 unfolding after
 after-arrived w event arrivals g h = unless_arrived w event (refusal_of w event) arrivals g h
 

@@ -15,9 +15,9 @@ use Rattle.cq_events.specs.Worlds.{World, first_world}
 use Rattle.cq_events.specs.declared.event.Event.{Event}
 use Rattle.cq_events.specs.declared.event.Event.TheVariants.{Arrive, Ask, Put, Take, Crash, Detect, Join}
 use Rattle.cq_world.specs.Laws.{IsOut, IsOutOf, DroppedServersStayOut}
-use Rattle.cq_world.proofs.Lines.{in_left, in_more, line-cases}
+use Rattle.cq_world.proofs.ExtendedChains.{in_left, in_more, extended-cases}
 use Rattle.cq_world.proofs.Running.{Good, first-good, runs-good, join_parts}
-use Rattle.cq_world.proofs.Sights.{sight, line}
+use Rattle.cq_world.proofs.Views.{view, extended}
 
 -- ---- words on numbers
 
@@ -130,10 +130,10 @@ run_on (event ∷ events) more w = run_on events more (after w event)
 
 -- ---- the law
 
--- who is neither a member nor joins isn't in the line
-not_in_line : (w : World) (id : ℕ) → IsOut w id → is_in (line w.master) id ≡ false
-not_in_line w id out = elim (cases_Bool (is_in (line w.master) id)) [
-  | inl there ↦ elim (line-cases w.master.chain w.master.joiner id there) [
+-- who is neither a member nor joins isn't in the extended chain
+not_in_extended : (w : World) (id : ℕ) → IsOut w id → is_in (extended w.master) id ≡ false
+not_in_extended w id out = elim (cases_Bool (is_in (extended w.master) id)) [
+  | inl there ↦ elim (extended-cases w.master.chain w.master.joiner id there) [
     | inl member ↦ absurd (both_ways (is_in w.master.chain id) out.1 member)
     | inr joins ↦ absurd (both_ways (is_that w.master.joiner id) out.2 joins)
   ]
@@ -141,7 +141,7 @@ not_in_line w id out = elim (cases_Bool (is_in (line w.master) id)) [
 ]
 
 quiet_out : (w : World) (c : List Entry) (id : ℕ) → Good w c → IsOut w id → (w.server id).down ≡ false → ((w.server id).full ≡ false) × (acts (w.server id) ≡ false)
-quiet_out w c id good out lives = elim (good.prefixes.away id out.0 (not_in_line w id out)) [
+quiet_out w c id good out lives = elim (good.prefixes.away id out.0 (not_in_extended w id out)) [
   | inl down ↦ absurd (both_ways (w.server id).down lives down)
   | inr b ↦ (b.full, ap (λ least. reaches (length (w.server id).entries) least) b.at_least)
 ]

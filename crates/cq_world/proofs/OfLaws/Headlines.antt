@@ -3,7 +3,7 @@ use Rattle.std.proofs.Common.{◌≡◌, ℕ, ◌≤◌, ◌∙◌, ap, sym, ari
 use Rattle.std.proofs.lemmas.Bool.{eq-eqb, false≢true, or_left, or_right}
 use Rattle.cq_base.specs.declared.ask.Entry.{Entry}
 use Rattle.cq_base.specs.declared.party.Party.TheVariants as parties
-use Rattle.cq_base.specs.Relations.{Among, Front}
+use Rattle.cq_base.specs.Relations.{Among, IsPrefix}
 use Rattle.cq_chain.specs.declared.message.Answer.{Answer}
 use Rattle.cq_chain.specs.Masters.{is_in}
 use Rattle.cq_chain.specs.Refusals.{refusal_of_arrival, refusal_of_query}
@@ -15,11 +15,11 @@ use Rattle.cq_store.proofs.OfLaws.OneQueue.{others_do_nothing}
 use Rattle.cq_store.proofs.OfLaws.Repeats.{fresh_once, repeats_answered}
 use Rattle.cq_store.proofs.OfLaws.Windows.{one_acceptance}
 use Rattle.cq_events.specs.Events.{refusal_of, after}
-use Rattle.cq_world.specs.Laws.{AnswersAreOfTheObject, IsOfTheObject, CommittedIsOfTheHead, CommittedIsOfFullServers, CommittedGrows, CommittedIsOfArrivals, MessagesAreOfTheHistory, HistoriesAreFronts, HistoriesFallAlongTheChain, OneActs, LengthsNeverFall, LaterArrivalsStandAbove, LaterQueriesSeeAsMuch, HeadlineHolds, Speaks, arrivals_from, AreArrivals}
+use Rattle.cq_world.specs.Laws.{AnswersAreOfTheObject, IsOfTheObject, CommittedIsOfTheHead, CommittedIsOfFullServers, CommittedGrows, CommittedIsOfArrivals, MessagesAreOfTheHistory, HistoriesArePrefixes, HistoriesFallAlongTheChain, OneActs, LengthsNeverFall, LaterArrivalsStandAbove, LaterQueriesSeeAsMuch, HeadlineHolds, Speaks, arrivals_from, AreArrivals}
 use Rattle.cq_events.specs.Runs.{world_after, given_from, made_from, made, committed, longest_at, longest_from}
 use Rattle.cq_events.specs.Worlds.{World, first_world, channel}
 use Rattle.cq_events.specs.declared.event.Event.{Event}
-use Rattle.cq_world.proofs.OfLaws.Answering.{all-answered, all-rising, all-within, front_length}
+use Rattle.cq_world.proofs.OfLaws.Answering.{all-answered, all-rising, all-within, prefix_length}
 use Rattle.cq_world.proofs.OfLaws.Arriving.{arrivals-below, arrivals-stamped, all-arrived, first-arrived}
 use Rattle.cq_world.proofs.Chains.{Before, chain-order}
 use Rattle.cq_world.proofs.Commits.{one-tail, acts-least}
@@ -27,7 +27,7 @@ use Rattle.cq_world.proofs.Commits.Steps.{head-full}
 use Rattle.cq_world.proofs.Eaches.{each-among}
 use Rattle.cq_world.proofs.OfLaws.Giving.{given-after, given-of-run}
 use Rattle.cq_world.proofs.Running.{Good, onward, first-good, runs-good, runs-grow}
-use Rattle.cq_world.proofs.Sights.{sight}
+use Rattle.cq_world.proofs.Views.{view}
 use Rattle.cq_world.proofs.Prefixes.Steps.{below-pred, lives-placed, acting-member, full-member, head-member}
 use Rattle.cq_world.proofs.Unrefused.{server-parts, at-head, at-tail}
 
@@ -59,12 +59,12 @@ made_within size events a some among = each-among (λ b. b.length ≤ length (lo
 
 -- a full server that lives has it
 pub of_full : CommittedIsOfFullServers
-of_full size events id some known full lives = let good = run_good size events some in good.commits.old id (full-member (sight (ended size events)) id (lives-placed (sight (ended size events)) id good.prefixes known lives) full) full
+of_full size events id some known full lives = let good = run_good size events some in good.commits.old id (full-member (view (ended size events)) id (lives-placed (view (ended size events)) id good.prefixes known lives) full) full
 
 -- so has a head that lives
 pub of_the_head : CommittedIsOfTheHead
 of_the_head size events id some known is_head lives = let good = run_good size events some in
-    of_full size events id some known (head-full (sight (ended size events)) (committed size events) id good.prefixes good.commits (head-member (sight (ended size events)) id (lives-placed (sight (ended size events)) id good.prefixes known lives) is_head) is_head) lives
+    of_full size events id some known (head-full (view (ended size events)) (committed size events) id good.prefixes good.commits (head-member (view (ended size events)) id (lives-placed (view (ended size events)) id good.prefixes known lives) is_head) is_head) lives
 
 -- a request comes to a head, which has all that is committed
 pub later_arrivals : LaterArrivalsStandAbove
@@ -72,8 +72,8 @@ unfolding refusal_of
 later_arrivals size before at clock request a some among free =
     let w = ended size before in
     let parts = server-parts w at (refusal_of_arrival (w.server at)) free in
-    let front = of_the_head size before at some parts.0 (at-head (w.server at) parts.2) parts.1 in
-    omega (arith, made_within size before a some among, front_length (committed size before) (w.server at).entries front)
+    let prefix = of_the_head size before at some parts.0 (at-head (w.server at) parts.2) parts.1 in
+    omega (arith, made_within size before a some among, prefix_length (committed size before) (w.server at).entries prefix)
 
 -- a query comes to a server that acts, which is full
 pub later_queries : LaterQueriesSeeAsMuch
@@ -82,10 +82,10 @@ later_queries size before at query a some among free =
     let w = ended size before in
     let parts = server-parts w at (refusal_of_query (w.server at)) free in
     let full = (run_good size before some).commits.acting at (at-tail (w.server at) parts.2) in
-    omega (arith, made_within size before a some among, front_length (committed size before) (w.server at).entries (of_full size before at some parts.0 full parts.1))
+    omega (arith, made_within size before a some among, prefix_length (committed size before) (w.server at).entries (of_full size before at some parts.0 full parts.1))
 
 -- more events go on from where these ended
-grow_on : (before more : List Event) (w : World) (c : List Entry) → Good w (longest_at w c) → Front (longest_from c w before) (longest_from c w (before ++ more))
+grow_on : (before more : List Event) (w : World) (c : List Entry) → Good w (longest_at w c) → IsPrefix (longest_from c w before) (longest_from c w (before ++ more))
 unfolding longest_from
 grow_on [] more w c good = runs-grow more w c good
 grow_on (event ∷ before) more w c good = grow_on before more (after w event) (longest_at w c) (onward w (longest_at w c) event good).good
@@ -106,8 +106,8 @@ of_arrivals size events some = let arrived = committed_arrived size events some 
 
 -- ---- histories
 
-pub of_predecessors : HistoriesAreFronts
-of_predecessors size events id p some is_pred = below-pred (sight (ended size events)) id p (run_good size events some).prefixes is_pred
+pub of_predecessors : HistoriesArePrefixes
+of_predecessors size events id p some is_pred = below-pred (view (ended size events)) id p (run_good size events some).prefixes is_pred
 
 pub of_messages : MessagesAreOfTheHistory
 of_messages size events id to m some among = each-among (Speaks ((ended size events).server id).entries) m (channel (ended size events) (parties.Server id) to) ((run_good size events some).prefixes.speaks id to) among
@@ -122,7 +122,7 @@ before_split [] between behind p s = inl (eq-eqb p p refl, behind_in between beh
 before_split (a ∷ before) between behind p s = inr (before_split before between behind p s)
 
 pub along_the_chain : HistoriesFallAlongTheChain
-along_the_chain size events before between behind p s some is = chain-order (sight (ended size events)) p s (run_good size events some).prefixes (subst (λ chain. Before p s chain) (sym is) (before_split before between behind p s))
+along_the_chain size events before between behind p s some is = chain-order (view (ended size events)) p s (run_good size events some).prefixes (subst (λ chain. Before p s chain) (sym is) (before_split before between behind p s))
 
 -- ---- who acts
 
@@ -137,9 +137,9 @@ pub one_acts : OneActs
 one_acts size events id other some lives does others too =
     let good = run_good size events some in
     let w = ended size events in
-    one-tail (sight w) (committed size events) id other good.prefixes good.commits
-    (acting-member (sight w) id (lives-placed (sight w) id good.prefixes (acting_known w (committed size events) id good does) lives) does)
-    (acting-member (sight w) other (lives-placed (sight w) other good.prefixes (acting_known w (committed size events) other good too) others) too)
+    one-tail (view w) (committed size events) id other good.prefixes good.commits
+    (acting-member (view w) id (lives-placed (view w) id good.prefixes (acting_known w (committed size events) id good does) lives) does)
+    (acting-member (view w) other (lives-placed (view w) other good.prefixes (acting_known w (committed size events) other good too) others) too)
     (acts-least (w.server id) does) (acts-least (w.server other) too)
 
 -- ---- all of it
@@ -148,7 +148,7 @@ pub headline_holds : HeadlineHolds
 headline_holds size events some = record {
   answers = of_one_object size events some;
   given = λ n a among. of_one_object size events some a (given-of-run size events n a among);
-  grows = λ before more split. subst (λ all. Front (committed size before) (committed size all)) (sym split) (grows size before more some);
+  grows = λ before more split. subst (λ all. IsPrefix (committed size before) (committed size all)) (sym split) (grows size before more some);
   stamped = (of_arrivals size events some).1;
   arrivals = (of_arrivals size events some).0;
   in_order = first_in_order (committed size events);

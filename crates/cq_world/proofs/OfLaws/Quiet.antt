@@ -4,7 +4,7 @@ use Rattle.std.proofs.lemmas.Bool.{eqb-true, eq-eqb, false≢true, or_cases}
 use Rattle.cq_base.specs.declared.ask.Entry.{Entry}
 use Rattle.cq_base.specs.declared.party.Party.{Party}
 use Rattle.cq_base.specs.declared.party.Party.TheVariants as parties
-use Rattle.cq_base.specs.Relations.{Front}
+use Rattle.cq_base.specs.Relations.{IsPrefix}
 use Rattle.cq_chain.specs.Masters.{is_in, is_last, stands_before}
 use Rattle.cq_chain.specs.Servers.{acts, is_that}
 use Rattle.cq_world.specs.Laws.{IsOfChain, IsQuiet, QuietMembersAgree, QuietTailActs}
@@ -14,8 +14,8 @@ use Rattle.cq_world.proofs.Chains.{last-in, before-in, before-behind, before-fir
 use Rattle.cq_world.proofs.Commits.{Commits, tails, bit, waits}
 use Rattle.cq_world.proofs.Wholes.Feeding.{Feeds}
 use Rattle.cq_world.proofs.Running.{Good, first-good, runs-good}
-use Rattle.cq_world.proofs.Lines.{member-line, line-before}
-use Rattle.cq_world.proofs.Sights.{sight, line}
+use Rattle.cq_world.proofs.ExtendedChains.{member-extended, extended-before}
+use Rattle.cq_world.proofs.Views.{view, extended}
 use Rattle.cq_world.proofs.Prefixes.Steps.{below-pred}
 use Rattle.cq_world.proofs.Wholes.Runs.{whole-of-run}
 use Rattle.cq_world.proofs.Wholes.{Whole, reports_of, haves_of, adopts_of, feeds_of, tokens, stage-past}
@@ -24,18 +24,18 @@ use Rattle.cq_world.proofs.Wholes.{Whole, reports_of, haves_of, adopts_of, feeds
 empty_row : (w : World) (from to : Party) → IsQuiet w → IsOfChain w from → IsOfChain w to → channel w from to ≡ []
 empty_row w from to q a b = ap (λ us. us ++ w.outbox from to) (q.links from to a b) ∙ q.outboxes from to a b
 
--- a front of the same length is the whole
-whole_front : (xs ys : List Entry) → Front xs ys → length xs ≡ length ys → xs ≡ ys
-whole_front xs ys h same = sym (h.1 ∙ ap (λ us. xs ++ us) (nothing h.0 (omega (arith, ap length h.1, length-append xs h.0, same))) ∙ append-nil xs) where
+-- a prefix of the same length is the whole
+whole_prefix : (xs ys : List Entry) → IsPrefix xs ys → length xs ≡ length ys → xs ≡ ys
+whole_prefix xs ys h same = sym (h.1 ∙ ap (λ us. xs ++ us) (nothing h.0 (omega (arith, ap length h.1, length-append xs h.0, same))) ∙ append-nil xs) where
   nothing : (us : List Entry) → length us ≤ 0 → us ≡ []
   nothing [] le = refl
   nothing (u ∷ us) le = absurd (omega (arith, le))
 
 -- neighbours agree
-neighbours_agree : (w : World) (c : List Entry) (p s : ℕ) → Good w c → Whole (sight w) c → IsQuiet w → stands_before p s w.master.chain ≡ true → (w.server s).entries ≡ (w.server p).entries
-neighbours_agree w c p s good h q before = whole_front (w.server s).entries (w.server p).entries (below-pred (sight w) s p good.prefixes is_pred) (subst (λ ms. Feeds (length (w.server s).entries) ms (length (w.server p).entries)) between (h.feed p s (in_line s members.1) is_pred (linked (is_that (w.server p).succ s) refl))) where
-  in_line : (j : ℕ) → is_in w.master.chain j ≡ true → is_in (line w.master) j ≡ true
-  in_line j member = member-line w.master.chain w.master.joiner j member
+neighbours_agree : (w : World) (c : List Entry) (p s : ℕ) → Good w c → Whole (view w) c → IsQuiet w → stands_before p s w.master.chain ≡ true → (w.server s).entries ≡ (w.server p).entries
+neighbours_agree w c p s good h q before = whole_prefix (w.server s).entries (w.server p).entries (below-pred (view w) s p good.prefixes is_pred) (subst (λ ms. Feeds (length (w.server s).entries) ms (length (w.server p).entries)) between (h.feed p s (in_extended s members.1) is_pred (linked (is_that (w.server p).succ s) refl))) where
+  in_extended : (j : ℕ) → is_in w.master.chain j ≡ true → is_in (extended w.master) j ≡ true
+  in_extended j member = member-extended w.master.chain w.master.joiner j member
 
   members : (is_in w.master.chain p ≡ true) × (is_in w.master.chain s ≡ true)
   members = before-in p s w.master.chain before
@@ -52,15 +52,15 @@ neighbours_agree w c p s good h q before = whole_front (w.server s).entries (w.s
   of_s : channel w (parties.Server s) parties.Master ≡ []
   of_s = empty_row w (parties.Server s) parties.Master q members.1 tt
 
-  -- they are neighbours in the line too
-  line_pair : stands_before p s (line w.master) ≡ true
-  line_pair = line-before w.master.chain w.master.joiner p s good.prefixes.apart members.1 ∙ before
+  -- they are neighbours in the extended chain too
+  extended_pair : stands_before p s (extended w.master) ≡ true
+  extended_pair = extended-before w.master.chain w.master.joiner p s good.prefixes.apart members.1 ∙ before
 
   is_pred : (w.server s).pred ≡ Some p
-  is_pred = (stage-past (sight w) p s good.prefixes line_pair (ap (λ ms. reports_of p ms) to_s)).0
+  is_pred = (stage-past (view w) p s good.prefixes extended_pair (ap (λ ms. reports_of p ms) to_s)).0
 
-  one_token : tokens (sight w) p s ≡ 1
-  one_token = h.token p s (in_line p members.0) (in_line s members.1) ∙ ap (λ b. bit b) line_pair
+  one_token : tokens (view w) p s ≡ 1
+  one_token = h.token p s (in_extended p members.0) (in_extended s members.1) ∙ ap (λ b. bit b) extended_pair
 
   linked : (t : Bool) → is_that (w.server p).succ s ≡ t → is_that (w.server p).succ s ≡ true
   linked true e = e
@@ -81,7 +81,7 @@ chain_agrees w a rest s h there = elim (or_cases (eqb a s) (is_in rest s) there)
   | inr later ↦ behind_agree w a rest s h later
 ]
 
-all_agree : (w : World) (c : List Entry) (p s : ℕ) → Good w c → Whole (sight w) c → IsQuiet w → is_in w.master.chain p ≡ true → is_in w.master.chain s ≡ true → (w.server p).entries ≡ (w.server s).entries
+all_agree : (w : World) (c : List Entry) (p s : ℕ) → Good w c → Whole (view w) c → IsQuiet w → is_in w.master.chain p ≡ true → is_in w.master.chain s ≡ true → (w.server p).entries ≡ (w.server s).entries
 all_agree w c p s good h q a b = go w.master.chain refl where
   go : (chain : List ℕ) → w.master.chain ≡ chain → (w.server p).entries ≡ (w.server s).entries
   go [] is = absurd (false≢true (sym (ap (λ us. is_in us p) is) ∙ a))
@@ -90,7 +90,7 @@ all_agree w c p s good h q a b = go w.master.chain refl where
       chain_agrees w d rest p each (sym (ap (λ us. is_in us p) is) ∙ a) ∙ sym (chain_agrees w d rest s each (sym (ap (λ us. is_in us s) is) ∙ b))
 
 -- the last one acts
-tail_acts : (w : World) (c : List Entry) (id : ℕ) → Commits (sight w) c → IsQuiet w → is_last w.master.chain id ≡ true → acts (w.server id) ≡ true
+tail_acts : (w : World) (c : List Entry) (id : ℕ) → Commits (view w) c → IsQuiet w → is_last w.master.chain id ≡ true → acts (w.server id) ≡ true
 tail_acts w c id k q last = go (acts (w.server id)) (is_some (w.server id).at_least) refl refl where
   member : is_in w.master.chain id ≡ true
   member = last-in w.master.chain id last

@@ -50,17 +50,17 @@ abbrev pub IsPlaced : ℕ → Option rust_server.Server → Bool → ℕ → Typ
 IsPlaced size o b id = IsKeptAs o b (if b then first_member size id else joining) (λ _. [])
 
 -- so many servers are kept, as they stand at first
-abbrev pub IsLine : ℕ → ℕ → (ℕ → Option rust_server.Server) → Type 0
-IsLine size n f = (id : ℕ) → IsPlaced size (f id) (is_in (numbers_from 1 n) id) id
+abbrev pub IsExtended : ℕ → ℕ → (ℕ → Option rust_server.Server) → Type 0
+IsExtended size n f = (id : ℕ) → IsPlaced size (f id) (is_in (numbers_from 1 n) id) id
 
 -- none
-pub no-line : (size : ℕ) (f : ℕ → Option rust_server.Server) → ((id : ℕ) → f id ≡ None) → IsLine size 0 f
-no-line size f none id = subst (λ o. IsPlaced size o (is_in (numbers_from 1 0) id) id) (sym (none id)) (subst (λ b. IsPlaced size None b id) (sym (ap (λ xs. is_in xs id) (from-none 1))) (refl, refl, λ to. refl))
+pub no-extended : (size : ℕ) (f : ℕ → Option rust_server.Server) → ((id : ℕ) → f id ≡ None) → IsExtended size 0 f
+no-extended size f none id = subst (λ o. IsPlaced size o (is_in (numbers_from 1 0) id) id) (sym (none id)) (subst (λ b. IsPlaced size None b id) (sym (ap (λ xs. is_in xs id) (from-none 1))) (refl, refl, λ to. refl))
 
 -- one more
-pub more-line : (size n id : ℕ) (f g : ℕ → Option rust_server.Server) (kept : rust_server.Server) → id ≡ n + 1 → IsLine size n f
-    → ((q : ℕ) → g q ≡ cond (id == q) (Some kept) (f q)) → chain.StandsFor kept (first_member size id) (λ _. []) → IsLine size (n + 1) g
-more-line size n id f g kept own h is made q =
+pub more-extended : (size n id : ℕ) (f g : ℕ → Option rust_server.Server) (kept : rust_server.Server) → id ≡ n + 1 → IsExtended size n f
+    → ((q : ℕ) → g q ≡ cond (id == q) (Some kept) (f q)) → chain.StandsFor kept (first_member size id) (λ _. []) → IsExtended size (n + 1) g
+more-extended size n id f g kept own h is made q =
     let next : n + 1 ≡ suc n = omega arith in
     let now = ap (λ m. is_in (numbers_from 1 m) q) next ∙ is_in-more 1 n q ∙ ap (λ j. is_in (numbers_from 1 n) q || (j == q)) (sym own) in
     elim (cases_Bool (id == q)) [
@@ -76,10 +76,10 @@ more-line size n id f g kept own h is made q =
     or_true false = refl
 
 -- all of them, and no messages
-pub first-stands : (sim : Sim) (size : ℕ) → IsLine size size (λ id. server_at sim.servers id) → ((from to : Party) → messages_at sim.links from to ≡ []) → chain.MasterStandsFor sim.master (first_master size) (λ _. []) → StandsFor sim (first_world size)
+pub first-stands : (sim : Sim) (size : ℕ) → IsExtended size size (λ id. server_at sim.servers id) → ((from to : Party) → messages_at sim.links from to ≡ []) → chain.MasterStandsFor sim.master (first_master size) (λ _. []) → StandsFor sim (first_world size)
 unfolding first_world
-first-stands sim size line none master = stands sim (first_world size) (record {
-  servers = line;
+first-stands sim size extended none master = stands sim (first_world size) (record {
+  servers = extended;
   links = λ from to. subst (λ ms. chain.AllMean ms []) (sym (none from to)) tt;
   master = master;
   clients = λ to. refl;

@@ -3,19 +3,19 @@ use Rattle.std.proofs.Common.{◌≡◌, ◌<◌, ◌∙◌, ap, sym, refl, ◌&
 use Rattle.std.proofs.lemmas.Bool.{cases_Bool}
 use Rattle.cq_base.specs.declared.party.Party.{Party}
 use Rattle.cq_chain.specs.declared.message.Message.{Message}
-use Rattle.cq_chain.specs.Lanes.{Lane, messages_of, room_of}
+use Rattle.cq_chain.specs.Fifos.{Fifo, messages_of, room_of}
 use Rattle.cq_chain.specs.Parties.{same}
-use Rattle.cq_world.specs.within.Kept.{lane_at, messages_at}
+use Rattle.cq_world.specs.within.Kept.{fifo_at, messages_at}
 use Rattle.cq_events.specs.Worlds.{set_pair}
-use Rattle.cq_world.specs.declared.links.Pair.{Pair}
-use Rattle.cq_world.proofs.OfSim.PairKeys.{IsWritten}
+use Rattle.cq_world.specs.declared.links.LinkKey.{LinkKey}
+use Rattle.cq_world.proofs.OfSim.LinkKeys.{IsWritten}
 use Rattle.cq_events.proofs.Parties.{same-true, both}
 
 -- what is found then
-pub written : (old new : List (Pair × Lane)) (from to : Party) (lane : Lane) (ms : List Message) → IsWritten old new from to lane → lane.messages ≡ ms → (x y : Party) → messages_at new x y ≡ set_pair (messages_at old) from to ms x y
-written old new from to lane ms h is x y = elim (cases_Bool (same x from && same y to)) [
-  | inl own ↦ ap messages_of (h x y) ∙ ap (λ b. messages_of (cond b (Some lane) (lane_at old x y))) own ∙ is ∙ sym (ap (λ b. cond b ms (messages_at old x y)) own)
-  | inr other ↦ ap messages_of (h x y) ∙ ap (λ b. messages_of (cond b (Some lane) (lane_at old x y))) other ∙ sym (ap (λ b. cond b ms (messages_at old x y)) other)
+pub written : (old new : List (LinkKey × Fifo)) (from to : Party) (fifo : Fifo) (ms : List Message) → IsWritten old new from to fifo → fifo.messages ≡ ms → (x y : Party) → messages_at new x y ≡ set_pair (messages_at old) from to ms x y
+written old new from to fifo ms h is x y = elim (cases_Bool (same x from && same y to)) [
+  | inl own ↦ ap messages_of (h x y) ∙ ap (λ b. messages_of (cond b (Some fifo) (fifo_at old x y))) own ∙ is ∙ sym (ap (λ b. cond b ms (messages_at old x y)) own)
+  | inr other ↦ ap messages_of (h x y) ∙ ap (λ b. messages_of (cond b (Some fifo) (fifo_at old x y))) other ∙ sym (ap (λ b. cond b ms (messages_at old x y)) other)
 ]
 
 -- the same messages, set where they are, are no change
@@ -25,14 +25,14 @@ set-same link from to ms is x y = elim (cases_Bool (same x from && same y to)) [
   | inr other ↦ ap (λ b. cond b ms (link x y)) other
 ]
 
--- a lane that keeps its messages
-pub kept : (old new : List (Pair × Lane)) (from to : Party) (lane : Lane) → IsWritten old new from to lane → lane.messages ≡ messages_at old from to → (x y : Party) → messages_at new x y ≡ messages_at old x y
-kept old new from to lane h is x y = written old new from to lane (messages_at old from to) h is x y ∙ set-same (messages_at old) from to (messages_at old from to) refl x y
+-- a fifo that keeps its messages
+pub kept : (old new : List (LinkKey × Fifo)) (from to : Party) (fifo : Fifo) → IsWritten old new from to fifo → fifo.messages ≡ messages_at old from to → (x y : Party) → messages_at new x y ≡ messages_at old x y
+kept old new from to fifo h is x y = written old new from to fifo (messages_at old from to) h is x y ∙ set-same (messages_at old) from to (messages_at old from to) refl x y
 
 -- where nothing is kept there is no room
-some-none : {lane : Lane} → Some lane ≡ None → ⊥
+some-none : {fifo : Fifo} → Some fifo ≡ None → ⊥
 some-none h = cc
 
-pub no-room : (o : Option Lane) → o ≡ None → 0 < room_of o → ⊥
+pub no-room : (o : Option Fifo) → o ≡ None → 0 < room_of o → ⊥
 no-room None h room = omega (arith, room)
-no-room (Some lane) h room = absurd (some-none h)
+no-room (Some fifo) h room = absurd (some-none h)

@@ -15,8 +15,8 @@ use Rattle.cq_chain.specs.Messages.{Message}
 use Rattle.cq_chain.specs.Stands.{Means, IsFirst}
 use Rattle.cq_chain.specs.Refusals.{refusal_of_arrival, refusal_of_query}
 use Rattle.cq_chain.specs.Steps.{arrived, asked, crashed}
-use Rattle.cq_events.specs.Events.{knows, if_known, if_lives, unless_down, is_down, refusal_of, refusal_of_crash, refusal_of_detect, refusal_of_put, refusal_of_take, next, after_put, after_take, given_by, given_to, first_of, without_first, answers_in, head_of}
-use Rattle.cq_world.specs.within.Kept.{IsFilled, after_posting, after_drawing}
+use Rattle.cq_events.specs.Events.{has_party, if_known, if_lives, unless_down, is_down, refusal_of, refusal_of_crash, refusal_of_detect, refusal_of_put, refusal_of_take, next, after_put, after_take, given_by, given_to, first_of, without_first, answers_in, head_of}
+use Rattle.cq_world.specs.within.Kept.{IsFilled, after_posting, after_popping}
 use Rattle.cq_events.specs.Runs.{given_if}
 use Rattle.cq_world.specs.Stands.{StandsFor}
 use Rattle.cq_world.specs.declared.sim.Sim.{Sim}
@@ -95,7 +95,7 @@ next-join w id = refl
 
 -- both parties are known
 abbrev pub ends : World → Party → Party → Bool
-ends w from to = knows w from && knows w to
+ends w from to = has_party w from && has_party w to
 
 pub put-known : (w : World) (from to : Party) → ends w from to ≡ true → is_down w from ≡ false → refusal_of w (Put from to) ≡ refusal_of_put (w.outbox from to)
 unfolding refusal_of
@@ -145,7 +145,7 @@ put-gives parties.Clients ms h = absurd (h refl)
 put-gives (parties.Server id) ms h = refl
 
 -- what is put to the clients leaves the outbox alone
-pub put-drawn : (w : World) (from to : Party) → to ≡ parties.Clients → after_put w from to ≡ after_drawing w from to
+pub put-drawn : (w : World) (from to : Party) → to ≡ parties.Clients → after_put w from to ≡ after_popping w from to
 put-drawn w from parties.Master h = absurd cc
 put-drawn w from parties.Clients h = refl
 put-drawn w from (parties.Server id) h = absurd cc

@@ -7,7 +7,7 @@ use Rattle.cq_base.specs.declared.party.Party.TheVariants as parties
 use Rattle.cq_chain.specs.declared.message.Message as rust_message
 use Rattle.cq_chain.specs.declared.master.Master as rust_master
 use Rattle.cq_chain.specs.declared.server.Server as rust_server
-use Rattle.cq_chain.specs.Lanes.{Lane}
+use Rattle.cq_chain.specs.Fifos.{Fifo}
 use Rattle.cq_chain.specs.Masters.{Master, Order, no_order, dropped, closed_up, detected, hears, joins_behind, admitted, stands_before, is_last}
 use Rattle.cq_chain.specs.Messages.{Message, Fwd, Snap, Ack, BeHead, Report, Adopt, BeTail, Feed, Have, Adopted, Caught, Ready, Answers}
 use Rattle.cq_chain.specs.Parties.{same, addressed, is_that}
@@ -16,10 +16,10 @@ use Rattle.cq_chain.specs.Stands as chain
 use Rattle.cq_chain.specs.Stands.{AllMean, IsFirst, posted, drained}
 use Rattle.cq_chain.specs.Steps.{Step}
 use Rattle.cq_events.specs.Events.{without_first, first_of}
-use Rattle.cq_world.specs.within.Kept.{server_at, messages_at, after_drawing, after_posting}
+use Rattle.cq_world.specs.within.Kept.{server_at, messages_at, after_popping, after_posting}
 use Rattle.cq_world.specs.Stands.{IsKeptAs, Holds, StandsFor, IsFound}
 use Rattle.cq_events.specs.Worlds.{World, is_in, set_pair, stepped, ordered}
-use Rattle.cq_world.specs.declared.links.Pair.{Pair}
+use Rattle.cq_world.specs.declared.links.LinkKey.{LinkKey}
 use Rattle.cq_world.specs.declared.sim.Sim.{Sim}
 use Rattle.cq_world.proofs.OfSim.LinksKept.{set-same}
 use Rattle.cq_world.proofs.OfSim.Meanings.{all-append, all-drop, first-alone}
@@ -124,10 +124,10 @@ drained-here f to y = elim (cases_Bool (same y to)) [
   | inr other ↦ ap (λ b. if b then drop 1 (f to) else f y) other ∙ sym (ap (λ b. if b then drop 1 (f y) else f y) (same-turned to y ∙ other))
 ]
 
-drawn-here : (w : World) (at : ℕ) (to y : Party) → (after_drawing w (parties.Server at) to).outbox (parties.Server at) y ≡ drained (w.outbox (parties.Server at)) to y
+drawn-here : (w : World) (at : ℕ) (to y : Party) → (after_popping w (parties.Server at) to).outbox (parties.Server at) y ≡ drained (w.outbox (parties.Server at)) to y
 drawn-here w at to y = ap (λ b. if b && same y to then drop 1 (w.outbox (parties.Server at) to) else w.outbox (parties.Server at) y) (eq-eqb at at refl) ∙ drained-here (w.outbox (parties.Server at)) to y
 
-drawn-elsewhere : (w : World) (at : ℕ) (to : Party) → IsElsewhere w (after_drawing w (parties.Server at) to) at
+drawn-elsewhere : (w : World) (at : ℕ) (to : Party) → IsElsewhere w (after_popping w (parties.Server at) to) at
 drawn-elsewhere w at to = record {
   master = refl;
   server = λ id other. refl;
@@ -136,9 +136,9 @@ drawn-elsewhere w at to = record {
 
 -- a server's outbox was drained
 pub drawn-stands : (old new : Sim) (w : World) (at : ℕ) (kept : rust_server.Server) (to : Party) → IsAt old new at kept → new.links ≡ old.links → Holds old w → is_in w.master.used at ≡ true
-    → chain.StandsFor kept (w.server at) (drained (w.outbox (parties.Server at)) to) → Holds new (after_drawing w (parties.Server at) to)
+    → chain.StandsFor kept (w.server at) (drained (w.outbox (parties.Server at)) to) → Holds new (after_popping w (parties.Server at) to)
 drawn-stands old new w at kept to is links h there now = record {
-  servers = servers-at old new w (after_drawing w (parties.Server at) to) at kept is (drawn-elsewhere w at to) h there
+  servers = servers-at old new w (after_popping w (parties.Server at) to) at kept is (drawn-elsewhere w at to) h there
       (subst (λ o. chain.StandsFor kept (w.server at) o) (λ i y. sym (drawn-here w at to y) i) now);
   links = λ x y. subst (λ ls. AllMean (messages_at ls x y) (w.link x y)) (sym links) (h.links x y);
   master = subst (λ k. chain.MasterStandsFor k w.master (w.outbox parties.Master)) (sym is.master) h.master;
@@ -146,7 +146,7 @@ drawn-stands old new w at kept to is links h there now = record {
 }
 
 -- nothing is drawn of nothing
-pub drawn-nothing : (w : World) (from to : Party) → w.outbox from to ≡ [] → after_drawing w from to ≡ w
+pub drawn-nothing : (w : World) (from to : Party) → w.outbox from to ≡ [] → after_popping w from to ≡ w
 drawn-nothing w from to none = λ i. record w { outbox = λ x y. set-same w.outbox from to (drop 1 (w.outbox from to)) (none ∙ sym (ap (drop 1) none)) x y i }
 
 -- a server that stands for what it did
@@ -249,7 +249,7 @@ same-servers old new w servers links master h = record {
 
 -- its outbox was drained
 pub drawn-master : (old new : Sim) (w : World) (to : Party) → new.servers ≡ old.servers → new.links ≡ old.links → Holds old w
-    → chain.MasterStandsFor new.master w.master (drained (w.outbox parties.Master) to) → Holds new (after_drawing w parties.Master to)
+    → chain.MasterStandsFor new.master w.master (drained (w.outbox parties.Master) to) → Holds new (after_popping w parties.Master to)
 drawn-master old new w to servers links h now = record {
   servers = λ id. subst (λ ss. IsKeptAs (server_at ss id) (is_in w.master.used id) (w.server id) (w.outbox (parties.Server id))) (sym servers) (h.servers id);
   links = λ x y. subst (λ ls. AllMean (messages_at ls x y) (w.link x y)) (sym links) (h.links x y);
@@ -269,8 +269,8 @@ found w id o (Some kept) same h = subst (λ q. IsFound w id q) (sym same) h
 
 -- ---- links
 
--- other lanes with the same messages
-pub reserved-stands : (old : Sim) (links : List (Pair × Lane)) (w : World) → ((x y : Party) → messages_at links x y ≡ messages_at old.links x y) → Holds old w → Holds (record { alloc = old.alloc; servers = old.servers; links = links; master = old.master }) w
+-- other fifos with the same messages
+pub reserved-stands : (old : Sim) (links : List (LinkKey × Fifo)) (w : World) → ((x y : Party) → messages_at links x y ≡ messages_at old.links x y) → Holds old w → Holds (record { alloc = old.alloc; servers = old.servers; links = links; master = old.master }) w
 reserved-stands old links w same h = record {
   servers = h.servers;
   links = λ x y. subst (λ ms. AllMean ms (w.link x y)) (sym (same x y)) (h.links x y);
@@ -279,7 +279,7 @@ reserved-stands old links w same h = record {
 }
 
 -- a link without its first message
-pub without-stands : (old : Sim) (links : List (Pair × Lane)) (w : World) (from to : Party) → ((x y : Party) → messages_at links x y ≡ set_pair (messages_at old.links) from to (drop 1 (messages_at old.links from to)) x y)
+pub without-stands : (old : Sim) (links : List (LinkKey × Fifo)) (w : World) (from to : Party) → ((x y : Party) → messages_at links x y ≡ set_pair (messages_at old.links) from to (drop 1 (messages_at old.links from to)) x y)
     → Holds old w → Holds (record { alloc = old.alloc; servers = old.servers; links = links; master = old.master }) (without_first w from to)
 without-stands old links w from to popped h = record {
   servers = h.servers;
@@ -290,9 +290,9 @@ without-stands old links w from to popped h = record {
 }
 
 -- a link with what was drawn from an outbox
-pub posted-stands : (drawn : Sim) (links : List (Pair × Lane)) (w : World) (from to : Party) (x : rust_message.Message)
+pub posted-stands : (drawn : Sim) (links : List (LinkKey × Fifo)) (w : World) (from to : Party) (x : rust_message.Message)
     → ((a b : Party) → messages_at links a b ≡ set_pair (messages_at drawn.links) from to (messages_at drawn.links from to ++ x ∷ []) a b) → IsFirst (Some x) (w.outbox from to)
-    → Holds drawn (after_drawing w from to) → Holds (record { alloc = drawn.alloc; servers = drawn.servers; links = links; master = drawn.master }) (after_posting w from to)
+    → Holds drawn (after_popping w from to) → Holds (record { alloc = drawn.alloc; servers = drawn.servers; links = links; master = drawn.master }) (after_posting w from to)
 posted-stands drawn links w from to x pushed first h = record {
   servers = h.servers;
   links = links-set (messages_at drawn.links) (messages_at links) w.link from to (messages_at drawn.links from to ++ x ∷ []) (w.link from to ++ first_of (w.outbox from to)) pushed

@@ -1,4 +1,4 @@
--- Each step of the master keeps histories fronts of each other along the line.
+-- Each step of the master keeps histories prefixes of each other along the extended chain.
 use Rattle.std.proofs.Common.{◌≡◌, ℕ, ◌∙◌, ap, sym, List, [], ◌∷◌, ◌++◌, length, ◌&&◌, ◌||◌, ◌⊎◌, not, Option, Some, None, Bool, true, false, cond, eqb, arith, subst, refl, inl, inr, append-nil, append_assoc, length-append}
 use Rattle.std.proofs.lemmas.Bool.{eqb-true, eq-eqb, ne_eqb, false≢true, both_ways, cases_Bool, and_parts, or_cases, or_left, or_right, or_parts}
 use Rattle.cq_base.specs.declared.party.Party.{Party}
@@ -10,11 +10,11 @@ use Rattle.cq_chain.specs.Messages.{Message, BeHead, Report, Adopt, BeTail, Feed
 use Rattle.cq_chain.specs.Parties.{same, addressed, is_that}
 use Rattle.cq_chain.specs.Servers.{Server, joining}
 use Rattle.cq_world.proofs.Prefixes.Climbing.{reports, one, ups, Climbs, climbs-top, climbs-on, last-more, reports-append}
-use Rattle.cq_world.proofs.Eaches.{Each, front-none}
-use Rattle.cq_world.proofs.Lines.{line-cases, in_more, in_left, in_end, out_more, member-line, out-line, apart-members, joiner-out}
-use Rattle.cq_world.proofs.Prefixes.{Prefixes, Linked, LinkedLine, Heads, Harmless, Bystander, is_first, heads-end}
+use Rattle.cq_world.proofs.Eaches.{Each, prefix-none}
+use Rattle.cq_world.proofs.ExtendedChains.{extended-cases, in_more, in_left, in_end, out_more, member-extended, out-extended, apart-members, joiner-out}
+use Rattle.cq_world.proofs.Prefixes.{Prefixes, Linked, LinkedExtended, Heads, Harmless, Outsider, is_first, heads-end}
 use Rattle.cq_world.proofs.Settled.{that_some}
-use Rattle.cq_world.proofs.Sights.{Sight, line_of, line, said}
+use Rattle.cq_world.proofs.Views.{View, extended_of, extended, said}
 
 -- ---- what the master says
 
@@ -23,11 +23,11 @@ abbrev pub told_to : ℕ → List (Party × Message) → List Message
 told_to id out = addressed (parties.Server id) out
 
 -- the predecessors that it was given, and those that it is given
-said_ups : (v : Sight) (m : Master) (out : List (Party × Message)) (id : ℕ) → ups (said v m out) id ≡ ups v id ++ reports (told_to id out)
+said_ups : (v : View) (m : Master) (out : List (Party × Message)) (id : ℕ) → ups (said v m out) id ≡ ups v id ++ reports (told_to id out)
 said_ups v m out id = ap (λ r. one (v.server id).pred ++ r) (reports-append (v.channel parties.Master (parties.Server id)) (told_to id out)) ∙ sym (append_assoc (one (v.server id).pred) (reports (v.channel parties.Master (parties.Server id))) (reports (told_to id out)))
 
 -- where no predecessor is told, they are as they were
-ups_silent : (v : Sight) (m : Master) (out : List (Party × Message)) (id : ℕ) → reports (told_to id out) ≡ [] → ups (said v m out) id ≡ ups v id
+ups_silent : (v : View) (m : Master) (out : List (Party × Message)) (id : ℕ) → reports (told_to id out) ≡ [] → ups (said v m out) id ≡ ups v id
 ups_silent v m out id none = said_ups v m out id ∙ ap (λ r. ups v id ++ r) none ∙ append-nil (ups v id)
 
 -- ---- rows without a word on the head
@@ -39,19 +39,19 @@ NoHead (BeHead ∷ ms) = ⊥
 NoHead (m ∷ ms) = NoHead ms
 
 -- who isn't the first is not told to be the head
-no_head : (line : List ℕ) (s : ℕ) (ms : List Message) → is_first line s ≡ false → Heads line s ms → NoHead ms
-no_head line s [] other h = tt
-no_head line s (BeHead ∷ ms) other h = absurd (both_ways (is_first line s) other h.0)
-no_head line s (m ∷ ms) other h = no_head_skip line s m ms other h (λ g. no_head line s ms other g) where
+no_head : (extended : List ℕ) (s : ℕ) (ms : List Message) → is_first extended s ≡ false → Heads extended s ms → NoHead ms
+no_head extended s [] other h = tt
+no_head extended s (BeHead ∷ ms) other h = absurd (both_ways (is_first extended s) other h.0)
+no_head extended s (m ∷ ms) other h = no_head_skip extended s m ms other h (λ g. no_head extended s ms other g) where
   no_head_skip : (c : List ℕ) (i : ℕ) (n : Message) (ns : List Message) → is_first c i ≡ false → Heads c i (n ∷ ns) → (Heads c i ns → NoHead ns) → NoHead (n ∷ ns)
   no_head_skip c i BeHead ns is g rest = absurd (both_ways (is_first c i) is g.0)
   no_head_skip c i n ns is g rest = rest g
 
 -- a row without a word on the head, and then one
-heads_after : (line : List ℕ) (s : ℕ) (ms ys : List Message) → NoHead ms → Heads line s ys → Heads line s (ms ++ ys)
-heads_after line s [] ys none h = h
-heads_after line s (BeHead ∷ ms) ys none h = absurd none
-heads_after line s (m ∷ ms) ys none h = after_skip line s m ms ys none (λ g. heads_after line s ms ys g h) where
+heads_after : (extended : List ℕ) (s : ℕ) (ms ys : List Message) → NoHead ms → Heads extended s ys → Heads extended s (ms ++ ys)
+heads_after extended s [] ys none h = h
+heads_after extended s (BeHead ∷ ms) ys none h = absurd none
+heads_after extended s (m ∷ ms) ys none h = after_skip extended s m ms ys none (λ g. heads_after extended s ms ys g h) where
   after_skip : (c : List ℕ) (i : ℕ) (n : Message) (ns us : List Message) → NoHead (n ∷ ns) → (NoHead ns → Heads c i (ns ++ us)) → Heads c i (n ∷ (ns ++ us))
   after_skip c i BeHead ns us g rest = absurd g
   after_skip c i n ns us g rest = rest g
@@ -74,19 +74,19 @@ heads_first old new s (m ∷ ms) ys first h told none = first_skip m (heads_firs
 
 -- ---- what an order of the master has to show
 
-pub record Said (v : Sight) (m : Master) (out : List (Party × Message)) : Type 0 where
-  pub apart : Pairwise (λ a b. eqb a b ≡ false) (line m)
-  pub members : (id : ℕ) → is_in (line m) id ≡ true → is_in m.used id ≡ true
-  pub away : (id : ℕ) → is_in m.used id ≡ true → is_in (line m) id ≡ false → ((v.server id).down ≡ true) ⊎ Bystander (v.server id) (v.channel parties.Master (parties.Server id) ++ told_to id out)
-  pub aside : (id : ℕ) → is_that m.joiner id ≡ true → Bystander (v.server id) (v.channel parties.Master (parties.Server id) ++ told_to id out)
+pub record Said (v : View) (m : Master) (out : List (Party × Message)) : Type 0 where
+  pub apart : Pairwise (λ a b. eqb a b ≡ false) (extended m)
+  pub members : (id : ℕ) → is_in (extended m) id ≡ true → is_in m.used id ≡ true
+  pub away : (id : ℕ) → is_in m.used id ≡ true → is_in (extended m) id ≡ false → ((v.server id).down ≡ true) ⊎ Outsider (v.server id) (v.channel parties.Master (parties.Server id) ++ told_to id out)
+  pub aside : (id : ℕ) → is_that m.joiner id ≡ true → Outsider (v.server id) (v.channel parties.Master (parties.Server id) ++ told_to id out)
   pub unused : (id : ℕ) → is_in m.used id ≡ false → (is_in v.master.used id ≡ false) × (told_to id out ≡ [])
   pub climbs : (id : ℕ) → Climbs v.server id (ups v id ++ reports (told_to id out))
-  pub linked : LinkedLine (said v m out) (line m)
-  pub heads : (id : ℕ) → is_in (line m) id ≡ true → Heads (line m) id (v.channel parties.Master (parties.Server id) ++ told_to id out)
-  pub headless : (id : ℕ) → is_in (line m) id ≡ true → (v.server id).head ≡ true → ups v id ++ reports (told_to id out) ≡ []
+  pub linked : LinkedExtended (said v m out) (extended m)
+  pub heads : (id : ℕ) → is_in (extended m) id ≡ true → Heads (extended m) id (v.channel parties.Master (parties.Server id) ++ told_to id out)
+  pub headless : (id : ℕ) → is_in (extended m) id ≡ true → (v.server id).head ≡ true → ups v id ++ reports (told_to id out) ≡ []
 
 -- An order keeps all sentences.
-pub said-keeps : (v : Sight) (m : Master) (out : List (Party × Message)) → Prefixes v → Said v m out → Prefixes (said v m out)
+pub said-keeps : (v : View) (m : Master) (out : List (Party × Message)) → Prefixes v → Said v m out → Prefixes (said v m out)
 said-keeps v m out h o = record {
   apart = o.apart;
   members = o.members;
@@ -100,12 +100,12 @@ said-keeps v m out h o = record {
   headless = λ id member is. said_ups v m out id ∙ o.headless id member is;
 }
 
--- a bystander to which nothing is said
-unsaid : (s : Server) (ms us : List Message) → us ≡ [] → Bystander s ms → Bystander s (ms ++ us)
-unsaid s ms us none b = subst (λ xs. Bystander s xs) (sym (ap (λ xs. ms ++ xs) none ∙ append-nil ms)) b
+-- an outsider to which nothing is said
+unsaid : (s : Server) (ms us : List Message) → us ≡ [] → Outsider s ms → Outsider s (ms ++ us)
+unsaid s ms us none b = subst (λ xs. Outsider s xs) (sym (ap (λ xs. ms ++ xs) none ∙ append-nil ms)) b
 
 -- the same of one that may be down instead
-still_away : (s : Server) (ms us : List Message) → us ≡ [] → (s.down ≡ true) ⊎ Bystander s ms → (s.down ≡ true) ⊎ Bystander s (ms ++ us)
+still_away : (s : Server) (ms us : List Message) → us ≡ [] → (s.down ≡ true) ⊎ Outsider s ms → (s.down ≡ true) ⊎ Outsider s (ms ++ us)
 still_away s ms us none h = elim h [ inl down ↦ inl down | inr b ↦ inr (unsaid s ms us none b) ]
 
 -- ---- a server that joins is dropped
@@ -118,29 +118,29 @@ heads_other old new s (m ∷ ms) first h = step m h (λ g. heads_other old new s
   step BeHead g rest = (first g.0, g.1, rest g.2)
   step n g rest = rest (heads-end old s (n ∷ []) ms g)
 
-linked_front : (v w : Sight) (p : ℕ) (xs ys : List ℕ) → ((s q : ℕ) → is_last (ups v s) q ≡ true → is_last (ups w s) q ≡ true) → Linked v p (xs ++ ys) → Linked w p xs
-linked_front v w p [] ys same l = tt
-linked_front v w p (s ∷ xs) ys same l = (same s p l.0, linked_front v w s xs ys same l.1)
+linked_prefix : (v w : View) (p : ℕ) (xs ys : List ℕ) → ((s q : ℕ) → is_last (ups v s) q ≡ true → is_last (ups w s) q ≡ true) → Linked v p (xs ++ ys) → Linked w p xs
+linked_prefix v w p [] ys same l = tt
+linked_prefix v w p (s ∷ xs) ys same l = (same s p l.0, linked_prefix v w s xs ys same l.1)
 
-line_front : (v w : Sight) (ids : List ℕ) (o : Option ℕ) → ((s q : ℕ) → is_last (ups v s) q ≡ true → is_last (ups w s) q ≡ true) → LinkedLine v (line_of ids o) → LinkedLine w ids
-line_front v w [] o same l = tt
-line_front v w (a ∷ rest) None same l = linked_front v w a rest [] same (subst (λ us. Linked v a us) (sym (append-nil rest)) l)
-line_front v w (a ∷ rest) (Some j) same l = linked_front v w a rest (j ∷ []) same l
+extended_prefix : (v w : View) (ids : List ℕ) (o : Option ℕ) → ((s q : ℕ) → is_last (ups v s) q ≡ true → is_last (ups w s) q ≡ true) → LinkedExtended v (extended_of ids o) → LinkedExtended w ids
+extended_prefix v w [] o same l = tt
+extended_prefix v w (a ∷ rest) None same l = linked_prefix v w a rest [] same (subst (λ us. Linked v a us) (sym (append-nil rest)) l)
+extended_prefix v w (a ∷ rest) (Some j) same l = linked_prefix v w a rest (j ∷ []) same l
 
-first_front : (ids : List ℕ) (o : Option ℕ) (s : ℕ) → is_in ids s ≡ true → is_first (line_of ids o) s ≡ is_first ids s
-first_front [] o s member = absurd (false≢true member)
-first_front (a ∷ rest) None s member = refl
-first_front (a ∷ rest) (Some j) s member = refl
+first_prefix : (ids : List ℕ) (o : Option ℕ) (s : ℕ) → is_in ids s ≡ true → is_first (extended_of ids o) s ≡ is_first ids s
+first_prefix [] o s member = absurd (false≢true member)
+first_prefix (a ∷ rest) None s member = refl
+first_prefix (a ∷ rest) (Some j) s member = refl
 
 -- the master without a server that joins
 abbrev pub alone : Master → Master
 alone m = record m { joiner = None }
 
--- The server that joins, if there is one, is dropped: it may live, and is a bystander for good.
-pub dropped-keeps : (v : Sight) → Prefixes v → Prefixes (record v { master = alone v.master })
+-- The server that joins, if there is one, is dropped: it may live, and is an outsider for good.
+pub dropped-keeps : (v : View) → Prefixes v → Prefixes (record v { master = alone v.master })
 dropped-keeps v h = record {
   apart = apart-members chain joiner h.apart;
-  members = λ id member. h.members id (member-line chain joiner id member);
+  members = λ id member. h.members id (member-extended chain joiner id member);
   away = λ id used out. elim (cases_Bool (is_that joiner id)) [
     | inl joins ↦ inr (h.aside id joins)
     | inr other ↦ h.away id used (out_of id out other)
@@ -149,9 +149,9 @@ dropped-keeps v h = record {
   fresh = h.fresh;
   speaks = h.speaks;
   climbs = h.climbs;
-  linked = line_front v (record v { master = alone v.master }) chain joiner (λ s q last. last) h.linked;
-  heads = λ id member. heads_other (line v.master) chain id (v.channel parties.Master (parties.Server id)) (λ first. sym (first_front chain joiner id member) ∙ first) (h.heads id (member-line chain joiner id member));
-  headless = λ id member is. h.headless id (member-line chain joiner id member) is;
+  linked = extended_prefix v (record v { master = alone v.master }) chain joiner (λ s q last. last) h.linked;
+  heads = λ id member. heads_other (extended v.master) chain id (v.channel parties.Master (parties.Server id)) (λ first. sym (first_prefix chain joiner id member) ∙ first) (h.heads id (member-extended chain joiner id member));
+  headless = λ id member is. h.headless id (member-extended chain joiner id member) is;
 } where
   chain : List ℕ
   chain = v.master.chain
@@ -159,17 +159,17 @@ dropped-keeps v h = record {
   joiner : Option ℕ
   joiner = v.master.joiner
 
-  out_of : (id : ℕ) → is_in v.master.chain id ≡ false → is_that v.master.joiner id ≡ false → is_in (line v.master) id ≡ false
-  out_of id out other = elim (cases_Bool (is_in (line v.master) id)) [
+  out_of : (id : ℕ) → is_in v.master.chain id ≡ false → is_that v.master.joiner id ≡ false → is_in (extended v.master) id ≡ false
+  out_of id out other = elim (cases_Bool (is_in (extended v.master) id)) [
     | inr outside ↦ outside
-    | inl there ↦ elim (line-cases v.master.chain v.master.joiner id there) [ inl member ↦ absurd (both_ways (is_in v.master.chain id) out member) | inr joins ↦ absurd (both_ways (is_that v.master.joiner id) other joins) ]
+    | inl there ↦ elim (extended-cases v.master.chain v.master.joiner id there) [ inl member ↦ absurd (both_ways (is_in v.master.chain id) out member) | inr joins ↦ absurd (both_ways (is_that v.master.joiner id) other joins) ]
   ]
 
 -- ---- detections
 
 -- a row without a word on the head says nothing of it
-heads_none : (line : List ℕ) (s : ℕ) (ms : List Message) → NoHead ms → Heads line s ms
-heads_none line s ms none = subst (λ us. Heads line s us) (append-nil ms) (heads_after line s ms [] none tt)
+heads_none : (extended : List ℕ) (s : ℕ) (ms : List Message) → NoHead ms → Heads extended s ms
+heads_none extended s ms none = subst (λ us. Heads extended s us) (append-nil ms) (heads_after extended s ms [] none tt)
 
 -- where one isn't among them, none is left out
 without_absent : (id : ℕ) (ids : List ℕ) → is_in ids id ≡ false → without id ids ≡ ids
@@ -207,12 +207,12 @@ in_apart [] j h = absurd (false≢true h)
 in_apart (x ∷ ids) j h = elim (or_cases (eqb x j) (is_in ids j) h) [ inl e ↦ inl (sym (eqb-true x j e)) | inr r ↦ inr (in_apart ids j r) ]
 
 -- others stay linked where they are told of no predecessor
-linked_silent : (v : Sight) (m : Master) (out : List (Party × Message)) (p : ℕ) (line : List ℕ) → ((s : ℕ) → Among s line → reports (told_to s out) ≡ []) → Linked v p line → Linked (said v m out) p line
+linked_silent : (v : View) (m : Master) (out : List (Party × Message)) (p : ℕ) (extended : List ℕ) → ((s : ℕ) → Among s extended → reports (told_to s out) ≡ []) → Linked v p extended → Linked (said v m out) p extended
 linked_silent v m out p [] none l = tt
-linked_silent v m out p (s ∷ line) none l = (ap (λ us. is_last us p) (ups_silent v m out s (none s (inl refl))) ∙ l.0, linked_silent v m out s line (λ r among. none r (inr among)) l.1)
+linked_silent v m out p (s ∷ extended) none l = (ap (λ us. is_last us p) (ups_silent v m out s (none s (inl refl))) ∙ l.0, linked_silent v m out s extended (λ r among. none r (inr among)) l.1)
 
 -- What is said when a server behind another one is gone: the others are linked again, and nobody is told to be the head.
-record Closed (v : Sight) (m : Master) (a id : ℕ) (rest : List ℕ) (out : List (Party × Message)) : Type 0 where
+record Closed (v : View) (m : Master) (a id : ℕ) (rest : List ℕ) (out : List (Party × Message)) : Type 0 where
   linked : Linked (said v m out) a (without id rest)
   climbs : (j : ℕ) → Climbs v.server j (ups v j ++ reports (told_to j out))
   calm : (j : ℕ) → NoHead (told_to j out)
@@ -232,7 +232,7 @@ calm_one m true h = h
 calm_one m false h = tt
 
 -- the last one is gone
-closed_last : (v : Sight) (m : Master) (a id x : ℕ) → eqb x id ≡ true → ((j : ℕ) → Climbs v.server j (ups v j)) → Closed v m a id (x ∷ []) ((parties.Server a, BeTail 0) ∷ [])
+closed_last : (v : View) (m : Master) (a id x : ℕ) → eqb x id ≡ true → ((j : ℕ) → Climbs v.server j (ups v j)) → Closed v m a id (x ∷ []) ((parties.Server a, BeTail 0) ∷ [])
 closed_last v m a id x same climbs = record {
   linked = subst (λ us. Linked (said v m ((parties.Server a, BeTail 0) ∷ [])) a us) (sym (ap (λ b. cond (not b) (x ∷ []) []) same)) tt;
   climbs = λ j. subst (λ r. Climbs v.server j (ups v j ++ r)) (sym (none j)) (subst (λ us. Climbs v.server j us) (sym (append-nil (ups v j))) (climbs j));
@@ -247,7 +247,7 @@ closed_last v m a id x same climbs = record {
     go false = refl
 
 -- one between two others is gone
-closed_between : (v : Sight) (m : Master) (a id x y : ℕ) (rest : List ℕ) → eqb x id ≡ true → (v.server id).down ≡ true → Pairwise (λ b c. eqb b c ≡ false) (x ∷ y ∷ rest) → Linked v a (x ∷ y ∷ rest) → ((j : ℕ) → Climbs v.server j (ups v j))
+closed_between : (v : View) (m : Master) (a id x y : ℕ) (rest : List ℕ) → eqb x id ≡ true → (v.server id).down ≡ true → Pairwise (λ b c. eqb b c ≡ false) (x ∷ y ∷ rest) → Linked v a (x ∷ y ∷ rest) → ((j : ℕ) → Climbs v.server j (ups v j))
     → Closed v m a id (x ∷ y ∷ rest) ((parties.Server y, Report a) ∷ [])
 closed_between v m a id x y rest same down apart l climbs = record {
   linked = subst (λ us. Linked (said v m out) a us) (sym (ap (λ b. cond (not b) (x ∷ without id (y ∷ rest)) (without id (y ∷ rest))) same ∙ without_absent id (y ∷ rest) absent)) (
@@ -271,7 +271,7 @@ closed_between v m a id x y rest same down apart l climbs = record {
   climb j false e = subst (λ ms. Climbs v.server j (ups v j ++ reports ms)) (sym (one_told j y (Report a) false e)) (subst (λ us. Climbs v.server j us) (sym (append-nil (ups v j))) (climbs j))
 
 -- any one behind another one is gone
-closed : (v : Sight) (m : Master) (id : ℕ) (rest : List ℕ) (a : ℕ) → Pairwise (λ b c. eqb b c ≡ false) (a ∷ rest) → Linked v a rest → is_in rest id ≡ true → (v.server id).down ≡ true → ((j : ℕ) → Climbs v.server j (ups v j))
+closed : (v : View) (m : Master) (id : ℕ) (rest : List ℕ) (a : ℕ) → Pairwise (λ b c. eqb b c ≡ false) (a ∷ rest) → Linked v a rest → is_in rest id ≡ true → (v.server id).down ≡ true → ((j : ℕ) → Climbs v.server j (ups v j))
     → Closed v m a id rest (closing a id rest)
 closed v m id [] a apart l there down climbs = absurd (false≢true there)
 closed v m id (x ∷ []) a apart l there down climbs = go (eqb x id) refl where
@@ -291,38 +291,38 @@ closed v m id (x ∷ y ∷ rest) a apart l there down climbs = go (eqb x id) ref
   }
 
 -- a server behind the first has predecessors
-pub linked_some : (v : Sight) (a : ℕ) (rest : List ℕ) (s : ℕ) → Linked v a rest → Among s rest → ups v s ≡ [] → ⊥
+pub linked_some : (v : View) (a : ℕ) (rest : List ℕ) (s : ℕ) → Linked v a rest → Among s rest → ups v s ≡ [] → ⊥
 linked_some v a [] s l among none = absurd among
 linked_some v a (x ∷ rest) s l (inl e) none = false≢true (sym (ap (λ us. is_last us a) (ap (λ i. ups v i) (sym e) ∙ none)) ∙ l.0)
 linked_some v a (x ∷ rest) s l (inr among) none = linked_some v x rest s l.1 among none
 
 -- the sentences that any order keeps which leaves out one server that is down
-record LeavesOut (v : Sight) (m : Master) (id : ℕ) (out : List (Party × Message)) : Type 0 where
-  left : line m ≡ without id (line v.master)
+record LeavesOut (v : View) (m : Master) (id : ℕ) (out : List (Party × Message)) : Type 0 where
+  left : extended m ≡ without id (extended v.master)
   used : m.used ≡ v.master.used
   joins : (j : ℕ) → is_that m.joiner j ≡ true → is_that v.master.joiner j ≡ true
   silent : (j : ℕ) → is_in v.master.chain j ≡ false → told_to j out ≡ []
 
-left_apart : (v : Sight) (m : Master) (id : ℕ) (out : List (Party × Message)) → Prefixes v → LeavesOut v m id out → Pairwise (λ a b. eqb a b ≡ false) (line m)
-left_apart v m id out h o = subst (λ us. Pairwise (λ a b. eqb a b ≡ false) us) (sym o.left) (pairwise-filter (λ a b. eqb a b ≡ false) (λ other. not (eqb other id)) (line v.master) h.apart)
+left_apart : (v : View) (m : Master) (id : ℕ) (out : List (Party × Message)) → Prefixes v → LeavesOut v m id out → Pairwise (λ a b. eqb a b ≡ false) (extended m)
+left_apart v m id out h o = subst (λ us. Pairwise (λ a b. eqb a b ≡ false) us) (sym o.left) (pairwise-filter (λ a b. eqb a b ≡ false) (λ other. not (eqb other id)) (extended v.master) h.apart)
 
-left_members : (v : Sight) (m : Master) (id : ℕ) (out : List (Party × Message)) → Prefixes v → LeavesOut v m id out → (j : ℕ) → is_in (line m) j ≡ true → is_in m.used j ≡ true
-left_members v m id out h o j member = ap (λ us. is_in us j) o.used ∙ h.members j (in-without id (line v.master) j (sym (ap (λ us. is_in us j) o.left) ∙ member)).0
+left_members : (v : View) (m : Master) (id : ℕ) (out : List (Party × Message)) → Prefixes v → LeavesOut v m id out → (j : ℕ) → is_in (extended m) j ≡ true → is_in m.used j ≡ true
+left_members v m id out h o j member = ap (λ us. is_in us j) o.used ∙ h.members j (in-without id (extended v.master) j (sym (ap (λ us. is_in us j) o.left) ∙ member)).0
 
-left_away : (v : Sight) (m : Master) (id : ℕ) (out : List (Party × Message)) → Prefixes v → LeavesOut v m id out → (v.server id).down ≡ true → (j : ℕ) → is_in m.used j ≡ true → is_in (line m) j ≡ false
-    → ((v.server j).down ≡ true) ⊎ Bystander (v.server j) (v.channel parties.Master (parties.Server j) ++ told_to j out)
+left_away : (v : View) (m : Master) (id : ℕ) (out : List (Party × Message)) → Prefixes v → LeavesOut v m id out → (v.server id).down ≡ true → (j : ℕ) → is_in m.used j ≡ true → is_in (extended m) j ≡ false
+    → ((v.server j).down ≡ true) ⊎ Outsider (v.server j) (v.channel parties.Master (parties.Server j) ++ told_to j out)
 left_away v m id out h o down j used away = go (eqb j id) refl where
-  go : (t : Bool) → eqb j id ≡ t → ((v.server j).down ≡ true) ⊎ Bystander (v.server j) (v.channel parties.Master (parties.Server j) ++ told_to j out)
+  go : (t : Bool) → eqb j id ≡ t → ((v.server j).down ≡ true) ⊎ Outsider (v.server j) (v.channel parties.Master (parties.Server j) ++ told_to j out)
   go true e = inl (subst (λ i. (v.server i).down ≡ true) (sym (eqb-true j id e)) down)
-  go false e = let was = out-without id (line v.master) j (sym (ap (λ us. is_in us j) o.left) ∙ away) e in
-      still_away (v.server j) (v.channel parties.Master (parties.Server j)) (told_to j out) (o.silent j (out-line v.master.chain v.master.joiner j was).0) (h.away j (sym (ap (λ us. is_in us j) o.used) ∙ used) was)
+  go false e = let was = out-without id (extended v.master) j (sym (ap (λ us. is_in us j) o.left) ∙ away) e in
+      still_away (v.server j) (v.channel parties.Master (parties.Server j)) (told_to j out) (o.silent j (out-extended v.master.chain v.master.joiner j was).0) (h.away j (sym (ap (λ us. is_in us j) o.used) ∙ used) was)
 
-left_aside : (v : Sight) (m : Master) (id : ℕ) (out : List (Party × Message)) → Prefixes v → LeavesOut v m id out → (j : ℕ) → is_that m.joiner j ≡ true → Bystander (v.server j) (v.channel parties.Master (parties.Server j) ++ told_to j out)
+left_aside : (v : View) (m : Master) (id : ℕ) (out : List (Party × Message)) → Prefixes v → LeavesOut v m id out → (j : ℕ) → is_that m.joiner j ≡ true → Outsider (v.server j) (v.channel parties.Master (parties.Server j) ++ told_to j out)
 left_aside v m id out h o j is = let joins = o.joins j is in
     unsaid (v.server j) (v.channel parties.Master (parties.Server j)) (told_to j out) (o.silent j (joiner-out v.master.chain v.master.joiner j h.apart joins)) (h.aside j joins)
 
 -- the head is gone, and the next one is told
-head_lost : (v : Sight) (m : Master) (a b : ℕ) (rest : List ℕ) → Prefixes v → line v.master ≡ a ∷ b ∷ rest → LeavesOut v m a ((parties.Server b, BeHead) ∷ []) → (v.server a).down ≡ true → Said v m ((parties.Server b, BeHead) ∷ [])
+head_lost : (v : View) (m : Master) (a b : ℕ) (rest : List ℕ) → Prefixes v → extended v.master ≡ a ∷ b ∷ rest → LeavesOut v m a ((parties.Server b, BeHead) ∷ []) → (v.server a).down ≡ true → Said v m ((parties.Server b, BeHead) ∷ [])
 head_lost v m a b rest h is o down = record {
   apart = left_apart v m a out h o;
   members = left_members v m a out h o;
@@ -330,7 +330,7 @@ head_lost v m a b rest h is o down = record {
   aside = left_aside v m a out h o;
   unused = λ id un. let was = sym (ap (λ us. is_in us id) o.used) ∙ un in (was, one_told id b BeHead false (ne_eqb id b (λ e. both_ways (is_in v.master.used id) was (h.members id (ap (λ us. is_in us id) is ∙ or_right (eqb a id) (is_in (b ∷ rest) id) (or_left (eqb b id) (is_in rest id) (eq-eqb b id (sym e))))))));
   climbs = λ id. subst (λ us. Climbs v.server id us) (sym (ap (λ r. ups v id ++ r) (none id) ∙ append-nil (ups v id))) (h.climbs id);
-  linked = subst (λ us. LinkedLine (said v m out) us) (sym now) (linked_silent v m out b rest (λ s among. none s) old_linked.1);
+  linked = subst (λ us. LinkedExtended (said v m out) us) (sym now) (linked_silent v m out b rest (λ s among. none s) old_linked.1);
   heads = λ id member. subst (λ us. Heads us id (v.channel parties.Master (parties.Server id) ++ told_to id out)) (sym now) (told_head id (subst (λ us. is_in us id ≡ true) now member) (eqb id b) refl);
   headless = λ id member is_head. ap (λ r. ups v id ++ r) (none id) ∙ append-nil (ups v id) ∙ h.headless id (ap (λ us. is_in us id) is ∙ or_right (eqb a id) (is_in (b ∷ rest) id) (subst (λ us. is_in us id ≡ true) now member)) is_head;
 } where
@@ -341,9 +341,9 @@ head_lost v m a b rest h is o down = record {
   apart = subst (λ us. Pairwise (λ x y. eqb x y ≡ false) us) is h.apart
 
   old_linked : Linked v a (b ∷ rest)
-  old_linked = subst (λ us. LinkedLine v us) is h.linked
+  old_linked = subst (λ us. LinkedExtended v us) is h.linked
 
-  now : line m ≡ b ∷ rest
+  now : extended m ≡ b ∷ rest
   now = o.left ∙ ap (λ us. without a us) is ∙ ap (λ t. cond (not t) (a ∷ without a (b ∷ rest)) (without a (b ∷ rest))) (eq-eqb a a refl) ∙ without_absent a (b ∷ rest) (apart_out a (b ∷ rest) apart.0)
 
   none : (j : ℕ) → reports (told_to j ((parties.Server b, BeHead) ∷ [])) ≡ []
@@ -354,14 +354,14 @@ head_lost v m a b rest h is o down = record {
 
   told_head : (id : ℕ) → is_in (b ∷ rest) id ≡ true → (t : Bool) → eqb id b ≡ t → Heads (b ∷ rest) id (v.channel parties.Master (parties.Server id) ++ told_to id ((parties.Server b, BeHead) ∷ []))
   told_head id member t e = heads_after (b ∷ rest) id (v.channel parties.Master (parties.Server id)) (told_to id ((parties.Server b, BeHead) ∷ []))
-      (no_head (line v.master) id (v.channel parties.Master (parties.Server id)) (ap (λ us. is_first us id) is ∙ apart.0 id (in_apart (b ∷ rest) id member)) (h.heads id (ap (λ us. is_in us id) is ∙ or_right (eqb a id) (is_in (b ∷ rest) id) member)))
+      (no_head (extended v.master) id (v.channel parties.Master (parties.Server id)) (ap (λ us. is_first us id) is ∙ apart.0 id (in_apart (b ∷ rest) id member)) (h.heads id (ap (λ us. is_in us id) is ∙ or_right (eqb a id) (is_in (b ∷ rest) id) member)))
       (subst (λ ms. Heads (b ∷ rest) id ms) (sym (one_told id b BeHead t e)) (ends t e)) where
         ends : (u : Bool) → eqb id b ≡ u → Heads (b ∷ rest) id (cond u (BeHead ∷ []) [])
         ends true k = (eq-eqb b id (sym (eqb-true id b k)), refl, tt)
         ends false k = tt
 
 -- another one is gone
-other_lost : (v : Sight) (m : Master) (a id : ℕ) (rest : List ℕ) → Prefixes v → line v.master ≡ a ∷ rest → eqb a id ≡ false → is_in rest id ≡ true → LeavesOut v m id (closing a id rest) → (v.server id).down ≡ true → Said v m (closing a id rest)
+other_lost : (v : View) (m : Master) (a id : ℕ) (rest : List ℕ) → Prefixes v → extended v.master ≡ a ∷ rest → eqb a id ≡ false → is_in rest id ≡ true → LeavesOut v m id (closing a id rest) → (v.server id).down ≡ true → Said v m (closing a id rest)
 other_lost v m a id rest h is other there o down = record {
   apart = left_apart v m id (closing a id rest) h o;
   members = left_members v m id (closing a id rest) h o;
@@ -370,7 +370,7 @@ other_lost v m a id rest h is other there o down = record {
   unused = λ j un. let was = sym (ap (λ us. is_in us j) o.used) ∙ un in
       let parts = or_parts (eqb a j) (is_in rest j) (out_of j was) in (was, behind.silent j parts.0 parts.1);
   climbs = behind.climbs;
-  linked = subst (λ us. LinkedLine (said v m (closing a id rest)) us) (sym now) behind.linked;
+  linked = subst (λ us. LinkedExtended (said v m (closing a id rest)) us) (sym now) behind.linked;
   heads = λ j member. subst (λ us. Heads us j (v.channel parties.Master (parties.Server j) ++ told_to j (closing a id rest))) (sym now) (row j (was_member j member) (eqb a j) refl);
   headless = λ j member is_head. let none = h.headless j (was_member j member) is_head in
       ap (λ us. us ++ reports (told_to j (closing a id rest))) none ∙ first_told j (was_member j member) none;
@@ -379,12 +379,12 @@ other_lost v m a id rest h is other there o down = record {
   apart = subst (λ us. Pairwise (λ x y. eqb x y ≡ false) us) is h.apart
 
   old_linked : Linked v a rest
-  old_linked = subst (λ us. LinkedLine v us) is h.linked
+  old_linked = subst (λ us. LinkedExtended v us) is h.linked
 
   behind : Closed v m a id rest (closing a id rest)
   behind = closed v m id rest a apart old_linked there down h.climbs
 
-  now : line m ≡ a ∷ without id rest
+  now : extended m ≡ a ∷ without id rest
   now = o.left ∙ ap (λ us. without id us) is ∙ ap (λ t. cond (not t) (a ∷ without id rest) (without id rest)) other
 
   out_of : (j : ℕ) → is_in v.master.used j ≡ false → is_in (a ∷ rest) j ≡ false
@@ -393,16 +393,16 @@ other_lost v m a id rest h is other there o down = record {
     go true e = absurd (both_ways (is_in v.master.used j) unused (h.members j (ap (λ us. is_in us j) is ∙ e)))
     go false e = refl
 
-  was_member : (j : ℕ) → is_in (line m) j ≡ true → is_in (line v.master) j ≡ true
-  was_member j member = (in-without id (line v.master) j (sym (ap (λ us. is_in us j) o.left) ∙ member)).0
+  was_member : (j : ℕ) → is_in (extended m) j ≡ true → is_in (extended v.master) j ≡ true
+  was_member j member = (in-without id (extended v.master) j (sym (ap (λ us. is_in us j) o.left) ∙ member)).0
 
-  row : (j : ℕ) → is_in (line v.master) j ≡ true → (t : Bool) → eqb a j ≡ t → Heads (a ∷ without id rest) j (v.channel parties.Master (parties.Server j) ++ told_to j (closing a id rest))
-  row j member true e = heads_first (line v.master) (a ∷ without id rest) j (v.channel parties.Master (parties.Server j)) (told_to j (closing a id rest)) e (h.heads j member)
+  row : (j : ℕ) → is_in (extended v.master) j ≡ true → (t : Bool) → eqb a j ≡ t → Heads (a ∷ without id rest) j (v.channel parties.Master (parties.Server j) ++ told_to j (closing a id rest))
+  row j member true e = heads_first (extended v.master) (a ∷ without id rest) j (v.channel parties.Master (parties.Server j)) (told_to j (closing a id rest)) e (h.heads j member)
       (behind.aside j (subst (λ i. is_in rest i ≡ false) (eqb-true a j e) (apart_out a rest apart.0))) (behind.calm j)
   row j member false e = heads_after (a ∷ without id rest) j (v.channel parties.Master (parties.Server j)) (told_to j (closing a id rest))
-      (no_head (line v.master) j (v.channel parties.Master (parties.Server j)) (ap (λ us. is_first us j) is ∙ e) (h.heads j member)) (heads_none (a ∷ without id rest) j (told_to j (closing a id rest)) (behind.calm j))
+      (no_head (extended v.master) j (v.channel parties.Master (parties.Server j)) (ap (λ us. is_first us j) is ∙ e) (h.heads j member)) (heads_none (a ∷ without id rest) j (told_to j (closing a id rest)) (behind.calm j))
 
-  first_told : (j : ℕ) → is_in (line v.master) j ≡ true → ups v j ≡ [] → reports (told_to j (closing a id rest)) ≡ []
+  first_told : (j : ℕ) → is_in (extended v.master) j ≡ true → ups v j ≡ [] → reports (told_to j (closing a id rest)) ≡ []
   first_told j member none = elim (or_cases (eqb a j) (is_in rest j) (sym (ap (λ us. is_in us j) is) ∙ member)) [
     | inl first ↦ behind.aside j (subst (λ i. is_in rest i ≡ false) (eqb-true a j first) (apart_out a rest apart.0))
     | inr later ↦ absurd (linked_some v a rest j old_linked (in_apart rest j later) none)
@@ -434,9 +434,9 @@ loss_silent id (a ∷ b ∷ rest) j out = go (eqb a id) where
   go true = one_told j b BeHead false (eqb_turned b j (or_parts (eqb b j) (is_in rest j) parts.1).0)
   go false = closing_silent a id (b ∷ rest) j parts.0 parts.1
 
--- What is said of a loss in the line keeps all sentences, if it is said to members alone.
-lost_said : (v : Sight) (m : Master) (id : ℕ) → Prefixes v → (line_now : List ℕ) → line v.master ≡ line_now → is_in line_now id ≡ true → (v.server id).down ≡ true → (length line_now ≡ 1 → ⊥)
-    → LeavesOut v m id (said_of_loss id line_now) → Said v m (said_of_loss id line_now)
+-- What is said of a loss in the extended chain keeps all sentences, if it is said to members alone.
+lost_said : (v : View) (m : Master) (id : ℕ) → Prefixes v → (extended_now : List ℕ) → extended v.master ≡ extended_now → is_in extended_now id ≡ true → (v.server id).down ≡ true → (length extended_now ≡ 1 → ⊥)
+    → LeavesOut v m id (said_of_loss id extended_now) → Said v m (said_of_loss id extended_now)
 lost_said v m id h [] is there down more o = absurd (false≢true there)
 lost_said v m id h (a ∷ []) is there down more o = absurd (more refl)
 lost_said v m id h (a ∷ b ∷ rest) is there down more o = go (eqb a id) refl o where
@@ -444,30 +444,30 @@ lost_said v m id h (a ∷ b ∷ rest) is there down more o = go (eqb a id) refl 
   go true e k = head_lost v m a b rest h is (subst (λ i. LeavesOut v m i ((parties.Server b, BeHead) ∷ [])) (sym (eqb-true a id e)) k) (subst (λ i. (v.server i).down ≡ true) (sym (eqb-true a id e)) down)
   go false e k = other_lost v m a id (b ∷ rest) h is e (elim (or_cases (eqb a id) (is_in (b ∷ rest) id) there) [ inl same ↦ absurd (both_ways (eqb a id) e same) | inr later ↦ later ]) k down
 
--- where another one than the last member is lost, what is said is the same for the line
-closing_line : (p id j : ℕ) (us : List ℕ) → is_last us id ≡ false → eqb j id ≡ false → closing p id (us ++ j ∷ []) ≡ closing p id us
-closing_line p id j [] last other = ap (λ b. cond b ((parties.Server p, BeTail 0) ∷ []) []) other
-closing_line p id j (a ∷ []) last other = ap (λ b. cond b ((parties.Server j, Report p) ∷ []) (closing a id (j ∷ []))) last ∙ ap (λ b. cond b ((parties.Server a, BeTail 0) ∷ []) []) other
+-- where another one than the last member is lost, what is said is the same for the extended chain
+closing_extended : (p id j : ℕ) (us : List ℕ) → is_last us id ≡ false → eqb j id ≡ false → closing p id (us ++ j ∷ []) ≡ closing p id us
+closing_extended p id j [] last other = ap (λ b. cond b ((parties.Server p, BeTail 0) ∷ []) []) other
+closing_extended p id j (a ∷ []) last other = ap (λ b. cond b ((parties.Server j, Report p) ∷ []) (closing a id (j ∷ []))) last ∙ ap (λ b. cond b ((parties.Server a, BeTail 0) ∷ []) []) other
     ∙ sym (ap (λ b. cond b ((parties.Server p, BeTail 0) ∷ []) []) last)
-closing_line p id j (a ∷ b ∷ rest) last other = ap (λ us. cond (eqb a id) ((parties.Server b, Report p) ∷ []) us) (closing_line a id j (b ∷ rest) last other)
+closing_extended p id j (a ∷ b ∷ rest) last other = ap (λ us. cond (eqb a id) ((parties.Server b, Report p) ∷ []) us) (closing_extended a id j (b ∷ rest) last other)
 
-pub loss-line : (id : ℕ) (ids : List ℕ) (o : Option ℕ) → is_last ids id ≡ false → is_in ids id ≡ true → is_that o id ≡ false → said_of_loss id (line_of ids o) ≡ said_of_loss id ids
-loss-line id ids None last member other = refl
-loss-line id [] (Some j) last member other = absurd (false≢true member)
-loss-line id (a ∷ []) (Some j) last member other = absurd (both_ways (eqb a id) last (elim (or_cases (eqb a id) false member) [ inl e ↦ e | inr none ↦ absurd (false≢true none) ]))
-loss-line id (a ∷ b ∷ rest) (Some j) last member other = ap (λ us. cond (eqb a id) ((parties.Server b, BeHead) ∷ []) us) (closing_line a id j (b ∷ rest) last other)
+pub loss-extended : (id : ℕ) (ids : List ℕ) (o : Option ℕ) → is_last ids id ≡ false → is_in ids id ≡ true → is_that o id ≡ false → said_of_loss id (extended_of ids o) ≡ said_of_loss id ids
+loss-extended id ids None last member other = refl
+loss-extended id [] (Some j) last member other = absurd (false≢true member)
+loss-extended id (a ∷ []) (Some j) last member other = absurd (both_ways (eqb a id) last (elim (or_cases (eqb a id) false member) [ inl e ↦ e | inr none ↦ absurd (false≢true none) ]))
+loss-extended id (a ∷ b ∷ rest) (Some j) last member other = ap (λ us. cond (eqb a id) ((parties.Server b, BeHead) ∷ []) us) (closing_extended a id j (b ∷ rest) last other)
 
--- so is the line without it
-pub without-line : (id : ℕ) (ids : List ℕ) (o : Option ℕ) → is_that o id ≡ false → line_of (without id ids) o ≡ without id (line_of ids o)
-without-line id ids None other = refl
-without-line id [] (Some j) other = sym (ap (λ b. cond (not b) (j ∷ []) []) other)
-without-line id (a ∷ ids) (Some j) other = go (eqb a id) (without-line id ids (Some j) other) where
+-- so is the extended chain without it
+pub without-extended : (id : ℕ) (ids : List ℕ) (o : Option ℕ) → is_that o id ≡ false → extended_of (without id ids) o ≡ without id (extended_of ids o)
+without-extended id ids None other = refl
+without-extended id [] (Some j) other = sym (ap (λ b. cond (not b) (j ∷ []) []) other)
+without-extended id (a ∷ ids) (Some j) other = go (eqb a id) (without-extended id ids (Some j) other) where
   go : (t : Bool) → without id ids ++ j ∷ [] ≡ without id (ids ++ j ∷ []) → cond (not t) (a ∷ without id ids) (without id ids) ++ j ∷ [] ≡ cond (not t) (a ∷ without id (ids ++ j ∷ [])) (without id (ids ++ j ∷ []))
   go true later = later
   go false later = ap (λ us. a ∷ us) later
 
 -- A detection keeps all sentences: of the server that joins, or of a member that is down, while others remain.
-pub detected-said : (v : Sight) (id : ℕ) → Prefixes v → (v.server id).down ≡ true → (is_that v.master.joiner id ≡ false → (is_in v.master.chain id ≡ true) × (length v.master.chain ≡ 1 → ⊥)) → Said (record v { master = alone v.master }) (dropped v.master).master (dropped v.master).said
+pub detected-said : (v : View) (id : ℕ) → Prefixes v → (v.server id).down ≡ true → (is_that v.master.joiner id ≡ false → (is_in v.master.chain id ≡ true) × (length v.master.chain ≡ 1 → ⊥)) → Said (record v { master = alone v.master }) (dropped v.master).master (dropped v.master).said
     → Prefixes (said v (detected id v.master).master (detected id v.master).said)
 unfolding detected
 detected-said v id h down parts dropping = go (is_that v.master.joiner id) refl where
@@ -480,7 +480,7 @@ detected-said v id h down parts dropping = go (is_that v.master.joiner id) refl 
     by_last : (t : Bool) → is_last v.master.chain id ≡ t → Prefixes (said v (closed_up id v.master).master (closed_up id v.master).said)
     by_last true last = said-keeps (record v { master = alone v.master }) (closed_up id v.master).master (said_of_loss id v.master.chain) (dropped-keeps v h)
         (lost_said (record v { master = alone v.master }) (closed_up id v.master).master id (dropped-keeps v h) v.master.chain refl member down (parts other).1 (record {
-          left = ap (λ o. line_of (without id v.master.chain) o) none;
+          left = ap (λ o. extended_of (without id v.master.chain) o) none;
           used = refl;
           joins = λ j is. absurd (false≢true (sym (ap (λ o. is_that o j) none) ∙ is));
           silent = loss_silent id v.master.chain;
@@ -488,8 +488,8 @@ detected-said v id h down parts dropping = go (is_that v.master.joiner id) refl 
           none : (closed_up id v.master).master.joiner ≡ None
           none = ap (λ b. cond b None v.master.joiner) last
     by_last false last = said-keeps v (closed_up id v.master).master (said_of_loss id v.master.chain) h
-        (subst (λ out. Said v (closed_up id v.master).master out) same (lost_said v (closed_up id v.master).master id h (line v.master) refl (member-line v.master.chain v.master.joiner id member) down more (record {
-          left = ap (λ o. line_of (without id v.master.chain) o) still ∙ without-line id v.master.chain v.master.joiner other;
+        (subst (λ out. Said v (closed_up id v.master).master out) same (lost_said v (closed_up id v.master).master id h (extended v.master) refl (member-extended v.master.chain v.master.joiner id member) down more (record {
+          left = ap (λ o. extended_of (without id v.master.chain) o) still ∙ without-extended id v.master.chain v.master.joiner other;
           used = refl;
           joins = λ j is. sym (ap (λ o. is_that o j) still) ∙ is;
           silent = λ j out. ap (λ us. told_to j us) same ∙ loss_silent id v.master.chain j out;
@@ -497,12 +497,12 @@ detected-said v id h down parts dropping = go (is_that v.master.joiner id) refl 
           still : (closed_up id v.master).master.joiner ≡ v.master.joiner
           still = ap (λ b. cond b None v.master.joiner) last
 
-          same : said_of_loss id (line v.master) ≡ said_of_loss id v.master.chain
-          same = loss-line id v.master.chain v.master.joiner last member other
+          same : said_of_loss id (extended v.master) ≡ said_of_loss id v.master.chain
+          same = loss-extended id v.master.chain v.master.joiner last member other
 
-          more : length (line v.master) ≡ 1 → ⊥
+          more : length (extended v.master) ≡ 1 → ⊥
           more is = longer v.master.chain v.master.joiner (parts other).1 member is where
-            longer : (ids : List ℕ) (o : Option ℕ) → (length ids ≡ 1 → ⊥) → is_in ids id ≡ true → length (line_of ids o) ≡ 1 → ⊥
+            longer : (ids : List ℕ) (o : Option ℕ) → (length ids ≡ 1 → ⊥) → is_in ids id ≡ true → length (extended_of ids o) ≡ 1 → ⊥
             longer ids None few there one = few one
             longer [] (Some j) few there one = false≢true there
             longer (a ∷ rest) (Some j) few there one = omega (arith, one, length-append rest (j ∷ []))
@@ -537,13 +537,13 @@ pub last_among : (a : ℕ) (rest : List ℕ) → is_in (a ∷ rest) (last_of a r
 last_among a [] = or_left (eqb a a) false (eq-eqb a a refl)
 last_among a (b ∷ rest) = or_right (eqb a (last_of b rest)) (is_in (b ∷ rest) (last_of b rest)) (last_among b rest)
 
--- a line that goes on with one that has the last one as predecessor
-linked_more : (v : Sight) (m : Master) (out : List (Party × Message)) (a : ℕ) (rest : List ℕ) (id : ℕ) → ((s : ℕ) → Among s rest → reports (told_to s out) ≡ []) → Linked v a rest → is_last (ups (said v m out) id) (last_of a rest) ≡ true → Linked (said v m out) a (rest ++ id ∷ [])
+-- an extended chain that goes on with one that has the last one as predecessor
+linked_more : (v : View) (m : Master) (out : List (Party × Message)) (a : ℕ) (rest : List ℕ) (id : ℕ) → ((s : ℕ) → Among s rest → reports (told_to s out) ≡ []) → Linked v a rest → is_last (ups (said v m out) id) (last_of a rest) ≡ true → Linked (said v m out) a (rest ++ id ∷ [])
 linked_more v m out a [] id none l last = (last, tt)
 linked_more v m out a (s ∷ rest) id none l last = (ap (λ us. is_last us a) (ups_silent v m out s (none s (inl refl))) ∙ l.0, linked_more v m out s rest id (λ r among. none r (inr among)) l.1 last)
 
 -- A join of a number that wasn't used keeps all sentences.
-pub joined-said : (v : Sight) (id a : ℕ) (rest : List ℕ) → Prefixes v → is_in v.master.used id ≡ false → v.master.chain ≡ a ∷ rest → Said (record v { master = alone v.master }) (joined id v.master).master (joined id v.master).said
+pub joined-said : (v : View) (id a : ℕ) (rest : List ℕ) → Prefixes v → is_in v.master.used id ≡ false → v.master.chain ≡ a ∷ rest → Said (record v { master = alone v.master }) (joined id v.master).master (joined id v.master).said
 unfolding joined
 joined-said v id a rest was_all unused is = subst (λ os. Said (record v { master = alone v.master }) m os) (sym (ap (λ us. said_of_join id us) is ∙ join_told id a rest)) (record {
   apart = pairwise-push (λ x y. eqb x y ≡ false) v.master.chain id h.apart (λ x among. member_other x (among_in v.master.chain x among));
@@ -555,8 +555,8 @@ joined-said v id a rest was_all unused is = subst (λ os. Said (record v { maste
   aside = λ j joins. stands_aside j (eqb-true id j joins);
   unused = λ j un. let parts = out_more v.master.used id j un in (parts.0, one_told j id (Report t) false (eqb_turned id j parts.1));
   climbs = λ j. climb j (eqb j id) refl;
-  linked = subst (λ us. LinkedLine (said v m out) (us ++ id ∷ [])) (sym is) (linked_more v m out a rest id (λ s among. ap reports (one_told s id (Report t) false (member_other s (ap (λ us. is_in us s) is ∙ or_right (eqb a s) (is_in rest s) (among_in rest s among)))))
-      (subst (λ us. LinkedLine v us) is h.linked) (ap (λ us. is_last us t) (said_ups v m out id ∙ ap (λ us. us ++ reports (told_to id out)) none_before ∙ ap reports (one_told id id (Report t) true (eq-eqb id id refl))) ∙ eq-eqb t t refl));
+  linked = subst (λ us. LinkedExtended (said v m out) (us ++ id ∷ [])) (sym is) (linked_more v m out a rest id (λ s among. ap reports (one_told s id (Report t) false (member_other s (ap (λ us. is_in us s) is ∙ or_right (eqb a s) (is_in rest s) (among_in rest s among)))))
+      (subst (λ us. LinkedExtended v us) is h.linked) (ap (λ us. is_last us t) (said_ups v m out id ∙ ap (λ us. us ++ reports (told_to id out)) none_before ∙ ap reports (one_told id id (Report t) true (eq-eqb id id refl))) ∙ eq-eqb t t refl));
   heads = λ j member. row j member (eqb j id) refl;
   headless = λ j member is_head. headless j member is_head (eqb j id) refl;
 }) where
@@ -586,7 +586,7 @@ joined-said v id a rest was_all unused is = subst (λ os. Said (record v { maste
 
   climb : (j : ℕ) (b : Bool) → eqb j id ≡ b → Climbs v.server j (ups v j ++ reports (told_to j ((parties.Server id, Report (last_of a rest)) ∷ [])))
   climb j true e = subst (λ ms. Climbs v.server j (ups v j ++ reports ms)) (sym (one_told j id (Report (last_of a rest)) true e))
-      (subst (λ us. Climbs v.server j (us ++ last_of a rest ∷ [])) (sym (ap (λ i. ups v i) (eqb-true j id e) ∙ none_before)) (front-none (v.server j).entries (v.server (last_of a rest)).entries (ap (λ i. (v.server i).entries) (eqb-true j id e) ∙ ap (λ s. s.entries) fresh.0)))
+      (subst (λ us. Climbs v.server j (us ++ last_of a rest ∷ [])) (sym (ap (λ i. ups v i) (eqb-true j id e) ∙ none_before)) (prefix-none (v.server j).entries (v.server (last_of a rest)).entries (ap (λ i. (v.server i).entries) (eqb-true j id e) ∙ ap (λ s. s.entries) fresh.0)))
   climb j false e = subst (λ ms. Climbs v.server j (ups v j ++ reports ms)) (sym (one_told j id (Report (last_of a rest)) false e)) (subst (λ us. Climbs v.server j us) (sym (append-nil (ups v j))) (h.climbs j))
 
   was : (j : ℕ) → is_in (v.master.chain ++ id ∷ []) j ≡ true → eqb j id ≡ false → is_in v.master.chain j ≡ true
@@ -607,8 +607,8 @@ joined-said v id a rest was_all unused is = subst (λ os. Said (record v { maste
   headless j member is_head true e = absurd (false≢true (sym (ap (λ i. (v.server i).head) (eqb-true j id e) ∙ ap (λ s. s.head) fresh.0) ∙ is_head))
   headless j member is_head false e = ap (λ ms. ups v j ++ reports ms) (one_told j id (Report (last_of a rest)) false e) ∙ append-nil (ups v j) ∙ h.headless j (was j member e) is_head
 
-  stands_aside : (j : ℕ) → id ≡ j → Bystander (v.server j) (v.channel parties.Master (parties.Server j) ++ told_to j ((parties.Server id, Report (last_of a rest)) ∷ []))
-  stands_aside j e = subst (λ i. Bystander (v.server i) (v.channel parties.Master (parties.Server i) ++ told_to i ((parties.Server id, Report (last_of a rest)) ∷ []))) e (record {
+  stands_aside : (j : ℕ) → id ≡ j → Outsider (v.server j) (v.channel parties.Master (parties.Server j) ++ told_to j ((parties.Server id, Report (last_of a rest)) ∷ []))
+  stands_aside j e = subst (λ i. Outsider (v.server i) (v.channel parties.Master (parties.Server i) ++ told_to i ((parties.Server id, Report (last_of a rest)) ∷ []))) e (record {
     full = ap (λ s. s.full) fresh.0;
     at_least = ap (λ s. s.at_least) fresh.0;
     head = ap (λ s. s.head) fresh.0;
@@ -619,25 +619,25 @@ joined-said v id a rest was_all unused is = subst (λ os. Said (record v { maste
 -- ---- messages to the master
 
 -- What is said to a member, if it tells of no predecessor and no head, keeps all sentences.
-quiet_said : (v : Sight) (m : Master) (to : ℕ) (word : Message) → Prefixes v → line m ≡ line v.master → m.used ≡ v.master.used → ((j : ℕ) → is_that m.joiner j ≡ true → is_that v.master.joiner j ≡ true) → is_in v.master.chain to ≡ true
+quiet_said : (v : View) (m : Master) (to : ℕ) (word : Message) → Prefixes v → extended m ≡ extended v.master → m.used ≡ v.master.used → ((j : ℕ) → is_that m.joiner j ≡ true → is_that v.master.joiner j ≡ true) → is_in v.master.chain to ≡ true
     → reports (word ∷ []) ≡ [] → NoHead (word ∷ []) → Said v m ((parties.Server to, word) ∷ [])
 quiet_said v m to word h stays used joins there told calm = record {
   apart = subst (λ us. Pairwise (λ a b. eqb a b ≡ false) us) (sym stays) h.apart;
   members = λ id k. ap (λ us. is_in us id) used ∙ h.members id (sym (ap (λ us. is_in us id) stays) ∙ k);
   away = λ id k out_of. let was = sym (ap (λ us. is_in us id) stays) ∙ out_of in
-      still_away (v.server id) (v.channel parties.Master (parties.Server id)) (told_to id out) (aside_told id (out-line v.master.chain v.master.joiner id was).0) (h.away id (sym (ap (λ us. is_in us id) used) ∙ k) was);
+      still_away (v.server id) (v.channel parties.Master (parties.Server id)) (told_to id out) (aside_told id (out-extended v.master.chain v.master.joiner id was).0) (h.away id (sym (ap (λ us. is_in us id) used) ∙ k) was);
   aside = λ id is. let was = joins id is in unsaid (v.server id) (v.channel parties.Master (parties.Server id)) (told_to id out) (aside_told id (joiner-out v.master.chain v.master.joiner id h.apart was)) (h.aside id was);
-  unused = λ id un. let was = sym (ap (λ us. is_in us id) used) ∙ un in (was, one_told id to word false (ne_eqb id to (λ e. both_ways (is_in v.master.used id) was (h.members id (subst (λ i. is_in (line v.master) i ≡ true) (sym e) member)))));
+  unused = λ id un. let was = sym (ap (λ us. is_in us id) used) ∙ un in (was, one_told id to word false (ne_eqb id to (λ e. both_ways (is_in v.master.used id) was (h.members id (subst (λ i. is_in (extended v.master) i ≡ true) (sym e) member)))));
   climbs = λ id. subst (λ us. Climbs v.server id us) (sym (ap (λ r. ups v id ++ r) (none id) ∙ append-nil (ups v id))) (h.climbs id);
-  linked = subst (λ us. LinkedLine (said v m out) us) (sym stays) (linked (line v.master) h.linked);
-  heads = λ id k. subst (λ us. Heads us id (v.channel parties.Master (parties.Server id) ++ told_to id out)) (sym stays) (row id (sym (ap (λ us. is_in us id) stays) ∙ k) (is_first (line v.master) id) refl);
+  linked = subst (λ us. LinkedExtended (said v m out) us) (sym stays) (linked (extended v.master) h.linked);
+  heads = λ id k. subst (λ us. Heads us id (v.channel parties.Master (parties.Server id) ++ told_to id out)) (sym stays) (row id (sym (ap (λ us. is_in us id) stays) ∙ k) (is_first (extended v.master) id) refl);
   headless = λ id k is_head. ap (λ r. ups v id ++ r) (none id) ∙ append-nil (ups v id) ∙ h.headless id (sym (ap (λ us. is_in us id) stays) ∙ k) is_head;
 } where
   out : List (Party × Message)
   out = (parties.Server to, word) ∷ []
 
-  member : is_in (line v.master) to ≡ true
-  member = member-line v.master.chain v.master.joiner to there
+  member : is_in (extended v.master) to ≡ true
+  member = member-extended v.master.chain v.master.joiner to there
 
   aside_told : (j : ℕ) → is_in v.master.chain j ≡ false → told_to j ((parties.Server to, word) ∷ []) ≡ []
   aside_told j not_member = one_told j to word false (ne_eqb j to (λ e. both_ways (is_in v.master.chain j) not_member (subst (λ i. is_in v.master.chain i ≡ true) (sym e) there)))
@@ -648,16 +648,16 @@ quiet_said v m to word h stays used joins there told calm = record {
     go true = told
     go false = refl
 
-  linked : (ids : List ℕ) → LinkedLine v ids → LinkedLine (said v m ((parties.Server to, word) ∷ [])) ids
+  linked : (ids : List ℕ) → LinkedExtended v ids → LinkedExtended (said v m ((parties.Server to, word) ∷ [])) ids
   linked [] l = tt
   linked (a ∷ ids) l = linked_silent v m ((parties.Server to, word) ∷ []) a ids (λ s among. none s) l
 
-  row : (j : ℕ) → is_in (line v.master) j ≡ true → (t : Bool) → is_first (line v.master) j ≡ t → Heads (line v.master) j (v.channel parties.Master (parties.Server j) ++ told_to j ((parties.Server to, word) ∷ []))
-  row j k true first = heads_first (line v.master) (line v.master) j (v.channel parties.Master (parties.Server j)) (told_to j ((parties.Server to, word) ∷ [])) first (h.heads j k) (none j) (calm_one word (eqb j to) calm)
-  row j k false other = heads_after (line v.master) j (v.channel parties.Master (parties.Server j)) (told_to j ((parties.Server to, word) ∷ [])) (no_head (line v.master) j (v.channel parties.Master (parties.Server j)) other (h.heads j k)) (heads_none (line v.master) j (told_to j ((parties.Server to, word) ∷ [])) (calm_one word (eqb j to) calm))
+  row : (j : ℕ) → is_in (extended v.master) j ≡ true → (t : Bool) → is_first (extended v.master) j ≡ t → Heads (extended v.master) j (v.channel parties.Master (parties.Server j) ++ told_to j ((parties.Server to, word) ∷ []))
+  row j k true first = heads_first (extended v.master) (extended v.master) j (v.channel parties.Master (parties.Server j)) (told_to j ((parties.Server to, word) ∷ [])) first (h.heads j k) (none j) (calm_one word (eqb j to) calm)
+  row j k false other = heads_after (extended v.master) j (v.channel parties.Master (parties.Server j)) (told_to j ((parties.Server to, word) ∷ [])) (no_head (extended v.master) j (v.channel parties.Master (parties.Server j)) other (h.heads j k)) (heads_none (extended v.master) j (told_to j ((parties.Server to, word) ∷ [])) (calm_one word (eqb j to) calm))
 
--- What is said to nobody, where the line stays, changes nothing.
-pub still_said : (v : Sight) (m : Master) → Prefixes v → line m ≡ line v.master → m.used ≡ v.master.used → ((j : ℕ) → is_that m.joiner j ≡ true → is_that v.master.joiner j ≡ true) → Said v m []
+-- What is said to nobody, where the extended chain stays, changes nothing.
+pub still_said : (v : View) (m : Master) → Prefixes v → extended m ≡ extended v.master → m.used ≡ v.master.used → ((j : ℕ) → is_that m.joiner j ≡ true → is_that v.master.joiner j ≡ true) → Said v m []
 still_said v m h stays used joins = record {
   apart = subst (λ us. Pairwise (λ a b. eqb a b ≡ false) us) (sym stays) h.apart;
   members = λ id k. ap (λ us. is_in us id) used ∙ h.members id (sym (ap (λ us. is_in us id) stays) ∙ k);
@@ -665,11 +665,11 @@ still_said v m h stays used joins = record {
   aside = λ id is. unsaid (v.server id) (v.channel parties.Master (parties.Server id)) [] refl (h.aside id (joins id is));
   unused = λ id un. (sym (ap (λ us. is_in us id) used) ∙ un, refl);
   climbs = λ id. subst (λ us. Climbs v.server id us) (sym (append-nil (ups v id))) (h.climbs id);
-  linked = subst (λ us. LinkedLine (said v m []) us) (sym stays) (linked (line v.master) h.linked);
-  heads = λ id k. subst (λ us. Heads us id (v.channel parties.Master (parties.Server id) ++ [])) (sym stays) (subst (λ ms. Heads (line v.master) id ms) (sym (append-nil (v.channel parties.Master (parties.Server id)))) (h.heads id (sym (ap (λ us. is_in us id) stays) ∙ k)));
+  linked = subst (λ us. LinkedExtended (said v m []) us) (sym stays) (linked (extended v.master) h.linked);
+  heads = λ id k. subst (λ us. Heads us id (v.channel parties.Master (parties.Server id) ++ [])) (sym stays) (subst (λ ms. Heads (extended v.master) id ms) (sym (append-nil (v.channel parties.Master (parties.Server id)))) (h.heads id (sym (ap (λ us. is_in us id) stays) ∙ k)));
   headless = λ id k is_head. append-nil (ups v id) ∙ h.headless id (sym (ap (λ us. is_in us id) stays) ∙ k) is_head;
 } where
-  linked : (ids : List ℕ) → LinkedLine v ids → LinkedLine (said v m []) ids
+  linked : (ids : List ℕ) → LinkedExtended v ids → LinkedExtended (said v m []) ids
   linked [] l = tt
   linked (a ∷ ids) l = linked_silent v m [] a ids (λ s among. refl) l
 
@@ -689,12 +689,12 @@ last_in (a ∷ []) id h = or_left (eqb a id) false h
 last_in (a ∷ b ∷ rest) id h = or_right (eqb a id) (is_in (b ∷ rest) id) (last_in (b ∷ rest) id h)
 
 -- The last member is told to feed nobody any more.
-pub dropped-said : (v : Sight) (a : ℕ) (rest : List ℕ) → Prefixes v → v.master.chain ≡ a ∷ rest → Said (record v { master = alone v.master }) (dropped v.master).master (dropped v.master).said
+pub dropped-said : (v : View) (a : ℕ) (rest : List ℕ) → Prefixes v → v.master.chain ≡ a ∷ rest → Said (record v { master = alone v.master }) (dropped v.master).master (dropped v.master).said
 dropped-said v a rest h is = subst (λ out. Said (record v { master = alone v.master }) (alone v.master) out) (sym (ap (λ us. to_last (Feed None) us) is ∙ last_told (Feed None) a rest))
     (quiet_said (record v { master = alone v.master }) (alone v.master) (last_of a rest) (Feed None) (dropped-keeps v h) refl refl (λ j joins. joins) (ap (λ us. is_in us (last_of a rest)) is ∙ last_among a rest) refl tt)
 
 -- Whatever the master hears, what it does keeps all sentences.
-pub heard-said : (v : Sight) (from : ℕ) (word : Message) → Prefixes v → Said v (hears from word v.master).master (hears from word v.master).said
+pub heard-said : (v : View) (from : ℕ) (word : Message) → Prefixes v → Said v (hears from word v.master).master (hears from word v.master).said
 unfolding hears
 heard-said v from (Have p count) h = go (stands_before p from v.master.chain) (joins_behind p from v.master) refl refl where
   go : (t u : Bool) → stands_before p from v.master.chain ≡ t → joins_behind p from v.master ≡ u
@@ -707,7 +707,7 @@ heard-said v from (Caught p count) h = go (joins_behind p from v.master) refl wh
   go : (t : Bool) → joins_behind p from v.master ≡ t → Said v (cond t (admitted p from count v.master) (no_order v.master)).master (cond t (admitted p from count v.master) (no_order v.master)).said
   go true e =
       let both = and_parts (is_that v.master.joiner from) (is_last v.master.chain p) e in
-      quiet_said v (admitted p from count v.master).master p (Adopt from count) h (sym (ap (λ o. line_of v.master.chain o) (that_some v.master.joiner from both.0))) refl (λ j none. absurd (false≢true none)) (last_in v.master.chain p both.1) refl tt
+      quiet_said v (admitted p from count v.master).master p (Adopt from count) h (sym (ap (λ o. extended_of v.master.chain o) (that_some v.master.joiner from both.0))) refl (λ j none. absurd (false≢true none)) (last_in v.master.chain p both.1) refl tt
   go false e = still_said v v.master h refl refl (λ j joins. joins)
 heard-said v from (Adopted s count) h = go (is_last v.master.chain s && not v.master.told) refl where
   go : (t : Bool) → (is_last v.master.chain s && not v.master.told) ≡ t → Said v (cond t (record { master = record v.master { told = true }; said = (parties.Server s, BeTail count) ∷ [] }) (no_order v.master)).master (cond t (record { master = record v.master { told = true }; said = (parties.Server s, BeTail count) ∷ [] }) (no_order v.master)).said

@@ -12,11 +12,11 @@ use Rattle.cq_world.proofs.Commits.Changes.{loss_last, loss_neutral}
 use Rattle.cq_world.proofs.Commits.Orders.{Neutral}
 use Rattle.cq_world.proofs.Commits.{bit}
 use Rattle.cq_world.proofs.Eaches.{Each, each-append, each-follows}
-use Rattle.cq_world.proofs.Lines.{member-line, joiner-out, line-before}
+use Rattle.cq_world.proofs.ExtendedChains.{member-extended, joiner-out, extended-before}
 use Rattle.cq_world.proofs.Prefixes.Climbing.{reports, one}
-use Rattle.cq_world.proofs.Prefixes.Orders.{told_to, one_told, in-without, eqb_turned, loss_silent, loss-line, without-line, last_told, last_of, last_top, alone, dropped-keeps}
+use Rattle.cq_world.proofs.Prefixes.Orders.{told_to, one_told, in-without, eqb_turned, loss_silent, loss-extended, without-extended, last_told, last_of, last_top, alone, dropped-keeps}
 use Rattle.cq_world.proofs.Prefixes.{Prefixes}
-use Rattle.cq_world.proofs.Sights.{Sight, line_of, line, said}
+use Rattle.cq_world.proofs.Views.{View, extended_of, extended, said}
 use Rattle.cq_world.proofs.Wholes.{Whole, reports_of, haves_of, adopts_of, feeds_of, OnlyTo, Ends, FeedsOut, Known, AdoptIs, links, tokens, before-self}
 use Rattle.cq_world.proofs.Wholes.Orders.{behind-one, linked-token, no-token, ends-free, closing-feed, tail_whole}
 use Rattle.cq_world.proofs.Wholes.Steps.{no_haves, no_adopts}
@@ -26,15 +26,15 @@ use Rattle.cq_world.proofs.Wholes.Turns.{reports-append, adopts-append, fed-appe
 
 -- whether one stands between two others
 abbrev pub between : ℕ → ℕ → ℕ → List ℕ → Bool
-between p d s line = stands_before p d line && stands_before d s line
+between p d s extended = stands_before p d extended && stands_before d s extended
 
-no_before : (p s : ℕ) (line : List ℕ) → (is_in line p ≡ true → ⊥) → stands_before p s line ≡ false
-no_before p s line h = elim (cases_Bool (stands_before p s line)) [ inl is ↦ absurd (h (before-in p s line is).0) | inr none ↦ none ]
+no_before : (p s : ℕ) (extended : List ℕ) → (is_in extended p ≡ true → ⊥) → stands_before p s extended ≡ false
+no_before p s extended h = elim (cases_Bool (stands_before p s extended)) [ inl is ↦ absurd (h (before-in p s extended is).0) | inr none ↦ none ]
 
-no_behind : (p s : ℕ) (line : List ℕ) → (is_in line s ≡ true → ⊥) → stands_before p s line ≡ false
-no_behind p s line h = elim (cases_Bool (stands_before p s line)) [ inl is ↦ absurd (h (before-in p s line is).1) | inr none ↦ none ]
+no_behind : (p s : ℕ) (extended : List ℕ) → (is_in extended s ≡ true → ⊥) → stands_before p s extended ≡ false
+no_behind p s extended h = elim (cases_Bool (stands_before p s extended)) [ inl is ↦ absurd (h (before-in p s extended is).1) | inr none ↦ none ]
 
--- what a line without one of its servers says of neighbours, and what is told of it
+-- what an extended chain without one of its servers says of neighbours, and what is told of it
 record Gone (d p s a : ℕ) (us : List ℕ) : Type 0 where
   neighbours : stands_before p s (without d (a ∷ us)) ≡ (stands_before p s (a ∷ us) || between p d s (a ∷ us))
   told : reports_of p (told_to s (closing a d us)) ≡ bit (between p d s (a ∷ us))
@@ -173,9 +173,9 @@ gone (x ∷ y ∷ rest) d p s a apart not_p not_s there = go (eqb x d) refl (λ 
     same_between : eqb x d ≡ false → between p d s (a ∷ x ∷ y ∷ rest) ≡ between p d s (x ∷ y ∷ rest)
     same_between other = and_same (stands_before p d (a ∷ x ∷ y ∷ rest)) (stands_before d s (a ∷ x ∷ y ∷ rest)) (stands_before p d (x ∷ y ∷ rest)) (stands_before d s (x ∷ y ∷ rest)) (skip_behind p d a x (y ∷ rest) other) (skip_before d s a x (y ∷ rest) first)
 
--- any server of a line of two or more
-pub gone-from : (d p s : ℕ) (line : List ℕ) → Apart line → eqb p d ≡ false → eqb s d ≡ false → is_in line d ≡ true → (length line ≡ 1 → ⊥)
-    → (stands_before p s (without d line) ≡ (stands_before p s line || between p d s line)) × (reports_of p (told_to s (said_of_loss d line)) ≡ bit (between p d s line))
+-- any server of an extended chain of two or more
+pub gone-from : (d p s : ℕ) (extended : List ℕ) → Apart extended → eqb p d ≡ false → eqb s d ≡ false → is_in extended d ≡ true → (length extended ≡ 1 → ⊥)
+    → (stands_before p s (without d extended) ≡ (stands_before p s extended || between p d s extended)) × (reports_of p (told_to s (said_of_loss d extended)) ≡ bit (between p d s extended))
 gone-from d p s [] apart not_p not_s there more = absurd (false≢true there)
 gone-from d p s (a ∷ []) apart not_p not_s there more = absurd (more refl)
 gone-from d p s (a ∷ b ∷ rest) apart not_p not_s there more = go (eqb a d) refl where
@@ -220,7 +220,7 @@ closing_names d s a (x ∷ y ∷ rest) apart there = go (eqb x d) refl (λ later
   go true e rec = one (eqb s y)
   go false e rec = rec (elim (or_cases (eqb x d) (is_in (y ∷ rest) d) there) [ inl same ↦ absurd (both_ways (eqb x d) e same) | inr r ↦ r ])
 
-loss_names : (d s : ℕ) (line : List ℕ) → Apart line → is_in line d ≡ true → reports_of d (told_to s (said_of_loss d line)) ≡ 0
+loss_names : (d s : ℕ) (extended : List ℕ) → Apart extended → is_in extended d ≡ true → reports_of d (told_to s (said_of_loss d extended)) ≡ 0
 loss_names d s [] apart there = refl
 loss_names d s (a ∷ []) apart there = refl
 loss_names d s (a ∷ b ∷ rest) apart there = go (eqb a d) refl where
@@ -275,10 +275,10 @@ words_out : (used chain : List ℕ) (m : Message) → Word used m → FeedsOut c
 words_out used chain (Feed succ) h = absurd h
 words_out used chain m h = tt
 
-words_end : (used line : List ℕ) (ms : List Message) → Each (Word used) ms → Ends line ms
-words_end used line [] h = tt
-words_end used line (m ∷ ms) h = step m h.0 (words_end used line ms h.1) where
-  step : (x : Message) → Word used x → Ends line ms → Ends line (x ∷ ms)
+words_end : (used extended : List ℕ) (ms : List Message) → Each (Word used) ms → Ends extended ms
+words_end used extended [] h = tt
+words_end used extended (m ∷ ms) h = step m h.0 (words_end used extended ms h.1) where
+  step : (x : Message) → Word used x → Ends extended ms → Ends extended (x ∷ ms)
   step (Adopt q n) g e = absurd g
   step (Feed succ) g e = absurd g
   step x g e = e
@@ -298,7 +298,7 @@ closing_words used j a d (x ∷ y ∷ rest) known all = go (eqb x d) (closing_wo
   go true h = word_one used (Report a) (eqb j y) known
   go false h = h
 
-loss_words : (used : List ℕ) (j d : ℕ) (line : List ℕ) → ((x : ℕ) → is_in line x ≡ true → is_in used x ≡ true) → Each (Word used) (told_to j (said_of_loss d line))
+loss_words : (used : List ℕ) (j d : ℕ) (extended : List ℕ) → ((x : ℕ) → is_in extended x ≡ true → is_in used x ≡ true) → Each (Word used) (told_to j (said_of_loss d extended))
 loss_words used j d [] all = tt
 loss_words used j d (a ∷ []) all = tt
 loss_words used j d (a ∷ b ∷ rest) all = go (eqb a d) (closing_words used j a d (b ∷ rest) (all a (or_left (eqb a a) (is_in (b ∷ rest) a) (eq-eqb a a refl))) (λ z there. all z (or_right (eqb a z) (is_in (b ∷ rest) z) there))) where
@@ -312,26 +312,26 @@ neutral_only x (Feed succ) h = absurd h
 neutral_only x (BeTail least) h = absurd h
 neutral_only x m h = tt
 
-neutral_end : (line : List ℕ) (ms : List Message) → Each Neutral ms → Ends line ms
-neutral_end line [] h = tt
-neutral_end line (m ∷ ms) h = step m h.0 (neutral_end line ms h.1) where
-  step : (x : Message) → Neutral x → Ends line ms → Ends line (x ∷ ms)
+neutral_end : (extended : List ℕ) (ms : List Message) → Each Neutral ms → Ends extended ms
+neutral_end extended [] h = tt
+neutral_end extended (m ∷ ms) h = step m h.0 (neutral_end extended ms h.1) where
+  step : (x : Message) → Neutral x → Ends extended ms → Ends extended (x ∷ ms)
   step (Adopt q n) g e = absurd g
   step (Feed succ) g e = absurd g
   step x g e = e
 
--- what ends a row, where fewer are in the line, and words follow that change no successor
-ends_fewer : (line less : List ℕ) (xs ys : List Message) → ((s : ℕ) → is_in less s ≡ true → is_in line s ≡ true) → Ends line xs → Each Neutral ys → Ends less (xs ++ ys)
-ends_fewer line less [] ys sub h calm = neutral_end less ys calm
-ends_fewer line less (m ∷ xs) ys sub h calm = step m h (λ k. ends_fewer line less xs ys sub k calm) where
+-- what ends a row, where fewer are in the extended chain, and words follow that change no successor
+ends_fewer : (extended less : List ℕ) (xs ys : List Message) → ((s : ℕ) → is_in less s ≡ true → is_in extended s ≡ true) → Ends extended xs → Each Neutral ys → Ends less (xs ++ ys)
+ends_fewer extended less [] ys sub h calm = neutral_end less ys calm
+ends_fewer extended less (m ∷ xs) ys sub h calm = step m h (λ k. ends_fewer extended less xs ys sub k calm) where
   more : (q : ℕ) → Each (OnlyTo q) xs → Each (OnlyTo q) (xs ++ ys)
   more q k = each-append (OnlyTo q) xs ys k (each-follows Neutral (OnlyTo q) ys (neutral_only q) calm)
 
-  step : (x : Message) → Ends line (x ∷ xs) → (Ends line xs → Ends less (xs ++ ys)) → Ends less (x ∷ (xs ++ ys))
+  step : (x : Message) → Ends extended (x ∷ xs) → (Ends extended xs → Ends less (xs ++ ys)) → Ends less (x ∷ (xs ++ ys))
   step (Adopt q n) k later = ((λ there. more q (k.0 (sub q there))), later k.1)
   step (Feed (Some q)) k later = ((λ there. more q (k.0 (sub q there))), later k.1)
   step x k later = later (rest_of x k) where
-    rest_of : (y : Message) → Ends line (y ∷ xs) → Ends line xs
+    rest_of : (y : Message) → Ends extended (y ∷ xs) → Ends extended xs
     rest_of (Adopt q n) g = g.1
     rest_of (Feed (Some q)) g = g.1
     rest_of y g = g
@@ -339,18 +339,18 @@ ends_fewer line less (m ∷ xs) ys sub h calm = step m h (λ k. ends_fewer line 
 -- ---- detections
 
 -- A detection keeps all sentences, where what is told changes no successor, or that of one that has no other server of
--- the line behind it.
-record Leaving (v : Sight) (d : ℕ) (m : Master) (out : List (Party × Message)) : Type 0 where
+-- the extended chain behind it.
+record Leaving (v : View) (d : ℕ) (m : Master) (out : List (Party × Message)) : Type 0 where
   words : (j : ℕ) → Each (Word v.master.used) (told_to j out)
-  told : (p s : ℕ) → eqb p d ≡ false → eqb s d ≡ false → reports_of p (told_to s out) ≡ bit (between p d s (line v.master))
+  told : (p s : ℕ) → eqb p d ≡ false → eqb s d ≡ false → reports_of p (told_to s out) ≡ bit (between p d s (extended v.master))
   names : (s : ℕ) → reports_of d (told_to s out) ≡ 0
-  neighbours : (p s : ℕ) → eqb p d ≡ false → eqb s d ≡ false → stands_before p s (without d (line v.master)) ≡ (stands_before p s (line v.master) || between p d s (line v.master))
-  calm : (j : ℕ) → is_in (without d (line v.master)) j ≡ true → Each Neutral (told_to j out) ⊎ ((x : ℕ) → is_in (without d (line v.master)) x ≡ true → tokens v j x ≡ 0)
+  neighbours : (p s : ℕ) → eqb p d ≡ false → eqb s d ≡ false → stands_before p s (without d (extended v.master)) ≡ (stands_before p s (extended v.master) || between p d s (extended v.master))
+  calm : (j : ℕ) → is_in (without d (extended v.master)) j ≡ true → Each Neutral (told_to j out) ⊎ ((x : ℕ) → is_in (without d (extended v.master)) x ≡ true → tokens v j x ≡ 0)
   joins : (j : ℕ) → is_that m.joiner j ≡ true → is_that v.master.joiner j ≡ true
   stays_last : (j t : ℕ) → is_that m.joiner j ≡ true → is_last m.chain t ≡ true → is_last v.master.chain t ≡ true
   silent : (j : ℕ) → is_that m.joiner j ≡ true → told_to j out ≡ []
 
-leaving_whole : (v : Sight) (c : List Entry) (d : ℕ) (m : Master) (out : List (Party × Message)) → Prefixes v → Whole v c → line m ≡ without d (line v.master) → m.chain ≡ without d v.master.chain → m.used ≡ v.master.used → Leaving v d m out → Whole (said v m out) c
+leaving_whole : (v : View) (c : List Entry) (d : ℕ) (m : Master) (out : List (Party × Message)) → Prefixes v → Whole v c → extended m ≡ without d (extended v.master) → m.chain ≡ without d v.master.chain → m.used ≡ v.master.used → Leaving v d m out → Whole (said v m out) c
 leaving_whole v c d m out g h stays chain used o = record {
   pred_known = λ id p is. subst (λ us. is_in us p ≡ true) (sym used) (h.pred_known id p is);
   succ_known = λ id s is. subst (λ us. is_in us s ≡ true) (sym used) (h.succ_known id s is);
@@ -359,8 +359,8 @@ leaving_whole v c d m out g h stays chain used o = record {
   unheard = λ p id unused. h.unheard p id (subst (λ us. is_in us id ≡ false) used unused);
   token = λ p s a b. token p s (was p a) (was s b);
   ends = λ p a. subst (λ us. Ends us (row p ++ told_to p out)) (sym stays) (elim (o.calm p (now p a)) [
-    | inl calm ↦ ends_fewer (line v.master) (without d (line v.master)) (row p) (told_to p out) (λ s there. (in-without d (line v.master) s there).0) (h.ends p (was p a).0) calm
-    | inr free ↦ ends-free (without d (line v.master)) (row p) (told_to p out) (λ s there. no-token v p s (free s there)) (words_end v.master.used (without d (line v.master)) (told_to p out) (o.words p))
+    | inl calm ↦ ends_fewer (extended v.master) (without d (extended v.master)) (row p) (told_to p out) (λ s there. (in-without d (extended v.master) s there).0) (h.ends p (was p a).0) calm
+    | inr free ↦ ends-free (without d (extended v.master)) (row p) (told_to p out) (λ s there. no-token v p s (free s there)) (words_end v.master.used (without d (extended v.master)) (told_to p out) (o.words p))
   ]);
   follows = λ p s a b link. elim (o.calm p (now p a)) [
     | inl calm ↦ each-append (OnlyTo s) (row p) (told_to p out) (h.follows p s (was p a).0 (was s b).0 link) (each-follows Neutral (OnlyTo s) (told_to p out) (neutral_only s) calm)
@@ -403,37 +403,37 @@ leaving_whole v c d m out g h stays chain used o = record {
   row : ℕ → List Message
   row j = v.channel parties.Master (parties.Server j)
 
-  now : (j : ℕ) → is_in (line m) j ≡ true → is_in (without d (line v.master)) j ≡ true
+  now : (j : ℕ) → is_in (extended m) j ≡ true → is_in (without d (extended v.master)) j ≡ true
   now j a = subst (λ us. is_in us j ≡ true) stays a
 
-  was : (j : ℕ) → is_in (line m) j ≡ true → (is_in (line v.master) j ≡ true) × (eqb j d ≡ false)
-  was j a = in-without d (line v.master) j (subst (λ us. is_in us j ≡ true) stays a)
+  was : (j : ℕ) → is_in (extended m) j ≡ true → (is_in (extended v.master) j ≡ true) × (eqb j d ≡ false)
+  was j a = in-without d (extended v.master) j (subst (λ us. is_in us j ≡ true) stays a)
 
   was_member : (j : ℕ) → is_in m.chain j ≡ true → is_in v.master.chain j ≡ true
   was_member j a = (in-without d v.master.chain j (subst (λ us. is_in us j ≡ true) chain a)).0
 
   -- neighbours were neighbours, or have become such
-  cases : (p s : ℕ) → stands_before p s (line m) ≡ true → (stands_before p s (line v.master) ≡ true) ⊎ (between p d s (line v.master) ≡ true)
+  cases : (p s : ℕ) → stands_before p s (extended m) ≡ true → (stands_before p s (extended v.master) ≡ true) ⊎ (between p d s (extended v.master) ≡ true)
   cases p s before =
       let here = subst (λ us. stands_before p s us ≡ true) stays before in
-      let members = before-in p s (without d (line v.master)) here in
-      let not_p = (in-without d (line v.master) p members.0).1 in
-      let not_s = (in-without d (line v.master) s members.1).1 in
-      or_cases (stands_before p s (line v.master)) (between p d s (line v.master)) (sym (o.neighbours p s not_p not_s) ∙ here)
+      let members = before-in p s (without d (extended v.master)) here in
+      let not_p = (in-without d (extended v.master) p members.0).1 in
+      let not_s = (in-without d (extended v.master) s members.1).1 in
+      or_cases (stands_before p s (extended v.master)) (between p d s (extended v.master)) (sym (o.neighbours p s not_p not_s) ∙ here)
 
   -- who become neighbours weren't
-  apart_before : (p s : ℕ) → between p d s (line v.master) ≡ true → stands_before p s (line v.master) ≡ false
-  apart_before p s is = go (stands_before p s (line v.master)) refl where
-    go : (t : Bool) → stands_before p s (line v.master) ≡ t → t ≡ false
+  apart_before : (p s : ℕ) → between p d s (extended v.master) ≡ true → stands_before p s (extended v.master) ≡ false
+  apart_before p s is = go (stands_before p s (extended v.master)) refl where
+    go : (t : Bool) → stands_before p s (extended v.master) ≡ t → t ≡ false
     go false e = refl
     go true e =
-        let both = and_parts (stands_before p d (line v.master)) (stands_before d s (line v.master)) is in
-        let same = behind-one p s d (line v.master) g.apart e both.0 in
-        absurd (before-self d (line v.master) g.apart (subst (λ i. stands_before d i (line v.master) ≡ true) same both.1))
+        let both = and_parts (stands_before p d (extended v.master)) (stands_before d s (extended v.master)) is in
+        let same = behind-one p s d (extended v.master) g.apart e both.0 in
+        absurd (before-self d (extended v.master) g.apart (subst (λ i. stands_before d i (extended v.master) ≡ true) same both.1))
 
-  unmade : (p s : ℕ) → between p d s (line v.master) ≡ true → tokens v p s ≡ 0
-  unmade p s is = let both = and_parts (stands_before p d (line v.master)) (stands_before d s (line v.master)) is in
-      h.token p s (before-in p d (line v.master) both.0).0 (before-in d s (line v.master) both.1).1 ∙ ap (λ t. bit t) (apart_before p s is)
+  unmade : (p s : ℕ) → between p d s (extended v.master) ≡ true → tokens v p s ≡ 0
+  unmade p s is = let both = and_parts (stands_before p d (extended v.master)) (stands_before d s (extended v.master)) is in
+      h.token p s (before-in p d (extended v.master) both.0).0 (before-in d s (extended v.master) both.1).1 ∙ ap (λ t. bit t) (apart_before p s is)
 
   sum : (a b : Bool) → (b ≡ true → a ≡ false) → bit a + bit b ≡ bit (a || b)
   sum true true e = absurd (false≢true (sym (e refl)))
@@ -441,8 +441,8 @@ leaving_whole v c d m out g h stays chain used o = record {
   sum false true e = refl
   sum false false e = refl
 
-  token : (p s : ℕ) → (is_in (line v.master) p ≡ true) × (eqb p d ≡ false) → (is_in (line v.master) s ≡ true) × (eqb s d ≡ false)
-      → reports_of p (v.channel parties.Master (parties.Server s) ++ told_to s out) + (haves_of p (v.channel (parties.Server s) parties.Master) + links (v.server p).succ s (v.channel parties.Master (parties.Server p) ++ told_to p out)) ≡ bit (stands_before p s (line m))
+  token : (p s : ℕ) → (is_in (extended v.master) p ≡ true) × (eqb p d ≡ false) → (is_in (extended v.master) s ≡ true) × (eqb s d ≡ false)
+      → reports_of p (v.channel parties.Master (parties.Server s) ++ told_to s out) + (haves_of p (v.channel (parties.Server s) parties.Master) + links (v.server p).succ s (v.channel parties.Master (parties.Server p) ++ told_to p out)) ≡ bit (stands_before p s (extended m))
   token p s a b =
       let same_links = ap (λ n. cond (is_that (v.server p).succ s) 1 n) (adopts-append s (v.channel parties.Master (parties.Server p)) (told_to p out) ∙ ap (λ n. adopts_of s (v.channel parties.Master (parties.Server p)) + n) (words_adopts v.master.used s (told_to p out) (o.words p)) ∙ plus_none (adopts_of s (v.channel parties.Master (parties.Server p)))) in
       let same_feeds = fed-append s (v.channel parties.Master (parties.Server p)) (told_to p out) in
@@ -454,7 +454,7 @@ leaving_whole v c d m out g h stays chain used o = record {
         words_feeds v.master.used s (told_to p out) (o.words p),
         o.told p s a.1 b.1,
         h.token p s a.0 b.0,
-        sum (stands_before p s (line v.master)) (between p d s (line v.master)) (apart_before p s),
+        sum (stands_before p s (extended v.master)) (between p d s (extended v.master)) (apart_before p s),
         ap (λ t. bit t) (sym (o.neighbours p s a.1 b.1)),
         ap (λ us. bit (stands_before p s us)) (sym stays),
       ) where
@@ -462,47 +462,47 @@ leaving_whole v c d m out g h stays chain used o = record {
         plus_none n = omega arith
 
   -- a server that is linked isn't told anew
-  untold : (p s : ℕ) → (is_in (line v.master) s ≡ true) × (eqb s d ≡ false) → is_that (v.server p).succ s ≡ true → (t : Bool) → eqb p d ≡ t → reports_of p (told_to s out) ≡ 0
+  untold : (p s : ℕ) → (is_in (extended v.master) s ≡ true) × (eqb s d ≡ false) → is_that (v.server p).succ s ≡ true → (t : Bool) → eqb p d ≡ t → reports_of p (told_to s out) ≡ 0
   untold p s a link true e = subst (λ i. reports_of i (told_to s out) ≡ 0) (sym (eqb-true p d e)) (o.names s)
-  untold p s a link false e = o.told p s e a.1 ∙ go (between p d s (line v.master)) refl where
-    go : (t : Bool) → between p d s (line v.master) ≡ t → bit t ≡ 0
+  untold p s a link false e = o.told p s e a.1 ∙ go (between p d s (extended v.master)) refl where
+    go : (t : Bool) → between p d s (extended v.master) ≡ t → bit t ≡ 0
     go false f = refl
     go true f = absurd (omega (arith, unmade p s f, linked-token v p s link))
 
 -- where another one than the last is lost
-other_whole : (v : Sight) (c : List Entry) (d : ℕ) (m : Master) → Prefixes v → Whole v c → is_in v.master.chain d ≡ true → (length v.master.chain ≡ 1 → ⊥) → is_that v.master.joiner d ≡ false → is_last v.master.chain d ≡ false
+other_whole : (v : View) (c : List Entry) (d : ℕ) (m : Master) → Prefixes v → Whole v c → is_in v.master.chain d ≡ true → (length v.master.chain ≡ 1 → ⊥) → is_that v.master.joiner d ≡ false → is_last v.master.chain d ≡ false
     → m.chain ≡ without d v.master.chain → m.joiner ≡ v.master.joiner → m.used ≡ v.master.used → Whole (said v m (said_of_loss d v.master.chain)) c
-other_whole v c d m g h member more other last chain joiner used = subst (λ out. Whole (said v m out) c) same (leaving_whole v c d m (said_of_loss d (line v.master)) g h stays chain used (record {
-  words = λ j. loss_words v.master.used j d (line v.master) g.members;
-  told = λ p s not_p not_s. (gone-from d p s (line v.master) g.apart not_p not_s there many).1;
-  names = λ s. loss_names d s (line v.master) g.apart there;
-  neighbours = λ p s not_p not_s. (gone-from d p s (line v.master) g.apart not_p not_s there many).0;
+other_whole v c d m g h member more other last chain joiner used = subst (λ out. Whole (said v m out) c) same (leaving_whole v c d m (said_of_loss d (extended v.master)) g h stays chain used (record {
+  words = λ j. loss_words v.master.used j d (extended v.master) g.members;
+  told = λ p s not_p not_s. (gone-from d p s (extended v.master) g.apart not_p not_s there many).1;
+  names = λ s. loss_names d s (extended v.master) g.apart there;
+  neighbours = λ p s not_p not_s. (gone-from d p s (extended v.master) g.apart not_p not_s there many).0;
   calm = λ j placed. inl (subst (λ out. Each Neutral (told_to j out)) (sym same) (loss_neutral d v.master.chain j last));
   joins = λ j is. sym (ap (λ o. is_that o j) joiner) ∙ is;
   stays_last = λ j t is at. last-back d t v.master.chain last (sym (ap (λ us. is_last us t) chain) ∙ at);
   silent = λ j is. ap (λ out. told_to j out) same ∙ loss_silent d v.master.chain j (joiner-out v.master.chain v.master.joiner j g.apart (sym (ap (λ o. is_that o j) joiner) ∙ is));
 })) where
-  same : said_of_loss d (line v.master) ≡ said_of_loss d v.master.chain
-  same = loss-line d v.master.chain v.master.joiner last member other
+  same : said_of_loss d (extended v.master) ≡ said_of_loss d v.master.chain
+  same = loss-extended d v.master.chain v.master.joiner last member other
 
-  there : is_in (line v.master) d ≡ true
-  there = member-line v.master.chain v.master.joiner d member
+  there : is_in (extended v.master) d ≡ true
+  there = member-extended v.master.chain v.master.joiner d member
 
-  stays : line m ≡ without d (line v.master)
-  stays = ap (λ us. line_of us m.joiner) chain ∙ ap (λ o. line_of (without d v.master.chain) o) joiner ∙ without-line d v.master.chain v.master.joiner other
+  stays : extended m ≡ without d (extended v.master)
+  stays = ap (λ us. extended_of us m.joiner) chain ∙ ap (λ o. extended_of (without d v.master.chain) o) joiner ∙ without-extended d v.master.chain v.master.joiner other
 
-  many : length (line v.master) ≡ 1 → ⊥
+  many : length (extended v.master) ≡ 1 → ⊥
   many is = longer v.master.chain v.master.joiner more member is where
-    longer : (ids : List ℕ) (o : Option ℕ) → (length ids ≡ 1 → ⊥) → is_in ids d ≡ true → length (line_of ids o) ≡ 1 → ⊥
+    longer : (ids : List ℕ) (o : Option ℕ) → (length ids ≡ 1 → ⊥) → is_in ids d ≡ true → length (extended_of ids o) ≡ 1 → ⊥
     longer ids None few at one_more = few one_more
     longer [] (Some j) few at one_more = false≢true at
     longer (a ∷ rest) (Some j) few at one_more = omega (arith, one_more, length-append rest (j ∷ []))
 
 -- where the last one is lost, and no server joins
-last_whole : (v : Sight) (c : List Entry) (d : ℕ) (m : Master) → Prefixes v → Whole v c → is_in v.master.chain d ≡ true → (length v.master.chain ≡ 1 → ⊥) → v.master.joiner ≡ None → is_last v.master.chain d ≡ true
+last_whole : (v : View) (c : List Entry) (d : ℕ) (m : Master) → Prefixes v → Whole v c → is_in v.master.chain d ≡ true → (length v.master.chain ≡ 1 → ⊥) → v.master.joiner ≡ None → is_last v.master.chain d ≡ true
     → m.chain ≡ without d v.master.chain → m.joiner ≡ None → m.used ≡ v.master.used → Whole (said v m (said_of_loss d v.master.chain)) c
 last_whole v c d m g h member more none last chain none_now used = leaving_whole v c d m (said_of_loss d v.master.chain) g h stays chain used (record {
-  words = λ j. loss_words v.master.used j d v.master.chain (λ x there. g.members x (member-line v.master.chain v.master.joiner x there));
+  words = λ j. loss_words v.master.used j d v.master.chain (λ x there. g.members x (member-extended v.master.chain v.master.joiner x there));
   told = λ p s not_p not_s. (gone-from d p s v.master.chain (chain-apart v g) not_p not_s member more).1 ∙ ap (λ us. bit (between p d s us)) (sym same);
   names = λ s. loss_names d s v.master.chain (chain-apart v g) member;
   neighbours = λ p s not_p not_s. ap (λ us. stands_before p s (without d us)) same ∙ (gone-from d p s v.master.chain (chain-apart v g) not_p not_s member more).0 ∙ ap (λ us. stands_before p s us || between p d s us) (sym same);
@@ -511,24 +511,24 @@ last_whole v c d m g h member more none last chain none_now used = leaving_whole
   stays_last = λ j t is. absurd (false≢true (sym (ap (λ o. is_that o j) none_now) ∙ is));
   silent = λ j is. absurd (false≢true (sym (ap (λ o. is_that o j) none_now) ∙ is));
 }) where
-  same : line v.master ≡ v.master.chain
-  same = ap (λ o. line_of v.master.chain o) none
+  same : extended v.master ≡ v.master.chain
+  same = ap (λ o. extended_of v.master.chain o) none
 
-  stays : line m ≡ without d (line v.master)
-  stays = ap (λ o. line_of m.chain o) none_now ∙ chain ∙ ap (λ us. without d us) (sym same)
+  stays : extended m ≡ without d (extended v.master)
+  stays = ap (λ o. extended_of m.chain o) none_now ∙ chain ∙ ap (λ us. without d us) (sym same)
 
   loss : (q : ℕ) × (stands_before q d v.master.chain ≡ true) × (is_last (without d v.master.chain) q ≡ true) × (said_of_loss d v.master.chain ≡ (parties.Server q, BeTail 0) ∷ [])
   loss = loss_last d v.master.chain (chain-apart v g) last more
 
   calm : (j : ℕ) → is_in (without d v.master.chain) j ≡ true → (t : Bool) → eqb j (loss_last d v.master.chain (chain-apart v g) last more).0 ≡ t
-      → Each Neutral (told_to j (said_of_loss d v.master.chain)) ⊎ ((x : ℕ) → is_in (without d (line v.master)) x ≡ true → tokens v j x ≡ 0)
+      → Each Neutral (told_to j (said_of_loss d v.master.chain)) ⊎ ((x : ℕ) → is_in (without d (extended v.master)) x ≡ true → tokens v j x ≡ 0)
   calm j here false f = inl (subst (λ us. Each Neutral us) (sym (ap (λ us. told_to j us) loss.3 ∙ one_told j loss.0 (BeTail 0) false f)) tt)
   calm j here true f = inr (λ x placed. none_of x (subst (λ us. is_in (without d us) x ≡ true) same placed)) where
     none_of : (x : ℕ) → is_in (without d v.master.chain) x ≡ true → tokens v j x ≡ 0
     none_of x at =
         let was = in-without d v.master.chain x at in
         let own = in-without d v.master.chain j here in
-        h.token j x (member-line v.master.chain v.master.joiner j own.0) (member-line v.master.chain v.master.joiner x was.0) ∙ ap (λ us. bit (stands_before j x us)) same ∙ ap (λ t. bit t) (not_before x was) where
+        h.token j x (member-extended v.master.chain v.master.joiner j own.0) (member-extended v.master.chain v.master.joiner x was.0) ∙ ap (λ us. bit (stands_before j x us)) same ∙ ap (λ t. bit t) (not_before x was) where
           not_before : (y : ℕ) → (is_in v.master.chain y ≡ true) × (eqb y d ≡ false) → stands_before j y v.master.chain ≡ false
           not_before y was_y = elim (cases_Bool (stands_before j y v.master.chain)) [
             | inr no_pair ↦ no_pair
@@ -537,25 +537,25 @@ last_whole v c d m g h member more none last chain none_now used = leaving_whole
 
 -- ---- a server that joins is dropped
 
-ends_sub : (line less : List ℕ) (ms : List Message) → ((s : ℕ) → is_in less s ≡ true → is_in line s ≡ true) → Ends line ms → Ends less ms
-ends_sub line less ms sub h = subst (λ us. Ends less us) (append-nil ms) (ends_fewer line less ms [] sub h tt)
+ends_sub : (extended less : List ℕ) (ms : List Message) → ((s : ℕ) → is_in less s ≡ true → is_in extended s ≡ true) → Ends extended ms → Ends less ms
+ends_sub extended less ms sub h = subst (λ us. Ends less us) (append-nil ms) (ends_fewer extended less ms [] sub h tt)
 
 -- The server that joins, if there is one, is dropped.
-pub dropped-whole : (v : Sight) (c : List Entry) → Prefixes v → Whole v c → Whole (record v { master = alone v.master }) c
+pub dropped-whole : (v : View) (c : List Entry) → Prefixes v → Whole v c → Whole (record v { master = alone v.master }) c
 dropped-whole v c g h = record {
   pred_known = h.pred_known;
   succ_known = h.succ_known;
   orders_known = h.orders_known;
   reports_known = h.reports_known;
   unheard = h.unheard;
-  token = λ p s a b. h.token p s (in_line p a) (in_line s b) ∙ ap (λ t. bit t) (line-before chain v.master.joiner p s g.apart b);
-  ends = λ p a. ends_sub (line v.master) chain (v.channel parties.Master (parties.Server p)) in_line (h.ends p (in_line p a));
-  follows = λ p s a b link. h.follows p s (in_line p a) (in_line s b) link;
+  token = λ p s a b. h.token p s (in_extended p a) (in_extended s b) ∙ ap (λ t. bit t) (extended-before chain v.master.joiner p s g.apart b);
+  ends = λ p a. ends_sub (extended v.master) chain (v.channel parties.Master (parties.Server p)) in_extended (h.ends p (in_extended p a));
+  follows = λ p s a b link. h.follows p s (in_extended p a) (in_extended s b) link;
   counts = λ p s before. h.counts p s (in_pair p s before);
   adopts = λ p s before none. h.adopts p s (in_pair p s before) none;
-  data_none = λ p s b none. h.data_none p s (in_line s b) none;
-  linked_told = λ p s b link. h.linked_told p s (in_line s b) link;
-  feed = λ p s b is_pred link. h.feed p s (in_line s b) is_pred link;
+  data_none = λ p s b none. h.data_none p s (in_extended s b) none;
+  linked_told = λ p s b link. h.linked_told p s (in_extended s b) link;
+  feed = λ p s b is_pred link. h.feed p s (in_extended s b) is_pred link;
   snap = h.snap;
   young_succ = h.young_succ;
   acked = h.acked;
@@ -568,16 +568,16 @@ dropped-whole v c g h = record {
   chain : List ℕ
   chain = v.master.chain
 
-  in_line : (j : ℕ) → is_in v.master.chain j ≡ true → is_in (line v.master) j ≡ true
-  in_line j a = member-line v.master.chain v.master.joiner j a
+  in_extended : (j : ℕ) → is_in v.master.chain j ≡ true → is_in (extended v.master) j ≡ true
+  in_extended j a = member-extended v.master.chain v.master.joiner j a
 
-  in_pair : (p s : ℕ) → stands_before p s v.master.chain ≡ true → stands_before p s (line v.master) ≡ true
-  in_pair p s before = line-before v.master.chain v.master.joiner p s g.apart (before-in p s v.master.chain before).1 ∙ before
+  in_pair : (p s : ℕ) → stands_before p s v.master.chain ≡ true → stands_before p s (extended v.master) ≡ true
+  in_pair p s before = extended-before v.master.chain v.master.joiner p s g.apart (before-in p s v.master.chain before).1 ∙ before
 
 -- ---- all detections
 
 -- A detection keeps all sentences: of the server that joins, or of a member, while others remain.
-pub detected-whole : (v : Sight) (c : List Entry) (d a : ℕ) (rest : List ℕ) → Prefixes v → Whole v c → v.master.chain ≡ a ∷ rest → (is_that v.master.joiner d ≡ false → (is_in v.master.chain d ≡ true) × (length v.master.chain ≡ 1 → ⊥))
+pub detected-whole : (v : View) (c : List Entry) (d a : ℕ) (rest : List ℕ) → Prefixes v → Whole v c → v.master.chain ≡ a ∷ rest → (is_that v.master.joiner d ≡ false → (is_in v.master.chain d ≡ true) × (length v.master.chain ≡ 1 → ⊥))
     → Whole (said v (detected d v.master).master (detected d v.master).said) c
 unfolding detected
 detected-whole v c d a rest g h is parts = by (is_that v.master.joiner d) refl where

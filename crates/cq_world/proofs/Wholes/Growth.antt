@@ -18,7 +18,7 @@ use Rattle.cq_world.proofs.Prefixes.Climbing.{reports, one}
 use Rattle.cq_world.proofs.Prefixes.Steps.{Placed}
 use Rattle.cq_world.proofs.Prefixes.{Prefixes, master_after}
 use Rattle.cq_world.proofs.Settled.{IsSettled, is_settled}
-use Rattle.cq_world.proofs.Sights.{Sight, line}
+use Rattle.cq_world.proofs.Views.{View, extended}
 use Rattle.cq_world.proofs.Wholes.{Whole, reports_of, haves_of, adopts_of, OnlyTo, Catches, Known, HaveIs, AckWithin, links}
 use Rattle.cq_world.proofs.Wholes.Steps.{Idle, NoCaught, idle_known, idle_have, idle_haves, no_haves, no_adopts, feeds_still, placed_link, placed_follows, placed_young}
 use Rattle.cq_world.proofs.Wholes.Turns.{Feeding, left_between}
@@ -86,7 +86,7 @@ settled_young x = go (acts x) where
   go false e = e
 
 -- What a server has to show that takes more entries.
-pub record Grown (v : Sight) (c : List Entry) (from : Party) (k : ℕ) (rest : List Message) (x : Server) (out : List (Party × Message)) : Type 0 where
+pub record Grown (v : View) (c : List Entry) (from : Party) (k : ℕ) (rest : List Message) (x : Server) (out : List (Party × Message)) : Type 0 where
   pub pred : x.pred ≡ (v.server k).pred
   pub succ : x.succ ≡ (v.server k).succ
   pub full : x.full ≡ (v.server k).full
@@ -94,17 +94,17 @@ pub record Grown (v : Sight) (c : List Entry) (from : Party) (k : ℕ) (rest : L
   pub same_told : master_after v from k rest ≡ v.channel parties.Master (parties.Server k)
   pub idle : Each Idle (addressed parties.Master out)
   pub own : acts x ≡ true → longer c (acting_history (settled x)) ≡ (settled x).entries
-  pub alone : (q : ℕ) → stands_before q k (line v.master) ≡ true → (haves_of q (v.channel (parties.Server k) parties.Master) ≡ 0) × (is_that (v.server q).succ k ≡ false → adopts_of k (v.channel parties.Master (parties.Server q)) ≡ 0)
+  pub alone : (q : ℕ) → stands_before q k (extended v.master) ≡ true → (haves_of q (v.channel (parties.Server k) parties.Master) ≡ 0) × (is_that (v.server q).succ k ≡ false → adopts_of k (v.channel parties.Master (parties.Server q)) ≡ 0)
   pub sent_data : (y : ℕ) → is_that x.succ y ≡ false → Each NoData (addressed (parties.Server y) out)
   pub sent_snaps : (y : ℕ) → Each NoSnap (addressed (parties.Server y) out)
   pub feeds_on : (y : ℕ) → is_that x.succ y ≡ true → Feeds (length (v.server k).entries) (addressed (parties.Server y) out) (length x.entries)
-  pub feeds_behind : (p : ℕ) → is_in (line v.master) k ≡ true → eqb p k ≡ false → x.pred ≡ Some p → is_that (v.server p).succ k ≡ true → Feeds (length x.entries) (left_between v from k rest p k) (length (v.server p).entries)
+  pub feeds_behind : (p : ℕ) → is_in (extended v.master) k ≡ true → eqb p k ≡ false → x.pred ≡ Some p → is_that (v.server p).succ k ≡ true → Feeds (length x.entries) (left_between v from k rest p k) (length (v.server p).entries)
   pub snaps_behind : (p : ℕ) → is_in v.master.chain k ≡ true → x.pred ≡ Some p → Each NoSnap (left_between v from k rest p k)
   pub acks : (y : ℕ) → Each (AckWithin (length (longer c (acting_history (settled x))))) (addressed (parties.Server y) out)
   pub floor : acts x ≡ false → x.full ≡ true → x.floor ≤ length c
   pub catches : (t : ℕ) → is_that v.master.joiner k ≡ true → is_last v.master.chain t ≡ true → Each (Catches ((is_that (v.server t).succ k ≡ true) × Each NoSnap (left_between v from k rest t k))) (addressed parties.Master out)
 
-pub grown-feeding : (v : Sight) (c : List Entry) (from : Party) (k : ℕ) (rest : List Message) (x : Server) (out : List (Party × Message)) → Prefixes v → Whole v c → Placed v k → Grown v c from k rest x out → Feeding v c from k rest (settled x) out
+pub grown-feeding : (v : View) (c : List Entry) (from : Party) (k : ℕ) (rest : List Message) (x : Server) (out : List (Party × Message)) → Prefixes v → Whole v c → Placed v k → Grown v c from k rest x out → Feeding v c from k rest (settled x) out
 grown-feeding v c from k rest x out g h placed t = record {
   pred_known = λ p is. h.pred_known k p (sym (now.pred ∙ t.pred) ∙ is);
   succ_known = λ y is. h.succ_known k y (sym same_succ ∙ is);

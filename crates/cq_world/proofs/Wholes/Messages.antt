@@ -6,7 +6,7 @@ use Rattle.cq_base.specs.declared.ask.Query.{Query}
 use Rattle.cq_base.specs.declared.ask.Request.{Request}
 use Rattle.cq_base.specs.declared.party.Party.{Party}
 use Rattle.cq_base.specs.declared.party.Party.TheVariants as parties
-use Rattle.cq_base.specs.History.{last_moment}
+use Rattle.cq_base.specs.queue.History.{last_moment}
 use Rattle.cq_chain.specs.Masters.{is_in, stands_before}
 use Rattle.cq_chain.specs.Messages.{Message, Fwd, Snap, Ack, BeHead, Report, Adopt, BeTail, Feed, Have, Adopted, Ready}
 use Rattle.cq_chain.specs.Parties.{addressed}
@@ -19,8 +19,8 @@ use Rattle.cq_world.proofs.Commits.Steps.{addressed-append, new_repair_news}
 use Rattle.cq_world.proofs.Eaches.{Each, each-append, each-follows, some_none}
 use Rattle.cq_world.proofs.Wholes.Feeding.{NoData, NoSnap, OfSnap, Feeds, data-snap, all-data-snap, feeds-none, feeds-append, no-snap, repair-feeds, repair-other, repair-snaps}
 use Rattle.cq_world.proofs.Settled.{IsSettled, is_settled, that_some}
-use Rattle.cq_world.proofs.Sights.{Sight, line}
-use Rattle.cq_world.proofs.Lines.{line-cases, member-line, member-other, line-before, joiner-line, joiner-before}
+use Rattle.cq_world.proofs.Views.{View, extended}
+use Rattle.cq_world.proofs.ExtendedChains.{extended-cases, member-extended, member-other, extended-before, joiner-extended, joiner-before}
 use Rattle.cq_world.proofs.Prefixes.Climbing.{reports, one}
 use Rattle.cq_world.proofs.Prefixes.Steps.{full-member, told-member, below-pred}
 use Rattle.cq_world.proofs.Wholes.{reports_of, haves_of, adopts_of, feeds_of, OnlyTo, Ends, FeedsOut, Known, HaveIs, AdoptIs, AckWithin, links, tokens, before-self}
@@ -34,7 +34,7 @@ use Rattle.cq_world.proofs.Wholes.Entries.{BeforeTurn, passes_idle, ignored, fwd
 
 -- ---- a predecessor
 
-report_feeding : (v : Sight) (c : List Entry) (k p : ℕ) (rest : List Message) → BeforeTurn v c k → v.channel parties.Master (parties.Server k) ≡ Report p ∷ rest
+report_feeding : (v : View) (c : List Entry) (k p : ℕ) (rest : List Message) → BeforeTurn v c k → v.channel parties.Master (parties.Server k) ≡ Report p ∷ rest
     → length c ≤ length (longer c (acting_history (reported p (v.server k)).server)) → Feeding v c parties.Master k rest (reported p (v.server k)).server (reported p (v.server k)).sent
 report_feeding v c k p rest b at within = record {
   pred_known = λ q is. subst (λ i. is_in v.master.used i ≡ true) (same_one p q is) (subst (λ ms. Each (Known v.master.used) ms) at (b.whole.orders_known k)).0;
@@ -54,7 +54,7 @@ report_feeding v c k p rest b at within = record {
   feeds_behind = λ q there other is_pred link. absurd (unlinked there (subst (λ i. is_that (v.server i).succ k ≡ true) (sym (same_one p q is_pred)) link));
   snaps_ahead = λ x there other is_pred. to_one (OfSnap (length (v.server x).entries < length c)) x tt;
   snaps_behind = λ q member is_pred. subst (λ i. Each (OfSnap (length (v.server k).entries < length (longer c (acting_history (reported p (v.server k)).server)))) (v.channel (parties.Server i) (parties.Server k))) (same_one p q is_pred)
-      (each-follows NoData (OfSnap (length (v.server k).entries < length (longer c (acting_history (reported p (v.server k)).server)))) (v.channel (parties.Server p) (parties.Server k)) (λ m none. no-snap (length (v.server k).entries < length (longer c (acting_history (reported p (v.server k)).server))) m (data-snap m none)) (quiet (member-line v.master.chain v.master.joiner k member)));
+      (each-follows NoData (OfSnap (length (v.server k).entries < length (longer c (acting_history (reported p (v.server k)).server)))) (v.channel (parties.Server p) (parties.Server k)) (λ m none. no-snap (length (v.server k).entries < length (longer c (acting_history (reported p (v.server k)).server))) m (data-snap m none)) (quiet (member-extended v.master.chain v.master.joiner k member)));
   young_succ = λ is. placed_young v c k b.whole b.placed is;
   fed = λ t joins last. without_old (v.server k).pred t (sym (ap (λ ms. one (v.server k).pred ++ reports ms) at) ∙ b.whole.fed_by k t joins last);
   snaps_to = λ x joins link. to_one NoSnap x tt;
@@ -83,15 +83,15 @@ report_feeding v c k p rest b at within = record {
     go true = (h, tt)
     go false = tt
 
-  unlinked : is_in (line v.master) k ≡ true → is_that (v.server p).succ k ≡ true → ⊥
+  unlinked : is_in (extended v.master) k ≡ true → is_that (v.server p).succ k ≡ true → ⊥
   unlinked there link = omega (arith, b.whole.linked_told p k there link, ap (λ ms. reports_of p ms) at, ap (λ t. cond t (suc (reports_of p rest)) (reports_of p rest)) (eq-eqb p p refl))
 
-  quiet : is_in (line v.master) k ≡ true → Each NoData (v.channel (parties.Server p) (parties.Server k))
+  quiet : is_in (extended v.master) k ≡ true → Each NoData (v.channel (parties.Server p) (parties.Server k))
   quiet there = elim (cases_Bool (is_that (v.server p).succ k)) [ inl link ↦ absurd (unlinked there link) | inr none ↦ b.whole.data_none p k there none ]
 
 -- ---- the tail
 
-tail_feeding : (v : Sight) (c : List Entry) (k least : ℕ) (rest : List Message) → BeforeTurn v c k → v.channel parties.Master (parties.Server k) ≡ BeTail least ∷ rest
+tail_feeding : (v : View) (c : List Entry) (k least : ℕ) (rest : List Message) → BeforeTurn v c k → v.channel parties.Master (parties.Server k) ≡ BeTail least ∷ rest
     → (acts (as_tail least (v.server k)) ≡ true → longer c (acting_history (settled (as_tail least (v.server k)))) ≡ (settled (as_tail least (v.server k))).entries)
     → Feeding v c parties.Master k rest (tailed least (v.server k)).server (tailed least (v.server k)).sent
 tail_feeding v c k least rest b at own = record {
@@ -133,8 +133,8 @@ tail_feeding v c k least rest b at own = record {
   none_of : (x : ℕ) → None ≡ Some x → ⊥
   none_of x e = some_none x (sym e)
 
-  -- no server of the line was its successor
-  unlinked : (x : ℕ) → is_in (line v.master) x ≡ true → is_that (v.server k).succ x ≡ false
+  -- no server of the extended chain was its successor
+  unlinked : (x : ℕ) → is_in (extended v.master) x ≡ true → is_that (v.server k).succ x ≡ false
   unlinked x there = elim (cases_Bool (is_that (v.server k).succ x)) [ inl link ↦ absurd (subst (λ ms. Each (OnlyTo x) ms) at (placed_follows v c k x b.whole b.placed there link)).0 | inr none ↦ none ]
 
   idle : Each Idle (addressed parties.Master (tailed least (v.server k)).sent)
@@ -177,7 +177,7 @@ repair_acks n to have x s = go (nat_le s.floor have) where
     one true = (tt, tt)
     one false = tt
 
-adopt_feeding : (v : Sight) (c : List Entry) (k succ have : ℕ) (rest : List Message) → BeforeTurn v c k → v.channel parties.Master (parties.Server k) ≡ Adopt succ have ∷ rest
+adopt_feeding : (v : View) (c : List Entry) (k succ have : ℕ) (rest : List Message) → BeforeTurn v c k → v.channel parties.Master (parties.Server k) ≡ Adopt succ have ∷ rest
     → is_that (v.server k).succ succ ≡ false → length c ≤ length (longer c (acting_history (adopting succ have (v.server k)).server)) → Feeding v c parties.Master k rest (adopting succ have (v.server k)).server (adopting succ have (v.server k)).sent
 adopt_feeding v c k succ have rest b at new within = record {
   pred_known = λ q is. b.whole.pred_known k q is;
@@ -186,20 +186,20 @@ adopt_feeding v c k succ have rest b at new within = record {
   behind = λ q m. omega (arith, ap (λ ms. reports_of q ms) at, ap (λ ms. haves_of q ms) news_now);
   ahead = λ x there. omega (arith, old_links x there, ap (λ t. cond t 1 (adopts_of x (v.channel parties.Master (parties.Server k)))) (unlinked x there), ap (λ ms. adopts_of x ms) at, ap (λ ms. feeds_of x ms) at);
   keeps_succ = λ x there is. absurd (both_ways (is_that (v.server k).succ x) (unlinked x there) is);
-  not_self = not_it (λ is. before-self k (line v.master) b.prefixes.apart (subst (λ i. stands_before k i (line v.master) ≡ true) is (pair (subst (λ i. is_in (line v.master) i ≡ true) (sym is) there_k))));
-  follows = λ x there is. subst (λ i. Each (OnlyTo i) rest) (eqb-true succ x is) ((subst (λ ms. Ends (line v.master) ms) at (b.whole.ends k there_k)).0 (subst (λ i. is_in (line v.master) i ≡ true) (sym (eqb-true succ x is)) there));
+  not_self = not_it (λ is. before-self k (extended v.master) b.prefixes.apart (subst (λ i. stands_before k i (extended v.master) ≡ true) is (pair (subst (λ i. is_in (extended v.master) i ≡ true) (sym is) there_k))));
+  follows = λ x there is. subst (λ i. Each (OnlyTo i) rest) (eqb-true succ x is) ((subst (λ ms. Ends (extended v.master) ms) at (b.whole.ends k there_k)).0 (subst (λ i. is_in (extended v.master) i ≡ true) (sym (eqb-true succ x is)) there));
   counts = λ q before. each-append (HaveIs q (length (v.server k).entries)) (v.channel (parties.Server k) parties.Master) (addressed parties.Master (adopting succ have (v.server k)).sent) (b.whole.counts q k before) (subst (λ ms. Each (HaveIs q (length (v.server k).entries)) ms) (sym news_now) (tt, tt));
   adopts = λ q before not_link. b.whole.adopts q k before not_link;
   sent_data = λ x none. subst (λ ms. Each NoData ms) (sym (row x ∙ repair-other succ x have (v.server k) (eqb_turned succ x none))) tt;
   new_link = λ x there is was. omega (arith, token_one x there is, own_adopt x is, ap (λ t. cond t 1 (adopts_of x (v.channel parties.Master (parties.Server k)))) was);
   feeds_ahead = λ x there other is_pred link. subst (λ i. Feeds (length (v.server i).entries) (v.channel (parties.Server k) (parties.Server i) ++ addressed (parties.Server i) (adopting succ have (v.server k)).sent) (length (v.server k).entries)) (eqb-true succ x link)
-      (feeds (subst (λ i. is_in (line v.master) i ≡ true) (sym (eqb-true succ x link)) there) (subst (λ i. (v.server i).pred ≡ Some k) (sym (eqb-true succ x link)) is_pred));
+      (feeds (subst (λ i. is_in (extended v.master) i ≡ true) (sym (eqb-true succ x link)) there) (subst (λ i. (v.server i).pred ≡ Some k) (sym (eqb-true succ x link)) is_pred));
   feeds_behind = λ q there other is_pred link. b.whole.feed q k there is_pred link;
   snaps_ahead = λ x there other is_pred. subst (λ ms. Each (OfSnap (length (v.server x).entries < length c)) ms) (sym (row x)) (snaps x there (eqb succ x) refl);
   snaps_behind = λ q there is_pred. each-follows (OfSnap (length (v.server k).entries < length c)) (OfSnap (length (v.server k).entries < length (longer c (acting_history (adopting succ have (v.server k)).server)))) (v.channel (parties.Server q) (parties.Server k)) more (b.whole.snap q k there is_pred);
   young_succ = λ is. absurd (subst (λ ms. Each (Enough (length c)) ms) at (b.commits.young_told k member is)).0;
   fed = λ t joins last. absurd (both_ways (is_that v.master.joiner k) (member-other v.master.chain v.master.joiner k b.prefixes.apart member) joins);
-  snaps_to = λ x joins link. absurd (both_ways (is_that (v.server k).succ x) (unlinked x (joiner-line v.master.chain v.master.joiner x joins)) link);
+  snaps_to = λ x joins link. absurd (both_ways (is_that (v.server k).succ x) (unlinked x (joiner-extended v.master.chain v.master.joiner x joins)) link);
   catches = λ t joins last. absurd (both_ways (is_that v.master.joiner k) (member-other v.master.chain v.master.joiner k b.prefixes.apart member) joins);
   acked = omega (arith, b.whole.acked k, within);
   sent_acks = λ x. subst (λ ms. Each (AckWithin (length (longer c (acting_history (adopting succ have (v.server k)).server)))) ms) (sym (row x)) (repair_acks (length (longer c (acting_history (adopting succ have (v.server k)).server))) succ have x (v.server k));
@@ -211,21 +211,21 @@ adopt_feeding v c k succ have rest b at new within = record {
   member : is_in v.master.chain k ≡ true
   member = told-member v k (Adopt succ have) rest b.placed at (λ word. word)
 
-  there_k : is_in (line v.master) k ≡ true
-  there_k = member-line v.master.chain v.master.joiner k member
+  there_k : is_in (extended v.master) k ≡ true
+  there_k = member-extended v.master.chain v.master.joiner k member
 
   not_it : (succ ≡ k → ⊥) → eqb succ k ≡ false
   not_it h = elim (cases_Bool (eqb succ k)) [ inl e ↦ absurd (h (eqb-true succ k e)) | inr others ↦ others ]
 
-  unlinked : (x : ℕ) → is_in (line v.master) x ≡ true → is_that (v.server k).succ x ≡ false
+  unlinked : (x : ℕ) → is_in (extended v.master) x ≡ true → is_that (v.server k).succ x ≡ false
   unlinked x there = elim (cases_Bool (is_that (v.server k).succ x)) [
     | inl link ↦ absurd (both_ways (is_that (v.server k).succ succ) new (subst (λ i. is_that (v.server k).succ i ≡ true) (sym (eqb-true succ x (subst (λ ms. Each (OnlyTo x) ms) at (b.whole.follows k x there_k there link)).0)) link))
     | inr none ↦ none
   ]
 
   -- the new successor is a member
-  succ_member : is_in (line v.master) succ ≡ true → is_in v.master.chain succ ≡ true
-  succ_member there = elim (line-cases v.master.chain v.master.joiner succ there) [
+  succ_member : is_in (extended v.master) succ ≡ true → is_in v.master.chain succ ≡ true
+  succ_member there = elim (extended-cases v.master.chain v.master.joiner succ there) [
     | inl is ↦ is
     | inr joins ↦ absurd (both_ways (eqb succ succ) (subst (λ ms. Each (NotOn succ) ms) at (b.commits.unnamed_orders succ joins k)).0 (eq-eqb succ succ refl))
   ]
@@ -234,16 +234,16 @@ adopt_feeding v c k succ have rest b at new within = record {
   chain_pair = (subst (λ ms. Each (Pairs v.master.chain k) ms) at (b.commits.pairs k member)).0
 
   -- the pair that is made
-  pair : is_in (line v.master) succ ≡ true → stands_before k succ (line v.master) ≡ true
-  pair there = let is = succ_member there in line-before v.master.chain v.master.joiner k succ b.prefixes.apart is ∙ chain_pair is
+  pair : is_in (extended v.master) succ ≡ true → stands_before k succ (extended v.master) ≡ true
+  pair there = let is = succ_member there in extended-before v.master.chain v.master.joiner k succ b.prefixes.apart is ∙ chain_pair is
 
   own_adopt : (x : ℕ) → eqb succ x ≡ true → adopts_of x (v.channel parties.Master (parties.Server k)) ≡ suc (adopts_of x rest)
   own_adopt x e = ap (λ ms. adopts_of x ms) at ∙ ap (λ t. cond t (suc (adopts_of x rest)) (adopts_of x rest)) e
 
-  token_one : (x : ℕ) → is_in (line v.master) x ≡ true → eqb succ x ≡ true → tokens v k x ≡ 1
-  token_one x there e = b.whole.token k x there_k there ∙ ap (λ t. bit t) (subst (λ i. stands_before k i (line v.master) ≡ true) (eqb-true succ x e) (pair (subst (λ i. is_in (line v.master) i ≡ true) (sym (eqb-true succ x e)) there)))
+  token_one : (x : ℕ) → is_in (extended v.master) x ≡ true → eqb succ x ≡ true → tokens v k x ≡ 1
+  token_one x there e = b.whole.token k x there_k there ∙ ap (λ t. bit t) (subst (λ i. stands_before k i (extended v.master) ≡ true) (eqb-true succ x e) (pair (subst (λ i. is_in (extended v.master) i ≡ true) (sym (eqb-true succ x e)) there)))
 
-  old_links : (x : ℕ) → is_in (line v.master) x ≡ true → cond (eqb succ x) (suc (adopts_of x rest)) (adopts_of x rest) ≡ cond (eqb succ x) 1 (adopts_of x rest)
+  old_links : (x : ℕ) → is_in (extended v.master) x ≡ true → cond (eqb succ x) (suc (adopts_of x rest)) (adopts_of x rest) ≡ cond (eqb succ x) 1 (adopts_of x rest)
   old_links x there = go (eqb succ x) refl where
     go : (t : Bool) → eqb succ x ≡ t → cond t (suc (adopts_of x rest)) (adopts_of x rest) ≡ cond t 1 (adopts_of x rest)
     go true e = omega (arith, token_one x there e, own_adopt x e, ap (λ u. cond u 1 (adopts_of x (v.channel parties.Master (parties.Server k)))) (unlinked x there))
@@ -257,13 +257,13 @@ adopt_feeding v c k succ have rest b at new within = record {
       ∙ addressed-append (parties.Server x) (repair succ have (v.server k)) ((parties.Master, Adopted succ (length (v.server k).entries)) ∷ []) ∙ append-nil (addressed (parties.Server x) (repair succ have (v.server k)))
 
   -- what it says of the new successor's entries is so
-  have_is : is_in (line v.master) succ ≡ true → have ≡ length (v.server succ).entries
+  have_is : is_in (extended v.master) succ ≡ true → have ≡ length (v.server succ).entries
   have_is there = (subst (λ ms. Each (AdoptIs succ (length (v.server succ).entries)) ms) at (b.whole.adopts k succ (pair there) (unlinked succ there))).0 (eq-eqb succ succ refl)
 
   below : (v.server succ).pred ≡ Some k → length (v.server succ).entries ≤ length (v.server k).entries
-  below is_pred = let front = below-pred v succ k b.prefixes is_pred in omega (arith, ap length front.1, length-append (v.server succ).entries front.0)
+  below is_pred = let prefix = below-pred v succ k b.prefixes is_pred in omega (arith, ap length prefix.1, length-append (v.server succ).entries prefix.0)
 
-  feeds : is_in (line v.master) succ ≡ true → (v.server succ).pred ≡ Some k → Feeds (length (v.server succ).entries) (v.channel (parties.Server k) (parties.Server succ) ++ addressed (parties.Server succ) (adopting succ have (v.server k)).sent) (length (v.server k).entries)
+  feeds : is_in (extended v.master) succ ≡ true → (v.server succ).pred ≡ Some k → Feeds (length (v.server succ).entries) (v.channel (parties.Server k) (parties.Server succ) ++ addressed (parties.Server succ) (adopting succ have (v.server k)).sent) (length (v.server k).entries)
   feeds there is_pred = feeds-none (length (v.server succ).entries) (v.channel (parties.Server k) (parties.Server succ)) (addressed (parties.Server succ) (adopting succ have (v.server k)).sent) (length (v.server k).entries) (b.whole.data_none k succ there (unlinked succ there))
       (subst (λ ms. Feeds (length (v.server succ).entries) ms (length (v.server k).entries)) (sym (row succ)) (subst (λ n. Feeds n (addressed (parties.Server succ) (repair succ have (v.server k))) (length (v.server k).entries)) (have_is there) (repair-feeds succ have (v.server k) (omega (arith, have_is there, below is_pred)))))
 
@@ -278,7 +278,7 @@ adopt_feeding v c k succ have rest b at new within = record {
   snaps x there true e =
       let here = subst (λ i. is_in v.master.chain i ≡ true) (sym (eqb-true succ x e)) there in
       subst (λ i. Each (OfSnap (length (v.server i).entries < length c)) (addressed (parties.Server i) (repair succ have (v.server k)))) (eqb-true succ x e)
-      (repair-snaps (length (v.server succ).entries < length c) succ have (v.server k) (λ less. omega (arith, less, have_is (member-line v.master.chain v.master.joiner succ here), b.whole.floors k member (full_now here))))
+      (repair-snaps (length (v.server succ).entries < length c) succ have (v.server k) (λ less. omega (arith, less, have_is (member-extended v.master.chain v.master.joiner succ here), b.whole.floors k member (full_now here))))
   snaps x there false e = subst (λ ms. Each (OfSnap (length (v.server x).entries < length c)) ms) (sym (repair-other succ x have (v.server k) (eqb_turned succ x e))) tt
 
   more : (m : Message) → OfSnap (length (v.server k).entries < length c) m → OfSnap (length (v.server k).entries < length (longer c (acting_history (adopting succ have (v.server k)).server))) m
@@ -289,7 +289,7 @@ adopt_feeding v c k succ have rest b at new within = record {
     other y j = tt
 
 -- a successor that it feeds already is sent nothing
-adopted_feeding : (v : Sight) (c : List Entry) (k succ have : ℕ) (rest : List Message) → BeforeTurn v c k → v.channel parties.Master (parties.Server k) ≡ Adopt succ have ∷ rest
+adopted_feeding : (v : View) (c : List Entry) (k succ have : ℕ) (rest : List Message) → BeforeTurn v c k → v.channel parties.Master (parties.Server k) ≡ Adopt succ have ∷ rest
     → is_that (v.server k).succ succ ≡ true → length c ≤ length (longer c (acting_history (adopting succ have (v.server k)).server)) → Feeding v c parties.Master k rest (adopting succ have (v.server k)).server (adopting succ have (v.server k)).sent
 adopted_feeding v c k succ have rest b at old within = subst (λ out. Feeding v c parties.Master k rest (record (v.server k) { at_least = None; succ = Some succ }) out) (sym sent) (calm-feeding v c parties.Master k (Adopt succ have ∷ []) rest (record (v.server k) { at_least = None; succ = Some succ })
     ((parties.Master, Adopted succ (length (v.server k).entries)) ∷ []) b.prefixes b.whole b.placed at refl (λ p is. is) (sym is_succ) (λ y. y) (λ p. sym (ap (λ ms. reports_of p ms) at)) (λ x there. same_links x) (λ x h. (subst (λ ms. Each (OnlyTo x) ms) at h).1)
@@ -310,7 +310,7 @@ adopted_feeding v c k succ have rest b at old within = subst (λ out. Feeding v 
 -- ---- a server that joins is to be fed
 
 -- one that acts is told to feed that one, or nobody
-feed_feeding : (v : Sight) (c : List Entry) (k : ℕ) (succ : Option ℕ) (rest : List Message) → BeforeTurn v c k → v.channel parties.Master (parties.Server k) ≡ Feed succ ∷ rest → acts (v.server k) ≡ true
+feed_feeding : (v : View) (c : List Entry) (k : ℕ) (succ : Option ℕ) (rest : List Message) → BeforeTurn v c k → v.channel parties.Master (parties.Server k) ≡ Feed succ ∷ rest → acts (v.server k) ≡ true
     → length c ≤ length (longer c (acting_history (feeding succ (v.server k)).server)) → Feeding v c parties.Master k rest (feeding succ (v.server k)).server (feeding succ (v.server k)).sent
 feed_feeding v c k succ rest b at does within = record {
   pred_known = λ q is. b.whole.pred_known k q is;
@@ -331,7 +331,7 @@ feed_feeding v c k succ rest b at does within = record {
   snaps_behind = λ q there is_pred. each-follows (OfSnap (length (v.server k).entries < length c)) (OfSnap (length (v.server k).entries < length (longer c (acting_history (record (v.server k) { succ = succ }))))) (v.channel (parties.Server q) (parties.Server k)) more (b.whole.snap q k there is_pred);
   young_succ = λ is. absurd (both_ways (v.server k).full is (b.commits.acting k does));
   fed = λ t joins last. absurd (both_ways (is_that v.master.joiner k) (member-other v.master.chain v.master.joiner k b.prefixes.apart member) joins);
-  snaps_to = λ x joins link. let there = joiner-line v.master.chain v.master.joiner x joins in absurd (twice succ at x there (keeps succ at x there link) link);
+  snaps_to = λ x joins link. let there = joiner-extended v.master.chain v.master.joiner x joins in absurd (twice succ at x there (keeps succ at x there link) link);
   catches = λ t joins last. absurd (both_ways (is_that v.master.joiner k) (member-other v.master.chain v.master.joiner k b.prefixes.apart member) joins);
   acked = omega (arith, b.whole.acked k, within);
   sent_acks = λ x. acks succ x;
@@ -340,8 +340,8 @@ feed_feeding v c k succ rest b at does within = record {
   member : is_in v.master.chain k ≡ true
   member = told-member v k (Feed succ) rest b.placed at (λ word. word)
 
-  there_k : is_in (line v.master) k ≡ true
-  there_k = member-line v.master.chain v.master.joiner k member
+  there_k : is_in (extended v.master) k ≡ true
+  there_k = member-extended v.master.chain v.master.joiner k member
 
   silent_now : addressed parties.Master (to_server succ (Snap (v.server k).entries)) ≡ []
   silent_now = not_told succ (Snap (v.server k).entries)
@@ -353,8 +353,8 @@ feed_feeding v c k succ rest b at does within = record {
     same_one a d e = cc
 
   -- a pair has one token at most
-  one_at_most : (x : ℕ) → is_in (line v.master) x ≡ true → tokens v k x ≤ 1
-  one_at_most x there = subst (λ n. n ≤ 1) (sym (b.whole.token k x there_k there)) (go (stands_before k x (line v.master))) where
+  one_at_most : (x : ℕ) → is_in (extended v.master) x ≡ true → tokens v k x ≤ 1
+  one_at_most x there = subst (λ n. n ≤ 1) (sym (b.whole.token k x there_k there)) (go (stands_before k x (extended v.master))) where
     go : (t : Bool) → bit t ≤ 1
     go true = omega arith
     go false = omega arith
@@ -369,18 +369,18 @@ feed_feeding v c k succ rest b at does within = record {
   uncounted (Some q) is x e = ap (λ ms. feeds_of x ms) is ∙ ap (λ t. cond t (suc (feeds_of x rest)) (feeds_of x rest)) e
 
   -- it wasn't fed before
-  twice : (o : Option ℕ) → v.channel parties.Master (parties.Server k) ≡ Feed o ∷ rest → (x : ℕ) → is_in (line v.master) x ≡ true → is_that o x ≡ true → is_that (v.server k).succ x ≡ true → ⊥
+  twice : (o : Option ℕ) → v.channel parties.Master (parties.Server k) ≡ Feed o ∷ rest → (x : ℕ) → is_in (extended v.master) x ≡ true → is_that o x ≡ true → is_that (v.server k).succ x ≡ true → ⊥
   twice o is x there e link = omega (arith, one_at_most x there, counted o is x e, ap (λ t. cond t 1 (adopts_of x (v.channel parties.Master (parties.Server k)))) link)
 
-  -- a successor of the line stays it
-  keeps : (o : Option ℕ) → v.channel parties.Master (parties.Server k) ≡ Feed o ∷ rest → (x : ℕ) → is_in (line v.master) x ≡ true → is_that (v.server k).succ x ≡ true → is_that o x ≡ true
+  -- a successor of the extended chain stays it
+  keeps : (o : Option ℕ) → v.channel parties.Master (parties.Server k) ≡ Feed o ∷ rest → (x : ℕ) → is_in (extended v.master) x ≡ true → is_that (v.server k).succ x ≡ true → is_that o x ≡ true
   keeps None is x there link = absurd (subst (λ ms. Each (OnlyTo x) ms) is (b.whole.follows k x there_k there link)).0
   keeps (Some q) is x there link = (subst (λ ms. Each (OnlyTo x) ms) is (b.whole.follows k x there_k there link)).0
 
-  unlinked : (o : Option ℕ) → v.channel parties.Master (parties.Server k) ≡ Feed o ∷ rest → (x : ℕ) → is_in (line v.master) x ≡ true → is_that (v.server k).succ x ≡ false
+  unlinked : (o : Option ℕ) → v.channel parties.Master (parties.Server k) ≡ Feed o ∷ rest → (x : ℕ) → is_in (extended v.master) x ≡ true → is_that (v.server k).succ x ≡ false
   unlinked o is x there = elim (cases_Bool (is_that (v.server k).succ x)) [ inl link ↦ absurd (twice o is x there (keeps o is x there link) link) | inr none ↦ none ]
 
-  ahead : (o : Option ℕ) → v.channel parties.Master (parties.Server k) ≡ Feed o ∷ rest → (x : ℕ) → is_in (line v.master) x ≡ true → links o x rest ≡ links (v.server k).succ x (v.channel parties.Master (parties.Server k))
+  ahead : (o : Option ℕ) → v.channel parties.Master (parties.Server k) ≡ Feed o ∷ rest → (x : ℕ) → is_in (extended v.master) x ≡ true → links o x rest ≡ links (v.server k).succ x (v.channel parties.Master (parties.Server k))
   ahead o is x there = go (is_that o x) refl where
     same_adopts : adopts_of x (v.channel parties.Master (parties.Server k)) ≡ adopts_of x rest
     same_adopts = ap (λ ms. adopts_of x ms) is
@@ -400,11 +400,11 @@ feed_feeding v c k succ rest b at does within = record {
   not_self : (o : Option ℕ) → v.channel parties.Master (parties.Server k) ≡ Feed o ∷ rest → is_that o k ≡ false
   not_self o is = not_member o is k member
 
-  follows : (o : Option ℕ) → v.channel parties.Master (parties.Server k) ≡ Feed o ∷ rest → (x : ℕ) → is_in (line v.master) x ≡ true → is_that o x ≡ true → Each (OnlyTo x) rest
+  follows : (o : Option ℕ) → v.channel parties.Master (parties.Server k) ≡ Feed o ∷ rest → (x : ℕ) → is_in (extended v.master) x ≡ true → is_that o x ≡ true → Each (OnlyTo x) rest
   follows None is x there e = absurd (false≢true e)
-  follows (Some q) is x there e = subst (λ i. Each (OnlyTo i) rest) (eqb-true q x e) ((subst (λ ms. Ends (line v.master) ms) is (b.whole.ends k there_k)).0 (subst (λ i. is_in (line v.master) i ≡ true) (sym (eqb-true q x e)) there))
+  follows (Some q) is x there e = subst (λ i. Each (OnlyTo i) rest) (eqb-true q x e) ((subst (λ ms. Ends (extended v.master) ms) is (b.whole.ends k there_k)).0 (subst (λ i. is_in (extended v.master) i ≡ true) (sym (eqb-true q x e)) there))
 
-  new_link : (o : Option ℕ) → v.channel parties.Master (parties.Server k) ≡ Feed o ∷ rest → (x : ℕ) → is_in (line v.master) x ≡ true → is_that o x ≡ true → reports_of k (v.channel parties.Master (parties.Server x)) ≡ 0
+  new_link : (o : Option ℕ) → v.channel parties.Master (parties.Server k) ≡ Feed o ∷ rest → (x : ℕ) → is_in (extended v.master) x ≡ true → is_that o x ≡ true → reports_of k (v.channel parties.Master (parties.Server x)) ≡ 0
   new_link o is x there e = omega (arith, one_at_most x there, counted o is x e)
 
   -- what is sent
@@ -416,12 +416,12 @@ feed_feeding v c k succ rest b at does within = record {
   sent None x is = absurd (false≢true is)
   sent (Some q) x is = ap (λ t. cond t (Snap (v.server k).entries ∷ []) []) (eq-eqb x q (sym (eqb-true q x is)))
 
-  feeds_ahead : (o : Option ℕ) → v.channel parties.Master (parties.Server k) ≡ Feed o ∷ rest → (x : ℕ) → is_in (line v.master) x ≡ true → (v.server x).pred ≡ Some k → is_that o x ≡ true
+  feeds_ahead : (o : Option ℕ) → v.channel parties.Master (parties.Server k) ≡ Feed o ∷ rest → (x : ℕ) → is_in (extended v.master) x ≡ true → (v.server x).pred ≡ Some k → is_that o x ≡ true
       → Feeds (length (v.server x).entries) (v.channel (parties.Server k) (parties.Server x) ++ addressed (parties.Server x) (to_server o (Snap (v.server k).entries))) (length (v.server k).entries)
   feeds_ahead o is x there is_pred link = feeds-none (length (v.server x).entries) (v.channel (parties.Server k) (parties.Server x)) (addressed (parties.Server x) (to_server o (Snap (v.server k).entries))) (length (v.server k).entries) (b.whole.data_none k x there (unlinked o is x there))
       (subst (λ ms. Feeds (length (v.server x).entries) ms (length (v.server k).entries)) (sym (sent o x link)) (below, tt, refl)) where
         below : length (v.server x).entries ≤ length (v.server k).entries
-        below = let front = below-pred v x k b.prefixes is_pred in omega (arith, ap length front.1, length-append (v.server x).entries front.0)
+        below = let prefix = below-pred v x k b.prefixes is_pred in omega (arith, ap length prefix.1, length-append (v.server x).entries prefix.0)
 
   acks : (o : Option ℕ) (x : ℕ) → Each (AckWithin (length (longer c (acting_history (record (v.server k) { succ = succ }))))) (addressed (parties.Server x) (to_server o (Snap (v.server k).entries)))
   acks o x = to_each (AckWithin (length (longer c (acting_history (record (v.server k) { succ = succ }))))) o (Snap (v.server k).entries) x tt
@@ -433,8 +433,8 @@ feed_feeding v c k succ rest b at does within = record {
     other (Snap entries) j = omega (arith, j, within)
     other y j = tt
 
--- one that doesn't act isn't told to feed a server of the line
-feed_ignored : (v : Sight) (c : List Entry) (k : ℕ) (succ : Option ℕ) (rest : List Message) → BeforeTurn v c k → v.channel parties.Master (parties.Server k) ≡ Feed succ ∷ rest → acts (v.server k) ≡ false → (x : ℕ) → is_in (line v.master) x ≡ true
+-- one that doesn't act isn't told to feed a server of the extended chain
+feed_ignored : (v : View) (c : List Entry) (k : ℕ) (succ : Option ℕ) (rest : List Message) → BeforeTurn v c k → v.channel parties.Master (parties.Server k) ≡ Feed succ ∷ rest → acts (v.server k) ≡ false → (x : ℕ) → is_in (extended v.master) x ≡ true
     → feeds_of x rest ≡ feeds_of x (v.channel parties.Master (parties.Server k))
 feed_ignored v c k succ rest b at idle x there = go succ at where
   member : is_in v.master.chain k ≡ true
@@ -444,17 +444,17 @@ feed_ignored v c k succ rest b at idle x there = go succ at where
   strange : (q : ℕ) → v.channel parties.Master (parties.Server k) ≡ Feed (Some q) ∷ rest → eqb q x ≡ true → ⊥
   strange q is e =
       let out = subst (λ i. is_in v.master.chain i ≡ false) (eqb-true q x e) (subst (λ ms. Each (FeedsOut v.master.chain) ms) is (b.whole.feeds_out k member)).0 in
-      elim (line-cases v.master.chain v.master.joiner x there) [
+      elim (extended-cases v.master.chain v.master.joiner x there) [
         | inl is_member ↦ both_ways (is_in v.master.chain x) out is_member
         | inr joins ↦ both_ways (acts (v.server k)) idle (ready-acts v c k b.commits (b.commits.joins_ready (ap (λ o. is_some o) (that_some v.master.joiner x joins)))
-            (sym (joiner-before v.master.chain v.master.joiner k x b.prefixes.apart joins) ∙ before (stands_before k x (line v.master)) refl))
+            (sym (joiner-before v.master.chain v.master.joiner k x b.prefixes.apart joins) ∙ before (stands_before k x (extended v.master)) refl))
       ] where
         some : 1 ≤ tokens v k x
         some = omega (arith, ap (λ ms. feeds_of x ms) is, ap (λ t. cond t (suc (feeds_of x rest)) (feeds_of x rest)) e)
 
-        before : (t : Bool) → stands_before k x (line v.master) ≡ t → stands_before k x (line v.master) ≡ true
+        before : (t : Bool) → stands_before k x (extended v.master) ≡ t → stands_before k x (extended v.master) ≡ true
         before true h = h
-        before false h = absurd (omega (arith, some, b.whole.token k x (member-line v.master.chain v.master.joiner k member) there, ap (λ t. bit t) h))
+        before false h = absurd (omega (arith, some, b.whole.token k x (member-extended v.master.chain v.master.joiner k member) there, ap (λ t. bit t) h))
 
   go : (o : Option ℕ) → v.channel parties.Master (parties.Server k) ≡ Feed o ∷ rest → feeds_of x rest ≡ feeds_of x (v.channel parties.Master (parties.Server k))
   go None is = sym (ap (λ ms. feeds_of x ms) is)
@@ -472,7 +472,7 @@ after_more c s = (longer-length c (acting_history s)).0
 settled_so : (x : Server) → acts x ≡ true → acts (settled x) ≡ true
 settled_so x does = let now = is_settled x in ap (λ us. reaches (length us) (settled x).at_least) now.entries ∙ ap (λ o. reaches (length x.entries) o) now.at_least ∙ does
 
-server_feeding : (v : Sight) (c : List Entry) (p k : ℕ) (m : Message) (rest : List Message) → BeforeTurn v c k → (v.server k).down ≡ false → v.channel (parties.Server p) (parties.Server k) ≡ m ∷ rest
+server_feeding : (v : View) (c : List Entry) (p k : ℕ) (m : Message) (rest : List Message) → BeforeTurn v c k → (v.server k).down ≡ false → v.channel (parties.Server p) (parties.Server k) ≡ m ∷ rest
     → Turn v (parties.Server p) k rest (takes (parties.Server p) m (v.server k)).server (takes (parties.Server p) m (v.server k)).sent → Acting v c (parties.Server p) k rest (takes (parties.Server p) m (v.server k)).server (takes (parties.Server p) m (v.server k)).sent
     → Feeding v c (parties.Server p) k rest (takes (parties.Server p) m (v.server k)).server (takes (parties.Server p) m (v.server k)).sent
 unfolding takes
@@ -516,7 +516,7 @@ server_feeding v c p k (Ack n) rest b lives at t a = go (nat_lt (v.server k).ack
   go false = ignored v c p k (Ack n) rest b at (λ there is_pred link. tt)
 server_feeding v c p k m rest b lives at t a = ignored v c p k m rest b at (λ there is_pred link. tt)
 
-told_feeding : (v : Sight) (c : List Entry) (k : ℕ) (m : Message) (rest : List Message) → BeforeTurn v c k → (v.server k).down ≡ false → v.channel parties.Master (parties.Server k) ≡ m ∷ rest
+told_feeding : (v : View) (c : List Entry) (k : ℕ) (m : Message) (rest : List Message) → BeforeTurn v c k → (v.server k).down ≡ false → v.channel parties.Master (parties.Server k) ≡ m ∷ rest
     → Turn v parties.Master k rest (takes parties.Master m (v.server k)).server (takes parties.Master m (v.server k)).sent → Acting v c parties.Master k rest (takes parties.Master m (v.server k)).server (takes parties.Master m (v.server k)).sent
     → Feeding v c parties.Master k rest (takes parties.Master m (v.server k)).server (takes parties.Master m (v.server k)).sent
 unfolding takes
@@ -546,14 +546,14 @@ told_feeding v c k m rest b lives at t a = calm-feeding v c parties.Master k (m 
     (omega (arith, b.whole.acked k, after_more c (v.server k))) (λ x. tt) (λ full. omega (arith, b.whole.floors k (full-member v k b.placed full) full, after_more c (v.server k)))
 
 -- a step for which nothing is taken, and by which nothing changes of neighbours and histories
-quiet_feeding : (v : Sight) (c : List Entry) (k : ℕ) (s : Server) (out : List (Party × Message)) (rest : List Message) → BeforeTurn v c k → v.channel parties.Clients (parties.Server k) ≡ rest → s.entries ≡ (v.server k).entries → s.pred ≡ (v.server k).pred → s.succ ≡ (v.server k).succ → s.full ≡ (v.server k).full
+quiet_feeding : (v : View) (c : List Entry) (k : ℕ) (s : Server) (out : List (Party × Message)) (rest : List Message) → BeforeTurn v c k → v.channel parties.Clients (parties.Server k) ≡ rest → s.entries ≡ (v.server k).entries → s.pred ≡ (v.server k).pred → s.succ ≡ (v.server k).succ → s.full ≡ (v.server k).full
     → s.acked ≡ (v.server k).acked → s.floor ≡ (v.server k).floor → Each Idle (addressed parties.Master out) → Each NoCaught (addressed parties.Master out) → ((x : ℕ) → addressed (parties.Server x) out ≡ []) → Feeding v c parties.Clients k rest s out
 quiet_feeding v c k s out rest b at entries pred succ full acked floor idle told silent_now = calm-feeding v c parties.Clients k [] rest s out b.prefixes b.whole b.placed at entries (λ p is. sym pred ∙ is) succ (λ y. sym full ∙ y)
     (λ p. refl) (λ x there. refl) (λ x h. h) (λ t joins h. ap (λ o. one o ++ reports (v.channel parties.Master (parties.Server k))) pred ∙ h) idle told (λ x. subst (λ ms. Each NoData ms) (sym (silent_now x)) tt) (λ p there is_pred link h. h)
     (omega (arith, acked, b.whole.acked k, after_more c s)) (λ x. subst (λ ms. Each (AckWithin (length (longer c (acting_history s)))) ms) (sym (silent_now x)) tt) (λ is. omega (arith, floor, b.whole.floors k (full-member v k b.placed (sym full ∙ is)) (sym full ∙ is), after_more c s))
 
 -- A server that takes any message.
-pub take-feeding : (v : Sight) (c : List Entry) (from : Party) (k : ℕ) (m : Message) (rest : List Message) → BeforeTurn v c k → (v.server k).down ≡ false → v.channel from (parties.Server k) ≡ m ∷ rest
+pub take-feeding : (v : View) (c : List Entry) (from : Party) (k : ℕ) (m : Message) (rest : List Message) → BeforeTurn v c k → (v.server k).down ≡ false → v.channel from (parties.Server k) ≡ m ∷ rest
     → Turn v from k rest (takes from m (v.server k)).server (takes from m (v.server k)).sent → Acting v c from k rest (takes from m (v.server k)).server (takes from m (v.server k)).sent
     → Feeding v c from k rest (takes from m (v.server k)).server (takes from m (v.server k)).sent
 unfolding takes
@@ -563,7 +563,7 @@ take-feeding v c parties.Clients k m rest b lives at t a = calm-feeding v c part
 take-feeding v c (parties.Server p) k m rest b lives at t a = server_feeding v c p k m rest b lives at t a
 
 -- A request arrives.
-pub arrive-feeding : (v : Sight) (c : List Entry) (k clock : ℕ) (request : Request) → BeforeTurn v c k → (v.server k).down ≡ false → (v.server k).head ≡ true
+pub arrive-feeding : (v : View) (c : List Entry) (k clock : ℕ) (request : Request) → BeforeTurn v c k → (v.server k).down ≡ false → (v.server k).head ≡ true
     → Turn v parties.Clients k (v.channel parties.Clients (parties.Server k)) (arrived clock request (v.server k)).server (arrived clock request (v.server k)).sent
     → Acting v c parties.Clients k (v.channel parties.Clients (parties.Server k)) (arrived clock request (v.server k)).server (arrived clock request (v.server k)).sent
     → Feeding v c parties.Clients k (v.channel parties.Clients (parties.Server k)) (arrived clock request (v.server k)).server (arrived clock request (v.server k)).sent
@@ -574,10 +574,10 @@ arrive-feeding v c k clock request b lives is_head t a =
     (arrive_grown v c k e b is_head (λ does. turn-own v c parties.Clients k (v.channel parties.Clients (parties.Server k)) (settled (appended (v.server k) e)) (passed_on (v.server k) e) b.prefixes b.commits t a (settled_so (appended (v.server k) e) does) ((is_settled (appended (v.server k) e)).down ∙ lives)))
 
 -- A query comes.
-pub ask-feeding : (v : Sight) (c : List Entry) (k : ℕ) (query : Query) → BeforeTurn v c k → Feeding v c parties.Clients k (v.channel parties.Clients (parties.Server k)) (asked query (v.server k)).server (asked query (v.server k)).sent
+pub ask-feeding : (v : View) (c : List Entry) (k : ℕ) (query : Query) → BeforeTurn v c k → Feeding v c parties.Clients k (v.channel parties.Clients (parties.Server k)) (asked query (v.server k)).server (asked query (v.server k)).sent
 unfolding asked
 ask-feeding v c k query b = quiet_feeding v c k (v.server k) _ (v.channel parties.Clients (parties.Server k)) b refl refl refl refl refl refl refl tt tt (λ x. refl)
 
 -- A server crashes.
-pub crash-feeding : (v : Sight) (c : List Entry) (k : ℕ) → BeforeTurn v c k → Feeding v c parties.Clients k (v.channel parties.Clients (parties.Server k)) (crashed (v.server k)).server (crashed (v.server k)).sent
+pub crash-feeding : (v : View) (c : List Entry) (k : ℕ) → BeforeTurn v c k → Feeding v c parties.Clients k (v.channel parties.Clients (parties.Server k)) (crashed (v.server k)).server (crashed (v.server k)).sent
 crash-feeding v c k b = quiet_feeding v c k (record (v.server k) { down = true }) [] (v.channel parties.Clients (parties.Server k)) b refl refl refl refl refl refl refl tt tt (λ x. refl)

@@ -12,19 +12,19 @@ use Rattle.cq_world.proofs.Commits.{Commits, bit}
 use Rattle.cq_world.proofs.Commits.Turns.{if_true, if_false}
 use Rattle.cq_world.proofs.Eaches.{Each, each-append, each-follows}
 use Rattle.cq_world.proofs.Wholes.Feeding.{NoData, NoSnap, OfSnap, Feeds, no-snap}
-use Rattle.cq_world.proofs.Lines.{line-cases, in_more, member-line, joiner-line, joiner-out, joiner-before, line-before, member-other}
+use Rattle.cq_world.proofs.ExtendedChains.{extended-cases, in_more, member-extended, joiner-extended, joiner-out, joiner-before, extended-before, member-other}
 use Rattle.cq_world.proofs.Prefixes.Climbing.{reports, one, ups}
 use Rattle.cq_world.proofs.Prefixes.Orders.{told_to, one_told, eqb_turned}
-use Rattle.cq_world.proofs.Prefixes.{Prefixes, Harmless, Bystander}
+use Rattle.cq_world.proofs.Prefixes.{Prefixes, Harmless, Outsider}
 use Rattle.cq_world.proofs.Settled.{that_some}
-use Rattle.cq_world.proofs.Sights.{Sight, line_of, line, said, drained}
+use Rattle.cq_world.proofs.Views.{View, extended_of, extended, said, drained}
 use Rattle.cq_world.proofs.Wholes.{Whole, reports_of, haves_of, adopts_of, feeds_of, OnlyTo, Ends, FeedsOut, Catches, Known, HaveIs, AdoptIs, AckWithin, links, tokens, linked_ups}
 use Rattle.cq_world.proofs.Wholes.Turns.{reports-append, adopts-append, fed-append}
 
 -- ---- neighbours
 
 -- the one directly behind a server is one
-pub behind-one : (p s t : ℕ) (line : List ℕ) → Apart line → stands_before p s line ≡ true → stands_before p t line ≡ true → s ≡ t
+pub behind-one : (p s t : ℕ) (extended : List ℕ) → Apart extended → stands_before p s extended ≡ true → stands_before p t extended ≡ true → s ≡ t
 behind-one p s t [] apart h k = absurd (false≢true h)
 behind-one p s t (a ∷ []) apart h k = absurd (false≢true h)
 behind-one p s t (a ∷ b ∷ rest) apart h k = elim (or_cases (eqb a p && eqb b s) (stands_before p s (b ∷ rest)) h) [
@@ -40,42 +40,42 @@ behind-one p s t (a ∷ b ∷ rest) apart h k = elim (or_cases (eqb a p && eqb b
   not_later : eqb a p ≡ true → is_in (b ∷ rest) p ≡ true → ⊥
   not_later is member = apart-out a (b ∷ rest) apart.0 (subst (λ i. is_in (b ∷ rest) i ≡ true) (sym (eqb-true a p is)) member)
 
--- who has a token with a server of the line stands before it
-pub token-before : (v : Sight) (c : List Entry) (p s : ℕ) → Whole v c → is_in (line v.master) p ≡ true → is_in (line v.master) s ≡ true → 1 ≤ tokens v p s → stands_before p s (line v.master) ≡ true
-token-before v c p s h m there some = go (stands_before p s (line v.master)) refl where
-  go : (t : Bool) → stands_before p s (line v.master) ≡ t → t ≡ true
+-- who has a token with a server of the extended chain stands before it
+pub token-before : (v : View) (c : List Entry) (p s : ℕ) → Whole v c → is_in (extended v.master) p ≡ true → is_in (extended v.master) s ≡ true → 1 ≤ tokens v p s → stands_before p s (extended v.master) ≡ true
+token-before v c p s h m there some = go (stands_before p s (extended v.master)) refl where
+  go : (t : Bool) → stands_before p s (extended v.master) ≡ t → t ≡ true
   go true e = refl
   go false e = absurd (omega (arith, some, h.token p s m there, ap (λ b. bit b) e))
 
 -- one that is the successor stands at the end of the making
-pub linked-token : (v : Sight) (p s : ℕ) → is_that (v.server p).succ s ≡ true → 1 ≤ tokens v p s
+pub linked-token : (v : View) (p s : ℕ) → is_that (v.server p).succ s ≡ true → 1 ≤ tokens v p s
 linked-token v p s link = omega (arith, ap (λ t. cond t 1 (adopts_of s (v.channel parties.Master (parties.Server p)))) link)
 
-pub adopt-token : (v : Sight) (p s : ℕ) → 1 ≤ adopts_of s (v.channel parties.Master (parties.Server p)) → 1 ≤ tokens v p s
+pub adopt-token : (v : View) (p s : ℕ) → 1 ≤ adopts_of s (v.channel parties.Master (parties.Server p)) → 1 ≤ tokens v p s
 adopt-token v p s some = go (is_that (v.server p).succ s) refl where
   go : (t : Bool) → is_that (v.server p).succ s ≡ t → 1 ≤ tokens v p s
   go true e = linked-token v p s e
   go false e = omega (arith, some, ap (λ t. cond t 1 (adopts_of s (v.channel parties.Master (parties.Server p)))) e)
 
-pub feed-token : (v : Sight) (p s : ℕ) → 1 ≤ feeds_of s (v.channel parties.Master (parties.Server p)) → 1 ≤ tokens v p s
+pub feed-token : (v : View) (p s : ℕ) → 1 ≤ feeds_of s (v.channel parties.Master (parties.Server p)) → 1 ≤ tokens v p s
 feed-token v p s some = omega (arith, some)
 
 -- where there is none, nothing names it as a successor
-pub no-token : (v : Sight) (p s : ℕ) → tokens v p s ≡ 0 → (adopts_of s (v.channel parties.Master (parties.Server p)) ≡ 0) × (feeds_of s (v.channel parties.Master (parties.Server p)) ≡ 0)
+pub no-token : (v : View) (p s : ℕ) → tokens v p s ≡ 0 → (adopts_of s (v.channel parties.Master (parties.Server p)) ≡ 0) × (feeds_of s (v.channel parties.Master (parties.Server p)) ≡ 0)
 no-token v p s none = (go (adopts_of s (v.channel parties.Master (parties.Server p))) refl, omega (arith, none)) where
   go : (n : ℕ) → adopts_of s (v.channel parties.Master (parties.Server p)) ≡ n → n ≡ 0
   go zero e = refl
   go (suc n) e = absurd (omega (arith, none, adopt-token v p s (omega (arith, e))))
 
--- where no server of the line is named as successor, more may be told
-pub ends-free : (line : List ℕ) (xs ys : List Message) → ((s : ℕ) → is_in line s ≡ true → (adopts_of s xs ≡ 0) × (feeds_of s xs ≡ 0)) → Ends line ys → Ends line (xs ++ ys)
-ends-free line [] ys none h = h
-ends-free line (m ∷ xs) ys none h = step m none (λ k. ends-free line xs ys k h) where
+-- where no server of the extended chain is named as successor, more may be told
+pub ends-free : (extended : List ℕ) (xs ys : List Message) → ((s : ℕ) → is_in extended s ≡ true → (adopts_of s xs ≡ 0) × (feeds_of s xs ≡ 0)) → Ends extended ys → Ends extended (xs ++ ys)
+ends-free extended [] ys none h = h
+ends-free extended (m ∷ xs) ys none h = step m none (λ k. ends-free extended xs ys k h) where
   fewer : (s n : ℕ) (t : Bool) → cond t (suc n) n ≡ 0 → n ≡ 0
   fewer s n true e = absurd (omega (arith, e))
   fewer s n false e = e
 
-  step : (x : Message) → ((s : ℕ) → is_in line s ≡ true → (adopts_of s (x ∷ xs) ≡ 0) × (feeds_of s (x ∷ xs) ≡ 0)) → (((s : ℕ) → is_in line s ≡ true → (adopts_of s xs ≡ 0) × (feeds_of s xs ≡ 0)) → Ends line (xs ++ ys)) → Ends line (x ∷ (xs ++ ys))
+  step : (x : Message) → ((s : ℕ) → is_in extended s ≡ true → (adopts_of s (x ∷ xs) ≡ 0) × (feeds_of s (x ∷ xs) ≡ 0)) → (((s : ℕ) → is_in extended s ≡ true → (adopts_of s xs ≡ 0) × (feeds_of s xs ≡ 0)) → Ends extended (xs ++ ys)) → Ends extended (x ∷ (xs ++ ys))
   step (Adopt q n) k later = (
     (λ there. absurd (omega (arith, (k q there).0, ap (λ t. cond t (suc (adopts_of q xs)) (adopts_of q xs)) (eq-eqb q q refl)))),
     later (λ s there. (fewer s (adopts_of s xs) (eqb q s) (k s there).0, (k s there).1)),
@@ -87,13 +87,13 @@ ends-free line (m ∷ xs) ys none h = step m none (λ k. ends-free line xs ys k 
   step x k later = later k
 
 -- the same of one word
-pub ends-more : (line : List ℕ) (xs : List Message) (word : Message) → ((s : ℕ) → is_in line s ≡ true → (adopts_of s xs ≡ 0) × (feeds_of s xs ≡ 0)) → Ends line (word ∷ []) → Ends line (xs ++ word ∷ [])
-ends-more line xs word none h = ends-free line xs (word ∷ []) none h
+pub ends-more : (extended : List ℕ) (xs : List Message) (word : Message) → ((s : ℕ) → is_in extended s ≡ true → (adopts_of s xs ≡ 0) × (feeds_of s xs ≡ 0)) → Ends extended (word ∷ []) → Ends extended (xs ++ word ∷ [])
+ends-more extended xs word none h = ends-free extended xs (word ∷ []) none h
 
 -- ---- what is heard
 
 -- what holds of all that one server told the master holds of what is left of it
-left_one : (v : Sight) (from : ℕ) (word : Message) (rest : List Message) (P : Message → Type 0) (j : ℕ) → v.channel (parties.Server from) parties.Master ≡ word ∷ rest
+left_one : (v : View) (from : ℕ) (word : Message) (rest : List Message) (P : Message → Type 0) (j : ℕ) → v.channel (parties.Server from) parties.Master ≡ word ∷ rest
     → Each P (v.channel (parties.Server j) parties.Master) → Each P ((drained v (parties.Server from) parties.Master rest).channel (parties.Server j) parties.Master)
 left_one v from word rest P j at h = subst (λ ms. Each P ms) (sym (left_row v from rest j)) (go (eqb j from) refl) where
   go : (t : Bool) → eqb j from ≡ t → Each P (cond t rest (v.channel (parties.Server j) parties.Master))
@@ -101,15 +101,15 @@ left_one v from word rest P j at h = subst (λ ms. Each P ms) (sym (left_row v f
   go false e = h
 
 -- between servers all stays
-aside : (v : Sight) (from : ℕ) (rest : List Message) (p s : ℕ) → (drained v (parties.Server from) parties.Master rest).channel (parties.Server p) (parties.Server s) ≡ v.channel (parties.Server p) (parties.Server s)
+aside : (v : View) (from : ℕ) (rest : List Message) (p s : ℕ) → (drained v (parties.Server from) parties.Master rest).channel (parties.Server p) (parties.Server s) ≡ v.channel (parties.Server p) (parties.Server s)
 aside v from rest p s = go (eqb p from) where
   go : (t : Bool) → cond (t && false) rest (v.channel (parties.Server p) (parties.Server s)) ≡ v.channel (parties.Server p) (parties.Server s)
   go true = refl
   go false = refl
 
 -- a word that tells of no predecessor that counts
-drained_whole : (v : Sight) (c : List Entry) (from : ℕ) (word : Message) (rest : List Message) → Whole v c → v.channel (parties.Server from) parties.Master ≡ word ∷ rest
-    → ((p : ℕ) → is_in (line v.master) p ≡ true → is_in (line v.master) from ≡ true → haves_of p rest ≡ haves_of p (word ∷ rest)) → Whole (drained v (parties.Server from) parties.Master rest) c
+drained_whole : (v : View) (c : List Entry) (from : ℕ) (word : Message) (rest : List Message) → Whole v c → v.channel (parties.Server from) parties.Master ≡ word ∷ rest
+    → ((p : ℕ) → is_in (extended v.master) p ≡ true → is_in (extended v.master) from ≡ true → haves_of p rest ≡ haves_of p (word ∷ rest)) → Whole (drained v (parties.Server from) parties.Master rest) c
 drained_whole v c from word rest h at same = record {
   pred_known = h.pred_known;
   succ_known = h.succ_known;
@@ -134,36 +134,36 @@ drained_whole v c from word rest h at same = record {
       (left_one v from word rest (Catches ((is_that (v.server t).succ j ≡ true) × Each NoSnap (v.channel (parties.Server t) (parties.Server j)))) j at (h.caught j t joins last));
   feeds_out = h.feeds_out;
 } where
-  same_haves : (p s : ℕ) → is_in (line v.master) p ≡ true → is_in (line v.master) s ≡ true → (t : Bool) → eqb s from ≡ t → haves_of p (cond t rest (v.channel (parties.Server s) parties.Master)) ≡ haves_of p (v.channel (parties.Server s) parties.Master)
-  same_haves p s m there true e = same p m (subst (λ i. is_in (line v.master) i ≡ true) (eqb-true s from e) there) ∙ ap (λ ms. haves_of p ms) (sym at ∙ ap (λ i. v.channel (parties.Server i) parties.Master) (sym (eqb-true s from e)))
+  same_haves : (p s : ℕ) → is_in (extended v.master) p ≡ true → is_in (extended v.master) s ≡ true → (t : Bool) → eqb s from ≡ t → haves_of p (cond t rest (v.channel (parties.Server s) parties.Master)) ≡ haves_of p (v.channel (parties.Server s) parties.Master)
+  same_haves p s m there true e = same p m (subst (λ i. is_in (extended v.master) i ≡ true) (eqb-true s from e) there) ∙ ap (λ ms. haves_of p ms) (sym at ∙ ap (λ i. v.channel (parties.Server i) parties.Master) (sym (eqb-true s from e)))
   same_haves p s m there false e = refl
 
 -- ---- what is said to a member
 
 -- what is said to a member tells the server that joins nothing, if it isn't on a predecessor
-told_aside : (v : Sight) (p j : ℕ) (word : Message) → Prefixes v → is_in v.master.chain p ≡ true → is_that v.master.joiner j ≡ true → told_to j ((parties.Server p, word) ∷ []) ≡ []
+told_aside : (v : View) (p j : ℕ) (word : Message) → Prefixes v → is_in v.master.chain p ≡ true → is_that v.master.joiner j ≡ true → told_to j ((parties.Server p, word) ∷ []) ≡ []
 told_aside v p j word g member joins = one_told j p word false (elim (cases_Bool (eqb j p)) [
   | inl same ↦ absurd (both_ways (is_that v.master.joiner p) (member-other v.master.chain v.master.joiner p g.apart member) (subst (λ i. is_that v.master.joiner i ≡ true) (eqb-true j p same) joins))
   | inr other ↦ other
 ])
 
 -- so its predecessors stay
-same_ups : (v : Sight) (m : Master) (p j t : ℕ) (word : Message) → Prefixes v → is_in v.master.chain p ≡ true → is_that v.master.joiner j ≡ true → ups v j ≡ t ∷ [] → ups (said v m ((parties.Server p, word) ∷ [])) j ≡ t ∷ []
+same_ups : (v : View) (m : Master) (p j t : ℕ) (word : Message) → Prefixes v → is_in v.master.chain p ≡ true → is_that v.master.joiner j ≡ true → ups v j ≡ t ∷ [] → ups (said v m ((parties.Server p, word) ∷ [])) j ≡ t ∷ []
 same_ups v m p j t word g member joins h = ap (λ us. one (v.server j).pred ++ reports (v.channel parties.Master (parties.Server j) ++ us)) (told_aside v p j word g member joins) ∙ ap (λ us. one (v.server j).pred ++ reports us) (append-nil (v.channel parties.Master (parties.Server j))) ∙ h
 
 -- ---- a new successor is told
 
 -- A word that names a server as the successor of the one before it, where that has told so.
-record Naming (v : Sight) (p from count : ℕ) (word : Message) : Type 0 where
+record Naming (v : View) (p from count : ℕ) (word : Message) : Type 0 where
   member : is_in v.master.chain p ≡ true
   untold : (a : ℕ) → reports_of a (word ∷ []) ≡ 0
   known : Known v.master.used word
   named : (s : ℕ) → feeds_of s (word ∷ []) + adopts_of s (word ∷ []) ≡ bit (eqb from s)
-  ends : Ends (line v.master) (word ∷ [])
+  ends : Ends (extended v.master) (word ∷ [])
   so : (s n : ℕ) → (eqb from s ≡ true → count ≡ n) → AdoptIs s n word
   out : FeedsOut v.master.chain word
 
-have_whole : (v : Sight) (c : List Entry) (from p count : ℕ) (rest : List Message) (word : Message) → Prefixes v → Whole v c → v.channel (parties.Server from) parties.Master ≡ Have p count ∷ rest → stands_before p from (line v.master) ≡ true → Naming v p from count word
+have_whole : (v : View) (c : List Entry) (from p count : ℕ) (rest : List Message) (word : Message) → Prefixes v → Whole v c → v.channel (parties.Server from) parties.Master ≡ Have p count ∷ rest → stands_before p from (extended v.master) ≡ true → Naming v p from count word
     → Whole (said (drained v (parties.Server from) parties.Master rest) v.master ((parties.Server p, word) ∷ [])) c
 have_whole v c from p count rest word g h at before o = record {
   pred_known = h.pred_known;
@@ -172,7 +172,7 @@ have_whole v c from p count rest word g h at before o = record {
   reports_known = λ j. left_one v from (Have p count) rest (Known v.master.used) j at (h.reports_known j);
   unheard = λ a id unused. subst (λ ms. Each NoData ms) (sym (aside v from rest a id)) (h.unheard a id unused);
   token = λ a s m there. token a s m there (eqb a p) (eqb s from) refl refl;
-  ends = λ a m. one_more a p word (λ ms. Ends (line v.master) ms) (v.channel parties.Master (parties.Server a)) (λ e. subst (λ i. Ends (line v.master) (v.channel parties.Master (parties.Server i) ++ word ∷ [])) (sym (eqb-true a p e)) (ends-more (line v.master) (v.channel parties.Master (parties.Server p)) word none_told o.ends)) (λ e. h.ends a m);
+  ends = λ a m. one_more a p word (λ ms. Ends (extended v.master) ms) (v.channel parties.Master (parties.Server a)) (λ e. subst (λ i. Ends (extended v.master) (v.channel parties.Master (parties.Server i) ++ word ∷ [])) (sym (eqb-true a p e)) (ends-more (extended v.master) (v.channel parties.Master (parties.Server p)) word none_told o.ends)) (λ e. h.ends a m);
   follows = λ a s m there link. one_more a p word (λ ms. Each (OnlyTo s) ms) (v.channel parties.Master (parties.Server a)) (λ e. absurd (unlinked s there (subst (λ i. is_that (v.server i).succ s ≡ true) (eqb-true a p e) link))) (λ e. h.follows a s m there link);
   counts = λ a s is. left_one v from (Have p count) rest (HaveIs a (length (v.server s).entries)) s at (h.counts a s is);
   adopts = λ a s is none. each_one (AdoptIs s (length (v.server s).entries)) a p word (v.channel parties.Master (parties.Server a)) (h.adopts a s is none) (λ e. o.so s (length (v.server s).entries) (λ same. so ∙ ap (λ i. length (v.server i).entries) (eqb-true from s same)));
@@ -189,8 +189,8 @@ have_whole v c from p count rest word g h at before o = record {
       (left_one v from (Have p count) rest (Catches ((is_that (v.server t).succ j ≡ true) × Each NoSnap (v.channel (parties.Server t) (parties.Server j)))) j at (h.caught j t joins last));
   feeds_out = λ a member. each_one (FeedsOut v.master.chain) a p word (v.channel parties.Master (parties.Server a)) (h.feeds_out a member) (λ e. o.out);
 } where
-  members : (is_in (line v.master) p ≡ true) × (is_in (line v.master) from ≡ true)
-  members = before-in p from (line v.master) before
+  members : (is_in (extended v.master) p ≡ true) × (is_in (extended v.master) from ≡ true)
+  members = before-in p from (extended v.master) before
 
   same_told : (a s : ℕ) → reports_of a (v.channel parties.Master (parties.Server s) ++ told_to s ((parties.Server p, word) ∷ [])) ≡ reports_of a (v.channel parties.Master (parties.Server s))
   same_told a s = one_more s p word (λ ms. reports_of a ms ≡ reports_of a (v.channel parties.Master (parties.Server s))) (v.channel parties.Master (parties.Server s)) (λ e. omega (arith, reports-append a (v.channel parties.Master (parties.Server s)) (word ∷ []), o.untold a)) (λ e. refl)
@@ -212,11 +212,11 @@ have_whole v c from p count rest word g h at before o = record {
   unadopted : (adopts_of from (v.channel parties.Master (parties.Server p)) ≡ 0) × (feeds_of from (v.channel parties.Master (parties.Server p)) ≡ 0)
   unadopted = (omega (arith, free_link, ap (λ u. cond u 1 (adopts_of from (v.channel parties.Master (parties.Server p)))) (no_link (is_that (v.server p).succ from) refl)), omega (arith, free_link))
 
-  -- another one of the line isn't named either
-  same_as : (s : ℕ) → is_in (line v.master) s ≡ true → 1 ≤ tokens v p s → s ≡ from
-  same_as s there some = behind-one p s from (line v.master) g.apart (token-before v c p s h members.0 there some) before
+  -- another one of the extended chain isn't named either
+  same_as : (s : ℕ) → is_in (extended v.master) s ≡ true → 1 ≤ tokens v p s → s ≡ from
+  same_as s there some = behind-one p s from (extended v.master) g.apart (token-before v c p s h members.0 there some) before
 
-  none_told : (s : ℕ) → is_in (line v.master) s ≡ true → (adopts_of s (v.channel parties.Master (parties.Server p)) ≡ 0) × (feeds_of s (v.channel parties.Master (parties.Server p)) ≡ 0)
+  none_told : (s : ℕ) → is_in (extended v.master) s ≡ true → (adopts_of s (v.channel parties.Master (parties.Server p)) ≡ 0) × (feeds_of s (v.channel parties.Master (parties.Server p)) ≡ 0)
   none_told s there = (first (adopts_of s (v.channel parties.Master (parties.Server p))) refl, second (feeds_of s (v.channel parties.Master (parties.Server p))) refl) where
     first : (n : ℕ) → adopts_of s (v.channel parties.Master (parties.Server p)) ≡ n → n ≡ 0
     first zero e = refl
@@ -226,7 +226,7 @@ have_whole v c from p count rest word g h at before o = record {
     second zero e = refl
     second (suc n) e = absurd (omega (arith, e, ap (λ i. feeds_of i (v.channel parties.Master (parties.Server p))) (same_as s there (feed-token v p s (omega (arith, e)))), unadopted.1))
 
-  unlinked : (s : ℕ) → is_in (line v.master) s ≡ true → is_that (v.server p).succ s ≡ true → ⊥
+  unlinked : (s : ℕ) → is_in (extended v.master) s ≡ true → is_that (v.server p).succ s ≡ true → ⊥
   unlinked s there link =
       both_ways (is_that (v.server p).succ from) (no_link (is_that (v.server p).succ from) refl) (subst (λ i. is_that (v.server p).succ i ≡ true) (same_as s there (linked-token v p s link)) link)
 
@@ -243,7 +243,7 @@ have_whole v c from p count rest word g h at before o = record {
   left_haves a s true e false f = omega (arith, ap (λ ms. haves_of a ms) (left_row v from rest s ∙ if_true (eqb s from) rest (v.channel (parties.Server s) parties.Master) e), ap (λ i. haves_of a (v.channel (parties.Server i) parties.Master)) (eqb-true s from e), ap (λ ms. haves_of a ms) at, ap (λ t. cond t (suc (haves_of a rest)) (haves_of a rest)) (eqb_turned a p f))
 
   -- what is told of successors
-  more_links : (a s : ℕ) → is_in (line v.master) s ≡ true → (u t : Bool) → eqb a p ≡ u → eqb s from ≡ t → links (v.server a).succ s (v.channel parties.Master (parties.Server a) ++ told_to a ((parties.Server p, word) ∷ [])) ≡ links (v.server a).succ s (v.channel parties.Master (parties.Server a)) + bit (u && t)
+  more_links : (a s : ℕ) → is_in (extended v.master) s ≡ true → (u t : Bool) → eqb a p ≡ u → eqb s from ≡ t → links (v.server a).succ s (v.channel parties.Master (parties.Server a) ++ told_to a ((parties.Server p, word) ∷ [])) ≡ links (v.server a).succ s (v.channel parties.Master (parties.Server a)) + bit (u && t)
   more_links a s there false t e f = omega (arith, ap (λ ms. links (v.server a).succ s ms) (ap (λ us. v.channel parties.Master (parties.Server a) ++ us) (one_told a p word false e) ∙ append-nil (v.channel parties.Master (parties.Server a))))
   more_links a s there true t e f =
       let none = subst (λ i. is_that (v.server i).succ s ≡ false) (sym (eqb-true a p e)) (by_link s there (is_that (v.server p).succ s) refl) in
@@ -258,7 +258,7 @@ have_whole v c from p count rest word g h at before o = record {
         o.named s,
         named_bit s t f,
       ) where
-        by_link : (i : ℕ) → is_in (line v.master) i ≡ true → (u : Bool) → is_that (v.server p).succ i ≡ u → is_that (v.server p).succ i ≡ false
+        by_link : (i : ℕ) → is_in (extended v.master) i ≡ true → (u : Bool) → is_that (v.server p).succ i ≡ u → is_that (v.server p).succ i ≡ false
         by_link i here true link = absurd (unlinked i here link)
         by_link i here false none = none
 
@@ -266,25 +266,25 @@ have_whole v c from p count rest word g h at before o = record {
         named_bit i true same = ap (λ b. bit b) (eq-eqb from i (sym (eqb-true i from same)))
         named_bit i false other = ap (λ b. bit b) (eqb_turned i from other)
 
-  token : (a s : ℕ) → is_in (line v.master) a ≡ true → is_in (line v.master) s ≡ true → (u t : Bool) → eqb a p ≡ u → eqb s from ≡ t
+  token : (a s : ℕ) → is_in (extended v.master) a ≡ true → is_in (extended v.master) s ≡ true → (u t : Bool) → eqb a p ≡ u → eqb s from ≡ t
       → reports_of a (v.channel parties.Master (parties.Server s) ++ told_to s ((parties.Server p, word) ∷ [])) + (haves_of a ((drained v (parties.Server from) parties.Master rest).channel (parties.Server s) parties.Master) + links (v.server a).succ s (v.channel parties.Master (parties.Server a) ++ told_to a ((parties.Server p, word) ∷ [])))
-      ≡ bit (stands_before a s (line v.master))
+      ≡ bit (stands_before a s (extended v.master))
   token a s m there u t e f = omega (arith, same_told a s, left_haves a s t f u e, more_links a s there u t e f, h.token a s m there)
 
 -- ---- a server becomes a member
 
 -- a row that names one successor, and then a word on the same one
-ends_same : (line : List ℕ) (s count : ℕ) (ms : List Message) → Each (OnlyTo s) ms → Ends line ms → Ends line (ms ++ Adopt s count ∷ [])
-ends_same line s count [] only h = ((λ there. tt), tt)
-ends_same line s count (m ∷ ms) only h = step m only.0 h (λ k. ends_same line s count ms only.1 k) where
+ends_same : (extended : List ℕ) (s count : ℕ) (ms : List Message) → Each (OnlyTo s) ms → Ends extended ms → Ends extended (ms ++ Adopt s count ∷ [])
+ends_same extended s count [] only h = ((λ there. tt), tt)
+ends_same extended s count (m ∷ ms) only h = step m only.0 h (λ k. ends_same extended s count ms only.1 k) where
   more : (q : ℕ) → eqb q s ≡ true → Each (OnlyTo q) ms → Each (OnlyTo q) (ms ++ Adopt s count ∷ [])
   more q same k = each-append (OnlyTo q) ms (Adopt s count ∷ []) k (eq-eqb s q (sym (eqb-true q s same)), tt)
 
-  step : (x : Message) → OnlyTo s x → Ends line (x ∷ ms) → (Ends line ms → Ends line (ms ++ Adopt s count ∷ [])) → Ends line (x ∷ (ms ++ Adopt s count ∷ []))
+  step : (x : Message) → OnlyTo s x → Ends extended (x ∷ ms) → (Ends extended ms → Ends extended (ms ++ Adopt s count ∷ [])) → Ends extended (x ∷ (ms ++ Adopt s count ∷ []))
   step (Adopt q n) same k later = ((λ there. more q same (k.0 there)), later k.1)
   step (Feed (Some q)) same k later = ((λ there. more q same (k.0 there)), later k.1)
   step x same k later = later (rest_of x k) where
-    rest_of : (y : Message) → Ends line (y ∷ ms) → Ends line ms
+    rest_of : (y : Message) → Ends extended (y ∷ ms) → Ends extended ms
     rest_of (Adopt q n) f = f.1
     rest_of (Feed (Some q)) f = f.1
     rest_of y f = f
@@ -320,7 +320,7 @@ harmless_feeds chain (m ∷ ms) h = (one_out m h.0, harmless_feeds chain ms h.1)
   one_out y g = tt
 
 -- The server that joins is put at the end of the chain, and the last member before it, which feeds it, is to hand over.
-caught_whole : (v : Sight) (c : List Entry) (p from count : ℕ) → Prefixes v → Whole v c → is_that v.master.joiner from ≡ true → is_last v.master.chain p ≡ true
+caught_whole : (v : View) (c : List Entry) (p from count : ℕ) → Prefixes v → Whole v c → is_that v.master.joiner from ≡ true → is_last v.master.chain p ≡ true
     → (is_that (v.server p).succ from ≡ true) × Each NoSnap (v.channel (parties.Server p) (parties.Server from)) → Whole (said v (admitted p from count v.master).master (admitted p from count v.master).said) c
 caught_whole v c p from count g h joins last fed = record {
   pred_known = h.pred_known;
@@ -330,8 +330,8 @@ caught_whole v c p from count g h joins last fed = record {
   unheard = h.unheard;
   token = λ a s m n. ap (λ x. x + (haves_of a (v.channel (parties.Server s) parties.Master) + links (v.server a).succ s (row a ++ told_to a ((parties.Server p, word) ∷ [])))) (same_told a s)
       ∙ ap (λ x. reports_of a (row s) + (haves_of a (v.channel (parties.Server s) parties.Master) + x)) (same_links a s) ∙ h.token a s (was a m) (was s n) ∙ ap (λ us. bit (stands_before a s us)) stays;
-  ends = λ a m. subst (λ us. Ends us (row a ++ told_to a ((parties.Server p, word) ∷ []))) stays (one_more a p word (λ ms. Ends (line v.master) ms) (row a)
-      (λ e. subst (λ i. Ends (line v.master) (row i ++ word ∷ [])) (sym (eqb-true a p e)) (ends_same (line v.master) from count (row p) only (h.ends p there_p))) (λ e. h.ends a (was a m)));
+  ends = λ a m. subst (λ us. Ends us (row a ++ told_to a ((parties.Server p, word) ∷ []))) stays (one_more a p word (λ ms. Ends (extended v.master) ms) (row a)
+      (λ e. subst (λ i. Ends (extended v.master) (row i ++ word ∷ [])) (sym (eqb-true a p e)) (ends_same (extended v.master) from count (row p) only (h.ends p there_p))) (λ e. h.ends a (was a m)));
   follows = λ a s m n link. one_more a p word (λ ms. Each (OnlyTo s) ms) (row a)
       (λ e. each-append (OnlyTo s) (row a) (word ∷ []) (h.follows a s (was a m) (was s n) link) (eq-eqb from s (one_succ s (subst (λ i. is_that (v.server i).succ s ≡ true) (eqb-true a p e) link)), tt)) (λ e. h.follows a s (was a m) (was s n) link);
   counts = λ a s before. h.counts a s (subst (λ us. stands_before a s us ≡ true) (sym stays) before);
@@ -361,23 +361,23 @@ caught_whole v c p from count g h joins last fed = record {
   row : ℕ → List Message
   row j = v.channel parties.Master (parties.Server j)
 
-  stays : line v.master ≡ v.master.chain ++ from ∷ []
-  stays = ap (λ o. line_of v.master.chain o) (that_some v.master.joiner from joins)
+  stays : extended v.master ≡ v.master.chain ++ from ∷ []
+  stays = ap (λ o. extended_of v.master.chain o) (that_some v.master.joiner from joins)
 
-  was : (j : ℕ) → is_in (v.master.chain ++ from ∷ []) j ≡ true → is_in (line v.master) j ≡ true
+  was : (j : ℕ) → is_in (v.master.chain ++ from ∷ []) j ≡ true → is_in (extended v.master) j ≡ true
   was j n = subst (λ us. is_in us j ≡ true) (sym stays) n
 
   member_p : is_in v.master.chain p ≡ true
   member_p = last-in v.master.chain p last
 
-  there_p : is_in (line v.master) p ≡ true
-  there_p = member-line v.master.chain v.master.joiner p member_p
+  there_p : is_in (extended v.master) p ≡ true
+  there_p = member-extended v.master.chain v.master.joiner p member_p
 
-  there : is_in (line v.master) from ≡ true
-  there = joiner-line v.master.chain v.master.joiner from joins
+  there : is_in (extended v.master) from ≡ true
+  there = joiner-extended v.master.chain v.master.joiner from joins
 
-  by : (j : ℕ) → eqb from j ≡ true → Bystander (v.server j) (v.channel parties.Master (parties.Server j))
-  by j new = subst (λ i. Bystander (v.server i) (v.channel parties.Master (parties.Server i))) (eqb-true from j new) (g.aside from joins)
+  by : (j : ℕ) → eqb from j ≡ true → Outsider (v.server j) (v.channel parties.Master (parties.Server j))
+  by j new = subst (λ i. Outsider (v.server i) (v.channel parties.Master (parties.Server i))) (eqb-true from j new) (g.aside from joins)
 
   only : Each (OnlyTo from) (v.channel parties.Master (parties.Server p))
   only = h.follows p from there_p there fed.0
@@ -413,7 +413,7 @@ caught_whole v c p from count g h joins last fed = record {
   unfed : (a : ℕ) → is_in v.master.chain a ≡ true → feeds_of from (v.channel parties.Master (parties.Server a)) ≡ 0
   unfed a member = go (eqb a p) refl where
     token_of : tokens v a from ≡ bit (is_last v.master.chain a)
-    token_of = h.token a from (member-line v.master.chain v.master.joiner a member) there ∙ ap (λ t. bit t) (joiner-before v.master.chain v.master.joiner a from g.apart joins)
+    token_of = h.token a from (member-extended v.master.chain v.master.joiner a member) there ∙ ap (λ t. bit t) (joiner-before v.master.chain v.master.joiner a from g.apart joins)
 
     go : (t : Bool) → eqb a p ≡ t → feeds_of from (v.channel parties.Master (parties.Server a)) ≡ 0
     go true e = omega (arith, token_of, one_bit (is_last v.master.chain a), ap (λ t. cond t 1 (adopts_of from (v.channel parties.Master (parties.Server a)))) (subst (λ i. is_that (v.server i).succ from ≡ true) (sym (eqb-true a p e)) fed.0)) where
@@ -432,18 +432,18 @@ pub record Closing (word : Message) : Type 0 where
   pub known : (used : List ℕ) → Known used word
   pub fed : (s : ℕ) → feeds_of s (word ∷ []) ≡ 0
   pub named : (s : ℕ) → adopts_of s (word ∷ []) ≡ 0
-  pub ends : (line : List ℕ) → Ends line (word ∷ [])
+  pub ends : (extended : List ℕ) → Ends extended (word ∷ [])
   pub so : (s n : ℕ) → AdoptIs s n word
   pub out : (chain : List ℕ) → FeedsOut chain word
 
 pub closing-tail : (count : ℕ) → Closing (BeTail count)
-closing-tail count = record { untold = λ a. refl; known = λ used. tt; fed = λ s. refl; named = λ s. refl; ends = λ line. tt; so = λ s n. tt; out = λ chain. tt }
+closing-tail count = record { untold = λ a. refl; known = λ used. tt; fed = λ s. refl; named = λ s. refl; ends = λ extended. tt; so = λ s n. tt; out = λ chain. tt }
 
 pub closing-feed : Closing (Feed None)
-closing-feed = record { untold = λ a. refl; known = λ used. tt; fed = λ s. refl; named = λ s. refl; ends = λ line. tt; so = λ s n. tt; out = λ chain. tt }
+closing-feed = record { untold = λ a. refl; known = λ used. tt; fed = λ s. refl; named = λ s. refl; ends = λ extended. tt; so = λ s n. tt; out = λ chain. tt }
 
--- the last one of the line is told, and no server joins
-pub tail_whole : (v : Sight) (c : List Entry) (z : ℕ) (word : Message) (m : Master) → Prefixes v → Whole v c → Closing word → is_last v.master.chain z ≡ true → v.master.joiner ≡ None → m.joiner ≡ None → m.chain ≡ v.master.chain → m.used ≡ v.master.used
+-- the last one of the extended chain is told, and no server joins
+pub tail_whole : (v : View) (c : List Entry) (z : ℕ) (word : Message) (m : Master) → Prefixes v → Whole v c → Closing word → is_last v.master.chain z ≡ true → v.master.joiner ≡ None → m.joiner ≡ None → m.chain ≡ v.master.chain → m.used ≡ v.master.used
     → Whole (said v m ((parties.Server z, word) ∷ [])) c
 tail_whole v c z word m g h o last_member alone alone_now chain used = record {
   pred_known = λ id p is. subst (λ us. is_in us p ≡ true) (sym used) (h.pred_known id p is);
@@ -455,7 +455,7 @@ tail_whole v c z word m g h o last_member alone alone_now chain used = record {
       ∙ ap (λ n. reports_of p (v.channel parties.Master (parties.Server s)) + (haves_of p (v.channel (parties.Server s) parties.Master) + n)) (same_links p s)
       ∙ h.token p s (was p a) (was s b) ∙ ap (λ us. bit (stands_before p s us)) (sym stays);
   ends = λ p a. subst (λ us. Ends us (v.channel parties.Master (parties.Server p) ++ told_to p ((parties.Server z, word) ∷ []))) (sym stays)
-      (one_more p z word (λ ms. Ends (line v.master) ms) (v.channel parties.Master (parties.Server p)) (λ e. subst (λ i. Ends (line v.master) (v.channel parties.Master (parties.Server i) ++ word ∷ [])) (sym (eqb-true p z e)) (ends-more (line v.master) (v.channel parties.Master (parties.Server z)) word none_told (o.ends (line v.master)))) (λ e. h.ends p (was p a)));
+      (one_more p z word (λ ms. Ends (extended v.master) ms) (v.channel parties.Master (parties.Server p)) (λ e. subst (λ i. Ends (extended v.master) (v.channel parties.Master (parties.Server i) ++ word ∷ [])) (sym (eqb-true p z e)) (ends-more (extended v.master) (v.channel parties.Master (parties.Server z)) word none_told (o.ends (extended v.master)))) (λ e. h.ends p (was p a)));
   follows = λ p s a b link. one_more p z word (λ ms. Each (OnlyTo s) ms) (v.channel parties.Master (parties.Server p)) (λ e. absurd (behind s (was s b) (linked-token v z s (subst (λ i. is_that (v.server i).succ s ≡ true) (eqb-true p z e) link)))) (λ e. h.follows p s (was p a) (was s b) link);
   counts = λ p s before. h.counts p s (subst (λ us. stands_before p s us ≡ true) stays before);
   adopts = λ p s before none. each_one (AdoptIs s (length (v.server s).entries)) p z word (v.channel parties.Master (parties.Server p)) (h.adopts p s (subst (λ us. stands_before p s us ≡ true) stays before) none) (λ e. o.so s (length (v.server s).entries));
@@ -471,13 +471,13 @@ tail_whole v c z word m g h o last_member alone alone_now chain used = record {
   caught = λ j t joins. absurd (false≢true (sym (ap (λ x. is_that x j) alone_now) ∙ joins));
   feeds_out = λ p a. subst (λ us. Each (FeedsOut us) (v.channel parties.Master (parties.Server p) ++ told_to p ((parties.Server z, word) ∷ []))) (sym chain) (each_one (FeedsOut v.master.chain) p z word (v.channel parties.Master (parties.Server p)) (h.feeds_out p (was_member p a)) (λ e. o.out v.master.chain));
 } where
-  stays : line m ≡ line v.master
-  stays = ap (λ x. line_of m.chain x) alone_now ∙ chain ∙ sym (ap (λ x. line_of v.master.chain x) alone)
+  stays : extended m ≡ extended v.master
+  stays = ap (λ x. extended_of m.chain x) alone_now ∙ chain ∙ sym (ap (λ x. extended_of v.master.chain x) alone)
 
-  last : is_last (line v.master) z ≡ true
-  last = ap (λ x. is_last (line_of v.master.chain x) z) alone ∙ last_member
+  last : is_last (extended v.master) z ≡ true
+  last = ap (λ x. is_last (extended_of v.master.chain x) z) alone ∙ last_member
 
-  was : (j : ℕ) → is_in (line m) j ≡ true → is_in (line v.master) j ≡ true
+  was : (j : ℕ) → is_in (extended m) j ≡ true → is_in (extended v.master) j ≡ true
   was j a = subst (λ us. is_in us j ≡ true) stays a
 
   was_member : (j : ℕ) → is_in m.chain j ≡ true → is_in v.master.chain j ≡ true
@@ -496,10 +496,10 @@ tail_whole v c z word m g h o last_member alone alone_now chain used = record {
         more_none : (a b d : ℕ) → a ≡ b + d → d ≡ 0 → a ≡ b
         more_none a b d e f = omega (arith, e, f)
 
-  behind : (s : ℕ) → is_in (line v.master) s ≡ true → 1 ≤ tokens v z s → ⊥
-  behind s there some = before-last z s (line v.master) g.apart (token-before v c z s h (last-in (line v.master) z last) there some) last
+  behind : (s : ℕ) → is_in (extended v.master) s ≡ true → 1 ≤ tokens v z s → ⊥
+  behind s there some = before-last z s (extended v.master) g.apart (token-before v c z s h (last-in (extended v.master) z last) there some) last
 
-  none_told : (s : ℕ) → is_in (line v.master) s ≡ true → (adopts_of s (v.channel parties.Master (parties.Server z)) ≡ 0) × (feeds_of s (v.channel parties.Master (parties.Server z)) ≡ 0)
+  none_told : (s : ℕ) → is_in (extended v.master) s ≡ true → (adopts_of s (v.channel parties.Master (parties.Server z)) ≡ 0) × (feeds_of s (v.channel parties.Master (parties.Server z)) ≡ 0)
   none_told s there = no-token v z s (nothing (tokens v z s) refl) where
     nothing : (n : ℕ) → tokens v z s ≡ n → tokens v z s ≡ 0
     nothing zero e = e
@@ -507,8 +507,8 @@ tail_whole v c z word m g h o last_member alone alone_now chain used = record {
 
 -- ---- all that is heard
 
--- the line is as it was where only what the master knows of the last one changes
-known_whole : (v : Sight) (c : List Entry) (m : Master) → m.chain ≡ v.master.chain → m.joiner ≡ v.master.joiner → m.used ≡ v.master.used → Whole v c → Whole (record v { master = m }) c
+-- the extended chain is as it was where only what the master knows of the last one changes
+known_whole : (v : View) (c : List Entry) (m : Master) → m.chain ≡ v.master.chain → m.joiner ≡ v.master.joiner → m.used ≡ v.master.used → Whole v c → Whole (record v { master = m }) c
 known_whole v c m chain joiner used h = record {
   pred_known = λ id p is. subst (λ us. is_in us p ≡ true) (sym used) (h.pred_known id p is);
   succ_known = λ id s is. subst (λ us. is_in us s ≡ true) (sym used) (h.succ_known id s is);
@@ -532,17 +532,17 @@ known_whole v c m chain joiner used h = record {
   caught = λ j t joins last. h.caught j t (sym (ap (λ o. is_that o j) joiner) ∙ joins) (sym (ap (λ us. is_last us t) chain) ∙ last);
   feeds_out = λ p a. subst (λ us. Each (FeedsOut us) (v.channel parties.Master (parties.Server p))) (sym chain) (h.feeds_out p (was_member p a));
 } where
-  stays : line m ≡ line v.master
-  stays = ap (λ us. line_of us m.joiner) chain ∙ ap (λ o. line_of v.master.chain o) joiner
+  stays : extended m ≡ extended v.master
+  stays = ap (λ us. extended_of us m.joiner) chain ∙ ap (λ o. extended_of v.master.chain o) joiner
 
-  was : (j : ℕ) → is_in (line m) j ≡ true → is_in (line v.master) j ≡ true
+  was : (j : ℕ) → is_in (extended m) j ≡ true → is_in (extended v.master) j ≡ true
   was j a = subst (λ us. is_in us j ≡ true) stays a
 
   was_member : (j : ℕ) → is_in m.chain j ≡ true → is_in v.master.chain j ≡ true
   was_member j a = subst (λ us. is_in us j ≡ true) chain a
 
 -- a word on a successor is for a member or for the server that joins
-adopt_naming : (v : Sight) (p from count : ℕ) → Prefixes v → stands_before p from v.master.chain ≡ true → Naming v p from count (Adopt from count)
+adopt_naming : (v : View) (p from count : ℕ) → Prefixes v → stands_before p from v.master.chain ≡ true → Naming v p from count (Adopt from count)
 adopt_naming v p from count g before = record {
   member = (before-in p from v.master.chain before).0;
   untold = λ a. refl;
@@ -556,11 +556,11 @@ adopt_naming v p from count g before = record {
   go true = refl
   go false = refl
 
-feed_naming : (v : Sight) (p from count : ℕ) → Prefixes v → is_that v.master.joiner from ≡ true → is_last v.master.chain p ≡ true → Naming v p from count (Feed (Some from))
+feed_naming : (v : View) (p from count : ℕ) → Prefixes v → is_that v.master.joiner from ≡ true → is_last v.master.chain p ≡ true → Naming v p from count (Feed (Some from))
 feed_naming v p from count g joins last = record {
   member = last-in v.master.chain p last;
   untold = λ a. refl;
-  known = g.members from (joiner-line v.master.chain v.master.joiner from joins);
+  known = g.members from (joiner-extended v.master.chain v.master.joiner from joins);
   named = λ s. go (eqb from s);
   ends = ((λ there. tt), tt);
   so = λ s n h. tt;
@@ -571,38 +571,38 @@ feed_naming v p from count g joins last = record {
   go false = refl
 
 -- Whatever the master hears, its order keeps all sentences.
-pub heard-whole : (v : Sight) (c : List Entry) (from : ℕ) (word : Message) (rest : List Message) → Prefixes v → Prefixes (drained v (parties.Server from) parties.Master rest) → Commits v c → Whole v c → v.channel (parties.Server from) parties.Master ≡ word ∷ rest
+pub heard-whole : (v : View) (c : List Entry) (from : ℕ) (word : Message) (rest : List Message) → Prefixes v → Prefixes (drained v (parties.Server from) parties.Master rest) → Commits v c → Whole v c → v.channel (parties.Server from) parties.Master ≡ word ∷ rest
     → Whole (said (drained v (parties.Server from) parties.Master rest) (hears from word v.master).master (hears from word v.master).said) c
 unfolding hears
 heard-whole v c from (Have p count) rest g d_prefixes k h at = go (stands_before p from v.master.chain) (joins_behind p from v.master) refl refl where
-  d : Sight
+  d : View
   d = drained v (parties.Server from) parties.Master rest
 
-  -- who is before it in the line is before it in the chain, or is the last member, and it joins
-  neither : stands_before p from v.master.chain ≡ false → joins_behind p from v.master ≡ false → is_in (line v.master) from ≡ true → stands_before p from (line v.master) ≡ false
-  neither e f there = elim (line-cases v.master.chain v.master.joiner from there) [
-    | inl member ↦ line-before v.master.chain v.master.joiner p from g.apart member ∙ e
+  -- who is before it in the extended chain is before it in the chain, or is the last member, and it joins
+  neither : stands_before p from v.master.chain ≡ false → joins_behind p from v.master ≡ false → is_in (extended v.master) from ≡ true → stands_before p from (extended v.master) ≡ false
+  neither e f there = elim (extended-cases v.master.chain v.master.joiner from there) [
+    | inl member ↦ extended-before v.master.chain v.master.joiner p from g.apart member ∙ e
     | inr joins ↦ joiner-before v.master.chain v.master.joiner p from g.apart joins ∙ sym (ap (λ t. t && is_last v.master.chain p) joins) ∙ f
   ]
 
   -- a predecessor that isn't one any more counts for nobody
-  uncounted : stands_before p from v.master.chain ≡ false → joins_behind p from v.master ≡ false → (q : ℕ) → is_in (line v.master) q ≡ true → is_in (line v.master) from ≡ true → haves_of q rest ≡ cond (eqb p q) (suc (haves_of q rest)) (haves_of q rest)
+  uncounted : stands_before p from v.master.chain ≡ false → joins_behind p from v.master ≡ false → (q : ℕ) → is_in (extended v.master) q ≡ true → is_in (extended v.master) from ≡ true → haves_of q rest ≡ cond (eqb p q) (suc (haves_of q rest)) (haves_of q rest)
   uncounted e f q m there = by_name (eqb p q) refl where
     by_name : (t : Bool) → eqb p q ≡ t → haves_of q rest ≡ cond t (suc (haves_of q rest)) (haves_of q rest)
     by_name false other = refl
-    by_name true same = absurd (both_ways (stands_before p from (line v.master)) (neither e f there) (subst (λ i. stands_before i from (line v.master) ≡ true) (sym (eqb-true p q same))
+    by_name true same = absurd (both_ways (stands_before p from (extended v.master)) (neither e f there) (subst (λ i. stands_before i from (extended v.master) ≡ true) (sym (eqb-true p q same))
         (token-before v c q from h m there (omega (arith, ap (λ ms. haves_of q ms) at, ap (λ t. cond t (suc (haves_of q rest)) (haves_of q rest)) same)))))
 
   go : (t u : Bool) → stands_before p from v.master.chain ≡ t → joins_behind p from v.master ≡ u
       → Whole (said d (cond t (record { master = v.master; said = (parties.Server p, Adopt from count) ∷ [] }) (cond u (record { master = v.master; said = (parties.Server p, Feed (Some from)) ∷ [] }) (no_order v.master))).master
       (cond t (record { master = v.master; said = (parties.Server p, Adopt from count) ∷ [] }) (cond u (record { master = v.master; said = (parties.Server p, Feed (Some from)) ∷ [] }) (no_order v.master))).said) c
-  go true u e f = have_whole v c from p count rest (Adopt from count) g h at (line-before v.master.chain v.master.joiner p from g.apart (before-in p from v.master.chain e).1 ∙ e) (adopt_naming v p from count g e)
+  go true u e f = have_whole v c from p count rest (Adopt from count) g h at (extended-before v.master.chain v.master.joiner p from g.apart (before-in p from v.master.chain e).1 ∙ e) (adopt_naming v p from count g e)
   go false true e f =
       let both = and_parts (is_that v.master.joiner from) (is_last v.master.chain p) f in
       have_whole v c from p count rest (Feed (Some from)) g h at (joiner-before v.master.chain v.master.joiner p from g.apart both.0 ∙ both.1) (feed_naming v p from count g both.0 both.1)
   go false false e f = subst (λ w. Whole w c) (sym (said_nothing d v.master)) (drained_whole v c from (Have p count) rest h at (uncounted e f))
 heard-whole v c from (Caught p count) rest g d_prefixes k h at = go (joins_behind p from v.master) refl where
-  d : Sight
+  d : View
   d = drained v (parties.Server from) parties.Master rest
 
   quiet : Whole (drained v (parties.Server from) parties.Master rest) c
@@ -615,7 +615,7 @@ heard-whole v c from (Caught p count) rest g d_prefixes k h at = go (joins_behin
       caught_whole d c p from count d_prefixes quiet both.0 both.1 (fed.0, subst (λ ms. Each NoSnap ms) (sym (aside v from rest p from)) fed.1)
   go false e = subst (λ w. Whole w c) (sym (said_nothing d v.master)) quiet
 heard-whole v c from (Adopted s count) rest g d_prefixes k h at = go (is_last v.master.chain s && not v.master.told) refl where
-  d : Sight
+  d : View
   d = drained v (parties.Server from) parties.Master rest
 
   quiet : Whole (drained v (parties.Server from) parties.Master rest) c
@@ -633,7 +633,7 @@ heard-whole v c from (Adopted s count) rest g d_prefixes k h at = go (is_last v.
       tail_whole d c s (BeTail count) (record v.master { told = true }) d_prefixes quiet (closing-tail count) both.0 alone alone refl refl
   go false e = subst (λ w. Whole w c) (sym (said_nothing d v.master)) quiet
 heard-whole v c from Ready rest g d_prefixes k h at = go (is_last v.master.chain from) where
-  d : Sight
+  d : View
   d = drained v (parties.Server from) parties.Master rest
 
   quiet : Whole (drained v (parties.Server from) parties.Master rest) c

@@ -6,8 +6,8 @@ use Rattle.std.proofs.lemmas.Bool.{eq-eqb, false≢true, both_ways, cases_Bool, 
 use Rattle.cq_base.specs.declared.ask.Entry.{Entry}
 use Rattle.cq_base.specs.declared.party.Party.{Party}
 use Rattle.cq_base.specs.declared.party.Party.TheVariants as parties
-use Rattle.cq_base.specs.History.{last_moment}
-use Rattle.cq_base.specs.Relations.{Front}
+use Rattle.cq_base.specs.queue.History.{last_moment}
+use Rattle.cq_base.specs.Relations.{IsPrefix}
 use Rattle.cq_base.proofs.Among.{among-right}
 use Rattle.cq_chain.specs.Masters.{is_in, is_last, stands_before}
 use Rattle.cq_chain.specs.Messages.{Message, Fwd, Snap, Report, Adopt, Feed, Have, Caught}
@@ -22,9 +22,9 @@ use Rattle.cq_world.proofs.Prefixes.Climbing.{reports, one, ups}
 use Rattle.cq_world.proofs.Commits.{Commits, bit, longer-length}
 use Rattle.cq_world.proofs.Eaches.{Each, each-append, each-follows, cons_nil}
 use Rattle.cq_world.proofs.Wholes.Feeding.{NoData, NoSnap, OfSnap, Feeds, data-snap, all-data-snap, feeds-append, no-snap}
-use Rattle.cq_world.proofs.Lines.{member-line}
+use Rattle.cq_world.proofs.ExtendedChains.{member-extended}
 use Rattle.cq_world.proofs.Prefixes.{Prefixes, master_after, ups_after}
-use Rattle.cq_world.proofs.Sights.{Sight, line}
+use Rattle.cq_world.proofs.Views.{View, extended}
 use Rattle.cq_world.proofs.Prefixes.Steps.{Placed, below-pred}
 use Rattle.cq_world.proofs.Wholes.{Whole, reports_of, haves_of, adopts_of, OnlyTo, Catches, Known, HaveIs, AdoptIs, AckWithin, links, tokens, before-self, last-pred, stage-past}
 use Rattle.cq_world.proofs.Wholes.Turns.{Feeding, left_between, left_each}
@@ -109,33 +109,33 @@ feeds_still n (m ∷ ms) h = step m h.0 (feeds_still n ms h.1) where
 
 -- ---- neighbours
 
--- a server of the line isn't its own successor
-pub own_link : (v : Sight) (c : List Entry) (k : ℕ) → Prefixes v → Whole v c → is_in (line v.master) k ≡ true → is_that (v.server k).succ k ≡ false
-own_link v c k g h member = go (is_that (v.server k).succ k) (stands_before k k (line v.master)) refl refl where
-  go : (a b : Bool) → is_that (v.server k).succ k ≡ a → stands_before k k (line v.master) ≡ b → a ≡ false
+-- a server of the extended chain isn't its own successor
+pub own_link : (v : View) (c : List Entry) (k : ℕ) → Prefixes v → Whole v c → is_in (extended v.master) k ≡ true → is_that (v.server k).succ k ≡ false
+own_link v c k g h member = go (is_that (v.server k).succ k) (stands_before k k (extended v.master)) refl refl where
+  go : (a b : Bool) → is_that (v.server k).succ k ≡ a → stands_before k k (extended v.master) ≡ b → a ≡ false
   go false b e f = refl
-  go true true e f = absurd (before-self k (line v.master) g.apart f)
+  go true true e f = absurd (before-self k (extended v.master) g.apart f)
   go true false e f = absurd (omega (arith, h.token k k member member, ap (λ x. bit x) f, ap (λ x. cond x 1 (adopts_of k (v.channel parties.Master (parties.Server k)))) e))
 
--- the same of a member, and of a bystander, which has no successor
-pub placed_link : (v : Sight) (c : List Entry) (k : ℕ) → Prefixes v → Whole v c → Placed v k → is_that (v.server k).succ k ≡ false
-placed_link v c k g h (inl member) = own_link v c k g h (member-line v.master.chain v.master.joiner k member)
+-- the same of a member, and of an outsider, which has no successor
+pub placed_link : (v : View) (c : List Entry) (k : ℕ) → Prefixes v → Whole v c → Placed v k → is_that (v.server k).succ k ≡ false
+placed_link v c k g h (inl member) = own_link v c k g h (member-extended v.master.chain v.master.joiner k member)
 placed_link v c k g h (inr b) = ap (λ o. is_that o k) b.1.succ
 
-pub placed_follows : (v : Sight) (c : List Entry) (k x : ℕ) → Whole v c → Placed v k → is_in (line v.master) x ≡ true → is_that (v.server k).succ x ≡ true → Each (OnlyTo x) (v.channel parties.Master (parties.Server k))
-placed_follows v c k x h (inl member) there is = h.follows k x (member-line v.master.chain v.master.joiner k member) there is
+pub placed_follows : (v : View) (c : List Entry) (k x : ℕ) → Whole v c → Placed v k → is_in (extended v.master) x ≡ true → is_that (v.server k).succ x ≡ true → Each (OnlyTo x) (v.channel parties.Master (parties.Server k))
+placed_follows v c k x h (inl member) there is = h.follows k x (member-extended v.master.chain v.master.joiner k member) there is
 placed_follows v c k x h (inr b) there is = absurd (false≢true (sym (ap (λ o. is_that o x) b.1.succ) ∙ is))
 
-pub placed_young : (v : Sight) (c : List Entry) (k : ℕ) → Whole v c → Placed v k → (v.server k).full ≡ false → (v.server k).succ ≡ None
+pub placed_young : (v : View) (c : List Entry) (k : ℕ) → Whole v c → Placed v k → (v.server k).full ≡ false → (v.server k).succ ≡ None
 placed_young v c k h (inl member) young = h.young_succ k member young
 placed_young v c k h (inr b) young = b.1.succ
 
 -- a server that grows by what its predecessor sends: its neighbours' numbers say nothing of it
-pub linked_alone : (v : Sight) (c : List Entry) (p k : ℕ) → Prefixes v → Whole v c → is_in (line v.master) k ≡ true → (v.server k).pred ≡ Some p → is_that (v.server p).succ k ≡ true
-    → (q : ℕ) → stands_before q k (line v.master) ≡ true → (haves_of q (v.channel (parties.Server k) parties.Master) ≡ 0) × (is_that (v.server q).succ k ≡ false → adopts_of k (v.channel parties.Master (parties.Server q)) ≡ 0)
+pub linked_alone : (v : View) (c : List Entry) (p k : ℕ) → Prefixes v → Whole v c → is_in (extended v.master) k ≡ true → (v.server k).pred ≡ Some p → is_that (v.server p).succ k ≡ true
+    → (q : ℕ) → stands_before q k (extended v.master) ≡ true → (haves_of q (v.channel (parties.Server k) parties.Master) ≡ 0) × (is_that (v.server q).succ k ≡ false → adopts_of k (v.channel parties.Master (parties.Server q)) ≡ 0)
 linked_alone v c p k g h member is_pred link q before = by_reports (reports_of q (v.channel parties.Master (parties.Server k))) refl where
   one_token : tokens v q k ≡ 1
-  one_token = h.token q k (before-in q k (line v.master) before).0 member ∙ ap (λ b. bit b) before
+  one_token = h.token q k (before-in q k (extended v.master) before).0 member ∙ ap (λ b. bit b) before
 
   same_some : (a b : ℕ) → Some a ≡ Some b → a ≡ b
   same_some a b e = cc
@@ -149,28 +149,28 @@ linked_alone v c p k g h member is_pred link q before = by_reports (reports_of q
       (omega (arith, one_token, ap (λ b. cond b 1 (adopts_of k (v.channel parties.Master (parties.Server q)))) linked), λ not_link. absurd (both_ways (is_that (v.server q).succ k) not_link linked))
 
 -- nobody stands before a head
-pub no_neighbour : (v : Sight) (p k : ℕ) → Prefixes v → is_in (line v.master) k ≡ true → (v.server k).head ≡ true → stands_before p k (line v.master) ≡ true → ⊥
+pub no_neighbour : (v : View) (p k : ℕ) → Prefixes v → is_in (extended v.master) k ≡ true → (v.server k).head ≡ true → stands_before p k (extended v.master) ≡ true → ⊥
 no_neighbour v p k g member is_head before = false≢true (sym (ap (λ us. is_last us p) (g.headless k member is_head)) ∙ last-pred v p k g before)
 
-pub no_pred : (v : Sight) (p k : ℕ) → Prefixes v → is_in (line v.master) k ≡ true → (v.server k).head ≡ true → (v.server k).pred ≡ Some p → ⊥
+pub no_pred : (v : View) (p k : ℕ) → Prefixes v → is_in (extended v.master) k ≡ true → (v.server k).head ≡ true → (v.server k).pred ≡ Some p → ⊥
 no_pred v p k g member is_head is_pred = go (sym (ap (λ o. one o ++ reports (v.channel parties.Master (parties.Server k))) is_pred) ∙ g.headless k member is_head) where
   go : p ∷ reports (v.channel parties.Master (parties.Server k)) ≡ [] → ⊥
   go e = cons_nil p (reports (v.channel parties.Master (parties.Server k))) e
 
 -- ---- steps by which nothing comes to the history
 
-pub calm-feeding : (v : Sight) (c : List Entry) (from : Party) (k : ℕ) (front rest : List Message) (s : Server) (out : List (Party × Message)) → Prefixes v → Whole v c → Placed v k
-    → v.channel from (parties.Server k) ≡ front ++ rest
+pub calm-feeding : (v : View) (c : List Entry) (from : Party) (k : ℕ) (prefix rest : List Message) (s : Server) (out : List (Party × Message)) → Prefixes v → Whole v c → Placed v k
+    → v.channel from (parties.Server k) ≡ prefix ++ rest
     → s.entries ≡ (v.server k).entries → ((p : ℕ) → s.pred ≡ Some p → (v.server k).pred ≡ Some p) → s.succ ≡ (v.server k).succ → (s.full ≡ false → (v.server k).full ≡ false)
     → ((p : ℕ) → reports_of p (master_after v from k rest) ≡ reports_of p (v.channel parties.Master (parties.Server k)))
-    → ((x : ℕ) → is_in (line v.master) x ≡ true → links (v.server k).succ x (master_after v from k rest) ≡ links (v.server k).succ x (v.channel parties.Master (parties.Server k)))
+    → ((x : ℕ) → is_in (extended v.master) x ≡ true → links (v.server k).succ x (master_after v from k rest) ≡ links (v.server k).succ x (v.channel parties.Master (parties.Server k)))
     → ((x : ℕ) → Each (OnlyTo x) (v.channel parties.Master (parties.Server k)) → Each (OnlyTo x) (master_after v from k rest))
     → ((t : ℕ) → is_that v.master.joiner k ≡ true → ups v k ≡ t ∷ [] → ups_after v from k rest s ≡ t ∷ [])
     → Each Idle (addressed parties.Master out) → Each NoCaught (addressed parties.Master out) → ((x : ℕ) → Each NoData (addressed (parties.Server x) out))
-    → ((p : ℕ) → is_in (line v.master) k ≡ true → s.pred ≡ Some p → is_that (v.server p).succ k ≡ true → Feeds (length (v.server k).entries) (v.channel (parties.Server p) (parties.Server k)) (length (v.server p).entries) → Feeds (length (v.server k).entries) (left_between v from k rest p k) (length (v.server p).entries))
+    → ((p : ℕ) → is_in (extended v.master) k ≡ true → s.pred ≡ Some p → is_that (v.server p).succ k ≡ true → Feeds (length (v.server k).entries) (v.channel (parties.Server p) (parties.Server k)) (length (v.server p).entries) → Feeds (length (v.server k).entries) (left_between v from k rest p k) (length (v.server p).entries))
     → s.acked ≤ length (longer c (acting_history s)) → ((x : ℕ) → Each (AckWithin (length (longer c (acting_history s)))) (addressed (parties.Server x) out)) → (s.full ≡ true → s.floor ≤ length (longer c (acting_history s)))
     → Feeding v c from k rest s out
-calm-feeding v c from k front rest s out g h placed taken entries pred succ young same_reports same_links same_news same_ups idle told quiet passes acked acks floor = record {
+calm-feeding v c from k prefix rest s out g h placed taken entries pred succ young same_reports same_links same_news same_ups idle told quiet passes acked acks floor = record {
   pred_known = λ p is. h.pred_known k p (pred p is);
   succ_known = λ x is. h.succ_known k x (sym succ ∙ is);
   reports_known = each-follows Idle (Known v.master.used) (addressed parties.Master out) (idle_known v.master.used) idle;
@@ -190,7 +190,7 @@ calm-feeding v c from k front rest s out g h placed taken entries pred succ youn
   feeds_behind = λ p there other is_pred link. subst (λ us. Feeds (length us) (left_between v from k rest p k) (length (v.server p).entries)) (sym entries) (passes p there is_pred link (h.feed p k there (pred p is_pred) link));
   snaps_ahead = λ x there other is_pred. each-follows NoData (OfSnap (length (v.server x).entries < length c)) (addressed (parties.Server x) out) (λ m none. no-snap (length (v.server x).entries < length c) m (data-snap m none)) (quiet x);
   snaps_behind = λ p member is_pred. subst (λ us. Each (OfSnap (length us < length (longer c (acting_history s)))) (left_between v from k rest p k)) (sym entries)
-      (each-follows (OfSnap (length (v.server k).entries < length c)) (OfSnap (length (v.server k).entries < length (longer c (acting_history s)))) (left_between v from k rest p k) more (left_each v from k front rest (OfSnap (length (v.server k).entries < length c)) p k taken (h.snap p k member (pred p is_pred))));
+      (each-follows (OfSnap (length (v.server k).entries < length c)) (OfSnap (length (v.server k).entries < length (longer c (acting_history s)))) (left_between v from k rest p k) more (left_each v from k prefix rest (OfSnap (length (v.server k).entries < length c)) p k taken (h.snap p k member (pred p is_pred))));
   young_succ = λ is. succ ∙ placed_young v c k h placed (young is);
   fed = λ t joins last. same_ups t joins (h.fed_by k t joins last);
   snaps_to = λ x joins link. all-data-snap (addressed (parties.Server x) out) (quiet x);
@@ -213,33 +213,33 @@ pub stamped_next : (last : ℕ) (xs : List Entry) (e : Entry) (ys : List Entry) 
 stamped_next last [] e ys h stamps = h
 stamped_next last (x ∷ xs) e ys h stamps = stamped_next x.moment xs e ys (stamps.0 e (among-right e xs (e ∷ ys) (inl refl))) stamps.1
 
--- a front of so many entries is what stands before the next one
-front_before : (xs zs before rest : List Entry) (e : Entry) → Front xs zs → zs ≡ before ++ (e ∷ rest) → length before ≡ length xs → before ≡ xs
-front_before xs zs before rest e h split long = sym (take-append_seam before (e ∷ rest)) ∙ ap (λ us. take (length before) us) (sym split ∙ h.1) ∙ ap (λ n. take n (xs ++ h.0)) long ∙ take-append_seam xs h.0
+-- a prefix of so many entries is what stands before the next one
+prefix_before : (xs zs before rest : List Entry) (e : Entry) → IsPrefix xs zs → zs ≡ before ++ (e ∷ rest) → length before ≡ length xs → before ≡ xs
+prefix_before xs zs before rest e h split long = sym (take-append_seam before (e ∷ rest)) ∙ ap (λ us. take (length before) us) (sym split ∙ h.1) ∙ ap (λ n. take n (xs ++ h.0)) long ∙ take-append_seam xs h.0
 
 -- a forwarded entry of a predecessor that is linked is the next one
-pub accepts_fwd : (v : Sight) (c : List Entry) (p k place : ℕ) (e : Entry) (rest : List Message) → Prefixes v → Whole v c → Stamped (v.server p).entries → is_in (line v.master) k ≡ true → (v.server k).pred ≡ Some p → is_that (v.server p).succ k ≡ true
+pub accepts_fwd : (v : View) (c : List Entry) (p k place : ℕ) (e : Entry) (rest : List Message) → Prefixes v → Whole v c → Stamped (v.server p).entries → is_in (extended v.master) k ≡ true → (v.server k).pred ≡ Some p → is_that (v.server p).succ k ≡ true
     → v.channel (parties.Server p) (parties.Server k) ≡ Fwd place e ∷ rest → is_next (v.server k) p place e ≡ true
 unfolding last_moment
 accepts_fwd v c p k place e rest g h stamps member is_pred link at =
     let feed = subst (λ ms. Feeds (length (v.server k).entries) ms (length (v.server p).entries)) at (h.feed p k member is_pred link) in
     let says = (subst (λ ms. Each (Speaks (v.server p).entries) ms) at (g.speaks p (parties.Server k))).0 in
-    let before = front_before (v.server k).entries (v.server p).entries says.0 says.1 e (below-pred v k p g is_pred) says.2 (omega (arith, says.3, feed.0)) in
+    let before = prefix_before (v.server k).entries (v.server p).entries says.0 says.1 e (below-pred v k p g is_pred) says.2 (omega (arith, says.3, feed.0)) in
     and_from (is_that (v.server k).pred p && eqb place (length (v.server k).entries + 1)) (nat_le (last_moment (v.server k).entries) e.moment)
     (and_from (is_that (v.server k).pred p) (eqb place (length (v.server k).entries + 1)) (ap (λ o. is_that o p) is_pred ∙ eq-eqb p p refl) (eq-eqb place (length (v.server k).entries + 1) feed.0))
     (le-leb (last_moment (v.server k).entries) e.moment (subst (λ us. fold (λ _ x. x.moment) 0 us ≤ e.moment) before (stamped_next 0 says.0 e says.1 (omega arith) (subst Stamped says.2 stamps))))
 
 -- a snapshot of a predecessor comes to one that isn't full
-pub snap_young : (v : Sight) (c : List Entry) (p k : ℕ) (entries : List Entry) (rest : List Message) → Commits v c → Whole v c → is_in v.master.chain k ≡ true → (v.server k).pred ≡ Some p
+pub snap_young : (v : View) (c : List Entry) (p k : ℕ) (entries : List Entry) (rest : List Message) → Commits v c → Whole v c → is_in v.master.chain k ≡ true → (v.server k).pred ≡ Some p
     → v.channel (parties.Server p) (parties.Server k) ≡ Snap entries ∷ rest → (v.server k).full ≡ false
 snap_young v c p k entries rest k_commits h member is_pred at = elim (cases_Bool (v.server k).full) [
   | inr young ↦ young
-  | inl full ↦ let front = k_commits.old k member full in
-      absurd (omega (arith, (subst (λ ms. Each (OfSnap (length (v.server k).entries < length c)) ms) at (h.snap p k member is_pred)).0, ap length front.1, length-append c front.0))
+  | inl full ↦ let prefix = k_commits.old k member full in
+      absurd (omega (arith, (subst (λ ms. Each (OfSnap (length (v.server k).entries < length c)) ms) at (h.snap p k member is_pred)).0, ap length prefix.1, length-append c prefix.0))
 ]
 
 -- a snapshot of a predecessor that is linked is accepted
-pub accepts_snap : (v : Sight) (c : List Entry) (p k : ℕ) (entries : List Entry) (rest : List Message) → Commits v c → Whole v c → Placed v k → is_in (line v.master) k ≡ true → (v.server k).pred ≡ Some p → is_that (v.server p).succ k ≡ true
+pub accepts_snap : (v : View) (c : List Entry) (p k : ℕ) (entries : List Entry) (rest : List Message) → Commits v c → Whole v c → Placed v k → is_in (extended v.master) k ≡ true → (v.server k).pred ≡ Some p → is_that (v.server p).succ k ≡ true
     → v.channel (parties.Server p) (parties.Server k) ≡ Snap entries ∷ rest → is_restoring (v.server k) p entries ≡ true
 accepts_snap v c p k entries rest k_commits h placed there is_pred link at =
     let feed = subst (λ ms. Feeds (length (v.server k).entries) ms (length (v.server p).entries)) at (h.feed p k there is_pred link) in

@@ -16,37 +16,37 @@ use Rattle.cq_world.proofs.Commits.Turns.{if_true, if_false, report_row, by_serv
 use Rattle.cq_world.proofs.Eaches.{Each, each-append, each-follows}
 use Rattle.cq_world.proofs.Wholes.Feeding.{NoData, NoSnap, OfSnap, Feeds, data-snap, no-snap}
 use Rattle.cq_events.proofs.Parties.{same-true}
-use Rattle.cq_world.proofs.Lines.{joiner-line, joiner-out}
+use Rattle.cq_world.proofs.ExtendedChains.{joiner-extended, joiner-out}
 use Rattle.cq_world.proofs.Prefixes.Climbing.{ups}
 use Rattle.cq_world.proofs.Prefixes.{Prefixes, Turn, master_after, ups_after, ups_own, ups_other, row_after, rest_of, each-end}
 use Rattle.cq_world.proofs.Settled.{that_some}
-use Rattle.cq_world.proofs.Sights.{Sight, line, turn}
+use Rattle.cq_world.proofs.Views.{View, extended, turn}
 use Rattle.cq_world.proofs.Wholes.{Whole, reports_of, haves_of, adopts_of, feeds_of, OnlyTo, Ends, FeedsOut, Catches, Known, HaveIs, AdoptIs, AckWithin, links, tokens, before-self}
 
 -- what is left on the way from one server to another, before more is sent
-abbrev pub left_between : Sight → Party → ℕ → List Message → ℕ → ℕ → List Message
+abbrev pub left_between : View → Party → ℕ → List Message → ℕ → ℕ → List Message
 left_between v from k rest a b = cond (same (parties.Server a) from && eqb b k) rest (v.channel (parties.Server a) (parties.Server b))
 
 -- What a turn has to show. All of it is about the server that makes it, and its neighbours.
-pub record Feeding (v : Sight) (c : List Entry) (from : Party) (k : ℕ) (rest : List Message) (s : Server) (out : List (Party × Message)) : Type 0 where
+pub record Feeding (v : View) (c : List Entry) (from : Party) (k : ℕ) (rest : List Message) (s : Server) (out : List (Party × Message)) : Type 0 where
   pub pred_known : (p : ℕ) → s.pred ≡ Some p → is_in v.master.used p ≡ true
   pub succ_known : (x : ℕ) → s.succ ≡ Some x → is_in v.master.used x ≡ true
   pub reports_known : Each (Known v.master.used) (addressed parties.Master out)
   -- the making of pairs goes on
-  pub behind : (p : ℕ) → is_in (line v.master) p ≡ true → reports_of p (master_after v from k rest) + haves_of p (addressed parties.Master out) ≡ reports_of p (v.channel parties.Master (parties.Server k))
-  pub ahead : (x : ℕ) → is_in (line v.master) x ≡ true → links s.succ x (master_after v from k rest) ≡ links (v.server k).succ x (v.channel parties.Master (parties.Server k))
-  pub keeps_succ : (x : ℕ) → is_in (line v.master) x ≡ true → is_that (v.server k).succ x ≡ true → is_that s.succ x ≡ true
+  pub behind : (p : ℕ) → is_in (extended v.master) p ≡ true → reports_of p (master_after v from k rest) + haves_of p (addressed parties.Master out) ≡ reports_of p (v.channel parties.Master (parties.Server k))
+  pub ahead : (x : ℕ) → is_in (extended v.master) x ≡ true → links s.succ x (master_after v from k rest) ≡ links (v.server k).succ x (v.channel parties.Master (parties.Server k))
+  pub keeps_succ : (x : ℕ) → is_in (extended v.master) x ≡ true → is_that (v.server k).succ x ≡ true → is_that s.succ x ≡ true
   pub not_self : is_that s.succ k ≡ false
-  pub follows : (x : ℕ) → is_in (line v.master) x ≡ true → is_that s.succ x ≡ true → Each (OnlyTo x) (master_after v from k rest)
+  pub follows : (x : ℕ) → is_in (extended v.master) x ≡ true → is_that s.succ x ≡ true → Each (OnlyTo x) (master_after v from k rest)
   -- numbers
-  pub counts : (p : ℕ) → stands_before p k (line v.master) ≡ true → Each (HaveIs p (length s.entries)) (v.channel (parties.Server k) parties.Master ++ addressed parties.Master out)
-  pub adopts : (p : ℕ) → stands_before p k (line v.master) ≡ true → is_that (v.server p).succ k ≡ false → Each (AdoptIs k (length s.entries)) (v.channel parties.Master (parties.Server p))
+  pub counts : (p : ℕ) → stands_before p k (extended v.master) ≡ true → Each (HaveIs p (length s.entries)) (v.channel (parties.Server k) parties.Master ++ addressed parties.Master out)
+  pub adopts : (p : ℕ) → stands_before p k (extended v.master) ≡ true → is_that (v.server p).succ k ≡ false → Each (AdoptIs k (length s.entries)) (v.channel parties.Master (parties.Server p))
   -- entries
   pub sent_data : (x : ℕ) → is_that s.succ x ≡ false → Each NoData (addressed (parties.Server x) out)
-  pub new_link : (x : ℕ) → is_in (line v.master) x ≡ true → is_that s.succ x ≡ true → is_that (v.server k).succ x ≡ false → reports_of k (v.channel parties.Master (parties.Server x)) ≡ 0
-  pub feeds_ahead : (x : ℕ) → is_in (line v.master) x ≡ true → eqb x k ≡ false → (v.server x).pred ≡ Some k → is_that s.succ x ≡ true
+  pub new_link : (x : ℕ) → is_in (extended v.master) x ≡ true → is_that s.succ x ≡ true → is_that (v.server k).succ x ≡ false → reports_of k (v.channel parties.Master (parties.Server x)) ≡ 0
+  pub feeds_ahead : (x : ℕ) → is_in (extended v.master) x ≡ true → eqb x k ≡ false → (v.server x).pred ≡ Some k → is_that s.succ x ≡ true
       → Feeds (length (v.server x).entries) (v.channel (parties.Server k) (parties.Server x) ++ addressed (parties.Server x) out) (length s.entries)
-  pub feeds_behind : (p : ℕ) → is_in (line v.master) k ≡ true → eqb p k ≡ false → s.pred ≡ Some p → is_that (v.server p).succ k ≡ true → Feeds (length s.entries) (left_between v from k rest p k) (length (v.server p).entries)
+  pub feeds_behind : (p : ℕ) → is_in (extended v.master) k ≡ true → eqb p k ≡ false → s.pred ≡ Some p → is_that (v.server p).succ k ≡ true → Feeds (length s.entries) (left_between v from k rest p k) (length (v.server p).entries)
   pub snaps_ahead : (x : ℕ) → is_in v.master.chain x ≡ true → eqb x k ≡ false → (v.server x).pred ≡ Some k → Each (OfSnap (length (v.server x).entries < length c)) (addressed (parties.Server x) out)
   pub snaps_behind : (p : ℕ) → is_in v.master.chain k ≡ true → s.pred ≡ Some p → Each (OfSnap (length s.entries < length (longer c (acting_history s)))) (left_between v from k rest p k)
   pub young_succ : s.full ≡ false → s.succ ≡ None
@@ -102,47 +102,47 @@ fed-append s (m ∷ xs) ys = step m (fed-append s xs ys) where
   step x h = h
 
 -- of the end of a row
-pub ends-end : (line : List ℕ) (xs ys : List Message) → Ends line (xs ++ ys) → Ends line ys
-ends-end line [] ys h = h
-ends-end line (m ∷ xs) ys h = ends-end line xs ys (skip m h) where
-  skip : (x : Message) → Ends line (x ∷ (xs ++ ys)) → Ends line (xs ++ ys)
+pub ends-end : (extended : List ℕ) (xs ys : List Message) → Ends extended (xs ++ ys) → Ends extended ys
+ends-end extended [] ys h = h
+ends-end extended (m ∷ xs) ys h = ends-end extended xs ys (skip m h) where
+  skip : (x : Message) → Ends extended (x ∷ (xs ++ ys)) → Ends extended (xs ++ ys)
   skip (Adopt s n) g = g.1
   skip (Feed (Some s)) g = g.1
   skip x g = g
 
 -- ---- a turn
 
-pub record Flow (v : Sight) (c : List Entry) (from : Party) (k : ℕ) (rest : List Message) (s : Server) (out : List (Party × Message)) : Type 0 where
+pub record Flow (v : View) (c : List Entry) (from : Party) (k : ℕ) (rest : List Message) (s : Server) (out : List (Party × Message)) : Type 0 where
   pub prefixes : Prefixes v
   pub whole : Whole v c
   pub moves : Turn v from k rest s out
   pub feeding : Feeding v c from k rest s out
 
 -- what is left is the end of what was there
-pub left_each : (v : Sight) (from : Party) (k : ℕ) (front rest : List Message) (P : Message → Type 0) (a b : ℕ) → v.channel from (parties.Server k) ≡ front ++ rest → Each P (v.channel (parties.Server a) (parties.Server b)) → Each P (left_between v from k rest a b)
-left_each v from k front rest P a b taken h = go (same (parties.Server a) from) (eqb b k) refl refl where
+pub left_each : (v : View) (from : Party) (k : ℕ) (prefix rest : List Message) (P : Message → Type 0) (a b : ℕ) → v.channel from (parties.Server k) ≡ prefix ++ rest → Each P (v.channel (parties.Server a) (parties.Server b)) → Each P (left_between v from k rest a b)
+left_each v from k prefix rest P a b taken h = go (same (parties.Server a) from) (eqb b k) refl refl where
   go : (x y : Bool) → same (parties.Server a) from ≡ x → eqb b k ≡ y → Each P (cond (x && y) rest (v.channel (parties.Server a) (parties.Server b)))
-  go true true e f = each-end P front rest (subst (λ ms. Each P ms) (ap (λ q. v.channel q (parties.Server b)) (same-true (parties.Server a) from e) ∙ ap (λ i. v.channel from (parties.Server i)) (eqb-true b k f) ∙ taken) h)
+  go true true e f = each-end P prefix rest (subst (λ ms. Each P ms) (ap (λ q. v.channel q (parties.Server b)) (same-true (parties.Server a) from e) ∙ ap (λ i. v.channel from (parties.Server i)) (eqb-true b k f) ∙ taken) h)
   go true false e f = h
   go false y e f = h
 
 -- on the way to another server all is left
-pub left_other : (v : Sight) (from : Party) (k : ℕ) (rest : List Message) (a b : ℕ) → eqb b k ≡ false → left_between v from k rest a b ≡ v.channel (parties.Server a) (parties.Server b)
+pub left_other : (v : View) (from : Party) (k : ℕ) (rest : List Message) (a b : ℕ) → eqb b k ≡ false → left_between v from k rest a b ≡ v.channel (parties.Server a) (parties.Server b)
 left_other v from k rest a b other = if_false (same (parties.Server a) from && eqb b k) rest (v.channel (parties.Server a) (parties.Server b)) (and_not (same (parties.Server a) from) other) where
   and_not : (x : Bool) → eqb b k ≡ false → (x && eqb b k) ≡ false
   and_not true e = e
   and_not false e = refl
 
-whole_keep : (v : Sight) (c : List Entry) (from : Party) (k : ℕ) (rest : List Message) (s : Server) (out : List (Party × Message)) → Flow v c from k rest s out → Whole (turn v from k rest s out) (longer c (acting_history s))
+whole_keep : (v : View) (c : List Entry) (from : Party) (k : ℕ) (rest : List Message) (s : Server) (out : List (Party × Message)) → Flow v c from k rest s out → Whole (turn v from k rest s out) (longer c (acting_history s))
 whole_keep v c from k rest s out t = record {
   pred_known = λ id p. by_server v k s (λ i x. x.pred ≡ Some p → is_in v.master.used p ≡ true) (f.pred_known p) (λ i other. h.pred_known i p) id;
   succ_known = λ id x. by_server v k s (λ i y. y.succ ≡ Some x → is_in v.master.used x ≡ true) (f.succ_known x) (λ i other. h.succ_known i x) id;
   orders_known = λ id. by_told v from k rest s out (λ i x ms. Each (Known v.master.used) ms) (end_of (Known v.master.used) (h.orders_known k)) (λ i other. h.orders_known i) id;
   reports_known = λ id. by_report v from k rest s out (λ i ms. Each (Known v.master.used) ms) h.reports_known (λ g. each-append (Known v.master.used) (v.channel (parties.Server k) parties.Master) (addressed parties.Master out) g f.reports_known) id;
-  unheard = λ p id unused. sent_row NoData p id (left_each v from k t.moves.front rest NoData p id t.moves.taken (h.unheard p id unused)) (f.sent_data id (unknown id unused));
+  unheard = λ p id unused. sent_row NoData p id (left_each v from k t.moves.prefix rest NoData p id t.moves.taken (h.unheard p id unused)) (f.sent_data id (unknown id unused));
   token = λ p x member there. tokens_same p x member there ∙ h.token p x member there;
-  ends = λ p. by_told v from k rest s out (λ i x ms. is_in (line v.master) i ≡ true → Ends (line v.master) ms) (λ m. ends-end (line v.master) left.0 (master_after v from k rest) (subst (λ ms. Ends (line v.master) ms) left.1 (h.ends k m))) (λ i other. h.ends i) p;
-  follows = λ p x. by_told v from k rest s out (λ i y ms. is_in (line v.master) i ≡ true → is_in (line v.master) x ≡ true → is_that y.succ x ≡ true → Each (OnlyTo x) ms) (λ m. f.follows x) (λ i other. h.follows i x) p;
+  ends = λ p. by_told v from k rest s out (λ i x ms. is_in (extended v.master) i ≡ true → Ends (extended v.master) ms) (λ m. ends-end (extended v.master) left.0 (master_after v from k rest) (subst (λ ms. Ends (extended v.master) ms) left.1 (h.ends k m))) (λ i other. h.ends i) p;
+  follows = λ p x. by_told v from k rest s out (λ i y ms. is_in (extended v.master) i ≡ true → is_in (extended v.master) x ≡ true → is_that y.succ x ≡ true → Each (OnlyTo x) ms) (λ m. f.follows x) (λ i other. h.follows i x) p;
   counts = λ p x before. counts p x before (eqb x k) refl;
   adopts = λ p x before. adopts p x before (eqb p k) (eqb x k) refl refl;
   data_none = λ p x there. data_none p x there (eqb p k) refl;
@@ -151,7 +151,7 @@ whole_keep v c from k rest s out t = record {
   snap = λ p x there. snap p x there (eqb p k) (eqb x k) refl refl;
   young_succ = λ id. by_server v k s (λ i x. is_in v.master.chain i ≡ true → x.full ≡ false → x.succ ≡ None) (λ m. f.young_succ) (λ i other. h.young_succ i) id;
   acked = λ id. by_server v k s (λ i x. x.acked ≤ length now) f.acked (λ i other. omega (arith, h.acked i, grows)) id;
-  acks = λ p x. sent_row (AckWithin (length now)) p x (each-follows (AckWithin (length c)) (AckWithin (length now)) (left_between v from k rest p x) wider (left_each v from k t.moves.front rest (AckWithin (length c)) p x t.moves.taken (h.acks p x))) (f.sent_acks x);
+  acks = λ p x. sent_row (AckWithin (length now)) p x (each-follows (AckWithin (length c)) (AckWithin (length now)) (left_between v from k rest p x) wider (left_each v from k t.moves.prefix rest (AckWithin (length c)) p x t.moves.taken (h.acks p x))) (f.sent_acks x);
   floors = λ id. by_server v k s (λ i x. is_in v.master.chain i ≡ true → x.full ≡ true → x.floor ≤ length now) (λ m. f.floor) (λ i other m full. omega (arith, h.floors i m full, grows)) id;
   fed_by = λ j last joins is. fed_by j last joins is (eqb j k) refl;
   caught = λ j last joins is. caught j last joins is (eqb j k) refl;
@@ -174,7 +174,7 @@ whole_keep v c from k rest s out t = record {
   wider m g = tt
 
   left : (us : List Message) × (v.channel parties.Master (parties.Server k) ≡ us ++ master_after v from k rest)
-  left = rest_of v from k t.moves.front rest t.moves.taken
+  left = rest_of v from k t.moves.prefix rest t.moves.taken
 
   end_of : (P : Message → Type 0) → Each P (v.channel parties.Master (parties.Server k)) → Each P (master_after v from k rest)
   end_of P g = each-end P left.0 (master_after v from k rest) (subst (λ ms. Each P ms) left.1 g)
@@ -206,9 +206,9 @@ whole_keep v c from k rest s out t = record {
     | inr not ↦ not
   ]
 
-  tokens_same : (p x : ℕ) → is_in (line v.master) p ≡ true → is_in (line v.master) x ≡ true → tokens (turn v from k rest s out) p x ≡ tokens v p x
+  tokens_same : (p x : ℕ) → is_in (extended v.master) p ≡ true → is_in (extended v.master) x ≡ true → tokens (turn v from k rest s out) p x ≡ tokens v p x
   tokens_same p x m there = omega (arith, second (eqb x k) refl, first (eqb p k) refl) where
-    w : Sight
+    w : View
     w = turn v from k rest s out
 
     first : (b : Bool) → eqb p k ≡ b → links (set_at v.server k s p).succ x ((turn v from k rest s out).channel parties.Master (parties.Server p)) ≡ links (v.server p).succ x (v.channel parties.Master (parties.Server p))
@@ -222,34 +222,34 @@ whole_keep v c from k rest s out t = record {
         omega (arith, ap (λ ms. reports_of p ms) told, ap (λ ms. haves_of p ms) said, haves-append p (v.channel (parties.Server x) parties.Master) (addressed parties.Master out), t.feeding.behind p m, ap (λ i. reports_of p (v.channel parties.Master (parties.Server i))) (eqb-true x k e))
     second false e = omega (arith, ap (λ ms. reports_of p ms) (row_after v from k rest s out x false e), ap (λ ms. haves_of p ms) (report_row v from k rest s out x ∙ if_false (eqb x k) (v.channel (parties.Server x) parties.Master ++ addressed parties.Master out) (v.channel (parties.Server x) parties.Master) e))
 
-  counts : (p x : ℕ) → stands_before p x (line v.master) ≡ true → (b : Bool) → eqb x k ≡ b → Each (HaveIs p (length (set_at v.server k s x).entries)) ((turn v from k rest s out).channel (parties.Server x) parties.Master)
+  counts : (p x : ℕ) → stands_before p x (extended v.master) ≡ true → (b : Bool) → eqb x k ≡ b → Each (HaveIs p (length (set_at v.server k s x).entries)) ((turn v from k rest s out).channel (parties.Server x) parties.Master)
   counts p x before true e = subst (λ ms. Each (HaveIs p (length (set_at v.server k s x).entries)) ms) (sym (report_row v from k rest s out x ∙ if_true (eqb x k) (v.channel (parties.Server x) parties.Master ++ addressed parties.Master out) (v.channel (parties.Server x) parties.Master) e ∙ ap (λ i. v.channel (parties.Server i) parties.Master ++ addressed parties.Master out) (eqb-true x k e)))
-      (subst (λ y. Each (HaveIs p (length y.entries)) (v.channel (parties.Server k) parties.Master ++ addressed parties.Master out)) (sym (own_server x e)) (t.feeding.counts p (subst (λ i. stands_before p i (line v.master) ≡ true) (eqb-true x k e) before)))
+      (subst (λ y. Each (HaveIs p (length y.entries)) (v.channel (parties.Server k) parties.Master ++ addressed parties.Master out)) (sym (own_server x e)) (t.feeding.counts p (subst (λ i. stands_before p i (extended v.master) ≡ true) (eqb-true x k e) before)))
   counts p x before false e = subst (λ ms. Each (HaveIs p (length (set_at v.server k s x).entries)) ms) (sym (report_row v from k rest s out x ∙ if_false (eqb x k) (v.channel (parties.Server x) parties.Master ++ addressed parties.Master out) (v.channel (parties.Server x) parties.Master) e))
       (subst (λ y. Each (HaveIs p (length y.entries)) (v.channel (parties.Server x) parties.Master)) (sym (other_server x e)) (t.whole.counts p x before))
 
-  -- who isn't the successor any more wasn't it before, if it is in the line
-  was_not : (x : ℕ) → is_in (line v.master) x ≡ true → is_that s.succ x ≡ false → is_that (v.server k).succ x ≡ false
+  -- who isn't the successor any more wasn't it before, if it is in the extended chain
+  was_not : (x : ℕ) → is_in (extended v.master) x ≡ true → is_that s.succ x ≡ false → is_that (v.server k).succ x ≡ false
   was_not x there not_now = elim (cases_Bool (is_that (v.server k).succ x)) [ inl was ↦ absurd (both_ways (is_that s.succ x) not_now (t.feeding.keeps_succ x there was)) | inr no_link ↦ no_link ]
 
-  adopts : (p x : ℕ) → stands_before p x (line v.master) ≡ true → (a b : Bool) → eqb p k ≡ a → eqb x k ≡ b → is_that (set_at v.server k s p).succ x ≡ false → Each (AdoptIs x (length (set_at v.server k s x).entries)) ((turn v from k rest s out).channel parties.Master (parties.Server p))
-  adopts p x before true true e g no_link = absurd (before-self k (line v.master) t.prefixes.apart (subst (λ i. stands_before i k (line v.master) ≡ true) (eqb-true p k e) (subst (λ i. stands_before p i (line v.master) ≡ true) (eqb-true x k g) before)))
+  adopts : (p x : ℕ) → stands_before p x (extended v.master) ≡ true → (a b : Bool) → eqb p k ≡ a → eqb x k ≡ b → is_that (set_at v.server k s p).succ x ≡ false → Each (AdoptIs x (length (set_at v.server k s x).entries)) ((turn v from k rest s out).channel parties.Master (parties.Server p))
+  adopts p x before true true e g no_link = absurd (before-self k (extended v.master) t.prefixes.apart (subst (λ i. stands_before i k (extended v.master) ≡ true) (eqb-true p k e) (subst (λ i. stands_before p i (extended v.master) ≡ true) (eqb-true x k g) before)))
   adopts p x before true false e g no_link = subst (λ ms. Each (AdoptIs x (length (set_at v.server k s x).entries)) ms) (sym (row_after v from k rest s out p true e))
       (subst (λ y. Each (AdoptIs x (length y.entries)) (master_after v from k rest)) (sym (other_server x g))
-      (end_of (AdoptIs x (length (v.server x).entries)) (t.whole.adopts k x (subst (λ i. stands_before i x (line v.master) ≡ true) (eqb-true p k e) before)
-      (was_not x (before-in p x (line v.master) before).1 (sym (ap (λ y. is_that y.succ x) (own_server p e)) ∙ no_link)))))
+      (end_of (AdoptIs x (length (v.server x).entries)) (t.whole.adopts k x (subst (λ i. stands_before i x (extended v.master) ≡ true) (eqb-true p k e) before)
+      (was_not x (before-in p x (extended v.master) before).1 (sym (ap (λ y. is_that y.succ x) (own_server p e)) ∙ no_link)))))
   adopts p x before false true e g no_link = subst (λ ms. Each (AdoptIs x (length (set_at v.server k s x).entries)) ms) (sym (row_after v from k rest s out p false e))
       (subst (λ y. Each (AdoptIs x (length y.entries)) (v.channel parties.Master (parties.Server p))) (sym (own_server x g))
-      (subst (λ i. Each (AdoptIs i (length s.entries)) (v.channel parties.Master (parties.Server p))) (sym (eqb-true x k g)) (t.feeding.adopts p (subst (λ i. stands_before p i (line v.master) ≡ true) (eqb-true x k g) before)
+      (subst (λ i. Each (AdoptIs i (length s.entries)) (v.channel parties.Master (parties.Server p))) (sym (eqb-true x k g)) (t.feeding.adopts p (subst (λ i. stands_before p i (extended v.master) ≡ true) (eqb-true x k g) before)
       (subst (λ i. is_that (v.server p).succ i ≡ false) (eqb-true x k g) (sym (ap (λ y. is_that y.succ x) (other_server p e)) ∙ no_link)))))
   adopts p x before false false e g no_link = subst (λ ms. Each (AdoptIs x (length (set_at v.server k s x).entries)) ms) (sym (row_after v from k rest s out p false e))
       (subst (λ y. Each (AdoptIs x (length y.entries)) (v.channel parties.Master (parties.Server p))) (sym (other_server x g)) (t.whole.adopts p x before (sym (ap (λ y. is_that y.succ x) (other_server p e)) ∙ no_link)))
 
-  data_none : (p x : ℕ) → is_in (line v.master) x ≡ true → (b : Bool) → eqb p k ≡ b → is_that (set_at v.server k s p).succ x ≡ false → Each NoData ((turn v from k rest s out).channel (parties.Server p) (parties.Server x))
+  data_none : (p x : ℕ) → is_in (extended v.master) x ≡ true → (b : Bool) → eqb p k ≡ b → is_that (set_at v.server k s p).succ x ≡ false → Each NoData ((turn v from k rest s out).channel (parties.Server p) (parties.Server x))
   data_none p x there true e no_link =
       let none = sym (ap (λ y. is_that y.succ x) (own_server p e)) ∙ no_link in
-      sent_row NoData p x (left_each v from k t.moves.front rest NoData p x t.moves.taken (t.whole.data_none p x there (subst (λ i. is_that (v.server i).succ x ≡ false) (sym (eqb-true p k e)) (was_not x there none)))) (t.feeding.sent_data x none)
-  data_none p x there false e no_link = subst (λ ms. Each NoData ms) (sym (other_row p x e)) (left_each v from k t.moves.front rest NoData p x t.moves.taken (t.whole.data_none p x there (sym (ap (λ y. is_that y.succ x) (other_server p e)) ∙ no_link)))
+      sent_row NoData p x (left_each v from k t.moves.prefix rest NoData p x t.moves.taken (t.whole.data_none p x there (subst (λ i. is_that (v.server i).succ x ≡ false) (sym (eqb-true p k e)) (was_not x there none)))) (t.feeding.sent_data x none)
+  data_none p x there false e no_link = subst (λ ms. Each NoData ms) (sym (other_row p x e)) (left_each v from k t.moves.prefix rest NoData p x t.moves.taken (t.whole.data_none p x there (sym (ap (λ y. is_that y.succ x) (other_server p e)) ∙ no_link)))
 
   -- fewer words are left
   fewer : (p x : ℕ) → reports_of p (v.channel parties.Master (parties.Server x)) ≡ 0 → reports_of p ((turn v from k rest s out).channel parties.Master (parties.Server x)) ≡ 0
@@ -258,7 +258,7 @@ whole_keep v c from k rest s out t = record {
     go true e = omega (arith, ap (λ ms. reports_of p ms) (row_after v from k rest s out x true e), ap (λ ms. reports_of p ms) left.1, reports-append p left.0 (master_after v from k rest), ap (λ i. reports_of p (v.channel parties.Master (parties.Server i))) (sym (eqb-true x k e)), none)
     go false e = ap (λ ms. reports_of p ms) (row_after v from k rest s out x false e) ∙ none
 
-  linked_told : (p x : ℕ) → is_in (line v.master) x ≡ true → (b : Bool) → eqb p k ≡ b → is_that (set_at v.server k s p).succ x ≡ true → reports_of p ((turn v from k rest s out).channel parties.Master (parties.Server x)) ≡ 0
+  linked_told : (p x : ℕ) → is_in (extended v.master) x ≡ true → (b : Bool) → eqb p k ≡ b → is_that (set_at v.server k s p).succ x ≡ true → reports_of p ((turn v from k rest s out).channel parties.Master (parties.Server x)) ≡ 0
   linked_told p x there true e link =
       let own = sym (ap (λ y. is_that y.succ x) (own_server p e)) ∙ link in
       fewer p x (subst (λ i. reports_of i (v.channel parties.Master (parties.Server x)) ≡ 0) (sym (eqb-true p k e)) (elim (cases_Bool (is_that (v.server k).succ x)) [
@@ -267,7 +267,7 @@ whole_keep v c from k rest s out t = record {
       ]))
   linked_told p x there false e link = fewer p x (t.whole.linked_told p x there (sym (ap (λ y. is_that y.succ x) (other_server p e)) ∙ link))
 
-  feed : (p x : ℕ) → is_in (line v.master) x ≡ true → (a b : Bool) → eqb p k ≡ a → eqb x k ≡ b → (set_at v.server k s x).pred ≡ Some p → is_that (set_at v.server k s p).succ x ≡ true
+  feed : (p x : ℕ) → is_in (extended v.master) x ≡ true → (a b : Bool) → eqb p k ≡ a → eqb x k ≡ b → (set_at v.server k s x).pred ≡ Some p → is_that (set_at v.server k s p).succ x ≡ true
       → Feeds (length (set_at v.server k s x).entries) ((turn v from k rest s out).channel (parties.Server p) (parties.Server x)) (length (set_at v.server k s p).entries)
   feed p x there true true e g is_pred link = absurd (both_ways (is_that s.succ k) t.feeding.not_self (subst (λ i. is_that s.succ i ≡ true) (eqb-true x k g) (sym (ap (λ y. is_that y.succ x) (own_server p e)) ∙ link)))
   feed p x there true false e g is_pred link = subst (λ ms. Feeds (length (set_at v.server k s x).entries) ms (length (set_at v.server k s p).entries)) (sym (own_row p x e ∙ ap (λ us. us ++ addressed (parties.Server x) out) (left_other v from k rest p x g ∙ ap (λ i. v.channel (parties.Server i) (parties.Server x)) (eqb-true p k e))))
@@ -277,7 +277,7 @@ whole_keep v c from k rest s out t = record {
   feed p x there false true e g is_pred link = subst (λ ms. Feeds (length (set_at v.server k s x).entries) ms (length (set_at v.server k s p).entries)) (sym (other_row p x e ∙ ap (λ i. left_between v from k rest p i) (eqb-true x k g)))
       (subst (λ y. Feeds (length (set_at v.server k s x).entries) (left_between v from k rest p k) (length y.entries)) (sym (other_server p e))
       (subst (λ y. Feeds (length y.entries) (left_between v from k rest p k) (length (v.server p).entries)) (sym (own_server x g))
-      (t.feeding.feeds_behind p (subst (λ i. is_in (line v.master) i ≡ true) (eqb-true x k g) there) e (sym (ap (λ y. y.pred) (own_server x g)) ∙ is_pred) (subst (λ i. is_that (v.server p).succ i ≡ true) (eqb-true x k g) (sym (ap (λ y. is_that y.succ x) (other_server p e)) ∙ link)))))
+      (t.feeding.feeds_behind p (subst (λ i. is_in (extended v.master) i ≡ true) (eqb-true x k g) there) e (sym (ap (λ y. y.pred) (own_server x g)) ∙ is_pred) (subst (λ i. is_that (v.server p).succ i ≡ true) (eqb-true x k g) (sym (ap (λ y. is_that y.succ x) (other_server p e)) ∙ link)))))
   feed p x there false false e g is_pred link = subst (λ ms. Feeds (length (set_at v.server k s x).entries) ms (length (set_at v.server k s p).entries)) (sym (other_row p x e ∙ left_other v from k rest p x g))
       (subst (λ y. Feeds (length (set_at v.server k s x).entries) (v.channel (parties.Server p) (parties.Server x)) (length y.entries)) (sym (other_server p e))
       (subst (λ y. Feeds (length y.entries) (v.channel (parties.Server p) (parties.Server x)) (length (v.server p).entries)) (sym (other_server x g))
@@ -299,13 +299,13 @@ whole_keep v c from k rest s out t = record {
   snap p x there true false e g is_pred = subst (λ y. Each (OfSnap (length y.entries < length now)) ((turn v from k rest s out).channel (parties.Server p) (parties.Server x))) (sym (other_server x g))
       (subst (λ ms. Each (OfSnap (length (v.server x).entries < length now)) ms) (sym (own_row p x e))
       (each-append (OfSnap (length (v.server x).entries < length now)) (left_between v from k rest p x) (addressed (parties.Server x) out)
-      (each-follows (OfSnap (length (v.server x).entries < length c)) (OfSnap (length (v.server x).entries < length now)) (left_between v from k rest p x) (more_snap (length (v.server x).entries)) (left_each v from k t.moves.front rest (OfSnap (length (v.server x).entries < length c)) p x t.moves.taken (t.whole.snap p x there was_pred)))
+      (each-follows (OfSnap (length (v.server x).entries < length c)) (OfSnap (length (v.server x).entries < length now)) (left_between v from k rest p x) (more_snap (length (v.server x).entries)) (left_each v from k t.moves.prefix rest (OfSnap (length (v.server x).entries < length c)) p x t.moves.taken (t.whole.snap p x there was_pred)))
       (each-follows (OfSnap (length (v.server x).entries < length c)) (OfSnap (length (v.server x).entries < length now)) (addressed (parties.Server x) out) (more_snap (length (v.server x).entries)) (t.feeding.snaps_ahead x there g (subst (λ i. (v.server x).pred ≡ Some i) (eqb-true p k e) was_pred))))) where
         was_pred : (v.server x).pred ≡ Some p
         was_pred = sym (ap (λ y. y.pred) (other_server x g)) ∙ is_pred
   snap p x there false false e g is_pred = subst (λ y. Each (OfSnap (length y.entries < length now)) ((turn v from k rest s out).channel (parties.Server p) (parties.Server x))) (sym (other_server x g))
       (subst (λ ms. Each (OfSnap (length (v.server x).entries < length now)) ms) (sym (other_row p x e))
-      (each-follows (OfSnap (length (v.server x).entries < length c)) (OfSnap (length (v.server x).entries < length now)) (left_between v from k rest p x) (more_snap (length (v.server x).entries)) (left_each v from k t.moves.front rest (OfSnap (length (v.server x).entries < length c)) p x t.moves.taken (t.whole.snap p x there (sym (ap (λ y. y.pred) (other_server x g)) ∙ is_pred)))))
+      (each-follows (OfSnap (length (v.server x).entries < length c)) (OfSnap (length (v.server x).entries < length now)) (left_between v from k rest p x) (more_snap (length (v.server x).entries)) (left_each v from k t.moves.prefix rest (OfSnap (length (v.server x).entries < length c)) p x t.moves.taken (t.whole.snap p x there (sym (ap (λ y. y.pred) (other_server x g)) ∙ is_pred)))))
 
   fed_by : (j last : ℕ) → is_that v.master.joiner j ≡ true → is_last v.master.chain last ≡ true → (b : Bool) → eqb j k ≡ b → ups (turn v from k rest s out) j ≡ last ∷ []
   fed_by j last joins is true e = ups_own v from k rest s out j e ∙ t.feeding.fed last (subst (λ i. is_that v.master.joiner i ≡ true) (eqb-true j k e) joins) is
@@ -340,7 +340,7 @@ whole_keep v c from k rest s out t = record {
         ]
 
         old : Was → Now
-        old h = (ap (λ y. is_that y.succ j) (other_server last other) ∙ h.0, subst (λ ms. Each NoSnap ms) (sym (other_row last j other)) (left_each v from k t.moves.front rest NoSnap last j t.moves.taken h.1))
+        old h = (ap (λ y. is_that y.succ j) (other_server last other) ∙ h.0, subst (λ ms. Each NoSnap ms) (sym (other_row last j other)) (left_each v from k t.moves.prefix rest NoSnap last j t.moves.taken h.1))
 
         new : New → Now
         new h = (
@@ -357,11 +357,11 @@ whole_keep v c from k rest s out t = record {
 
         now : (b : Bool) → eqb last k ≡ b → Was → Now
         now true own h = let link = subst (λ i. is_that (v.server i).succ j ≡ true) (eqb-true last k own) h.0 in (
-          ap (λ y. is_that y.succ j) (own_server last own) ∙ t.feeding.keeps_succ j (joiner-line v.master.chain v.master.joiner j joins) link,
-          subst (λ ms. Each NoSnap ms) (sym (own_row last j own)) (each-append NoSnap (left_between v from k rest last j) (addressed (parties.Server j) out) (left_each v from k t.moves.front rest NoSnap last j t.moves.taken h.1) (t.feeding.snaps_to j joins link)),
+          ap (λ y. is_that y.succ j) (own_server last own) ∙ t.feeding.keeps_succ j (joiner-extended v.master.chain v.master.joiner j joins) link,
+          subst (λ ms. Each NoSnap ms) (sym (own_row last j own)) (each-append NoSnap (left_between v from k rest last j) (addressed (parties.Server j) out) (left_each v from k t.moves.prefix rest NoSnap last j t.moves.taken h.1) (t.feeding.snaps_to j joins link)),
         )
-        now false other h = (ap (λ y. is_that y.succ j) (other_server last other) ∙ h.0, subst (λ ms. Each NoSnap ms) (sym (other_row last j other)) (left_each v from k t.moves.front rest NoSnap last j t.moves.taken h.1))
+        now false other h = (ap (λ y. is_that y.succ j) (other_server last other) ∙ h.0, subst (λ ms. Each NoSnap ms) (sym (other_row last j other)) (left_each v from k t.moves.prefix rest NoSnap last j t.moves.taken h.1))
 
 -- A turn keeps all sentences.
-pub turn-whole : (v : Sight) (c : List Entry) (from : Party) (k : ℕ) (rest : List Message) (s : Server) (out : List (Party × Message)) → Prefixes v → Whole v c → Turn v from k rest s out → Feeding v c from k rest s out → Whole (turn v from k rest s out) (longer c (acting_history s))
+pub turn-whole : (v : View) (c : List Entry) (from : Party) (k : ℕ) (rest : List Message) (s : Server) (out : List (Party × Message)) → Prefixes v → Whole v c → Turn v from k rest s out → Feeding v c from k rest s out → Whole (turn v from k rest s out) (longer c (acting_history s))
 turn-whole v c from k rest s out g h t f = whole_keep v c from k rest s out (record { prefixes = g; whole = h; moves = t; feeding = f })

@@ -6,14 +6,14 @@ ghost use Rattle.cq_chain.specs.Messages as told;
 ghost use Rattle.cq_chain.specs.declared.fault.WorldFault.TheVariants as faults;
 ghost use Rattle.cq_chain.specs.Stands.{IsFirst, Means};
 ghost use Rattle.cq_events.specs.Events.{refusal_of, refusal_of_take, without_first, answers_in, head_of};
-ghost use Rattle.cq_world.specs.within.Kept.{IsFilled, after_drawing};
+ghost use Rattle.cq_world.specs.within.Kept.{IsFilled, after_popping};
 ghost use Rattle.cq_world.specs.Stands.{StandsFor, Shows, Happens, Gives, IsRefused};
 ghost use Rattle.cq_world.specs.within.Calls.{IsDone, IsPut, IsPutRefused, IsTaken, IsTakeRefused};
 ghost use Rattle.cq_events.specs.Worlds.{is_in};
 ghost use Rattle.cq_events.specs.declared.event.Event.TheVariants as events;
 
 use super::Sim;
-use crate::links::Pair;
+use crate::links::LinkKey;
 use cq_base::{Party, ServerId};
 use cq_chain::{Answer, Message, WorldFault};
 
@@ -26,9 +26,9 @@ fn answer_in(message: Message) -> Option<Answer>
 
 impl Sim {
     /// The first message that waits at a server for a party leaves its outbox.
-    fn draw_at(&mut self, id: ServerId, to: Party) -> Option<Message>
+    fn pop_at_server(&mut self, id: ServerId, to: Party) -> Option<Message>
         ensures first { Shows self.old (λ w. IsFirst result (w.outbox (parties.Server id) to)) }
-        ensures drawn { Happens self.old self.new (λ w. after_drawing w (parties.Server id) to) }
+        ensures drawn { Happens self.old self.new (λ w. after_popping w (parties.Server id) to) }
         ensures links { self.new.links ≡ self.old.links }
     {
         match self.servers.get_mut(&id) {
@@ -38,9 +38,9 @@ impl Sim {
     }
 
     /// The first message that waits at the master for a party leaves its outbox.
-    fn draw_of_master(&mut self, to: Party) -> Option<Message>
+    fn pop_at_master(&mut self, to: Party) -> Option<Message>
         ensures first { Shows self.old (λ w. IsFirst result (w.outbox parties.Master to)) }
-        ensures drawn { Happens self.old self.new (λ w. after_drawing w parties.Master to) }
+        ensures drawn { Happens self.old self.new (λ w. after_popping w parties.Master to) }
         ensures links { self.new.links ≡ self.old.links }
     {
         match to {
@@ -50,32 +50,32 @@ impl Sim {
     }
 
     /// The first message that waits at one party for another leaves its outbox.
-    fn draw(&mut self, pair: &Pair) -> Option<Message>
+    fn pop(&mut self, pair: &LinkKey) -> Option<Message>
         ensures first { Shows self.old (λ w. IsFirst result (w.outbox pair.now.from pair.now.to)) }
-        ensures drawn { Happens self.old self.new (λ w. after_drawing w pair.now.from pair.now.to) }
+        ensures drawn { Happens self.old self.new (λ w. after_popping w pair.now.from pair.now.to) }
         ensures links { self.new.links ≡ self.old.links }
     {
         match pair.from {
-            Party::Server(id) => self.draw_at(id, pair.to),
-            Party::Master => self.draw_of_master(pair.to),
+            Party::Server(id) => self.pop_at_server(id, pair.to),
+            Party::Master => self.pop_at_master(pair.to),
             Party::Clients => None,
         }
     }
 
     /// The first message that waits for the clients is given to them.
-    fn give(&mut self, pair: &Pair) -> Result<Option<Answer>, WorldFault>
+    fn give(&mut self, pair: &LinkKey) -> Result<Option<Answer>, WorldFault>
         requires { pair.now.to ≡ parties.Clients }
         ensures ok { IsPut self.old self.new pair.now result }
         ensures err { IsPutRefused self.old self.new pair.now result }
     {
-        match self.draw(pair) {
+        match self.pop(pair) {
             Some(message) => Ok(answer_in(message)),
             None => Err(WorldFault::OutboxEmpty),
         }
     }
 
     /// The first message that waits is put on its link. Its room is made before it leaves the outbox.
-    fn post(&mut self, pair: &Pair) -> Result<Option<Answer>, WorldFault>
+    fn post(&mut self, pair: &LinkKey) -> Result<Option<Answer>, WorldFault>
         requires { pair.now.to ≢ parties.Clients }
         ensures ok { IsPut self.old self.new pair.now result }
         ensures err { IsPutRefused self.old self.new pair.now result }
@@ -84,7 +84,7 @@ impl Sim {
             return Err(WorldFault::OutboxEmpty);
         }
         self.links.reserve(pair)?;
-        match self.draw(pair) {
+        match self.pop(pair) {
             Some(message) => {
                 self.links.push(pair, message);
                 Ok(None)
@@ -94,10 +94,10 @@ impl Sim {
     }
 
     /// Whether a put isn't refused, but maybe for want of memory: O(1).
-    pub(super) fn may_put(&self, pair: &Pair) -> bool
+    pub(super) fn may_put(&self, pair: &LinkKey) -> bool
         ensures { Shows self.now (λ w. result ≡ is_none (refusal_of w (events.Put pair.now.from pair.now.to))) }
     {
-        if !self.knows_both(pair) {
+        if !self.has_parties(pair) {
             return false;
         }
         let sender_is_down = self.is_down(&pair.from);
@@ -108,11 +108,11 @@ impl Sim {
     }
 
     /// What waits is put on its link, or given.
-    pub(super) fn put(&mut self, pair: &Pair) -> Result<Option<Answer>, WorldFault>
+    pub(super) fn put(&mut self, pair: &LinkKey) -> Result<Option<Answer>, WorldFault>
         ensures ok { Gives self.old self.new (events.Put pair.now.from pair.now.to) result }
         ensures err { IsRefused self.old self.new (events.Put pair.now.from pair.now.to) result }
     {
-        if !self.knows_both(pair) {
+        if !self.has_parties(pair) {
             return Err(WorldFault::NoSuchServer);
         }
         if self.is_down(&pair.from) {
@@ -125,7 +125,7 @@ impl Sim {
     }
 
     /// A server takes the first message of a link. The message leaves the link only if the server takes it.
-    fn take_at(&mut self, pair: &Pair, id: ServerId) -> Result<(), WorldFault>
+    fn take_at(&mut self, pair: &LinkKey, id: ServerId) -> Result<(), WorldFault>
         requires { pair.now.to ≡ parties.Server id }
         ensures ok { IsTaken self.old self.new pair.now result }
         ensures err { Shows self.old (λ w. is_in w.master.used id ≡ true → IfErr result (λ fault.
@@ -146,7 +146,7 @@ impl Sim {
     }
 
     /// The master hears the first message of a link from a server. The message leaves the link only if it does.
-    fn hear(&mut self, pair: &Pair, id: ServerId) -> Result<(), WorldFault>
+    fn hear(&mut self, pair: &LinkKey, id: ServerId) -> Result<(), WorldFault>
         requires from { pair.now.from ≡ parties.Server id }
         requires to { pair.now.to ≡ parties.Master }
         ensures ok { IsTaken self.old self.new pair.now result }
@@ -163,7 +163,7 @@ impl Sim {
     }
 
     /// The first message of a link leaves it.
-    fn drop_first(&mut self, pair: &Pair) -> Result<(), WorldFault>
+    fn drop_first(&mut self, pair: &LinkKey) -> Result<(), WorldFault>
         ensures ok { Shows self.old (λ w. OnOk result
             (IsFilled (w.link pair.now.from pair.now.to) × StandsFor self.new (without_first w pair.now.from pair.now.to))) }
         ensures err { Shows self.old (λ w. IfErr result (λ fault.
@@ -177,7 +177,7 @@ impl Sim {
     }
 
     /// The master takes the first message of a link. It hears servers alone.
-    fn take_by_master(&mut self, pair: &Pair) -> Result<(), WorldFault>
+    fn take_by_master(&mut self, pair: &LinkKey) -> Result<(), WorldFault>
         requires { pair.now.to ≡ parties.Master }
         ensures ok { IsTaken self.old self.new pair.now result }
         ensures err { IsTakeRefused self.old self.new pair.now result }
@@ -189,11 +189,11 @@ impl Sim {
     }
 
     /// The first message of a link is taken. The clients do nothing with it.
-    pub(super) fn take(&mut self, pair: &Pair) -> Result<(), WorldFault>
+    pub(super) fn take(&mut self, pair: &LinkKey) -> Result<(), WorldFault>
         ensures ok { IsDone self.old self.new (events.Take pair.now.from pair.now.to) result }
         ensures err { IsRefused self.old self.new (events.Take pair.now.from pair.now.to) result }
     {
-        if !self.knows_both(pair) {
+        if !self.has_parties(pair) {
             return Err(WorldFault::NoSuchServer);
         }
         if self.is_down(&pair.to) {

@@ -5,7 +5,7 @@ use Rattle.std.specs.Str.{IsCharBoundary}
 use Rattle.json.specs.Run.{is_plain}
 use Rattle.json.specs.Print.{escape}
 use Rattle.cq_json.specs.within.FlatText.{run_end, Spelled}
-use Rattle.cq_json.proofs.FlatText.{run_front, run_end_ascii}
+use Rattle.cq_json.proofs.FlatText.{run_prefix, run_end_ascii}
 use Rattle.cq_json.proofs.Escapes.{run_spelled}
 use Rattle.cq_json.proofs.flat_text.next_run.Goals as goal
 
@@ -28,10 +28,10 @@ returns-clause-value c =
     let within : n < length d = omega (arith, c.plain_len-len.ensures, prefix_len-le-length is_plain d) in
     let same : d ≡ t = c.as_bytes-bytes.ensures.value in
     let none : n - 0 ≡ n = omega arith in
-    let front : take n d ≡ c.range.result.now = ap (take n) same ∙ sym (c.range.ensures.value ∙ ap (λ k. take k t) none) in
+    let prefix : take n d ≡ c.range.result.now = ap (take n) same ∙ sym (c.range.ensures.value ∙ ap (λ k. take k t) none) in
     let left : drop (n + 1) d ≡ c.range_from.result.now = ap (drop (n + 1)) same ∙ sym c.range_from.ensures.value in
     let behind : get_or d n 0 ∷ drop (n + 1) d ≡ run_end c.in_ok-ends.ends ∷ c.range_from.result.now = ap₂ (λ x xs. x ∷ xs) c.in_ok-ends.ensures left in
-    sym same ∙ run_front d n c.plain_len-len.ensures within ∙ ap₂ (λ a b. escape a ++ b) front behind
+    sym same ∙ run_prefix d n c.plain_len-len.ensures within ∙ ap₂ (λ a b. escape a ++ b) prefix behind
 
 pub returns-clause-spelled : goal.returns-clause-spelled
 returns-clause-spelled c =
@@ -41,7 +41,7 @@ returns-clause-spelled c =
     let within : n < length d = omega (arith, c.plain_len-len.ensures, prefix_len-le-length is_plain d) in
     let same : d ≡ t = c.as_bytes-bytes.ensures.value in
     let none : n - 0 ≡ n = omega arith in
-    let front : take n d ≡ c.range.result.now = ap (take n) same ∙ sym (c.range.ensures.value ∙ ap (λ k. take k t) none) in
+    let prefix : take n d ≡ c.range.result.now = ap (take n) same ∙ sym (c.range.ensures.value ∙ ap (λ k. take k t) none) in
     let left : drop (n + 1) d ≡ c.range_from.result.now = ap (drop (n + 1)) same ∙ sym c.range_from.ensures.value in
     let behind : get_or d n 0 ∷ drop (n + 1) d ≡ run_end c.in_ok-ends.ends ∷ c.range_from.result.now = ap₂ (λ x xs. x ∷ xs) c.in_ok-ends.ensures left in
-    subst (λ r. Spelled t c.range.result.now r) behind (subst (λ b. Spelled t b (get_or d n 0 ∷ drop (n + 1) d)) front (subst (λ x. Spelled x (take n d) (get_or d n 0 ∷ drop (n + 1) d)) same (run_spelled d n c.plain_len-len.ensures within)))
+    subst (λ r. Spelled t c.range.result.now r) behind (subst (λ b. Spelled t b (get_or d n 0 ∷ drop (n + 1) d)) prefix (subst (λ x. Spelled x (take n d) (get_or d n 0 ∷ drop (n + 1) d)) same (run_spelled d n c.plain_len-len.ensures within)))

@@ -8,7 +8,7 @@ use Rattle.cq_json.specs.within.FlatText.{run_end, Spelled}
 use Rattle.cq_json.proofs.flat_text.read_escaped.Given as goal
 
 abbrev pub invariant-escapes : goal.invariant-escapes
-invariant-escapes l = shadow (Utf8 l.rest) × Spelled (escape l.fn.front ++ (92 ∷ l.fn.text)) (string_bytes l.out) (run_end l.ended ∷ l.rest)
+invariant-escapes l = shadow (Utf8 l.rest) × Spelled (escape l.fn.prefix ++ (92 ∷ l.fn.text)) (string_bytes l.out) (run_end l.ended ∷ l.rest)
 
 abbrev pub decreases-escapes : goal.decreases-escapes
 decreases-escapes l = length l.rest

@@ -1,7 +1,7 @@
 use Rattle.std.proofs.Common.{◌≡◌, ◌+◌, ◌-◌, ◌*◌, ◌<◌, ◌++◌, length, get_or, decimal, rules, arith, ap, sym, ◌∙◌, subst}
 use Rattle.std.proofs.lemmas.Str.{IsCharBoundary-after_ascii}
 use Rattle.std.specs.Str.{IsCharBoundary}
-use Rattle.cq_json.proofs.FlatText.{zero_front, first_digit, digit_more}
+use Rattle.cq_json.proofs.FlatText.{zero_prefix, first_digit, digit_more}
 use Rattle.cq_json.proofs.flat_text.read_number.Goals as goal
 
 pub range_from-requires : goal.range_from-requires
@@ -9,7 +9,7 @@ range_from-requires c = λ _. IsCharBoundary-after_ascii c.args.text.now 0 c.utf
 
 pub returns-then-first-eq48 : goal.returns-then-first-eq48
 returns-then-first-eq48 c =
-    let zero = zero_front c.args.text.now (search rules) (search rules) in
+    let zero = zero_prefix c.args.text.now (search rules) (search rules) in
     (zero ∙ ap (λ t. decimal 0 ++ t) (sym c.range_from.ensures.value), omega arith)
 
 pub loop-len-init : goal.loop-len-init

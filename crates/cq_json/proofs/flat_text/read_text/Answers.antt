@@ -7,9 +7,9 @@ use Rattle.cq_json.proofs.flat_text.read_text.Goals as goal
 
 pub returns : goal.returns
 returns c =
-    let front = c.in_ok-front.front.now in
-    let rest = c.in_ok-front.rest.now in
-    let text = escape front ++ (92 ∷ rest) in
+    let prefix = c.in_ok-prefix.prefix.now in
+    let rest = c.in_ok-prefix.rest.now in
+    let text = escape prefix ++ (92 ∷ rest) in
     let is : c.args.text.now ≡ 34 ∷ text =
-    c.in_ok-after.ensures ∙ ap (λ t. 34 ∷ t) (c.in_ok-front.ensures.value ∙ ap (λ e. escape front ++ (run_end e ∷ rest)) c.if-ends.false) in
+    c.in_ok-after.ensures ∙ ap (λ t. 34 ∷ t) (c.in_ok-prefix.ensures.value ∙ ap (λ e. escape prefix ++ (run_end e ∷ rest)) c.if-ends.false) in
     ap (lex between) is ∙ closed text c.in_ok-string.string.now c.in_ok-string.rest.now c.in_ok-string.ensures

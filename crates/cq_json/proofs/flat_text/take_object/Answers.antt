@@ -10,9 +10,9 @@ returns-in-End-default c =
 
 pub returns-in_ok-take_rest-in-Inner-default : goal.returns-in_ok-take_rest-in-Inner-default
 returns-in_ok-take_rest-in-Inner-default c =
-    let front = rw (c.in-Inner-default.is-0, c.requires.members) at c.in_ok-rest.ensures in
+    let prefix = rw (c.in-Inner-default.is-0, c.requires.members) at c.in_ok-rest.ensures in
     let within = rw c.requires.inner at c.in_ok-rest-in-Inner-default.ensures in
     on_some c.ended-in-Inner-default.result
     (nested_said c.args.text.now c.in_ok-rest.field-0.1.now c.in_ok-rest-in-Inner-default.rest.now c.in_ok-take_rest-in-Inner-default.field-0.now c.take_members.new.members.items
-    c.take_rest.new.members.items c.take_rest-in-Inner-default.new.members.items c.utf8.text front within c.in_ok-take_rest-in-Inner-default.ensures)
+    c.take_rest.new.members.items c.take_rest-in-Inner-default.new.members.items c.utf8.text prefix within c.in_ok-take_rest-in-Inner-default.ensures)
     c.ended-in-Inner-default.ensures

@@ -1,4 +1,4 @@
-use Rattle.cq_wires.proofs.Kept.{tied_inbox}
+use Rattle.cq_link.proofs.Kept.{tied_inbox}
 use Rattle.cq_link_tests.proofs.wires.asked.Goals as goal
 
 pub returns : goal.returns

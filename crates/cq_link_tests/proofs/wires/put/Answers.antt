@@ -1,4 +1,4 @@
-use Rattle.cq_wires.proofs.Kept.{kept_outs}
+use Rattle.cq_link.proofs.Kept.{kept_outs}
 use Rattle.cq_link_tests.proofs.wires.put.Goals as goal
 
 pub returns : goal.returns

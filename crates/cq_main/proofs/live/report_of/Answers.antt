@@ -1,10 +1,10 @@
 -- What was read, and what a live run of its steps says.
 use Rattle.std.proofs.Common.{◌≡◌, List, [], Some, subst}
 use Rattle.std.specs.Prelude.{◌↔◌}
-use Rattle.cq_live_chain.specs.Reports.{IsReport}
-use Rattle.cq_live_run.specs.declared.fault.LiveFault.TheVariants.{BadScript}
-use Rattle.cq_plan.specs.Steps.{first_bad}
-use Rattle.cq_plan.specs.declared.step.LiveStep.{LiveStep}
+use Rattle.cq_live.specs.Reports.{IsReport}
+use Rattle.cq_live.specs.declared.fault.LiveFault.TheVariants.{BadScript}
+use Rattle.cq_live_plan.specs.Steps.{first_bad}
+use Rattle.cq_live_plan.specs.declared.step.LiveStep.{LiveStep}
 use Rattle.cq_main.proofs.LiveTold.{of_fault}
 use Rattle.cq_main.proofs.live.report_of.Goals as goal
 

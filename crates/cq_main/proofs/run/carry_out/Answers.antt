@@ -1,4 +1,4 @@
--- Each choice is carried out by its own function.
+-- Each invocation is carried out by its own function.
 use Rattle.cq_main.proofs.run.carry_out.Goals as goal
 
 pub returns-in-Replay : goal.returns-in-Replay

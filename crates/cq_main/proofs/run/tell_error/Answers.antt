@@ -1,7 +1,7 @@
--- An error that asks neither for help nor for the version, and is no want of memory, is a fault of the words, and nothing goes
+-- An error that asks neither for help nor for the version, and is no want of memory, is a fault of the arguments, and nothing goes
 -- to the output.
 use Rattle.std.proofs.Common.{◌∙◌, ap, refl}
-use Rattle.cq_words.specs.WordFaults.{is_help, is_version}
+use Rattle.cq_args.specs.ArgFaults.{is_help, is_version}
 use Rattle.cq_main.proofs.Told.{no_help, no_version}
 use Rattle.cq_main.proofs.run.tell_error.Goals as goal
 

@@ -12,14 +12,14 @@ loop-len-preserved c =
     let n = c.loop-len.len in
     let k = n - 1 in
     let upto = c.loop-len.invariant.within in
-    let front = c.loop-len.invariant.front in
-    let many : length xs ≡ n = ap length front ∙ length-take-le n ss upto in
+    let prefix = c.loop-len.invariant.prefix in
+    let many : length xs ≡ n = ap length prefix ∙ length-take-le n ss upto in
     let read = get_or_read xs k c.index.result.now (omega arith) c.index.ensures gone in
-    let at : get_or xs k gone ≡ get_or ss k gone = ap (λ ys. get_or ys k gone) front ∙ get_or-take n ss k gone (omega arith) in
+    let at : get_or xs k gone ≡ get_or ss k gone = ap (λ ys. get_or ys k gone) prefix ∙ get_or-take n ss k gone (omega arith) in
     let none : (get_or ss k gone).message ≡ None = ap (λ s. s.message) (sym at) ∙ ap (λ s. s.message) (sym read) ∙ no_some c.index.result.now.message (c.is_none.ensures ∙ ap not c.if-is_none.true) in
     let e : k + 1 ≡ n = omega arith in
     record {
-      front = c.truncate.ensures.items ∙ ap (take k) front ∙ take-take k n ss (omega arith);
+      prefix = c.truncate.ensures.items ∙ ap (take k) prefix ∙ take-take k n ss (omega arith);
       within = omega arith;
       same = trimmed-more ss k (omega arith) none (subst (λ j. live (take j ss) ≡ live ss) (sym e) c.loop-len.invariant.same);
     }

@@ -1,7 +1,7 @@
 -- Each slot with a message has its number moved behind those before.
 use Rattle.std.proofs.Common.{◌≡◌, ℕ, List, ◌+◌, ◌<◌, ◌≤◌, ◌∙◌, ap, sym, subst, arith, length, get_or, set, take, true, false}
 use Rattle.std.proofs.lemmas.List.{get_or_default, get_or-set_other, length-set, take_all}
-use Rattle.cq_messages.specs.Gathered.{IsBeside, is_full, full_slots}
+use Rattle.cq_messages.specs.within.Gathered.{IsBeside, is_full, full_slots}
 use Rattle.cq_messages.specs.declared.slot.TheConstants.{NEVER}
 use Rattle.cq_messages.specs.Slots.{gone}
 use Rattle.cq_messages.proofs.Gathering.{full-skip, full-count, full-upto, beside-apart, beside-next}
@@ -42,7 +42,7 @@ loop-from-preserved g c =
           rw (w.beside-is, w.to-is) (rw w.move_down.ensures (record {
             long = length-set moved to v ∙ long ∙ was.long;
             to = ap (λ n. n + 1) was.to ∙ sym (full-count ss i inside full);
-            front = λ f old. beside-next f ss i to v moved inside full was.to (omega arith) (was.rest i (omega arith) ∙ old i inside) (beside-apart f (full_slots (take i ss)) i NEVER numbers (omega (arith, was.to)) (was.front f old));
+            prefix = λ f old. beside-next f ss i to v moved inside full was.to (omega arith) (was.rest i (omega arith) ∙ old i inside) (beside-apart f (full_slots (take i ss)) i NEVER numbers (omega (arith, was.to)) (was.prefix f old));
             rest = λ k h. get_or-set_other moved to k v 0 (λ e. omega arith) ∙ get_or-set_other numbers i k NEVER 0 (λ e. omega arith) ∙ was.rest k (omega arith);
           }))
       | else-is_some w ↦
@@ -51,7 +51,7 @@ loop-from-preserved g c =
           rw (w.beside-is, w.to-is) (record {
             long = was.long;
             to = was.to ∙ ap length (sym skip);
-            front = λ f old. subst (λ xs. IsBeside f xs numbers) (sym skip) (was.front f old);
+            prefix = λ f old. subst (λ xs. IsBeside f xs numbers) (sym skip) (was.prefix f old);
             rest = λ k h. was.rest k (omega arith);
           })
     ]
@@ -62,5 +62,5 @@ returns g c =
     let all = take_all c.loop-from.from ss c.loop-from-test.false in
     record {
       long = c.loop-from.invariant.long;
-      beside = λ f old. subst (λ xs. IsBeside f (full_slots xs) (g.T.NumberList.numbers c.loop-from.beside)) all (c.loop-from.invariant.front f old);
+      beside = λ f old. subst (λ xs. IsBeside f (full_slots xs) (g.T.NumberList.numbers c.loop-from.beside)) all (c.loop-from.invariant.prefix f old);
     }

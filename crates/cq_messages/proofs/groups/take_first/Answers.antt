@@ -3,7 +3,7 @@ use Rattle.std.proofs.Common.{◌≡◌, ◌<◌, ◌+◌, ◌∙◌, ap, sym, s
 use Rattle.std.specs.Prelude.{OnSome, suc}
 use Rattle.std.specs.List.{remove}
 use Rattle.std.proofs.lemmas.List.{drop_more, get_or_default}
-use Rattle.cq_messages.specs.Groups.{without}
+use Rattle.cq_messages.specs.within.Groups.{without}
 use Rattle.cq_messages.proofs.GroupsAt.{without-at}
 use Rattle.cq_messages.proofs.groups.take_first.Goals as goal
 

@@ -1,6 +1,6 @@
 -- The numbers that the loop has passed are others.
 use Rattle.std.proofs.Common.{◌≡◌, ◌++◌, take, drop}
-use Rattle.cq_messages.specs.Groups.{without}
+use Rattle.cq_messages.specs.within.Groups.{without}
 use Rattle.cq_messages.proofs.groups.take_first.Given as goal
 
 abbrev pub invariant-loop-i : goal.invariant-loop-i

@@ -3,13 +3,13 @@ use Rattle.std.proofs.Common.{◌≡◌, ◌<◌, ◌≤◌, ◌∙◌, ap, sym,
 use Rattle.std.specs.Option.{option_copied}
 use Rattle.std.specs.Str.{bytes_eq}
 use Rattle.std.proofs.lemmas.List.{length-map}
-use Rattle.cq_base.specs.Messages.{Message}
+use Rattle.cq_base.specs.queue.Messages.{Message}
 use Rattle.cq_base.proofs.Among.{among-filter}
-use Rattle.cq_messages.specs.Groups.{numbers_or, numbers_at, handed_or}
+use Rattle.cq_messages.specs.within.Groups.{numbers_or, numbers_at, handed_or}
 use Rattle.cq_messages.specs.Changes.{numbers_of}
 use Rattle.cq_messages.specs.Slots.{live, in_group, busy}
 use Rattle.cq_messages.proofs.Rising.{rising-filter, live-rising}
-use Rattle.cq_messages.proofs.Standing.{busy-rest, busy-more, at-among, number-at, none-numbered, handed-upto, no_message}
+use Rattle.cq_messages.proofs.Remaining.{busy-rest, busy-more, at-among, number-at, none-numbered, handed-upto, no_message}
 use Rattle.cq_messages.proofs.heads.busy_of.Goals as goal
 
 pub returns-then-number-handed : goal.returns-then-number-handed
@@ -20,7 +20,7 @@ returns-then-number-handed c =
     let i = c.loop-i.i in
     let is : c.in-Some.kept.now.numbers ≡ numbers_of gs = ap numbers_or c.in-Some.ensures ∙ c.requires.groups g in
     let many : length c.in-Some.kept.now.numbers ≡ length gs = ap length is ∙ length-map gs (λ m. m.sequence) in
-    let up : c.in-Some.kept.now.handed ≡ handed_or (Rattle.cq_messages.specs.Groups.group_at c.args.groups.now g) = ap handed_or c.in-Some.ensures in
+    let up : c.in-Some.kept.now.handed ≡ handed_or (Rattle.cq_messages.specs.within.Groups.group_at c.args.groups.now g) = ap handed_or c.in-Some.ensures in
     let at : get_or c.in-Some.kept.now.numbers i 0 ≡ get_or (numbers_of gs) i 0 = ap (λ ns. get_or ns i 0) is in
     c.loop-i.invariant ∙ sym (busy-rest 0 gs c.in-Some.kept.now.handed i (rising-filter (λ m. bytes_eq g m.group) 0 (live ss) (live-rising 0 ss c.requires.ascending))
     (λ m a p. subst (λ h. m.sequence ≤ h) (sym up) (handed-upto ss c.args.groups.now g c.requires.handed m a p)) (omega arith) (omega arith))

@@ -1,11 +1,11 @@
 -- The place of the group's first number.
 use Rattle.std.proofs.Common.{◌≡◌, ◌<◌, ◌∙◌, ap, sym, length, get_or, arith, None}
 use Rattle.std.specs.Option.{option_copied}
-use Rattle.cq_messages.specs.Groups.{numbers_or, numbers_at}
+use Rattle.cq_messages.specs.within.Groups.{numbers_or, numbers_at}
 use Rattle.cq_messages.specs.Changes.{numbers_of}
 use Rattle.cq_messages.specs.Slots.{gone, live, in_group}
-use Rattle.cq_messages.specs.Touched.{IsHead}
-use Rattle.cq_messages.proofs.Standing.{head-at, head-there, if_both, none-numbered}
+use Rattle.cq_messages.specs.within.Touched.{IsHead}
+use Rattle.cq_messages.proofs.Remaining.{head-at, head-there, if_both, none-numbered}
 use Rattle.cq_messages.proofs.heads.head_of.Goals as goal
 
 pub returns-in-Some-clause-some : goal.returns-in-Some-clause-some

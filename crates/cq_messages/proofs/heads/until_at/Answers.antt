@@ -3,7 +3,7 @@ use Rattle.std.proofs.Common.{◌≡◌, ◌∙◌, ap, sym, Some, refl}
 use Rattle.std.proofs.lemmas.List.{get_or_read}
 use Rattle.cq_messages.specs.Slots.{gone}
 use Rattle.cq_messages.proofs.Rising.{own-number}
-use Rattle.cq_messages.proofs.Standing.{found-message, live-place}
+use Rattle.cq_messages.proofs.Remaining.{found-message, live-place}
 use Rattle.cq_messages.proofs.heads.until_at.Goals as goal
 
 pub returns-in-Some-message : goal.returns-in-Some-message

@@ -2,11 +2,11 @@
 use Rattle.std.proofs.Common.{◌≡◌, ◌∙◌, ap, sym, subst, List, ℕ, [], cond, set, get_or, Some}
 use Rattle.std.proofs.lemmas.List.{get_or_read}
 use Rattle.std.specs.Str.{bytes_eq}
-use Rattle.cq_messages.specs.Groups.{numbers_at, without}
-use Rattle.cq_messages.specs.Indexed.{IsIndexed, AreNumbers, AreHanded}
+use Rattle.cq_messages.specs.within.Groups.{numbers_at, without}
+use Rattle.cq_messages.specs.within.Indexed.{IsIndexed, AreNumbers, AreHanded}
 use Rattle.cq_messages.specs.declared.slot.TheConstants.{NEVER}
 use Rattle.cq_messages.specs.Slots.{live, gone, in_group, busy, IsAscending}
-use Rattle.cq_messages.specs.Touched.{IsHead}
+use Rattle.cq_messages.specs.within.Touched.{IsHead}
 use Rattle.cq_messages.proofs.Emptying.{emptied-read, numbers-shrunk, handed-vacated, indexed-vacated, length-vacated}
 use Rattle.cq_messages.proofs.messages.empty.Goals as goal
 
@@ -50,16 +50,16 @@ returns-in-Some-clause-indexed c =
     let numbers = numbers-shrunk ss ss' c.args.groups.now c.take_out.new.self c.args.place c.in-Some.message v c.requires.indexed.are_numbers shrunk in
     let handed = handed-vacated ss ss' c.args.groups.now c.take_out.new.self c.args.place c.in-Some.message v c.requires.indexed.are_handed numbers c.take_out.ensures.handed in
     let group = ap (λ m. m.group) is in
-    let first = set c.args.waits.now c.args.place NEVER in
-    let head : (h : ℕ) → IsHead ss' c.in-Some.message.group h → c.refresh.new.waits ≡ set first h (busy (in_group c.in-Some.message.group (live ss'))) = λ h hd.
+    let first = set c.args.lead_times.now c.args.place NEVER in
+    let head : (h : ℕ) → IsHead ss' c.in-Some.message.group h → c.refresh.new.lead_times ≡ set first h (busy (in_group c.in-Some.message.group (live ss'))) = λ h hd.
     c.refresh.ensures.head h (subst (λ g. IsHead c.deref.result.now g h) (sym group) (subst (λ xs. IsHead xs c.in-Some.message.group h) (sym c.deref.ensures.value) hd))
     ∙ ap (λ ws. set ws h (busy (in_group c.message.inside.group (live c.deref.result.now)))) c.set.ensures
     ∙ ap (λ g. set first h (busy (in_group g (live c.deref.result.now)))) group
     ∙ ap (λ xs. set first h (busy (in_group c.in-Some.message.group (live xs)))) c.deref.ensures.value in
-    let none : in_group c.in-Some.message.group (live ss') ≡ [] → c.refresh.new.waits ≡ first = λ e.
+    let none : in_group c.in-Some.message.group (live ss') ≡ [] → c.refresh.new.lead_times ≡ first = λ e.
     c.refresh.ensures.none (ap (λ g. in_group g (live c.deref.result.now)) group ∙ ap (λ xs. in_group c.in-Some.message.group (live xs)) c.deref.ensures.value ∙ e) ∙ c.set.ensures in
-    subst (λ f. IsIndexed ss' c.refresh.new.waits f c.take_out.new.self) (sym c.set-in-Some.ensures)
-    (indexed-vacated ss ss' c.args.waits.now c.refresh.new.waits c.args.flights.now c.args.groups.now c.take_out.new.self c.args.place c.in-Some.message v c.requires.indexed head none numbers handed)
+    subst (λ f. IsIndexed ss' c.refresh.new.lead_times f c.take_out.new.self) (sym c.set-in-Some.ensures)
+    (indexed-vacated ss ss' c.args.lead_times.now c.refresh.new.lead_times c.args.flight_ends.now c.args.groups.now c.take_out.new.self c.args.place c.in-Some.message v c.requires.indexed head none numbers handed)
 
 pub returns-in-Some-clause-count : goal.returns-in-Some-clause-count
 returns-in-Some-clause-count c =

@@ -1,8 +1,8 @@
 -- Each round adds the group of the next leading message, until there is none or enough are there.
 use Rattle.std.proofs.Common.{◌≤◌, ◌++◌, ◌∙◌, ap, sym, subst, length, take, get_or, arith, refl}
-use Rattle.cq_base.specs.Receiving.{leads}
-use Rattle.cq_messages.specs.Opened.{numbers_for, numbers_led, leaders_upto}
-use Rattle.cq_messages.specs.Passing.{NonePasses, IsNext}
+use Rattle.cq_base.specs.queue.Receiving.{leads}
+use Rattle.cq_messages.specs.within.Opened.{numbers_for, numbers_led, leaders_upto}
+use Rattle.cq_messages.specs.within.Passing.{NonePasses, IsNext}
 use Rattle.cq_messages.specs.Slots.{live, gone}
 use Rattle.cq_messages.proofs.Opening.{led-next, take-twice, handed-rest, handed-full}
 use Rattle.cq_messages.proofs.open.numbers_to_hand.Goals as goal

@@ -1,6 +1,6 @@
 -- Added are the groups whose leading messages the loop has passed, up to `size` of all.
 use Rattle.std.proofs.Common.{◌≡◌, ◌≤◌, ◌-◌, take, length}
-use Rattle.cq_messages.specs.Opened.{numbers_led, leaders_upto}
+use Rattle.cq_messages.specs.within.Opened.{numbers_led, leaders_upto}
 use Rattle.cq_messages.specs.Slots.{live}
 use Rattle.cq_messages.proofs.open.numbers_to_hand.Given as goal
 

@@ -1,6 +1,6 @@
 -- Where the first is recent, so are the others.
 use Rattle.std.proofs.Common.{◌≡◌, ◌<◌, ◌∙◌, ap, sym, true, get_or, length, arith}
-use Rattle.cq_base.specs.Incarnations.{is_recent}
+use Rattle.cq_base.specs.queue.Incarnations.{is_recent}
 use Rattle.cq_queue.proofs.Windows.{recent-all}
 use Rattle.cq_queue.proofs.window.forget_old.Goals as goal
 

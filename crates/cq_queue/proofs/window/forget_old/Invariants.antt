@@ -1,9 +1,9 @@
--- The loop has taken out some at the front, none of which was recent.
+-- The loop has taken out some at the beginning, none of which was recent.
 use Rattle.std.proofs.Common.{◌≡◌, ◌+◌, ◌≤◌, length}
 use Rattle.std.specs.HashMap.{spare}
 use Rattle.std.specs.List.{filter}
 use Rattle.std.specs.VecDeque.{deque_capacity}
-use Rattle.cq_base.specs.Incarnations.{is_recent}
+use Rattle.cq_base.specs.queue.Incarnations.{is_recent}
 use Rattle.cq_queue.specs.within.Windows.{IsWindow}
 use Rattle.cq_queue.proofs.window.forget_old.Given as goal
 

@@ -5,7 +5,7 @@ use Rattle.std.proofs.KnownBytes.{Appends-trans, Appends-kept}
 use Rattle.cq_world.specs.Stands.{StandsFor}
 use Rattle.cq_world.proofs.OfSim.Calls.{had-ok, had-err}
 use Rattle.cq_script.specs.Output.{text_from, after_line}
-use Rattle.cq_script.proofs.Fronts.{all_written, fault_written, fault_now, no_read_part, no_read_end}
+use Rattle.cq_script.proofs.Prefixes.{all_written, fault_written, fault_now, no_read_part, no_read_end}
 use Rattle.cq_script.proofs.Outcomes.{line_next, world_next, text_last, world_last, whole_written, on_any, split_text}
 use Rattle.cq_script.proofs.outcome.run_batch.Goals as goal
 use Rattle.cq_script.proofs.outcome.run_batch.Goals.{then-len-ge-TEXT_SIZE+in_ok-write_text-2, else-len-ge-TEXT_SIZE}

@@ -41,7 +41,7 @@ returns-in_err-run_chunk-in-Ok-clause-runs g c =
       Consumes-trans _ _ _ read.0 chunk read.2 c.in-Ok.ensures.bytes.0,
       Appends-trans _ _ _ read.1 ends.0 read.3 ends.1,
       ends.2.runs _,
-      ends.2.front _,
+      ends.2.prefix _,
       λ failed. ends.2.ended,
     )
 

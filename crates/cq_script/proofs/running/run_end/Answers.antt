@@ -5,9 +5,9 @@ use Rattle.std.proofs.KnownBytes.{Appends-nil}
 use Rattle.cq_events.specs.Worlds.{first_world}
 use Rattle.cq_script.specs.Output.{text_from}
 use Rattle.cq_lines.specs.Faults.{ends_by_memory}
-use Rattle.cq_script.specs.Runs.{WritesFront}
+use Rattle.cq_script.specs.Runs.{WritesPrefix}
 use Rattle.cq_script.specs.within.Played.{after_lines}
-use Rattle.cq_script.proofs.Played.{ends_unread, ends_front, ends_whole}
+use Rattle.cq_script.proofs.Played.{ends_unread, ends_prefix, ends_whole}
 use Rattle.cq_script.proofs.running.run_end.Goals as goal
 
 pub returns-then-ran_out-clause-runs : goal.returns-then-ran_out-clause-runs
@@ -21,8 +21,8 @@ returns-in_err-run_batch-clause-runs g c = λ limits size input written left end
     let lasts : ends_by_memory c.finish-read.result ≡ false = cc in
     let first = after_lines (first_world size) played.lines in
     let took = c.in_err-run_batch.ensures.takes first played.stands in
-    let part : WritesFront (Err c.in_err-run_batch.field-0.0) (text_from first c.finish-read.new.self.values) took.0 = rw c.values.ensures at took.2 in
-    let ends = ends_front g.P.LineParser.grammar limits size c.finish-read.result c.in_err-run_batch.field-0.0 input written took.0 left c.args.lines.now c.finish-read.new.self c.args.sim.now end lasts c.finish-read.ensures played part in
+    let part : WritesPrefix (Err c.in_err-run_batch.field-0.0) (text_from first c.finish-read.new.self.values) took.0 = rw c.values.ensures at took.2 in
+    let ends = ends_prefix g.P.LineParser.grammar limits size c.finish-read.result c.in_err-run_batch.field-0.0 input written took.0 left c.args.lines.now c.finish-read.new.self c.args.sim.now end lasts c.finish-read.ensures played part in
     let fault = err_from_is_err_and c.from_residual.result c.from_residual.ensures.1 in
     rw (fault.1, fault.2) (took.0, took.1, ends.0, ends.1)
 

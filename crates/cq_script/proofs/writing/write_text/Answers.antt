@@ -3,12 +3,12 @@ use Rattle.std.proofs.Common.{◌≡◌, ℕ, List, ◌++◌, take, drop, sym, a
 use Rattle.std.proofs.KnownBytes.{Appends-trans}
 use Rattle.cq_script.proofs.writing.write_text.Goals as goal
 
-front_more : (text front rest : List ℕ) (n : ℕ) → text ≡ front ++ rest → text ≡ (front ++ take n rest) ++ drop n rest
-front_more text front rest n is =
-    is ∙ ap (λ bytes. front ++ bytes) (sym (take-append-drop n rest)) ∙ sym (append_assoc front (take n rest) (drop n rest))
+prefix_more : (text prefix rest : List ℕ) (n : ℕ) → text ≡ prefix ++ rest → text ≡ (prefix ++ take n rest) ++ drop n rest
+prefix_more text prefix rest n is =
+    is ∙ ap (λ bytes. prefix ++ bytes) (sym (take-append-drop n rest)) ∙ sym (append_assoc prefix (take n rest) (drop n rest))
 
 pub loop-rest-preserved : goal.loop-rest-preserved
 loop-rest-preserved g c =
     let before = c.loop-rest.invariant in
     rw c.split_at.ensures.back
-    (before.0 ++ take c.in-Ok.count c.loop-rest.rest.now, Appends-trans _ _ _ _ _ before.1 c.in-Ok.ensures.bytes, front_more c.args.text.now before.0 c.loop-rest.rest.now c.in-Ok.count before.2)
+    (before.0 ++ take c.in-Ok.count c.loop-rest.rest.now, Appends-trans _ _ _ _ _ before.1 c.in-Ok.ensures.bytes, prefix_more c.args.text.now before.0 c.loop-rest.rest.now c.in-Ok.count before.2)

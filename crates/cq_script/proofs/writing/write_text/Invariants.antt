@@ -1,11 +1,11 @@
--- A front of the text was written, and the rest of it is left.
+-- A prefix of the text was written, and the rest of it is left.
 use Rattle.std.proofs.Common.{◌≡◌, ◌++◌, List, ℕ, length}
 use Rattle.std.specs.Io.KnownBytes.{Appends}
 use Rattle.cq_script.proofs.writing.write_text.Given as goal
 
 abbrev pub invariant-loop-rest : goal.invariant-loop-rest
 invariant-loop-rest g l =
-    (front : List ℕ) × Appends (g.W.Write.contents l.initial.writer) (g.W.Write.contents l.writer) front × (l.text ≡ front ++ l.rest)
+    (prefix : List ℕ) × Appends (g.W.Write.contents l.initial.writer) (g.W.Write.contents l.writer) prefix × (l.text ≡ prefix ++ l.rest)
 
 abbrev pub decreases-loop-rest : goal.decreases-loop-rest
 decreases-loop-rest g l = length l.rest

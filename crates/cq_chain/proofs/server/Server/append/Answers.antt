@@ -1,6 +1,6 @@
 -- The copy is sent on with the reply that the entry has at its place.
 use Rattle.std.proofs.Common.{◌∙◌, ap, subst, sym}
-use Rattle.cq_base.specs.History.{reply_to}
+use Rattle.cq_base.specs.queue.History.{reply_to}
 use Rattle.cq_chain.specs.Stands.{StandsFor, posted}
 use Rattle.cq_chain.specs.Steps.{appended, passed_on}
 use Rattle.cq_chain.proofs.ServerStands.{parts, on_err, with_replica, appended-stands}

@@ -12,8 +12,8 @@ pub returns-then-is_at_limit-clause-refused : goal.returns-then-is_at_limit-clau
 returns-then-is_at_limit-clause-refused c = λ s outbox h. let p = parts c.args.self.now s outbox h in
     refused-full s (count_of c.args.self.now.replica.store) (sym p.head ∙ c.if-not-self.false) p.entries.store.count (sym c.is_at_limit.ensures ∙ c.if-is_at_limit.true)
 
-pub returns-in_err-enter-clause-refused : goal.returns-in_err-enter-clause-refused
-returns-in_err-enter-clause-refused c = λ s outbox h. let p = parts c.args.self.now s outbox h in
+pub returns-in_err-append_request-clause-refused : goal.returns-in_err-append_request-clause-refused
+returns-in_err-append_request-clause-refused c = λ s outbox h. let p = parts c.args.self.now s outbox h in
     no_memory c.from_residual.result _ c.from_residual.ensures.1 (not-refused s (count_of c.args.self.now.replica.store) (sym p.head ∙ c.if-not-self.false) p.entries.store.count (sym c.is_at_limit.ensures ∙ c.if-is_at_limit.false))
 
 pub returns-clause-refused : goal.returns-clause-refused

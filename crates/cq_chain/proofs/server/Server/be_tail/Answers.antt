@@ -9,6 +9,6 @@ pub returns-clause-ok : goal.returns-clause-ok
 returns-clause-ok c = λ s outbox h.
     let now = as_tail c.args.least s in
     let old = record s { at_least = None; succ = None } in
-    subst (λ sent. StandsFor c.settle.new.self (settled now) (posted outbox sent)) (tailed-news c.args.least s)
-    (c.settle.ensures now (posted outbox (tail_news old now))
-    (c.tell.ensures old now outbox (tail-stands c.reserve.new.self s outbox c.args.least (c.reserve.ensures.keeps s outbox h)) refl refl))
+    subst (λ sent. StandsFor c.acknowledge_all.new.self (settled now) (posted outbox sent)) (tailed-news c.args.least s)
+    (c.acknowledge_all.ensures now (posted outbox (tail_news old now))
+    (c.send_ack.ensures old now outbox (tail-stands c.reserve.new.self s outbox c.args.least (c.reserve.ensures.keeps s outbox h)) refl refl))

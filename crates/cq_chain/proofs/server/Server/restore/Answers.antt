@@ -11,6 +11,6 @@ use Rattle.cq_chain.proofs.server.Server.restore.Goals as goal
 pub returns-clause-ok : goal.returns-clause-ok
 returns-clause-ok c = λ es is s outbox h.
     let now = with_history s es in
-    c.settle.ensures now (posted outbox (tail_news s now ++ when (is_none now.at_least) ((parties.Master, sent.Caught c.args.from (length es)) ∷ [])))
+    c.acknowledge_all.ensures now (posted outbox (tail_news s now ++ when (is_none now.at_least) ((parties.Master, sent.Caught c.args.from (length es)) ∷ [])))
     (c.tell_restored.ensures s now outbox (history-stands c.reserve.new.self s outbox c.restore.new.self es (c.reserve.ensures.keeps s outbox h) (c.restore.ensures.stands es (c.in_ok-store.ensures.stands es (subst (λ state. stores.StandsFor state es) (sym c.store.ensures) is))))
     (c.is_acting-acted.ensures s outbox h) refl)

@@ -6,7 +6,7 @@ use Rattle.cq_disk.proofs.Parts.{alone, whole_again}
 use Rattle.cq_disk.proofs.Moments.{weakened, runs_on}
 use Rattle.cq_records.specs.Batch.{batch_bytes}
 use Rattle.cq_records.specs.Frames.{text_of, frames, records, joined, all_sound}
-use Rattle.cq_records.specs.Layout.{IsFrontOf}
+use Rattle.cq_records.specs.Layout.{IsPrefixOf}
 use Rattle.cq_records.proofs.Frames.{of_zeros}
 use Rattle.cq_journal.specs.Numbers.{number_of}
 use Rattle.cq_journal.specs.Roots.{first_of, number_in, half_of, root_of, numbered, IsSameRoot, IsOldOrNew}
@@ -51,15 +51,15 @@ returns-in_err-commit-clause-any_moment g c = λ honest.
     let first : LeavesOnly g.D.Device.moment g.D.Device.left_since r.log.device.device turned.log.device.device P =
     weakened g.D.Device.moment g.D.Device.left_since r.log.device.device turned.log.device.device (IsSameRoot h old) P (c.turn.ensures.any_moment honest_turned) (λ f same. record { root = inl same.root; behind = same.behind }) in
     let k = c.commit.ensures.keeps in
-    let front : (x : List ℕ) → Leaves turned.log.device.start turned.log.device.len (g.D.Device.left_since c.commit.new.self.device.device (g.D.Device.moment turned.log.device.device)) x → IsFrontOf [] (frames batch) x = λ x left.
+    let prefix : (x : List ℕ) → Leaves turned.log.device.start turned.log.device.len (g.D.Device.left_since c.commit.new.self.device.device (g.D.Device.moment turned.log.device.device)) x → IsPrefixOf [] (frames batch) x = λ x left.
     let it = c.commit.ensures.any_moment.each x (left.0, left.1, left.2 ∙ sym (λ i. part (k.same_start i) (k.same_len i) left.0)) in
     record { many = it.many; frames = it.frames ∙ ap (λ (fs : List (List ℕ)). fs ++ take it.many (frames batch)) none } in
     let run = alone g.D.Device.moment g.D.Device.left_since g.D.Device.may_leave g.D.Device.keeps g.D.Device.seen g.met.D.Device.splits turned.log.device.start turned.log.device.len _ _
-    turned.log.device.device c.commit.new.self.device.device (IsFrontOf [] (frames batch)) k t.durable front in
+    turned.log.device.device c.commit.new.self.device.device (IsPrefixOf [] (frames batch)) k t.durable prefix in
     let second : LeavesOnly g.D.Device.moment g.D.Device.left_since turned.log.device.device c.commit.new.self.device.device P =
     weakened g.D.Device.moment g.D.Device.left_since turned.log.device.device c.commit.new.self.device.device _ P run (λ f both.
     let same : part turned.log.device.start turned.log.device.len f ≡ part (h - s) h f = λ i. part (t.start i) (t.half i) f in
-    old_or_new h s q.place old r.number (q.current honest_old) (q.other honest_old) new (frames batch) c.in_ok-batch.ensures next f (subst (λ (x : List ℕ). IsFrontOf [] (frames batch) x) same both.0)
+    old_or_new h s q.place old r.number (q.current honest_old) (q.other honest_old) new (frames batch) c.in_ok-batch.ensures next f (subst (λ (x : List ℕ). IsPrefixOf [] (frames batch) x) same both.0)
     (beside_both (h - s) h old mid f beside_mid (beside_at _ _ _ _ mid f t.start t.half both.1))) in
     runs_on g.D.Device.moment g.D.Device.left_since r.log.device.device turned.log.device.device c.commit.new.self.device.device P first second
 
@@ -84,15 +84,15 @@ returns-clause-any_moment g c = λ honest.
     let first : LeavesOnly g.D.Device.moment g.D.Device.left_since r.log.device.device turned.log.device.device P =
     weakened g.D.Device.moment g.D.Device.left_since r.log.device.device turned.log.device.device (IsSameRoot h old) P (c.turn.ensures.any_moment honest_turned) (λ f same. record { root = inl same.root; behind = same.behind }) in
     let k = c.commit.ensures.keeps in
-    let front : (x : List ℕ) → Leaves turned.log.device.start turned.log.device.len (g.D.Device.left_since c.commit.new.self.device.device (g.D.Device.moment turned.log.device.device)) x → IsFrontOf [] (frames batch) x = λ x left.
+    let prefix : (x : List ℕ) → Leaves turned.log.device.start turned.log.device.len (g.D.Device.left_since c.commit.new.self.device.device (g.D.Device.moment turned.log.device.device)) x → IsPrefixOf [] (frames batch) x = λ x left.
     let it = c.commit.ensures.any_moment.each x (left.0, left.1, left.2 ∙ sym (λ i. part (k.same_start i) (k.same_len i) left.0)) in
     record { many = it.many; frames = it.frames ∙ ap (λ (fs : List (List ℕ)). fs ++ take it.many (frames batch)) none } in
     let run = alone g.D.Device.moment g.D.Device.left_since g.D.Device.may_leave g.D.Device.keeps g.D.Device.seen g.met.D.Device.splits turned.log.device.start turned.log.device.len _ _
-    turned.log.device.device c.commit.new.self.device.device (IsFrontOf [] (frames batch)) k t.durable front in
+    turned.log.device.device c.commit.new.self.device.device (IsPrefixOf [] (frames batch)) k t.durable prefix in
     let second : LeavesOnly g.D.Device.moment g.D.Device.left_since turned.log.device.device c.commit.new.self.device.device P =
     weakened g.D.Device.moment g.D.Device.left_since turned.log.device.device c.commit.new.self.device.device _ P run (λ f both.
     let same : part turned.log.device.start turned.log.device.len f ≡ part (h - s) h f = λ i. part (t.start i) (t.half i) f in
-    old_or_new h s q.place old r.number (q.current honest_old) (q.other honest_old) new (frames batch) c.in_ok-batch.ensures next f (subst (λ (x : List ℕ). IsFrontOf [] (frames batch) x) same both.0)
+    old_or_new h s q.place old r.number (q.current honest_old) (q.other honest_old) new (frames batch) c.in_ok-batch.ensures next f (subst (λ (x : List ℕ). IsPrefixOf [] (frames batch) x) same both.0)
     (beside_both (h - s) h old mid f beside_mid (beside_at _ _ _ _ mid f t.start t.half both.1))) in
     runs_on g.D.Device.moment g.D.Device.left_since r.log.device.device turned.log.device.device c.commit.new.self.device.device P first second
 

@@ -2,7 +2,7 @@
 use Rattle.std.proofs.Common.{◌≡◌, ◌∙◌, ap, sym, Some, ◌∷◌, [], ◌++◌, List, ℕ, cond}
 use Rattle.std.specs.Option.{is_some}
 use Rattle.std.specs.Str.{bytes_eq}
-use Rattle.cq_messages.specs.Groups.{group_at}
+use Rattle.cq_messages.specs.within.Groups.{group_at}
 use Rattle.std.proofs.lemmas.Result.{on_ok_weaker, on_err_weaker}
 use Rattle.cq_messages.proofs.GroupsAt.{handed-written, group-written, numbers-first, handed-first}
 use Rattle.cq_messages.proofs.groups.Groups.add.Goals as goal

@@ -1,7 +1,7 @@
 -- The entry of the group is taken out.
 use Rattle.std.proofs.Common.{◌∙◌, ap, None, cond}
 use Rattle.std.specs.Str.{bytes_eq}
-use Rattle.cq_messages.specs.Groups.{group_at}
+use Rattle.cq_messages.specs.within.Groups.{group_at}
 use Rattle.cq_messages.proofs.groups.Groups.forget.Goals as goal
 
 pub returns : goal.returns

@@ -2,7 +2,7 @@
 use Rattle.std.proofs.Common.{◌≤◌, ◌∙◌, ap, sym, subst, arith, Some, cond}
 use Rattle.std.specs.Option.{is_some}
 use Rattle.std.specs.Str.{bytes_eq}
-use Rattle.cq_messages.specs.Groups.{group_at, numbers_at, handed_at}
+use Rattle.cq_messages.specs.within.Groups.{group_at, numbers_at, handed_at}
 use Rattle.cq_messages.proofs.GroupsAt.{numbers-written, raised-written, either_same}
 use Rattle.cq_messages.proofs.groups.Groups.raise.Goals as goal
 use Rattle.cq_messages.proofs.groups.Groups.raise.Goals.{in-Some, in-None}

@@ -2,7 +2,7 @@
 use Rattle.std.proofs.Common.{◌∙◌, ap, sym, Some, cond}
 use Rattle.std.specs.Option.{is_some}
 use Rattle.std.specs.Str.{bytes_eq}
-use Rattle.cq_messages.specs.Groups.{group_at, numbers_at, handed_at, without}
+use Rattle.cq_messages.specs.within.Groups.{group_at, numbers_at, handed_at, without}
 use Rattle.cq_messages.proofs.GroupsAt.{numbers-written, handed-written, numbers-missing}
 use Rattle.cq_messages.proofs.groups.Groups.shrink.Goals as goal
 use Rattle.cq_messages.proofs.groups.Groups.shrink.Goals.{in-Some, in-None}

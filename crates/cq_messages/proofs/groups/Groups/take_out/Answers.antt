@@ -1,7 +1,7 @@
 -- A group without messages is forgotten.
 use Rattle.std.proofs.Common.{◌≡◌, ◌∙◌, arith, []}
 use Rattle.std.proofs.lemmas.List.{nil_from_length}
-use Rattle.cq_messages.specs.Groups.{numbers_at}
+use Rattle.cq_messages.specs.within.Groups.{numbers_at}
 use Rattle.cq_messages.proofs.GroupsAt.{numbers-gone, handed-gone}
 use Rattle.cq_messages.proofs.groups.Groups.take_out.Goals as goal
 

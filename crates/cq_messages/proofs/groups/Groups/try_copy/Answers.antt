@@ -1,7 +1,7 @@
 -- The copy has the same entries.
 use Rattle.std.proofs.Common.{◌∙◌, ap}
 use Rattle.std.proofs.lemmas.Map.Entries.{entries_from_clone}
-use Rattle.cq_messages.specs.Groups.{group_at}
+use Rattle.cq_messages.specs.within.Groups.{group_at}
 use Rattle.cq_messages.proofs.groups.Groups.try_copy.Goals as goal
 
 pub returns : goal.returns

@@ -1,6 +1,6 @@
 -- The slots that are left have the same messages.
 use Rattle.std.proofs.Common.{◌≡◌, ◌∙◌, ap, sym, subst, length, arith}
-use Rattle.cq_messages.specs.Indexed.{IsIndexed}
+use Rattle.cq_messages.specs.within.Indexed.{IsIndexed}
 use Rattle.cq_messages.specs.Slots.{live}
 use Rattle.cq_messages.proofs.Gathering.{live-full, indexed-gathered}
 use Rattle.cq_messages.proofs.Passing.{live-short}
@@ -16,8 +16,8 @@ pub invariant_of-self : goal.invariant_of-self
 invariant_of-self c =
     let ss = c.self.inside.slots.items in
     let same : live c.compact.new.slots.items ≡ live ss = ap live c.compact.ensures.slots ∙ live-full ss in (
-      subst (λ xs. IsIndexed xs c.compact.new.waits c.compact.new.flights c.self.inside.groups) (sym c.compact.ensures.slots)
-          (indexed-gathered ss c.self.inside.waits c.compact.new.waits c.self.inside.flights c.compact.new.flights c.self.inside.groups c.compact.ensures.waits c.compact.ensures.flights c.self.invariant.0),
+      subst (λ xs. IsIndexed xs c.compact.new.lead_times c.compact.new.flight_ends c.self.inside.groups) (sym c.compact.ensures.slots)
+          (indexed-gathered ss c.self.inside.lead_times c.compact.new.lead_times c.self.inside.flight_ends c.compact.new.flight_ends c.self.inside.groups c.compact.ensures.lead_times c.compact.ensures.flight_ends c.self.invariant.0),
       c.self.invariant.1 ∙ ap length (sym same),
     )
 

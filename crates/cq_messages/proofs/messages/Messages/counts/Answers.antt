@@ -2,8 +2,8 @@
 use Rattle.std.proofs.Common.{◌≡◌, ℕ, ◌+◌, ◌∙◌, ap, not, length, refl, arith, List}
 use Rattle.std.specs.List.{filter}
 use Rattle.std.proofs.lemmas.List.Filters.{length-filter_both}
-use Rattle.cq_base.specs.Messages.{Message}
-use Rattle.cq_base.specs.Receiving.{is_in_flight}
+use Rattle.cq_base.specs.queue.Messages.{Message}
+use Rattle.cq_base.specs.queue.Receiving.{is_in_flight}
 use Rattle.cq_messages.specs.Slots.{live}
 use Rattle.cq_messages.proofs.messages.Messages.counts.Goals as goal
 

@@ -1,8 +1,8 @@
 -- The messages of the numbers that are handed out are those that are handed out.
 use Rattle.std.proofs.Common.{◌≡◌, ◌∙◌, ap, sym, subst, map, IfOk}
-use Rattle.cq_base.specs.Receiving.{to_hand, delivery_of}
+use Rattle.cq_base.specs.queue.Receiving.{to_hand, delivery_of}
 use Rattle.cq_messages.specs.Changes.{numbers_to_hand}
-use Rattle.cq_messages.specs.Offered.{numbered}
+use Rattle.cq_messages.specs.within.Offered.{numbered}
 use Rattle.cq_messages.specs.Slots.{live}
 use Rattle.cq_messages.proofs.Offering.{numbered-handed}
 use Rattle.cq_messages.proofs.Rising.{live-rising}

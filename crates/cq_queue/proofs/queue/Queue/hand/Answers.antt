@@ -1,7 +1,7 @@
 -- The timeout is that of the receive, or else the queue's.
 use Rattle.std.proofs.Common.{◌≡◌, ◌∙◌, ap, Option, Some, None, ℕ, refl}
 use Rattle.std.specs.Prelude.{unwrap_or}
-use Rattle.cq_base.specs.Asks.{timeout_or}
+use Rattle.cq_base.specs.queue.Asks.{timeout_or}
 use Rattle.cq_queue.proofs.Receives.{stands-handed_with}
 use Rattle.cq_queue.proofs.queue.Queue.hand.Goals as goal
 

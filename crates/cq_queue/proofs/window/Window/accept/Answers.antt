@@ -2,7 +2,7 @@
 use Rattle.std.proofs.Common.{◌∙◌, ap, sym, subst}
 use Rattle.std.specs.List.{filter, find, All}
 use Rattle.std.proofs.lemmas.List.Elements.{All-filter}
-use Rattle.cq_base.specs.Incarnations.{is_recent, repeated}
+use Rattle.cq_base.specs.queue.Incarnations.{is_recent, repeated}
 use Rattle.cq_queue.specs.within.Windows.{has_id, IsBy}
 use Rattle.cq_queue.proofs.Windows.{new-id}
 use Rattle.cq_queue.proofs.window.Window.accept.Goals as goal

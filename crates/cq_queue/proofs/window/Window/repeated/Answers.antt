@@ -1,6 +1,6 @@
 -- What is known of the id answers.
 use Rattle.std.proofs.Common.{◌∙◌, ap, sym}
-use Rattle.cq_base.specs.Incarnations.{repeated}
+use Rattle.cq_base.specs.queue.Incarnations.{repeated}
 use Rattle.cq_queue.specs.within.Windows.{answered}
 use Rattle.cq_queue.proofs.Windows.{repeated-known}
 use Rattle.cq_queue.proofs.window.Window.repeated.Goals as goal

@@ -6,8 +6,8 @@ use Rattle.cq_store.proofs.store.Store.try_copy.Goals as goal
 
 pub returns : goal.returns
 returns c =
-    let kept : StoreKept = record { count = c.self.inside.count; last = c.self.inside.last; clients = c.self.inside.clients.kept; names = c.self.inside.names } in
-    let copy : StoreKept = record { count = c.self.inside.count; last = c.self.inside.last; clients = c.in_ok-try_copy.field-0.kept; names = c.in_ok-try_copy-2.field-0 } in
+    let kept : StoreKept = record { count = c.self.inside.count; last = c.self.inside.last; clients = c.self.inside.clients.kept; queues = c.self.inside.queues } in
+    let copy : StoreKept = record { count = c.self.inside.count; last = c.self.inside.last; clients = c.in_ok-try_copy.field-0.kept; queues = c.in_ok-try_copy-2.field-0 } in
     record {
       count = ap (λ s. s.count) c.self.view_is;
       last = ap (λ s. s.last) c.self.view_is;

@@ -14,7 +14,7 @@ returns-in-Some-clause-ok c = λ w h.
     let first = c.in-Some.ensures.first w h in (
       put-first c.in-Some.message (w.outbox from to) first,
       put-given to c.in-Some.message (w.outbox from to) c.answer_in.result c.requires first c.answer_in.ensures ∙ sym (given-put w from to),
-      subst (λ v. StandsFor c.draw.new.self v) (sym (next-put w from to ∙ put-drawn w from to c.requires)) (c.in-Some.ensures.drawn w h),
+      subst (λ v. StandsFor c.pop.new.self v) (sym (next-put w from to ∙ put-drawn w from to c.requires)) (c.in-Some.ensures.drawn w h),
     )
 
 pub returns-in-None-clause-err : goal.returns-in-None-clause-err
@@ -22,4 +22,4 @@ returns-in-None-clause-err c = λ w h.
     let from = c.args.pair.now.from in
     let to = c.args.pair.now.to in
     let none = c.in-None.ensures.first w h in
-    (ap refusal_of_put none, subst (λ v. StandsFor c.draw.new.self v) (drawn-nothing w from to none) (c.in-None.ensures.drawn w h))
+    (ap refusal_of_put none, subst (λ v. StandsFor c.pop.new.self v) (drawn-nothing w from to none) (c.in-None.ensures.drawn w h))

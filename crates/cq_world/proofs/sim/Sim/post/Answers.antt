@@ -1,7 +1,7 @@
 -- What is drawn from the outbox is pushed onto the link.
 use Rattle.std.proofs.Common.{◌∙◌, ap, sym, subst, length}
 use Rattle.cq_events.specs.Events.{first_of, refusal_of_put}
-use Rattle.cq_world.specs.within.Kept.{after_drawing, after_posting}
+use Rattle.cq_world.specs.within.Kept.{after_popping, after_posting}
 use Rattle.cq_world.specs.Stands.{StandsFor}
 use Rattle.cq_world.specs.declared.sim.Sim.{Sim}
 use Rattle.cq_world.proofs.OfSim.Meanings.{put-filled, put-first}
@@ -25,11 +25,11 @@ returns-in-Some-clause-ok c = λ w h.
     let to = c.args.pair.now.to in
     let old = c.args.self.now in
     let made : Sim = record { alloc = old.alloc; servers = old.servers; links = c.reserve.new.self; master = old.master } in
-    let drawn = c.draw.new.self in
+    let drawn = c.pop.new.self in
     let new : Sim = record { alloc = drawn.alloc; servers = drawn.servers; links = c.push.new.self; master = drawn.master } in
     let h2 = stands made w (reserved-stands old c.reserve.new.self w c.in_ok-reserve.ensures.messages (holds old w h)) in
     let first = c.in-Some.ensures.first w h2 in
-    let gone = holds drawn (after_drawing w from to) (c.in-Some.ensures.drawn w h2) in (
+    let gone = holds drawn (after_popping w from to) (c.in-Some.ensures.drawn w h2) in (
       put-first c.in-Some.message (w.outbox from to) first,
       sym (put-gives to (first_of (w.outbox from to)) c.requires) ∙ sym (given-put w from to),
       subst (λ v. StandsFor new v) (sym (next-put w from to ∙ put-posted w from to c.requires))

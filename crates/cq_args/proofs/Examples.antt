@@ -1,0 +1,127 @@
+-- Worked command lines: what each asks for, or which faults it may be told. They were worked out by hand.
+use Rattle.std.proofs.Common.{◌≡◌, ◌∷◌, [], None, Some, map, true, false, codes, refl}
+use Rattle.clap.specs.Words.{fault_of, subcommand_of}
+use Rattle.clap.specs.declared.error.kind.ErrorKind.TheVariants.{OutOfMemory}
+use Rattle.clap.proofs.OnLiterals.{clap_on_literals}
+use Rattle.cq_args.specs.declared.invocation.Invocation.TheVariants.{Live, Replay, Session}
+use Rattle.cq_args.specs.CommandLine.{asked_invocation, program_app, text_in, turns_text}
+use Rattle.cq_args.specs.ArgFaults.{all_are, is_help, is_usage, is_version}
+
+good_args :
+    map asked_invocation (
+    [] ∷ (codes "replay" ∷ []) ∷ (codes "replay" ∷ codes "--servers" ∷ codes "1" ∷ []) ∷ (codes "replay" ∷ codes "--servers" ∷ codes "8" ∷ [])
+    ∷ (codes "session" ∷ []) ∷ (codes "session" ∷ codes "--servers" ∷ codes "1" ∷ []) ∷ (codes "session" ∷ codes "--servers" ∷ codes "8" ∷ []) ∷ []
+    )
+    ≡ Some (Replay 1) ∷ Some (Replay 1) ∷ Some (Replay 1) ∷ Some (Replay 8)
+    ∷ Some (Session 1) ∷ Some (Session 1) ∷ Some (Session 8) ∷ []
+good_args = refl
+
+good_live_args :
+    map asked_invocation (
+    (codes "live" ∷ []) ∷ (codes "live" ∷ codes "--servers" ∷ codes "8" ∷ []) ∷ (codes "live" ∷ codes "--turns" ∷ codes "1" ∷ [])
+    ∷ (codes "live" ∷ codes "--turns" ∷ codes "0020" ∷ [])
+    ∷ (codes "live" ∷ codes "--servers" ∷ codes "1" ∷ codes "--turns" ∷ codes "1000000000" ∷ [])
+    ∷ (codes "live" ∷ codes "--turns" ∷ codes "999999999" ∷ codes "--servers" ∷ codes "2" ∷ []) ∷ []
+    )
+    ≡ Some (Live 3 1000000000) ∷ Some (Live 8 1000000000) ∷ Some (Live 3 1)
+    ∷ Some (Live 3 20)
+    ∷ Some (Live 1 1000000000)
+    ∷ Some (Live 2 999999999) ∷ []
+good_live_args = refl
+
+other_args :
+    map asked_invocation (
+    (codes "replay" ∷ codes "--servers" ∷ codes "0" ∷ []) ∷ (codes "replay" ∷ codes "--servers" ∷ codes "9" ∷ [])
+    ∷ (codes "session" ∷ codes "--servers" ∷ codes "9" ∷ []) ∷ (codes "session" ∷ codes "replay" ∷ [])
+    ∷ (codes "alive" ∷ []) ∷ (codes "replay" ∷ codes "--server" ∷ codes "3" ∷ []) ∷ (codes "alive" ∷ codes "--servers" ∷ codes "3" ∷ []) ∷ []
+    )
+    ≡ None ∷ None ∷ None ∷ None ∷ None ∷ None ∷ None ∷ []
+other_args = refl
+
+other_live_args :
+    map asked_invocation (
+    (codes "live" ∷ codes "--servers" ∷ codes "9" ∷ []) ∷ (codes "live" ∷ codes "--turns" ∷ codes "0" ∷ []) ∷ (codes "live" ∷ codes "--turns" ∷ codes "1000000001" ∷ [])
+    ∷ (codes "live" ∷ codes "--turns" ∷ codes "x" ∷ []) ∷ (codes "live" ∷ codes "--turns" ∷ [] ∷ []) ∷ (codes "live" ∷ codes "--turns" ∷ [])
+    ∷ (codes "live" ∷ codes "--turns" ∷ codes "2" ∷ codes "--turns" ∷ codes "2" ∷ []) ∷ (codes "live" ∷ codes "extra" ∷ [])
+    ∷ (codes "replay" ∷ codes "--turns" ∷ codes "2" ∷ []) ∷ (codes "session" ∷ codes "--servers" ∷ codes "1" ∷ codes "--turns" ∷ codes "2" ∷ []) ∷ []
+    )
+    ≡ None ∷ None ∷ None ∷ None ∷ None ∷ None ∷ None ∷ None ∷ None ∷ None ∷ []
+other_live_args = refl
+
+-- the text of the number of turns that a parse finds
+live_turns :
+    map (λ args. turns_text (subcommand_of program_app args)) (
+    (codes "live" ∷ []) ∷ (codes "live" ∷ codes "--turns" ∷ codes "20" ∷ []) ∷ (codes "live" ∷ codes "--turns=+7" ∷ codes "--servers=5" ∷ [])
+    ∷ (codes "replay" ∷ []) ∷ [] ∷ []
+    )
+    ≡ Some (codes "1000000000") ∷ Some (codes "20") ∷ Some (codes "+7")
+    ∷ None ∷ None ∷ []
+unfolding clap_on_literals
+live_turns = refl
+
+-- the text of the number of servers that a parse finds
+servers_found :
+    map (λ args. text_in (subcommand_of program_app args)) (
+    (codes "live" ∷ []) ∷ (codes "live" ∷ codes "--turns=+7" ∷ codes "--servers=5" ∷ []) ∷ (codes "replay" ∷ []) ∷ (codes "session" ∷ codes "--servers=2" ∷ []) ∷ [] ∷ []
+    )
+    ≡ Some (codes "3") ∷ Some (codes "5") ∷ Some (codes "1") ∷ Some (codes "2") ∷ Some (codes "1") ∷ []
+unfolding clap_on_literals
+servers_found = refl
+
+help_args :
+    map (λ args. all_are is_help (fault_of program_app args)) (
+    (codes "--help" ∷ []) ∷ (codes "replay" ∷ codes "-h" ∷ []) ∷ (codes "session" ∷ codes "-h" ∷ []) ∷ (codes "live" ∷ codes "--help" ∷ [])
+    ∷ [] ∷ (codes "live" ∷ []) ∷ (codes "alive" ∷ []) ∷ (codes "--version" ∷ []) ∷ []
+    )
+    ≡ true ∷ true ∷ true ∷ true
+    ∷ false ∷ false ∷ false ∷ false ∷ []
+unfolding clap_on_literals
+help_args = refl
+
+-- the version is asked for in front of a command alone
+version_args :
+    map (λ args. all_are is_version (fault_of program_app args)) (
+    (codes "--version" ∷ []) ∷ (codes "-V" ∷ []) ∷ (codes "--version" ∷ codes "replay" ∷ [])
+    ∷ [] ∷ (codes "--help" ∷ []) ∷ (codes "replay" ∷ []) ∷ (codes "version" ∷ [])
+    ∷ (codes "replay" ∷ codes "--version" ∷ []) ∷ (codes "session" ∷ codes "-V" ∷ []) ∷ (codes "live" ∷ codes "--version" ∷ []) ∷ []
+    )
+    ≡ true ∷ true ∷ true
+    ∷ false ∷ false ∷ false ∷ false
+    ∷ false ∷ false ∷ false ∷ []
+unfolding clap_on_literals
+version_args = refl
+
+bad_args :
+    map (λ args. all_are is_usage (fault_of program_app args)) (
+    (codes "alive" ∷ []) ∷ (codes "replay" ∷ codes "--servers" ∷ codes "9" ∷ []) ∷ (codes "replay" ∷ codes "--servers" ∷ codes "0" ∷ [])
+    ∷ (codes "replay" ∷ codes "--server" ∷ codes "3" ∷ []) ∷ (codes "--servers" ∷ codes "3" ∷ []) ∷ (codes "replay" ∷ codes "extra" ∷ [])
+    ∷ (codes "session" ∷ codes "--servers" ∷ codes "9" ∷ []) ∷ (codes "session" ∷ codes "replay" ∷ [])
+    ∷ (codes "version" ∷ []) ∷ (codes "replay" ∷ codes "--version" ∷ []) ∷ (codes "session" ∷ codes "-V" ∷ [])
+    ∷ [] ∷ (codes "--help" ∷ []) ∷ (codes "--version" ∷ []) ∷ []
+    )
+    ≡ true ∷ true ∷ true ∷ true ∷ true ∷ true ∷ true ∷ true
+    ∷ true ∷ true ∷ true
+    ∷ false ∷ false ∷ false ∷ []
+unfolding clap_on_literals
+bad_args = refl
+
+bad_live_args :
+    map (λ args. all_are is_usage (fault_of program_app args)) (
+    (codes "live" ∷ codes "--servers" ∷ codes "9" ∷ []) ∷ (codes "live" ∷ codes "--servers" ∷ codes "0" ∷ [])
+    ∷ (codes "live" ∷ codes "--turns" ∷ codes "0" ∷ []) ∷ (codes "live" ∷ codes "--turns" ∷ codes "1000000001" ∷ [])
+    ∷ (codes "live" ∷ codes "--turns" ∷ codes "x" ∷ []) ∷ (codes "live" ∷ codes "--turns" ∷ []) ∷ (codes "live" ∷ codes "--turn" ∷ codes "3" ∷ [])
+    ∷ (codes "live" ∷ codes "--turns" ∷ codes "2" ∷ codes "--turns" ∷ codes "2" ∷ []) ∷ (codes "live" ∷ codes "extra" ∷ [])
+    ∷ (codes "replay" ∷ codes "--turns" ∷ codes "3" ∷ []) ∷ (codes "session" ∷ codes "--turns" ∷ codes "3" ∷ [])
+    ∷ (codes "live" ∷ []) ∷ (codes "live" ∷ codes "--turns" ∷ codes "1000000000" ∷ codes "--servers" ∷ codes "8" ∷ []) ∷ []
+    )
+    ≡ true ∷ true
+    ∷ true ∷ true
+    ∷ true ∷ true ∷ true
+    ∷ true ∷ true
+    ∷ true ∷ true
+    ∷ false ∷ false ∷ []
+unfolding clap_on_literals
+bad_live_args = refl
+
+memory_is_neither : is_help OutOfMemory ≡ is_usage OutOfMemory
+memory_is_neither = refl

@@ -1,0 +1,4 @@
+pub mod Asked
+pub mod Good
+pub mod Live
+mod Examples

@@ -1,0 +1,156 @@
+-- The command line of the program, in the words of clap's own specification.
+use Rattle.std.specs.Prelude.{◌≡◌, ℕ, ◌-◌, ◌≤◌, ◌&&◌, nat_le, if◌then◌else◌, List, Option, Some, None, option_and_then, option_map, true, [], ◌∷◌, codes, pos, ⊤}
+use Rattle.std.specs.Str.{all_ascii_digits, bytes_eq}
+use Rattle.std.specs.Str.Parse.{IsNumeral, digits_value, without_leading_plus}
+use Rattle.clap.specs.Words.{App, Row, Rule, Text, new_app, new_rule, one_of, with_rule, with_subcommand}
+use Rattle.clap.specs.Simple.{on_top}
+use Rattle.clap.specs.declared.builder.value_parser.ValueParser.TheVariants.{Signed, Unsigned}
+use Rattle.cq_args.specs.declared.invocation.Invocation.{Invocation}
+use Rattle.cq_args.specs.declared.invocation.Invocation.TheVariants.{Live, Replay, Session}
+
+-- how many servers the chain begins with
+abbrev pub size_of : Invocation → ℕ
+size_of (Replay size) = size
+size_of (Session size) = size
+size_of (Live size turns) = size
+
+-- the name of the command
+abbrev pub name_of : Invocation → Text
+name_of (Replay size) = codes "replay"
+name_of (Session size) = codes "session"
+name_of (Live size turns) = codes "live"
+
+-- `--servers N`, a number from 1 to 8, and its text if it isn't given
+abbrev pub servers_rule : Text → Rule
+servers_rule default = record (new_rule (codes "servers")) {
+  long = Some (codes "servers");
+  value_names = 1;
+  defaults = default ∷ [];
+  parser = Some (Signed (pos 1) (pos 8));
+}
+
+-- a command of that name, with `[--servers N]`, and the text of that number if it isn't given
+abbrev pub command_app : Text → Text → App
+command_app name default = with_rule (new_app name) (servers_rule default)
+
+-- the most turns that may be asked for
+abbrev pub most_turns : ℕ
+most_turns = 1000000000
+
+-- `--turns T`, a number from 1 to the most, which is the most if it isn't given
+abbrev pub turns_rule : Rule
+turns_rule = record (new_rule (codes "turns")) {
+  long = Some (codes "turns");
+  value_names = 1;
+  defaults = codes "1000000000" ∷ [];
+  parser = Some (Unsigned 1 most_turns);
+}
+
+-- `live [--servers N] [--turns T]`, on 3 servers if no number is given
+abbrev pub live_app : App
+live_app = with_rule (command_app (codes "live") (codes "3")) turns_rule
+
+-- the program without its commands; its arguments begin behind its name, and it has a version to tell
+abbrev pub bare_app : App
+bare_app = on_top (λ s. record s { no_binary_name = true; has_version = true }) (new_app (codes "cq"))
+
+-- a program with that command added
+abbrev pub with_command : App → App → App
+with_command program command = with_subcommand program command.top
+
+-- the program, whose commands are `replay`, `session` and `live`; the first two have 1 server if no number is given
+abbrev pub program_app : App
+program_app =
+    with_command (with_command
+    (with_command bare_app (command_app (codes "replay") (codes "1"))) (command_app (codes "session") (codes "1")))
+    live_app
+
+-- the text of the number of servers that a parse found: "1" where no subcommand stands
+abbrev pub text_in : Option (Text × List Row) → Option Text
+text_in None = Some (codes "1")
+text_in (Some found) = one_of (codes "servers") found.1
+
+-- the name of the command that a parse found: "replay" where no subcommand stands
+abbrev pub name_in : Option (Text × List Row) → Text
+name_in None = codes "replay"
+name_in (Some found) = found.0
+
+-- the text of the number of turns that a parse found, if it found one
+abbrev pub turns_text : Option (Text × List Row) → Option Text
+turns_text found = option_and_then (λ command. one_of (codes "turns") command.1) found
+
+-- there is a text, of which a plus may stand first, and it is that number in decimal
+abbrev pub IsNumber : Option Text → ℕ → Type 0
+IsNumber found number = (text : Text) × (found ≡ Some text) × (number ≡ digits_value 10 (without_leading_plus text))
+
+-- so many servers are asked for
+abbrev pub IsSized : Option (Text × List Row) → ℕ → Type 0
+IsSized found servers = IsNumber (text_in found) servers
+
+-- so many turns are asked for, if it is a live run that is chosen
+abbrev pub HasTurns : Option (Text × List Row) → Invocation → Type 0
+HasTurns found (Live size turns) = IsNumber (turns_text found) turns
+HasTurns found _ = ⊤
+
+-- the command of that name is asked for, on so many servers, and for so many turns
+abbrev pub IsAsked : Option (Text × List Row) → Invocation → Type 0
+IsAsked found invocation = (name_in found ≡ name_of invocation) × IsSized found (size_of invocation) × HasTurns found invocation
+
+-- ---- good arguments
+
+-- if a live run is chosen, there is a text, of which a plus may stand first: digits, which are the number of its turns
+abbrev pub ReadsTurns : Option Text → Invocation → Type 0
+ReadsTurns found (Live size turns) =
+    (text : Text) × (found ≡ Some text) × IsNumeral 10 (without_leading_plus text)
+    × (turns ≡ digits_value 10 (without_leading_plus text)) × (turns ≤ most_turns)
+ReadsTurns found _ = ⊤
+
+-- the number that a text of one digit from 1 to 8 is
+abbrev pub digit_of : Text → Option ℕ
+digit_of (byte ∷ []) = if nat_le 49 byte && nat_le byte 56 then Some (byte - 48) else None
+digit_of _ = None
+
+-- the number that a text of digits is, if that is from 1 to the most turns
+abbrev pub turns_of : Text → Option ℕ
+turns_of text =
+    if all_ascii_digits text && (nat_le 1 (digits_value 10 text) && nat_le (digits_value 10 text) most_turns)
+    then Some (digits_value 10 text) else None
+
+-- the number of servers that the arguments behind `replay` or `session` ask for: none, or `--servers N`
+abbrev pub asked_servers : List Text → Option ℕ
+asked_servers [] = Some 1
+asked_servers (option ∷ number ∷ []) = if bytes_eq option (codes "--servers") then digit_of number else None
+asked_servers _ = None
+
+-- a live run on so many servers, for so many turns, if both are known
+abbrev pub live_of : Option ℕ → Option ℕ → Option Invocation
+live_of (Some servers) (Some turns) = Some (Live servers turns)
+live_of _ _ = None
+
+-- the live run that one option and its number ask for
+abbrev pub live_by_one : Text → Text → Option Invocation
+live_by_one option number =
+    if bytes_eq option (codes "--servers") then live_of (digit_of number) (Some most_turns)
+    else (if bytes_eq option (codes "--turns") then live_of (Some 3) (turns_of number) else None)
+
+-- the live run that two options and their numbers ask for, each option once, in either order
+abbrev pub live_by_two : Text → Text → Text → Text → Option Invocation
+live_by_two first one second two =
+    if bytes_eq first (codes "--servers") && bytes_eq second (codes "--turns") then live_of (digit_of one) (turns_of two)
+    else (if bytes_eq first (codes "--turns") && bytes_eq second (codes "--servers")
+    then live_of (digit_of two) (turns_of one) else None)
+
+-- the live run that the arguments behind `live` ask for: none, `--servers N`, `--turns T`, or both
+abbrev pub asked_live : List Text → Option Invocation
+asked_live [] = Some (Live 3 most_turns)
+asked_live (option ∷ number ∷ []) = live_by_one option number
+asked_live (first ∷ one ∷ second ∷ two ∷ []) = live_by_two first one second two
+asked_live _ = None
+
+-- what good arguments ask for: none, or `replay`, `session` or `live` and good arguments behind it
+abbrev pub asked_invocation : List Text → Option Invocation
+asked_invocation [] = Some (Replay 1)
+asked_invocation (arg ∷ options) =
+    if bytes_eq arg (codes "replay") then option_map Replay (asked_servers options)
+    else (if bytes_eq arg (codes "session") then option_map Session (asked_servers options)
+    else (if bytes_eq arg (codes "live") then asked_live options else None))

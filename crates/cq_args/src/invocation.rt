@@ -1,0 +1,192 @@
+//! What the arguments of the command line ask for.
+ghost use Rattle.std.specs.Prelude.{◌≡◌, ◌≢◌, ℕ, ◌<◌, ◌≤◌, ◌+◌, ◌^◌, [], ◌∷◌, IfOk, IfSome, IsErrAnd, MatchResult, Some, false, map};
+ghost use Rattle.std.specs.Str.Parse.{IsNumeral, digits_value, without_leading_plus};
+ghost use Rattle.clap.specs.Words.{HasKind, Text, app_of, fault_of, kind_of, rule_of, subcommand_of, subcommand_rows_of};
+ghost use Rattle.clap.specs.declared.builder.command.Command.TheViews.{out-Command};
+ghost use Rattle.clap.specs.declared.error.kind.ErrorKind.TheVariants.{OutOfMemory};
+ghost use Rattle.cq_args.specs.declared.invocation.TheConstants.{ZERO_DIGIT};
+ghost use Rattle.cq_args.specs.declared.invocation.Invocation.{Invocation};
+ghost use Rattle.cq_args.specs.CommandLine.{IsAsked, IsNumber, IsSized, ReadsTurns, asked_invocation, command_app, live_app, name_in, name_of, program_app, size_of, text_in, turns_rule, turns_text};
+
+use clap::error::ErrorKind;
+use clap::{Arg, ArgMatches, Command, Error, value_parser};
+use cq_base::{CHAIN_LIMIT, ChainSize};
+use std::alloc::{AllocError, Global};
+use std::convert::AsStr;
+
+/// The number of this version of Hobbychair, which `--version` tells. CHANGELOG.md says what came with it.
+pub const VERSION: &str = "0.1.0";
+
+/// The first digit, as a byte.
+const ZERO_DIGIT: u8 = b'0';
+
+/// What the command line asks for.
+#[derive(Clone, Copy, Debug, PartialEq, Eq)]
+pub enum Invocation {
+    /// The script on standard input, run in a world whose chain begins with so many servers.
+    Replay { size: ChainSize },
+    /// The lines of a session, run in such a world; a bad line doesn't end it.
+    Session { size: ChainSize },
+    /// The live script on standard input, run by so many servers, a master and two clients on threads of their own, each
+    /// of them for at most so many turns.
+    Live { size: ChainSize, turns: u64 },
+}
+
+const REPLAY: &str = "replay";
+
+const SESSION: &str = "session";
+
+const LIVE: &str = "live";
+
+const SERVERS: &str = "servers";
+
+const TURNS: &str = "turns";
+
+/// The number of servers that a replay and a session have if none is given.
+const SERVERS_DEFAULT: &str = "1";
+
+/// The number of servers that a live run has if none is given.
+const LIVE_SERVERS_DEFAULT: &str = "3";
+
+/// The most turns that may be asked for.
+const TURNS_LIMIT: u32 = 1_000_000_000;
+
+/// The number of turns of a live run if none is given: the most.
+const TURNS_DEFAULT: &str = "1000000000";
+
+/// The subcommand of that name, with the number of servers as its option, and what this number is if it isn't given.
+fn command<'a>(
+    alloc: Global,
+    name: &'a str,
+    about: &'a str,
+    servers_default: &'a str,
+) -> Result<Command<'a>, AllocError>
+    ensures app { IfOk result (λ command. app_of command ≡ command_app name.now servers_default.now) }
+    ensures local { IfOk result (λ command. (out-Command command).has_globals ≡ false) }
+{
+    let servers = Arg::new(alloc, SERVERS)
+        .long(SERVERS)
+        .value_name("N")
+        .value_parser(value_parser!(u8).range(1..=i64::from(CHAIN_LIMIT)))
+        .default_value(servers_default)
+        .help("How many servers the chain begins with, from 1 to 8");
+    Command::new(alloc, name).about(about).arg(servers)
+}
+
+/// The number of turns, as an option.
+fn turns_option<'a>(alloc: Global) -> Arg<'a>
+    ensures rule { rule_of result ≡ turns_rule }
+    ensures local { result.global ≡ false }
+{
+    Arg::new(alloc, TURNS)
+        .long(TURNS)
+        .value_name("T")
+        .value_parser(value_parser!(u64).range(1..=i64::from(TURNS_LIMIT)))
+        .default_value(TURNS_DEFAULT)
+        .help("How many turns each thread takes at most, from 1 to 1000000000")
+}
+
+/// The subcommand for live runs, with the numbers of servers and of turns as its options.
+fn live<'a>(alloc: Global) -> Result<Command<'a>, AllocError>
+    ensures app { IfOk result (λ command. app_of command ≡ live_app) }
+    ensures local { IfOk result (λ command. (out-Command command).has_globals ≡ false) }
+{
+    let command = command(
+        alloc,
+        LIVE,
+        "Runs the live script on standard input by servers, a master and two clients on threads of their own, and audits what they did",
+        LIVE_SERVERS_DEFAULT,
+    )?;
+    command.arg(turns_option(alloc))
+}
+
+/// The program's command line.
+fn program<'a>(alloc: Global) -> Result<Command<'a>, AllocError>
+    ensures { IfOk result (λ command. app_of command ≡ program_app) }
+{
+    let replay = command(
+        alloc,
+        REPLAY,
+        "Runs the script on standard input and writes its answers to standard output",
+        SERVERS_DEFAULT,
+    )?;
+    let session = command(
+        alloc,
+        SESSION,
+        "Runs the lines that come on standard input, until it ends, and goes on behind bad ones",
+        SERVERS_DEFAULT,
+    )?;
+    let live = live(alloc)?;
+    Command::new(alloc, "cq")
+        .no_binary_name(true)
+        .bin_name("cq")?
+        .version(VERSION)
+        .about(
+            "Runs scripts of what happens to a FIFO message queue that a chain of servers keeps.\nWithout a command it does what 'cq replay' does.",
+        )
+        .subcommand(replay)?
+        .subcommand(session)?
+        .subcommand(live)
+}
+
+/// How many servers are asked for; one where no subcommand stands.
+fn servers_in(matches: &ArgMatches<'_>) -> Option<u8>
+    ensures asked { IfSome result (IsSized (subcommand_rows_of matches.now)) }
+    ensures digit { (servers : ℕ) → servers < 10 → text_in (subcommand_rows_of matches.now) ≡ Some ((ZERO_DIGIT + servers) ∷ [])
+        → result ≡ Some servers }
+{
+    match matches.subcommand() {
+        None => Some(1),
+        Some((_, options)) => options.get_one::<u8>(SERVERS),
+    }
+}
+
+/// How many turns are asked for; no number where no subcommand stands.
+fn turns_in(matches: &ArgMatches<'_>) -> Option<u64>
+    ensures asked { IfSome result (IsNumber (turns_text (subcommand_rows_of matches.now))) }
+    ensures numeral { (text : Text) → turns_text (subcommand_rows_of matches.now) ≡ Some text
+        → IsNumeral 10 (without_leading_plus text) → digits_value 10 (without_leading_plus text) < 2 ^ 64
+        → result ≡ Some (digits_value 10 (without_leading_plus text)) }
+{
+    let (_, options) = matches.subcommand()?;
+    options.get_one::<u64>(TURNS)
+}
+
+/// What is asked for; a replay where no subcommand stands.
+fn invocation_in(matches: &ArgMatches<'_>) -> Option<Invocation>
+    ensures asked { IfSome result (IsAsked (subcommand_rows_of matches.now)) }
+    ensures good { (invocation : Invocation) → text_in (subcommand_rows_of matches.now) ≡ Some ((ZERO_DIGIT + size_of invocation) ∷ [])
+        → 1 ≤ size_of invocation → size_of invocation ≤ CHAIN_LIMIT → name_in (subcommand_rows_of matches.now) ≡ name_of invocation
+        → ReadsTurns (turns_text (subcommand_rows_of matches.now)) invocation → result ≡ Some invocation }
+{
+    let size = ChainSize::new(servers_in(matches)?)?;
+    match matches.subcommand_name() {
+        None | Some(REPLAY) => Some(Invocation::Replay { size }),
+        Some(SESSION) => Some(Invocation::Session { size }),
+        Some(LIVE) => Some(Invocation::Live {
+            size,
+            turns: turns_in(matches)?,
+        }),
+        Some(_) => None,
+    }
+}
+
+/// What the arguments behind the program's name ask for; no arguments ask for a replay on one server. An error is
+/// a request for help or for the version, a fault of the arguments, or want of memory.
+pub fn invocation_of<'a, S: AsStr>(alloc: Global, args: &'a [S]) -> Result<Invocation, Error>
+    ensures asked { IfOk result (IsAsked (subcommand_of program_app (map S.text args.entry.now))) }
+    ensures good { (invocation : Invocation) → asked_invocation (map S.text args.entry.now) ≡ Some invocation
+        → MatchResult result (λ got. got ≡ invocation) (λ error. kind_of error ≡ OutOfMemory) }
+    ensures faults { fault_of program_app (map S.text args.entry.now) ≢ []
+        → IsErrAnd result (HasKind (fault_of program_app (map S.text args.entry.now))) }
+{
+    let mut program = program(alloc)?;
+    let matches = program.try_get_matches_from_mut(args)?;
+    if let Some(invocation) = invocation_in(&matches) {
+        return Ok(invocation);
+    }
+    Err(program.error(
+        ErrorKind::InvalidValue,
+        "a number is missing, or out of its range",
+    )?)
+}

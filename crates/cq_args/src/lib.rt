@@ -1,0 +1,7 @@
+//! The command line of the program `cq`: what its arguments ask for, and what help says.
+//! `specs/` holds the rules.
+#![tactic(auto)]
+
+mod invocation;
+
+pub use invocation::{Invocation, VERSION, invocation_of};

@@ -1,2 +1,0 @@
-pub mod Iterating
-pub mod Gathering

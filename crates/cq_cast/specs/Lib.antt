@@ -1,2 +1,0 @@
-pub mod Aparts
-pub mod within

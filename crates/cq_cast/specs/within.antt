@@ -1,2 +1,0 @@
--- What the clauses of private functions cite. Nobody who calls this crate has to read it.
-pub mod Adding

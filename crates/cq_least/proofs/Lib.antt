@@ -1,4 +1,0 @@
-pub mod Counting
-pub mod Packing
-mod Rows
-pub mod Summaries

@@ -1,6 +1,0 @@
--- So far the node is the same, with ends of the same links.
-use Rattle.cq_live.specs.MasterNodes.{IsSameNode}
-use Rattle.cq_live.proofs.master_node.MasterNode.join_all.Given as goal
-
-abbrev pub invariant-loop-place : goal.invariant-loop-place
-invariant-loop-place g l = IsSameNode g.P.PutEnd.link g.T.TakeEnd.link l.fn.self l.self

@@ -1,6 +1,0 @@
--- It is the clause of the core's own call.
-use Rattle.cq_live.proofs.Moving.{took-done}
-use Rattle.cq_live.proofs.moves.read.Goals as goal
-
-pub returns-clause-ok : goal.returns-clause-ok
-returns-clause-ok c = λ back. took-done _ c.args.core.now c.take.new.self back c.args.from c.args.message.now c.take.result c.take.ensures.ok

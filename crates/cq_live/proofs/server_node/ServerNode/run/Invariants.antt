@@ -1,6 +1,0 @@
--- So far each end is still one of the same link.
-use Rattle.cq_live.specs.Nodes.{IsSameServer}
-use Rattle.cq_live.proofs.server_node.ServerNode.run.Given as goal
-
-abbrev pub invariant-loop : goal.invariant-loop
-invariant-loop g l = IsSameServer g.P.PutEnd.link g.T.TakeEnd.link g.I.TakeEnd.link l.fn.self l.self

@@ -1,0 +1,25 @@
+-- The number and the name of each fault of a live run.
+use Rattle.std.specs.Prelude.{ℕ, List, codes, Bool, true, false}
+use Rattle.cq_live.specs.declared.fault.LiveFault.{LiveFault}
+use Rattle.cq_live.specs.declared.fault.LiveFault.TheVariants.{TurnLimit, AuditRefused, SpawnFailed, BadScript, NoMemory}
+
+-- the number of a fault
+abbrev pub code_of : LiveFault → ℕ
+code_of TurnLimit = 71
+code_of (AuditRefused fault) = 72
+code_of SpawnFailed = 73
+code_of (BadScript step) = 74
+code_of NoMemory = 20
+
+-- its name
+abbrev pub name_of : LiveFault → List ℕ
+name_of TurnLimit = codes "TurnLimit"
+name_of (AuditRefused fault) = codes "AuditRefused"
+name_of SpawnFailed = codes "SpawnFailed"
+name_of (BadScript step) = codes "BadScript"
+name_of NoMemory = codes "NoMemory"
+
+-- it says that a step can't be done
+abbrev pub is_of_steps : LiveFault → Bool
+is_of_steps (BadScript step) = true
+is_of_steps fault = false

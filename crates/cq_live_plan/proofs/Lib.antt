@@ -1,0 +1,5 @@
+pub mod Ranges
+pub mod Firsts
+pub mod Asks
+pub mod Joining
+pub mod Examples

@@ -1,0 +1,12 @@
+-- With what is asked by one step more.
+use Rattle.std.proofs.Common.{◌∙◌, ap, sym, refl, length, ◌++◌, ◌∷◌, []}
+use Rattle.std.proofs.lemmas.Option.{slice_get_read}
+use Rattle.cq_live_plan.proofs.Asks.{asks_more}
+use Rattle.cq_live_plan.specs.Steps.{asks_of}
+use Rattle.cq_live_plan.proofs.asked.asks_of.Goals as goal
+
+pub loop-step-preserved : goal.loop-step-preserved
+loop-step-preserved c =
+    let steps = c.args.steps.now in
+    c.in_ok-add_ask.ensures ∙ ap (λ us. us ++ asks_of c.args.client (c.step-item.result ∷ [])) c.loop-step.invariant
+    ∙ sym (asks_more c.args.client steps c.loop-step.step-index c.step-item.result (slice_get_read steps (length steps) c.loop-step.step-index c.step-item.result refl c.loop-step-test.true c.step-item.is))

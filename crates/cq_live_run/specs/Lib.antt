@@ -1,4 +1,0 @@
-pub mod Faults
-pub mod Lives
-pub mod Plans
-pub mod Ended

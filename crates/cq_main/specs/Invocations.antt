@@ -1,0 +1,17 @@
+-- What the program has done when it has carried out what was asked for.
+use Rattle.std.specs.Prelude.{ℕ, Bool, List, Option}
+use Rattle.cq_main.specs.LiveOutcomes.{RunsLive}
+use Rattle.cq_main.specs.Outcomes.{RunsBy}
+use Rattle.cq_script.specs.Replays.{Headlines, Replays}
+use Rattle.cq_script.specs.Sessions.{SessionHeadlines, Sessions}
+use Rattle.cq_args.specs.declared.invocation.Invocation.{Invocation}
+use Rattle.cq_args.specs.declared.invocation.Invocation.TheVariants.{Replay, Session, Live}
+
+-- On so many servers a script was replayed, the lines of a session were run, or a live script was.
+abbrev pub Runs : Invocation → ℕ → Option (List ℕ) → Option (List ℕ) → Bool → Option (List ℕ) → Option (List ℕ) → Bool → Bool → Bool → Option (List ℕ) → Option (List ℕ) → Type 0
+Runs (Replay size) status unread left reader_failed written output writer_failed writer_flushed failed old new =
+    RunsBy (Replays size) (Headlines size) status unread left reader_failed written output writer_failed writer_flushed failed old new
+Runs (Session size) status unread left reader_failed written output writer_failed writer_flushed failed old new =
+    RunsBy (Sessions size) (SessionHeadlines size) status unread left reader_failed written output writer_failed writer_flushed failed old new
+Runs (Live size turns) status unread left reader_failed written output writer_failed writer_flushed failed old new =
+    RunsLive size status unread left reader_failed written output writer_failed writer_flushed failed old new

@@ -1,0 +1,68 @@
+//! The part of help that all commands have.
+
+/// What stands at the end of each help text.
+pub(crate) const GUIDE: &str =
+    r#"A script is lines of JSON, each of them one event. These two lines make a queue on one server:
+
+  {"op":"arrive","at":1,"clock":1000,"client":1,"number":1,"ask":{"kind":"create","queue":"q.fifo","visibility":30}}
+  {"op":"put","from":1,"to":"clients"}
+
+A request arrives and is answered, and the put gives the answer to its client, as a line of output:
+
+  {"client":1,"length":1,"line":2,"number":1,"reply":{"incarnation":1,"kind":"created"}}
+
+Operations, with the keys that stand beside "op":
+  arrive  at, clock, client, number, ask  a request reaches server "at", whose clock shows "clock"
+  ask     at, client, tag, queue          a query asks server "at" how many messages the queue has
+  put     from, to                        the first message that "from" has for "to" is sent
+  take    from, to                        "to" takes the first message on its way from "from"
+  crash   server                          the server is down for good
+  detect  server                          the master learns that the server is down
+  join    server                          a new server with this number joins at the end of the chain
+
+The first servers are numbered from 1. Beside a server, "from" and "to" may be "master" or "clients".
+Requests arrive at the first server of the chain, queries at the last one, and this one answers both.
+
+Kinds of "ask" in an arrive, with the keys that stand beside "kind"; those in brackets may be missing:
+  create   queue, [visibility],         makes the queue; a timeout of so many seconds, 30 if missing;
+           [content_dedup]              true: a send without "dedup" has an id made of its body
+  remove   queue                        ends the queue and its messages
+  send     queue, group, [dedup], body  adds a message to the end of its group
+  receive  queue, [size], [visibility]  hands out up to "size" messages, 1 if missing
+  delete   queue, receipt               deletes the message that was handed out with this receipt
+  change   queue, receipt, visibility   gives it another timeout, in seconds from now
+
+An event that can't happen changes nothing, and is told by a line such as
+{"line":5,"name":"ServerDown","refused":32}.
+
+A live script, for "cq live", has one step a line, such as
+
+  {"op":"client","client":1,"ask":{"kind":"create","queue":"q.fifo"}}
+
+Steps, with the keys that stand beside "op":
+  client  client, ask    the next ask of client 1 or 2, of one of the kinds above
+  crash   server, after  the server crashes once it holds "after" requests
+  join    server, after  a new server joins, up to number 8, from the master's turn "after" on
+
+Commands, and when to use which:
+  replay   for a script: it ends at its first fault, as at a line that says no event
+  session  for a program at the other end of a pipe, or a person at a terminal: there is no limit to
+           the lines, and a bad one is told by a line such as {"line":3,"name":"BadLine","refused":61},
+           and the session goes on
+  live     to see a chain at work: servers, a master and two clients run side by side, each on a thread
+           of its own; once the clients have their answers, all that the servers and the master did is
+           put into one order and checked. It tells how many sends were accepted, and that the audit
+           is fine
+
+Examples:
+  cq replay --servers 3 < SCRIPT
+  cq session
+  cq live --servers 5 --turns 1000000 < LIVE_SCRIPT
+
+Exit statuses:
+  0  the script, the session or the live run came to its end
+  1  the audit of a live run found no order of what was done: 72 AuditRefused
+  2  a usage fault, or a fault of the script: 61 BadLine, 62 LineTooLong, 63 TooManyLines, 74 BadScript
+  3  the reader or the writer failed, or memory ran out: 64 ReadFailed, 65 WriteFailed, 20 NoMemory;
+     a live run had no turns left, or no thread: 71 TurnLimit, 73 SpawnFailed
+A fault is told by one line on standard error, such as "cq: 61 BadLine line 3"."#;

@@ -1,0 +1,4 @@
+pub mod Counting
+pub mod Packing
+mod Examples
+pub mod Summaries

@@ -1,0 +1,79 @@
+-- What a client's node did, after one more step.
+use Rattle.std.proofs.Common.{arith, ◌≡◌, ◌<◌, ◌≤◌, ℕ, zero, suc, ◌+◌, ◌∙◌, ◌⊎◌, ap, sym, refl, subst, length, List, [], ◌∷◌, ◌++◌, slice_get, inl, inr, Option, Some, None}
+use Rattle.std.proofs.lemmas.Option.{same_Some, none-some}
+use Rattle.cq_base.specs.declared.ask.Ask.{Ask}
+use Rattle.cq_base.specs.declared.ask.Request.{Request}
+use Rattle.cq_base.specs.Relations.{Among}
+use Rattle.cq_base.proofs.Pairs.{pairwise-push}
+use Rattle.cq_chain.specs.Clients.{StandsFor, first_client}
+use Rattle.cq_chain.specs.declared.client.Client as rust_client
+use Rattle.cq_chain.specs.declared.message.Answer.{Answer}
+use Rattle.cq_chain.specs.declared.message.Message.{Message}
+use Rattle.cq_nodes.specs.ClientMoves.{IsTaken, IsAlong, ClosesBy}
+use Rattle.cq_nodes.specs.ClientNodes.{AreFresh, IsClosedBy, ClientRan, client_held}
+use Rattle.cq_nodes.proofs.ClientAsks.{one_more}
+
+-- ---- lists
+
+-- what stands in a list with one more
+at_push : {X : Type 0} (xs : List X) (x y : X) (i : ℕ) → slice_get (xs ++ x ∷ []) i ≡ Some y → (slice_get xs i ≡ Some y) ⊎ ((i ≡ length xs) × (y ≡ x))
+at_push [] x y zero is = inr (refl, sym (same_Some x y is))
+at_push [] x y (suc i) is = absurd (none-some y is)
+at_push (z ∷ zs) x y zero is = inl is
+at_push (z ∷ zs) x y (suc i) is = elim (at_push zs x y i is) [ inl l ↦ inl l | inr r ↦ inr (ap suc r.0, r.1) ]
+
+-- what each place had, each place of one more has
+pub each_push : {X : Type 0} (Q : ℕ → X → Type 0) (xs : List X) (x : X) → ((i : ℕ) (y : X) → slice_get xs i ≡ Some y → Q i y) → Q (length xs) x → (i : ℕ) (y : X) → slice_get (xs ++ x ∷ []) i ≡ Some y → Q i y
+each_push Q xs x all last i y is = elim (at_push xs x y i is) [ inl l ↦ all i y l | inr r ↦ subst (λ j. Q j y) (sym r.0) (subst (Q (length xs)) (sym r.1) last) ]
+
+-- ---- a node
+
+module _ {P T : Type 0} (put : P → List Request) (taken : T → List Message) where
+  -- it did nothing yet
+  pub ran_first : (id : ℕ) (asks : List Ask) (core : rust_client.Client) (outs : List P) (ins : List T) (closed : List Answer) → StandsFor core (first_client id) → AreFresh put taken outs ins → closed ≡ [] → ClientRan put taken core None (client_held id asks outs ins closed)
+  ran_first id asks core outs ins closed stands fresh none = subst (λ xs. ClientRan put taken core None (client_held id asks outs ins xs)) (sym none) (record {
+    did = record {
+      asked = λ place out here request among. absurd (subst (λ xs. Among request xs) (fresh.nothing_put place out here) among);
+      closed_by = λ place answer nobody. absurd (none-some answer nobody);
+      rising = tt;
+      few = omega arith;
+    };
+    along = record { client = first_client id; stands = stands; own = refl; pending = refl; longest = λ answer nobody. absurd nobody };
+    back = tt;
+  })
+
+  module _ (id : ℕ) (asks : List Ask) (old new : rust_client.Client) (back : Option Request) (outs : List P) (ins : List T) (closed longer : List Answer) (h : ClientRan put taken old back (client_held id asks outs ins closed)) where
+    -- what was taken before is taken still
+    closed_still : (after : List T) → ((m : Message) → IsTaken taken m ins → IsTaken taken m after) → (place : ℕ) (answer : Answer) → slice_get closed place ≡ Some answer → IsClosedBy put taken id after place answer
+    closed_still after kept place answer here =
+        let was = h.did.closed_by place answer here in
+        record { taken_here = kept _ was.taken_here; client = was.client; number = was.number; no_query = was.no_query }
+
+    -- it took a message that closed nothing, or none
+    pub ran_took : (after : List T) → ((m : Message) → IsTaken taken m ins → IsTaken taken m after) → IsAlong id asks new closed → longer ≡ closed → ClientRan put taken new back (client_held id asks outs after longer)
+    ran_took after kept along is = subst (λ xs. ClientRan put taken new back (client_held id asks outs after xs)) (sym is) (record {
+      did = record { asked = h.did.asked; closed_by = closed_still after kept; rising = h.did.rising; few = h.did.few };
+      along = along;
+      back = h.back;
+    })
+
+    -- it took an answer that closed its open request
+    pub ran_closed : (after : List T) (message : Message) (answer : Answer) → ((m : Message) → IsTaken taken m ins → IsTaken taken m after) → IsTaken taken message after → ClosesBy id asks new closed message answer → (room : List Answer) → room ≡ closed → longer ≡ room ++ answer ∷ []
+        → ClientRan put taken new None (client_held id asks outs after longer)
+    ran_closed after message answer kept there one room same is = subst (λ xs. ClientRan put taken new None (client_held id asks outs after xs)) (sym (is ∙ ap (λ xs. xs ++ answer ∷ []) same)) (record {
+      did = record {
+        asked = h.did.asked;
+        closed_by = each_push (IsClosedBy put taken id after) closed answer (closed_still after kept) (record {
+          taken_here = subst (λ m. IsTaken taken m after) one.bears there;
+          client = one.closes.next.client;
+          number = one.closes.next.number;
+          no_query = one.closes.next.no_query;
+        });
+        rising = pairwise-push (λ a b. a.length < b.length) closed answer h.did.rising one.closes.next.longer;
+        few = few (one_more closed answer) one.closes.next.asked;
+      };
+      along = one.closes.along;
+      back = tt;
+    }) where
+      few : {n k m : ℕ} → n ≡ k + 1 → k < m → n ≤ m
+      few e f = omega arith

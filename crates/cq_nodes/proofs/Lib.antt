@@ -1,0 +1,14 @@
+pub mod CoreStates
+pub mod ActionRuns
+pub mod Moving
+pub mod Places
+pub mod Bounds
+pub mod Answering
+pub mod NodeSteps
+pub mod FirstCores
+pub mod Beginning
+pub mod ClientEnds
+pub mod ClientAsks
+pub mod ClientSteps
+pub mod MasterMoving
+pub mod MasterSteps

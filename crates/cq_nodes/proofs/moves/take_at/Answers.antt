@@ -1,0 +1,25 @@
+-- The end at the place is changed, and no other.
+use Rattle.std.proofs.Common.{refl, length}
+use Rattle.std.proofs.lemmas.Option.{slice_get_read}
+use Rattle.cq_nodes.proofs.Places.{takes_at, takes_kept, ends_set}
+use Rattle.cq_nodes.proofs.moves.take_at.Goals as goal
+
+pub returns-in-Some-clause-links : goal.returns-in-Some-clause-links
+returns-in-Some-clause-links g c =
+    let ins = c.args.ins.now.items in
+    let item = c.in-Some.ensures.item in
+    ends_set (λ end. end.end) _ ins c.args.place c.in-Some.end.now c.take_one.new.end (slice_get_read ins (length ins) c.args.place c.in-Some.end.now refl item.3.0 item.1) c.take_one.ensures.link
+
+pub returns-in-Some-clause-taken : goal.returns-in-Some-clause-taken
+returns-in-Some-clause-taken g c = λ back seen taken is.
+    let ins = c.args.ins.now.items in
+    let item = c.in-Some.ensures.item in
+    takes_at g.T.TakeEnd.list c.args.core.now c.take_one.new.core ins c.args.place c.in-Some.end.now c.take_one.new.end (slice_get_read ins (length ins) c.args.place c.in-Some.end.now refl item.3.0 item.1) seen c.party_at.result c.party_at.ensures back
+    (λ told. c.take_one.ensures.taken back (seen c.args.place) told is) taken
+
+pub returns-in-Some-clause-lists : goal.returns-in-Some-clause-lists
+returns-in-Some-clause-lists g c = λ seen taken is.
+    let ins = c.args.ins.now.items in
+    let item = c.in-Some.ensures.item in
+    takes_kept g.T.TakeEnd.list c.args.core.now c.take_one.new.core ins c.args.place c.in-Some.end.now c.take_one.new.end (slice_get_read ins (length ins) c.args.place c.in-Some.end.now refl item.3.0 item.1) seen c.party_at.result c.party_at.ensures
+    (λ told. c.take_one.ensures.list (seen c.args.place) told is) taken

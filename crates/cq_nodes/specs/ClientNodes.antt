@@ -1,0 +1,67 @@
+-- What a client's node did, and what it holds.
+use Rattle.std.specs.Prelude.{◌≡◌, ◌<◌, ◌≤◌, ℕ, ◌+◌, length, List, [], map, slice_get, false, Option, Some}
+use Rattle.std.specs.Option.{IfSome}
+use Rattle.cq_base.specs.declared.ask.Ask.{Ask}
+use Rattle.cq_base.specs.declared.ask.Request.{Request}
+use Rattle.cq_base.specs.Relations.{Pairwise}
+use Rattle.cq_chain.specs.declared.client.Client as rust_client
+use Rattle.cq_chain.specs.declared.message.Answer.{Answer}
+use Rattle.cq_chain.specs.declared.message.Message.{Message}
+use Rattle.cq_chain.specs.declared.message.Message.TheVariants as stored
+use Rattle.cq_nodes.specs.ClientMoves.{IsAskOf, AreAsked, IsTaken, IsAlong}
+
+-- What callers see of a client's links: their ends, the one on which it puts and the one from which it takes, in the order
+-- of the servers.
+pub record ClientEnds (P T : Type 0) : Type 0 where
+  pub outs : List P
+  pub ins : List T
+
+-- What they see of its node: its id, its asks, the ends of its links, and the answers that closed asks, in order.
+pub record ClientHeld (P T : Type 0) : Type 0 where
+  pub id : ℕ
+  pub asks : List Ask
+  pub outs : List P
+  pub ins : List T
+  pub closed : List Answer
+
+module _ {P T : Type 0} where
+  abbrev pub client_held : ℕ → List Ask → List P → List T → List Answer → ClientHeld P T
+  client_held id asks outs ins closed = record { id = id; asks = asks; outs = outs; ins = ins; closed = closed }
+
+module _ {P T L M : Type 0} (put_link : P → L) (take_link : T → M) where
+  -- It is the same client with the same asks, and its ends are those of the same links.
+  pub record IsSameClient (old new : ClientHeld P T) : Type 0 where
+    pub id : new.id ≡ old.id
+    pub asks : new.asks ≡ old.asks
+    pub outs : map put_link new.outs ≡ map put_link old.outs
+    pub ins : map take_link new.ins ≡ map take_link old.ins
+
+module _ {P T : Type 0} (put : P → List Request) (taken : T → List Message) where
+  -- on none of the links anything was put or taken
+  pub record AreFresh (outs : List P) (ins : List T) : Type 0 where
+    pub nothing_put : (place : ℕ) (out : P) → slice_get outs place ≡ Some out → put out ≡ []
+    pub nothing_taken : (place : ℕ) (end : T) → slice_get ins place ≡ Some end → taken end ≡ []
+
+  -- The answer closed the ask at that place: it was taken from one of the links, as the answer to the request of the ask's
+  -- number.
+  pub record IsClosedBy (id : ℕ) (ins : List T) (place : ℕ) (answer : Answer) : Type 0 where
+    pub taken_here : IsTaken taken (stored.Answer answer) ins
+    pub client : answer.client ≡ id
+    pub number : answer.number ≡ place + 1
+    pub no_query : answer.is_query ≡ false
+
+  -- What a client's node did.
+  pub record ClientDid (node : ClientHeld P T) : Type 0 where
+    -- it put only its asks
+    pub asked : AreAsked put node.id node.asks node.outs
+    -- one answer closed each ask that is closed
+    pub closed_by : (place : ℕ) (answer : Answer) → slice_get node.closed place ≡ Some answer → IsClosedBy node.id node.ins place answer
+    -- each is longer than those before
+    pub rising : Pairwise (λ a b. a.length < b.length) node.closed
+    pub few : length node.closed ≤ length node.asks
+
+  -- What a client's node did, and where its core is. What a full link handed back is one of its asks.
+  pub record ClientRan (core : rust_client.Client) (handed_back : Option Request) (node : ClientHeld P T) : Type 0 where
+    pub did : ClientDid node
+    pub along : IsAlong node.id node.asks core node.closed
+    pub back : IfSome handed_back (IsAskOf node.id node.asks)

@@ -1,0 +1,337 @@
+//! The master that runs between the ends of its links.
+ghost use Rattle.std.specs.Prelude.{◌≡◌, [], IfOk, IfSome, map};
+ghost use Rattle.cq_base.specs.Relations.{Among};
+ghost use Rattle.cq_nodes.specs.MasterNodes.{IsSameNode, MasterLived};
+
+use crate::ends::{In, Out};
+use crate::flags::Flags;
+use crate::links::Links;
+use crate::master_moves::{detect_one, join_one, put_at, take_at};
+use crate::turns::{Gate, Rest, Stop, Turn};
+use cq_base::{ChainSize, NoMemory, Party, ServerId};
+use cq_chain::{Master, Message};
+use cq_events::Event;
+use cq_link::{PutEnd, TakeEnd};
+use cq_live_plan::Join;
+use std::alloc::Global;
+use std::marker::Model;
+use std::sync::Wait;
+
+/// The master, the ends of its links, and the trace of what it did. At each place stand the ends of the links to and
+/// from the server whose number is one more.
+pub struct MasterNode<'a, P: PutEnd<Message> + Drop, T: TakeEnd<Message> + Drop> {
+    size: ChainSize,
+    joins: Vec<Join>,
+    core: Master,
+    outs: Vec<Out<P>>,
+    ins: Vec<In<T>>,
+    trace: Vec<Event>,
+    servers: u32,
+    turns: u64,
+    starved: bool,
+    flags: &'a Flags,
+}
+
+/// Written out, not derived: CONTRIBUTING.md, "Drop".
+impl<'a, P: PutEnd<Message> + Drop, T: TakeEnd<Message> + Drop> Drop for MasterNode<'a, P, T> {
+    fn drop(self) {
+        let MasterNode {
+            size: _,
+            joins: _,
+            core: _,
+            outs: _,
+            ins: _,
+            trace: _,
+            servers: _,
+            turns: _,
+            starved: _,
+            flags: _,
+        } = self;
+    }
+}
+
+/// What is left of the master's node after its last turn: the ends at their places, and what it did, in order.
+#[derive(Drop)]
+pub struct MasterEnds<P: Drop, T: Drop> {
+    pub outs: Vec<Out<P>>,
+    pub ins: Vec<In<T>>,
+    pub trace: Vec<Event>,
+}
+
+impl<'a, P: PutEnd<Message> + Drop, T: TakeEnd<Message> + Drop> Model for MasterNode<'a, P, T> {
+    ghost use Rattle.cq_nodes.specs.MasterNodes.{Held, held, MasterRan};
+
+    ghost Value = { Held P T };
+
+    ghost view = { λ n. held n.size n.joins.items n.outs.items n.ins.items n.trace.items };
+
+    ghost invariant = { λ n. MasterRan P.list T.list n.size n.joins.items n.core n.outs.items n.ins.items n.trace.items };
+}
+
+/// The server of that number, if it has crashed.
+fn crashed(flags: &Flags, number: u32) -> Option<ServerId> {
+    match ServerId::new(number) {
+        Some(id) if flags.has_crashed(id) => Some(id),
+        _ => None,
+    }
+}
+
+/// The server of the join at that place, if its turn has come.
+fn due(joins: &[Join], place: usize, turn: u64) -> Option<ServerId>
+    ensures { IfSome result (λ id. Among id (map (λ join. join.server) joins.now)) }
+{
+    match joins.get(place) {
+        Some(join) if join.after <= turn => Some(join.server),
+        _ => None,
+    }
+}
+
+impl<'a, P: PutEnd<Message> + Drop, T: TakeEnd<Message> + Drop> MasterNode<'a, P, T> {
+    /// The master of a first chain of so many servers, before its first turn. The links are to and from the servers 1, 2
+    /// and so on. It keeps the allocator.
+    pub fn new(
+        alloc: Global,
+        size: ChainSize,
+        links: Links<P, T>,
+        joins: Vec<Join>,
+        flags: &'a Flags,
+    ) -> Result<MasterNode<'a, P, T>, NoMemory>
+        ensures { IfOk result (λ node. node ≡ record { size = size; joins = joins.items; trace = []; outs = links.outs; ins = links.ins }) }
+    {
+        let core = Master::new(alloc, size)?;
+        let servers = u32::try_from(links.len()).unwrap_or(u32::MAX);
+        let (outs, ins) = links.into_parts();
+        Ok(MasterNode {
+            size,
+            joins,
+            core,
+            outs,
+            ins,
+            trace: Vec::new(alloc),
+            servers,
+            turns: 0,
+            starved: false,
+            flags,
+        })
+    }
+
+    /// What it did so far, in order.
+    pub fn trace(&self) -> &[Event]
+        ensures { result.now ≡ self.now.trace }
+    {
+        &self.trace
+    }
+
+    /// Whether it has ended for want of memory.
+    pub fn is_starved(&self) -> bool {
+        self.starved
+    }
+
+    /// Puts the first message for that server on its link. It answers false where there is no message and no such link,
+    /// and where the link is full.
+    fn put_on<R: Wait>(&mut self, rt: &R, to: ServerId) -> Result<bool, NoMemory>
+        ensures { IsSameNode P.link T.link self.old self.new }
+    {
+        self.trace.reserve(1)?;
+        let put = put_at(rt, &mut self.core, &mut self.outs, to);
+        if put {
+            self.trace.push_reserved(Event::Put {
+                from: Party::Master,
+                to: Party::Server(to),
+            });
+        }
+        Ok(put)
+    }
+
+    /// The core takes the next message of that server. It answers false where there is no message and no such link. One
+    /// for which there is no memory stays unread.
+    fn take_from<R: Wait>(&mut self, rt: &R, from: ServerId) -> Result<bool, NoMemory>
+        ensures { IsSameNode P.link T.link self.old self.new }
+    {
+        self.trace.reserve(1)?;
+        let taken = take_at(rt, &mut self.core, &mut self.ins, from)?;
+        if taken {
+            self.trace.push_reserved(Event::Take {
+                from: Party::Server(from),
+                to: Party::Master,
+            });
+        }
+        Ok(taken)
+    }
+
+    /// The core learns that a server has crashed. It answers false where the core refuses.
+    fn detect(&mut self, id: ServerId) -> Result<bool, NoMemory>
+        ensures { IsSameNode P.link T.link self.old self.new }
+    {
+        self.trace.reserve(1)?;
+        let detected = detect_one(&mut self.core, id)?;
+        if detected {
+            self.trace.push_reserved(Event::Detect { server: id });
+        }
+        Ok(detected)
+    }
+
+    /// The server of the join at that place joins the chain, if its turn has come. It answers false where it hasn't, and
+    /// where the core refuses, as it does once the server has joined.
+    fn join(&mut self, place: usize) -> Result<bool, NoMemory>
+        ensures { IsSameNode P.link T.link self.old self.new }
+    {
+        self.trace.reserve(1)?;
+        match due(&self.joins, place, self.turns) {
+            Some(id) => {
+                let joined = join_one(&mut self.core, id)?;
+                if joined {
+                    self.trace.push_reserved(Event::Join { server: id });
+                }
+                Ok(joined)
+            }
+            None => Ok(false),
+        }
+    }
+
+    /// One put for the server of that number, if there is one.
+    fn put_number<R: Wait>(&mut self, rt: &R, number: u32) -> Result<bool, NoMemory>
+        ensures { IsSameNode P.link T.link self.old self.new }
+    {
+        match ServerId::new(number) {
+            Some(id) => self.put_on(rt, id),
+            None => Ok(false),
+        }
+    }
+
+    /// One take from the server of that number, if there is one.
+    fn take_number<R: Wait>(&mut self, rt: &R, number: u32) -> Result<bool, NoMemory>
+        ensures { IsSameNode P.link T.link self.old self.new }
+    {
+        match ServerId::new(number) {
+            Some(id) => self.take_from(rt, id),
+            None => Ok(false),
+        }
+    }
+
+    /// The core learns that the server of that number has crashed, if it has.
+    fn detect_number(&mut self, number: u32) -> Result<bool, NoMemory>
+        ensures { IsSameNode P.link T.link self.old self.new }
+    {
+        match crashed(self.flags, number) {
+            Some(id) => self.detect(id),
+            None => Ok(false),
+        }
+    }
+
+    /// One put at each place.
+    fn put_all<R: Wait>(&mut self, rt: &R) -> Result<bool, NoMemory>
+        ensures { IsSameNode P.link T.link self.old self.new }
+    {
+        let mut any = false;
+        for number in 0..self.servers {
+            any |= self.put_number(rt, number + 1)?;
+        }
+        Ok(any)
+    }
+
+    /// One take at each place.
+    fn take_all<R: Wait>(&mut self, rt: &R) -> Result<bool, NoMemory>
+        ensures { IsSameNode P.link T.link self.old self.new }
+    {
+        let mut any = false;
+        for number in 0..self.servers {
+            any |= self.take_number(rt, number + 1)?;
+        }
+        Ok(any)
+    }
+
+    /// The core learns of each crash that it doesn't know.
+    fn detect_all(&mut self) -> Result<bool, NoMemory>
+        ensures { IsSameNode P.link T.link self.old self.new }
+    {
+        let mut any = false;
+        for number in 0..self.servers {
+            any |= self.detect_number(number + 1)?;
+        }
+        Ok(any)
+    }
+
+    /// Each join whose turn has come, of those that the core doesn't refuse.
+    fn join_all(&mut self) -> Result<bool, NoMemory>
+        ensures { IsSameNode P.link T.link self.old self.new }
+    {
+        let mut any = false;
+        for place in 0..self.joins.len() {
+            any |= self.join(place)?;
+        }
+        Ok(any)
+    }
+
+    /// The steps of a turn: whether one of them did anything.
+    fn work<R: Wait>(&mut self, rt: &R) -> Result<bool, NoMemory>
+        ensures { IsSameNode P.link T.link self.old self.new }
+    {
+        let taken = self.take_all(rt)?;
+        let detected = self.detect_all()?;
+        let joined = self.join_all()?;
+        let put = self.put_all(rt)?;
+        Ok(taken | detected | joined | put)
+    }
+
+    /// One turn: a take from each server, the crashes and joins of which it is time, and a put to each server. It has
+    /// ended once both clients have, or for want of memory; then all nodes give up. It takes O(links + joins).
+    pub fn turn<R: Wait>(&mut self, rt: &R) -> Turn
+        ensures { IsSameNode P.link T.link self.old self.new }
+    {
+        if self.starved || self.flags.have_ended() {
+            return Turn::Ended;
+        }
+        self.turns = self.turns.saturating_add(1);
+        match self.work(rt) {
+            Ok(true) => Turn::Worked,
+            Ok(false) => Turn::Idle,
+            Err(NoMemory) => {
+                self.starved = true;
+                self.flags.give_up();
+                Turn::Ended
+            }
+        }
+    }
+
+    /// So many turns, each once the gate lets it begin, unless it ends before. After many turns without work it lets other
+    /// threads run.
+    pub fn run<R: Wait, G: Gate>(&mut self, rt: &R, turns: u64, gate: &G) -> Stop
+        ensures { IsSameNode P.link T.link self.old self.new }
+    {
+        let mut rest = Rest::new();
+        for _ in 0..turns {
+            if !gate.enter(Party::Master, self.turns.saturating_add(1)) {
+                return Stop::Shut;
+            }
+            let turn = self.turn(rt);
+            if turn == Turn::Ended {
+                return Stop::Ended;
+            }
+            rest.after(turn);
+        }
+        Stop::Limit
+    }
+
+    /// Ends its turns. What its core has not put on a link is dropped.
+    pub fn finish(self) -> MasterEnds<P, T>
+        ensures trace { result.trace.items ≡ self.entry.trace }
+        ensures outs { map (λ out. out.end) result.outs.items ≡ self.entry.outs }
+        ensures ins { map (λ end. end.end) result.ins.items ≡ self.entry.ins }
+        ensures lived { MasterLived P.list T.list self.entry.size self.entry.joins result.outs.items result.ins.items self.entry.trace }
+    {
+        let MasterNode {
+            size: _,
+            joins: _,
+            core: _,
+            outs,
+            ins,
+            trace,
+            servers: _,
+            turns: _,
+            starved: _,
+            flags: _,
+        } = self;
+        MasterEnds { outs, ins, trace }
+    }
+}

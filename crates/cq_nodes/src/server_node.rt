@@ -1,0 +1,359 @@
+//! A server that runs between the ends of its links.
+ghost use Rattle.std.specs.Prelude.{◌≡◌};
+
+use crate::arrivals::{arrive_one, moment_of};
+use crate::crashes::{crash, is_due};
+use crate::ends::{In, Out, ToClients, party_at};
+use crate::first_core::first_core;
+use crate::flags::Flags;
+use crate::moves::{put_at, take_at};
+use crate::server_ends::{ServerEnds, ServerParts};
+use crate::to_clients::put_to_one;
+use crate::turns::{Gate, Rest, Stop, Turn};
+use cq_base::{ChainSize, NoMemory, Party, Request, ServerId};
+use cq_chain::{Message, Server, WorldFault};
+use cq_events::Event;
+use cq_link::{PutEnd, TakeEnd};
+use std::alloc::Global;
+use std::marker::Model;
+use std::sync::Wait;
+
+/// Turns are counted up to 2^62, and no further.
+const TURNS_LIMIT: u64 = 1 << 62;
+
+/// A server, the ends of its links, that of its inbox, and the trace of what it did. The place of an end is that of the
+/// party at the other side of its link: the master at 0, and each server at its number.
+pub struct ServerNode<
+    'a,
+    P: PutEnd<Message> + Drop,
+    T: TakeEnd<Message> + Drop,
+    I: TakeEnd<Request> + Drop,
+> {
+    size: ChainSize,
+    id: ServerId,
+    core: Server,
+    outs: Vec<Out<P>>,
+    clients: ToClients<P>,
+    ins: Vec<In<T>>,
+    inbox: I,
+    trace: Vec<Event>,
+    flags: &'a Flags,
+    crash_after: Option<u64>,
+    turns: u64,
+    starved: bool,
+    ended: bool,
+}
+
+/// Written out, not derived: CONTRIBUTING.md, "Drop".
+impl<'a, P: PutEnd<Message> + Drop, T: TakeEnd<Message> + Drop, I: TakeEnd<Request> + Drop> Drop
+    for ServerNode<'a, P, T, I> {
+    fn drop(self) {
+        let ServerNode {
+            size: _,
+            id: _,
+            core: _,
+            outs: _,
+            clients: _,
+            ins: _,
+            inbox: _,
+            trace: _,
+            flags: _,
+            crash_after: _,
+            turns: _,
+            starved: _,
+            ended: _,
+        } = self;
+    }
+}
+
+impl<'a, P: PutEnd<Message> + Drop, T: TakeEnd<Message> + Drop, I: TakeEnd<Request> + Drop> Model
+    for ServerNode<'a, P, T, I> {
+    ghost use Rattle.std.specs.Prelude.{vec_len, vec_capacity};
+    ghost use Rattle.cq_nodes.specs.Nodes.{Held, held, ServerRan, HasRoom};
+
+    ghost Value = { Held P T I };
+
+    ghost view = { λ n. held n.size n.id n.crash_after n.outs.items n.clients n.ins.items n.inbox n.trace.items n.starved };
+
+    ghost invariant = { λ n. ServerRan P.list T.list I.list n.size n.id n.core n.outs.items n.clients n.ins.items n.inbox n.trace.items n.crash_after n.starved
+        × HasRoom n.ended (vec_len n.trace) (vec_capacity n.trace) };
+}
+
+impl<
+    'a,
+    P: PutEnd<Message> + Drop,
+    T: TakeEnd<Message> + Drop,
+    I: TakeEnd<Request> + Drop,
+> ServerNode<'a, P, T, I> {
+    ghost use Rattle.std.specs.Prelude.{[], IfOk};
+    ghost use Rattle.cq_nodes.specs.Nodes.{IsSameServer, begun, held_in, Tells};
+
+    /// The node of that server in a chain that begins with so many, over ends that nobody used. It is a member of the
+    /// chain, or may join later. It is to crash at its first turn with so many entries, if that is said. It keeps the
+    /// allocator.
+    pub fn new(
+        alloc: Global,
+        size: ChainSize,
+        id: ServerId,
+        ends: ServerEnds<P, T, I>,
+        crash_after: Option<u64>,
+        flags: &'a Flags,
+    ) -> Result<ServerNode<'a, P, T, I>, NoMemory>
+        requires first { P.list ends.first ≡ [] }
+        requires second { P.list ends.second ≡ [] }
+        ensures { IfOk result (λ node. node ≡ begun size id crash_after ends) }
+    {
+        let core = first_core(alloc, size, id)?;
+        let mut trace = Vec::new(alloc);
+        trace.reserve(1)?;
+        let (outs, ins) = ends.links.into_parts();
+        Ok(ServerNode {
+            size,
+            id,
+            core,
+            outs,
+            clients: ToClients {
+                first: ends.first,
+                second: ends.second,
+                kept: None,
+            },
+            ins,
+            inbox: ends.inbox,
+            trace,
+            flags,
+            crash_after,
+            turns: 0,
+            starved: false,
+            ended: false,
+        })
+    }
+
+    /// Puts the first message for the party at that place on its link. It answers false where there is no message and
+    /// no such place, and where the link is full.
+    fn put_on<R: Wait>(&mut self, rt: &R, place: u32) -> Result<bool, NoMemory>
+        ensures same { IsSameServer P.link T.link I.link self.old self.new }
+    {
+        self.trace.reserve(2)?;
+        let put = put_at(rt, &mut self.core, &mut self.outs, place);
+        if put {
+            self.trace.push_reserved(Event::Put {
+                from: Party::Server(self.id),
+                to: party_at(place),
+            });
+        }
+        Ok(put)
+    }
+
+    /// The core takes the next message of the party at that place. It answers false where there is no message and no
+    /// such place. After a fault the message stays unread.
+    fn take_from<R: Wait>(&mut self, rt: &R, place: u32) -> Result<bool, WorldFault>
+        ensures same { IsSameServer P.link T.link I.link self.old self.new }
+    {
+        self.trace.reserve(2)?;
+        let taken = take_at(rt, &mut self.core, &mut self.ins, place)?;
+        if taken {
+            self.trace.push_reserved(Event::Take {
+                from: party_at(place),
+                to: Party::Server(self.id),
+            });
+        }
+        Ok(taken)
+    }
+
+    /// Puts the first message for the clients on the link to the one that it is for. It answers false where there is no
+    /// message, and where the link is full.
+    fn put_to_clients<R: Wait>(&mut self, rt: &R) -> Result<bool, NoMemory>
+        ensures same { IsSameServer P.link T.link I.link self.old self.new }
+    {
+        self.trace.reserve(2)?;
+        let put = put_to_one(rt, &mut self.core, &mut self.clients);
+        if put {
+            self.trace.push_reserved(Event::Put {
+                from: Party::Server(self.id),
+                to: Party::Clients,
+            });
+        }
+        Ok(put)
+    }
+
+    /// The next request of the inbox arrives at the core, if that is the head; any other core drops it. It answers
+    /// whether one arrived.
+    fn take_request<R: Wait>(&mut self, rt: &R) -> Result<bool, WorldFault>
+        ensures same { IsSameServer P.link T.link I.link self.old self.new }
+    {
+        self.trace.reserve(2)?;
+        let clock = moment_of(self.turns);
+        match arrive_one(rt, &mut self.core, &mut self.inbox, clock)? {
+            Some(request) => {
+                self.trace.push_reserved(Event::Arrive {
+                    at: self.id,
+                    clock,
+                    request,
+                });
+                Ok(true)
+            }
+            None => Ok(false),
+        }
+    }
+
+    /// The server crashes if it is to crash at so many entries. It answers whether it did. It takes no memory.
+    fn crash_if_due(&mut self) -> bool
+        ensures same { IsSameServer P.link T.link I.link self.old self.new }
+    {
+        if self.ended {
+            return false;
+        }
+        let count = self.core.count();
+        if !is_due(self.crash_after, count) {
+            return false;
+        }
+        crash(&mut self.core, self.id, &mut self.trace);
+        self.ended = true;
+        self.flags.crash(self.id);
+        true
+    }
+
+    /// The server crashes since it found no memory. It takes none.
+    fn starve(&mut self)
+        ensures same { IsSameServer P.link T.link I.link self.old self.new }
+    {
+        let count = self.core.count();
+        if !self.ended {
+            self.starved = true;
+            crash(&mut self.core, self.id, &mut self.trace);
+            self.ended = true;
+            self.flags.crash(self.id);
+        }
+    }
+
+    /// One take from each link. It answers whether anything was taken.
+    fn take_all<R: Wait>(&mut self, rt: &R) -> Result<bool, WorldFault>
+        ensures same { IsSameServer P.link T.link I.link self.old self.new }
+    {
+        let mut any = false;
+        for place in 0..u32::try_from(self.ins.len()).unwrap_or(u32::MAX) {
+            let taken = self.take_from(rt, place)?;
+            any = any || taken;
+        }
+        Ok(any)
+    }
+
+    /// One put on each link to a server or to the master. It answers whether anything was put.
+    fn put_all<R: Wait>(&mut self, rt: &R) -> Result<bool, NoMemory>
+        ensures same { IsSameServer P.link T.link I.link self.old self.new }
+    {
+        let mut any = false;
+        for place in 0..u32::try_from(self.outs.len()).unwrap_or(u32::MAX) {
+            let put = self.put_on(rt, place)?;
+            any = any || put;
+        }
+        Ok(any)
+    }
+
+    /// One take from each link and from the inbox, then one put on each link. It answers whether anything was done.
+    fn work<R: Wait>(&mut self, rt: &R) -> Result<bool, WorldFault>
+        ensures same { IsSameServer P.link T.link I.link self.old self.new }
+    {
+        let taken = self.take_all(rt)?;
+        let arrived = self.take_request(rt)?;
+        let put = self.put_all(rt)?;
+        let answered = self.put_to_clients(rt)?;
+        Ok(taken || arrived || put || answered)
+    }
+
+    /// A turn is counted, up to 2^62.
+    fn count_turn(&mut self)
+        ensures same { IsSameServer P.link T.link I.link self.old self.new }
+    {
+        if self.turns < TURNS_LIMIT {
+            self.turns += 1;
+        }
+    }
+
+    /// One turn: the server crashes if it is to, or else takes at most one message from each link and one request from its
+    /// inbox, and then puts at most one message on each link. Where it finds no memory it crashes, and has ended. It has
+    /// ended, too, once both clients have. It takes what the core takes for each step.
+    pub fn turn<R: Wait>(&mut self, rt: &R) -> Turn
+        ensures same { IsSameServer P.link T.link I.link self.old self.new }
+    {
+        self.count_turn();
+        if self.ended || self.flags.have_ended() || self.crash_if_due() {
+            return Turn::Ended;
+        }
+        match self.work(rt) {
+            Ok(true) => Turn::Worked,
+            Ok(false) => Turn::Idle,
+            Err(_fault) => {
+                self.starve();
+                Turn::Ended
+            }
+        }
+    }
+
+    /// So many turns, each once the gate lets it begin, until the node has ended. After many turns without work it lets
+    /// other threads run.
+    pub fn run<R: Wait, G: Gate>(&mut self, rt: &R, turns: u64, gate: &G) -> Stop
+        ensures same { IsSameServer P.link T.link I.link self.old self.new }
+    {
+        let mut rest = Rest::new();
+        for _ in 0..turns {
+            if !gate.enter(Party::Server(self.id), self.turns.saturating_add(1)) {
+                return Stop::Shut;
+            }
+            let turn = self.turn(rt);
+            if turn == Turn::Ended {
+                return Stop::Ended;
+            }
+            rest.after(turn);
+        }
+        Stop::Limit
+    }
+
+    /// What it did so far, in order: one event for each message that was put or taken, each request that arrived, and its
+    /// crash. O(1).
+    pub fn trace(&self) -> &[Event]
+        ensures { result.now ≡ self.now.trace }
+    {
+        &self.trace
+    }
+
+    /// Whether it found no memory, and so has crashed. O(1).
+    pub fn is_starved(&self) -> bool
+        ensures { result ≡ self.now.starved }
+    {
+        self.starved
+    }
+
+    /// Its ends and its trace, once it is to do no more. The server is dropped.
+    pub fn finish(self) -> ServerParts<P, T, I>
+        ensures held { held_in result ≡ self.entry }
+        ensures tells { Tells P.list T.list I.list result }
+    {
+        let ServerNode {
+            size,
+            id,
+            core: _,
+            outs,
+            clients,
+            ins,
+            inbox,
+            trace,
+            flags: _,
+            crash_after,
+            turns: _,
+            starved,
+            ended: _,
+        } = self;
+        ServerParts {
+            size,
+            id,
+            outs,
+            clients,
+            ins,
+            inbox,
+            trace,
+            crash_after,
+            starved,
+        }
+    }
+}

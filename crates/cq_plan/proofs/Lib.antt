@@ -1,4 +1,0 @@
-pub mod Ranges
-pub mod Firsts
-pub mod Asks
-pub mod Rows

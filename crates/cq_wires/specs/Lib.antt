@@ -1,3 +1,0 @@
-pub mod Wirings
-pub mod Clients
-pub mod within

@@ -1,4 +1,0 @@
-pub mod Asked
-pub mod Good
-pub mod Live
-mod Rows
