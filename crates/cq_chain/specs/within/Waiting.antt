@@ -1,5 +1,6 @@
 -- What outboxes have while a server puts messages into them.
 use Rattle.std.specs.Prelude.{◌≡◌, ◌<◌, ◌≤◌, ◌+◌, ℕ, List, [], ◌∷◌, Option, None, Some, ⊤}
+use Rattle.cq_base.specs.declared.ask.Entry.{Entry}
 use Rattle.cq_base.specs.declared.party.Party.{Party}
 use Rattle.cq_base.specs.declared.party.Party.TheVariants.{Master, Clients, Server}
 use Rattle.cq_chain.specs.declared.message.Message as rust
@@ -52,3 +53,8 @@ IsSaid (Some y) sent = AllFor (Server y.0) (y.1 ∷ []) sent
 abbrev pub HasRoomToSay : List (Party × Fifo) → Option (ℕ × rust.Message) → Type 0
 HasRoomToSay boxes None = ⊤
 HasRoomToSay boxes (Some y) = 0 < room_for boxes (Server y.0)
+
+-- The copy of an entry that goes to a server, if there is one to which it goes.
+abbrev pub IsCopyFor : Option ℕ → Entry → Option Entry → Type 0
+IsCopyFor None entry copy = copy ≡ None
+IsCopyFor (Some id) entry copy = copy ≡ Some entry
