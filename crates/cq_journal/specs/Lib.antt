@@ -3,3 +3,5 @@ pub mod Numbers
 pub mod Root
 pub mod Roots
 pub mod within
+pub mod Regions
+pub mod Journal

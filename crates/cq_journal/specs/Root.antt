@@ -16,6 +16,10 @@ module _ {D : Type 0} {g : Ghosts D} where
   abbrev pub root_number : Root D g → ℕ
   root_number root = root.number
 
+  -- where the log ends to which was written last
+  abbrev pub log_end : Root D g → ℕ
+  log_end root = root.log.end
+
   -- where the half in use begins
   abbrev pub root_start : Root D g → ℕ
   root_start root = root.log.device.start

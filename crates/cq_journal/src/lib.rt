@@ -1,12 +1,18 @@
-//! The root of a journal's file: a text that is replaced as a whole. A crash at any moment leaves the old one or the new
-//! one, and all that lies behind the root. `specs/` holds the rules.
+//! A journal on a device: regions of records, and before them a root that names those which count. The root is a text that
+//! is replaced as a whole: a crash at any moment leaves the old one or the new one, and all that lies behind the root.
+//! `specs/` holds the rules.
 #![tactic(auto)]
 
+mod blanks;
+mod commits;
+mod journal;
 mod making;
 mod number;
 mod opening;
+mod places;
 mod root;
 
+pub use journal::Journal;
 pub use making::create;
 pub use number::NUMBER_LIMIT;
 pub use opening::{Found, read_root};

@@ -1,7 +1,7 @@
 //! How a root is made.
 ghost use Rattle.std.specs.Prelude.{◌≡◌, ◌+◌, ◌<◌, ◌≤◌, true, length, Some, IfOk};
 ghost use Rattle.cq_records.specs.Frames.{has_no_zero};
-ghost use Rattle.cq_journal.specs.Root.{root_half, root_device, IsRoot};
+ghost use Rattle.cq_journal.specs.Root.{root_half, root_device, root_number, IsRoot};
 ghost use Rattle.cq_journal.specs.Roots.{root_of, numbered};
 
 use crate::Root;
@@ -22,6 +22,7 @@ pub fn create<D: Device>(
     requires short { length text.now < 16581370 }
     ensures root { IfOk result (λ root. IsRoot root) }
     ensures half { IfOk result (λ root. root_half root ≡ half) }
+    ensures number { IfOk result (λ root. root_number root ≡ 1) }
     ensures text { IfOk result (λ root. root_of half (D.seen (root_device root)) ≡ Some (numbered 1 text.now)) }
 {
     let batch = batch_of(alloc, 1, text)?;

@@ -72,6 +72,9 @@ impl<D: Device> Root<D> {
         requires short { length text.now < 16581370 }
 
         ensures root { OnOk result (IsRoot self.new) }
+        ensures half { OnOk result (root_half self.new ≡ root_half self.old) }
+        ensures number { OnOk result (root_number self.new ≡ root_number self.old + 1) }
+        ensures behind { OnOk result (drop (root_half self.old + root_half self.old) (D.seen (root_device self.new)) ≡ drop (root_half self.old + root_half self.old) (D.seen (root_device self.old))) }
         ensures text { OnOk result (IsTrue (D.is_honest (root_device self.new)) → root_of (root_half self.new) (D.seen (root_device self.new)) ≡ Some (numbered (root_number self.old + 1) text.now)) }
         ensures any_moment { IsTrue (D.is_honest (root_device self.new)) → LeavesOnly D.moment D.left_since (root_device self.old) (root_device self.new)
             (IsOldOrNew (root_half self.old) (D.seen (root_device self.old)) (numbered (root_number self.old + 1) text.now)) }

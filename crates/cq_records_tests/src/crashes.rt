@@ -23,7 +23,7 @@ fn is_kept(alloc: Global, seed: u64, torn: TornWrites) -> Result<bool, ReadFault
     let filled = fill(alloc, log, &mut random)?;
     let file = filled.log.device.into_calls();
     let medium = file.into_medium(&mut random, torn);
-    let kept = count_records(alloc, Memory::new(alloc, medium, torn))?;
+    let kept = count_records(alloc, Memory::new(alloc, medium, torn), 0)?;
     let least = filled.acknowledged;
     Ok(kept.is_some_and(|kept| least <= kept && kept - least <= filled.under_way))
 }

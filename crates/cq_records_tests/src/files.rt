@@ -44,7 +44,7 @@ fn a_file_keeps_its_records(rt: HostRuntime) -> Result<(), Fail> {
     assert!(rt; acknowledged > 500);
     drop(filled);
     let device = open(&rt, PATH, TornWrites::Any, Unknown)?;
-    assert_eq!(rt; count_records(rt.alloc(), device)?, Some(acknowledged));
+    assert_eq!(rt; count_records(rt.alloc(), device, 0)?, Some(acknowledged));
     fs::remove_dir_all(&rt, FOLDER)?;
     Ok(())
 }

@@ -24,7 +24,7 @@ pub fn text_of(alloc: Global, number: usize) -> Result<Vec<u8>, AllocError> {
 }
 
 // Adds so many records from this number on, and tells how many there are.
-fn add_records(
+pub(crate) fn add_records(
     alloc: Global,
     batch: &mut Batch,
     number: usize,
@@ -74,11 +74,15 @@ pub fn fill<D: Device>(
     })
 }
 
-/// How many records a device has, if they are those of the numbers from 0 on.
-pub fn count_records<D: Device>(alloc: Global, device: D) -> Result<Option<usize>, ReadFault> {
+/// The number behind the last record of a device, if its records are those of the numbers from this one on.
+pub fn count_records<D: Device>(
+    alloc: Global,
+    device: D,
+    first: usize,
+) -> Result<Option<usize>, ReadFault> {
     let mut device = device;
     let mut at = 0;
-    for number in 0..10_000 {
+    for number in first..10_000 {
         let Some(found) = read_record(alloc, &mut device, at)? else {
             return Ok(Some(number));
         };

@@ -1,18 +1,22 @@
-//! The tests of devices, and of logs and roots on them: of a file that a crash tears by a seed, and of real files. They stand
+//! The tests of devices, and of logs, roots and journals on them: of a file that a crash tears by a seed, and of real files. They stand
 //! here since a crate that has tests is proved twice.
 #![tactic(auto)]
 
 mod changes;
 mod filling;
 mod simulated;
+mod writing;
 
 pub use changes::{Changed, change, count_changes};
 pub use filling::{Filled, count_records, fill, text_of};
 pub use simulated::Simulated;
+pub use writing::{Written, count_journal, write};
 
 #[cfg(test)]
 mod crashes;
 #[cfg(test)]
 mod files;
+#[cfg(test)]
+mod journals;
 #[cfg(test)]
 mod roots;

@@ -10,7 +10,7 @@ use Rattle.cq_records.specs.Layout.{IsPrefixOf}
 use Rattle.cq_records.proofs.Frames.{of_zeros}
 use Rattle.cq_journal.specs.Numbers.{number_of}
 use Rattle.cq_journal.specs.Roots.{first_of, number_in, half_of, root_of, numbered, IsSameRoot, IsOldOrNew}
-use Rattle.cq_journal.proofs.Halves.{number_back, same_half, turned_place, turned_back, new_counts, old_or_new, beside_at, still_room}
+use Rattle.cq_journal.proofs.Halves.{number_back, behind_kept, same_half, turned_place, turned_back, new_counts, old_or_new, beside_at, still_room}
 use Rattle.cq_journal.proofs.root.Root.put.Goals as goal
 
 pub commit-requires : goal.commit-requires
@@ -167,3 +167,21 @@ returns-clause-root g c =
           whole_again turned.log.device.start turned.log.device.len fin f from_fin
           (sym (at f) ∙ c.in_ok-commit.ensures.settled.durable (part c.commit.new.self.device.start c.commit.new.self.device.len f) (f, left, refl) ∙ at fin);
     }
+
+pub returns-clause-half : goal.returns-clause-half
+returns-clause-half g c = c.commit.ensures.keeps.same_len ∙ c.in_ok-turn.ensures.turned.half
+
+pub returns-clause-number : goal.returns-clause-number
+returns-clause-number g c = ap (λ (n : ℕ). n + 1) c.in_ok-turn.ensures.turned.number
+
+pub returns-clause-behind : goal.returns-clause-behind
+returns-clause-behind g c =
+    let r = c.args.self.now in
+    let turned = c.turn.new.self in
+    let t = c.in_ok-turn.ensures.turned in
+    let h = r.log.device.len in
+    let s = r.log.device.start in
+    let old = g.D.Device.seen r.log.device.device in
+    let mid = g.D.Device.seen turned.log.device.device in
+    let fin = g.D.Device.seen c.commit.new.self.device.device in
+    behind_kept h s c.requires.root.place old fin (beside_both (h - s) h old mid fin (beside_at _ _ _ _ old mid t.start t.half t.beside) (beside_at _ _ _ _ mid fin t.start t.half c.commit.ensures.keeps.shown))

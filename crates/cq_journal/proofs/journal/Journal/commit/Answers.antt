@@ -1,0 +1,109 @@
+-- A commit in the region that grows.
+use Rattle.std.proofs.Common.{◌≡◌, ℕ, ◌+◌, ◌≤◌, List, [], ◌∷◌, ◌++◌, length, sym, ◌∙◌, ap, subst, append_assoc}
+use Rattle.std.specs.Prelude.{Some, map, Result, Ok, Err, OnOk}
+use Rattle.cq_disk.specs.Region.{part}
+use Rattle.cq_disk.proofs.Moments.{weakened}
+use Rattle.cq_records.specs.Batch.{batch_bytes}
+use Rattle.cq_records.specs.Frames.{text_of, frames, records}
+use Rattle.cq_records.specs.Layout.{IsLog}
+use Rattle.cq_journal.specs.Regions.{Each, places_text, records_at}
+use Rattle.cq_journal.specs.Roots.{root_of, numbered}
+use Rattle.cq_journal.proofs.Regions.{grows, kept_of, records_apart, records_more, root_apart, text_append, last_of, each_so}
+use Rattle.cq_journal.proofs.journal.Journal.commit.Goals as goal
+
+on_both : {T E P Q R : Type 0} (r : Result T E) → OnOk r P → OnOk r Q → (P → Q → R) → OnOk r R
+on_both (Ok x) p q step = step p q
+on_both (Err e) p q step = tt
+
+pub returns-clause-journal : goal.returns-clause-journal
+returns-clause-journal g c =
+    let j = c.args.self.now in
+    let q = c.requires in
+    let done = c.commit_at-done.ensures in
+    let new = c.commit_at-done.new.self in
+    let h = j.root.log.device.len in
+    let old_bytes = g.D.Device.seen j.root.log.device.device in
+    let new_bytes = g.D.Device.seen new.log.device.device in
+    let places : List ℕ = j.closed.items ++ j.growing ∷ [] in
+    on_both c.commit_at-done.result done.root done.log (λ root log. record {
+      root = root;
+      behind = each_so (λ n. h + h ≤ n) (λ n. new.log.device.len + new.log.device.len ≤ n) (λ n low. subst (λ (m : ℕ). m + m ≤ n) (sym done.half) low) places q.behind;
+      within = each_so (λ n. n + j.len ≤ length old_bytes) (λ n. n + j.len ≤ length new_bytes) (λ n low. subst (λ (m : ℕ). n + j.len ≤ m) (sym done.length) low) places q.within;
+      apart = q.apart;
+      small = q.small;
+      log = log;
+      names = λ honest.
+          ap (λ (m : ℕ). root_of m new_bytes) done.half
+          ∙ root_apart h j.growing j.len old_bytes new_bytes (last_of (λ n. h + h ≤ n) j.closed.items j.growing q.behind) done.beside ∙ q.names (sym done.honest ∙ honest)
+          ∙ ap (λ (m : ℕ). Some (numbered m (places_text places))) (sym done.number);
+    })
+
+pub returns-clause-acknowledged : goal.returns-clause-acknowledged
+returns-clause-acknowledged g c =
+    let j = c.args.self.now in
+    let q = c.requires in
+    let done = c.commit_at-done.ensures in
+    let s = j.growing in
+    let n = j.len in
+    let old_bytes = g.D.Device.seen j.root.log.device.device in
+    let new_bytes = g.D.Device.seen c.commit_at-done.new.self.log.device.device in
+    let ns : List ℕ = j.closed.items in
+    let batch = frames (batch_bytes c.args.batch.now) in
+    on_both c.commit_at-done.result done.acknowledged done.acknowledged (λ acknowledged again.
+    let grown : records (part s n new_bytes) ≡ records (part s n old_bytes) ++ map text_of batch =
+    ap (map text_of) acknowledged ∙ text_append (frames (part s n old_bytes)) batch in
+    records_more n ns s new_bytes
+    ∙ (λ i. (records_apart n s ns old_bytes new_bytes q.apart done.beside i) ++ (grown i))
+    ∙ sym (append_assoc (records_at n ns old_bytes) (records (part s n old_bytes)) (map text_of batch))
+    ∙ ap (λ (xs : List (List ℕ)). xs ++ map text_of batch) (sym (records_more n ns s old_bytes)))
+
+pub returns-clause-kept : goal.returns-clause-kept
+returns-clause-kept g c =
+    let j = c.args.self.now in
+    let q = c.requires in
+    let done = c.commit_at-done.ensures in
+    let new = c.commit_at-done.new.self in
+    let h = j.root.log.device.len in
+    let old_bytes = g.D.Device.seen j.root.log.device.device in
+    let new_bytes = g.D.Device.seen new.log.device.device in
+    let places : List ℕ = j.closed.items ++ j.growing ∷ [] in
+    on_both c.commit_at-done.result done.root done.root (λ root again honest.
+    kept_of new.log.device.len j.len j.root.number places new_bytes q.small
+    (ap (λ (m : ℕ). root_of m new_bytes) done.half
+    ∙ root_apart h j.growing j.len old_bytes new_bytes (last_of (λ n. h + h ≤ n) j.closed.items j.growing q.behind) done.beside ∙ q.names (sym done.honest ∙ honest)))
+
+pub returns-clause-any_moment : goal.returns-clause-any_moment
+returns-clause-any_moment g c = λ honest.
+    let j = c.args.self.now in
+    let q = c.requires in
+    let done = c.commit_at-done.ensures in
+    let new = c.commit_at-done.new.self in
+    let h = j.root.log.device.len in
+    let old_bytes = g.D.Device.seen j.root.log.device.device in
+    let ns : List ℕ = j.closed.items in
+    let batch = frames (batch_bytes c.args.batch.now) in
+    weakened g.D.Device.moment g.D.Device.left_since j.root.log.device.device new.log.device.device _ _ done.any_moment (λ f both.
+    grows h j.len j.root.number j.growing ns old_bytes f batch q.small q.apart (last_of (λ n. h + h ≤ n) ns j.growing q.behind) (q.names (sym done.honest ∙ honest)) both.1 both.0)
+
+pub returns-clause-full : goal.returns-clause-full
+returns-clause-full g c err =
+    let j = c.args.self.now in
+    let q = c.requires in
+    let done = c.commit_at-done.ensures in
+    let new = c.commit_at-done.new.self in
+    let h = j.root.log.device.len in
+    let places : List ℕ = j.closed.items ++ j.growing ∷ [] in
+    let full = done.full err in
+    let seen_is : g.D.Device.seen new.log.device.device ≡ g.D.Device.seen j.root.log.device.device = ap g.D.Device.seen full.1 in (
+      record {
+        root = full.0;
+        behind = each_so (λ n. h + h ≤ n) (λ n. new.log.device.len + new.log.device.len ≤ n) (λ n low. subst (λ (m : ℕ). m + m ≤ n) (sym done.half) low) places q.behind;
+        within = subst (λ (bytes : List ℕ). Each (λ n. n + j.len ≤ length bytes) places) (sym seen_is) q.within;
+        apart = q.apart;
+        small = q.small;
+        log = subst (λ (m : ℕ). IsLog (part j.growing j.len (g.D.Device.seen new.log.device.device)) m) (sym full.2) (subst (λ (bytes : List ℕ). IsLog (part j.growing j.len bytes) j.end) (sym seen_is) q.log);
+        names = λ honest.
+            (λ i. root_of (done.half i) (seen_is i)) ∙ q.names (sym done.honest ∙ honest) ∙ ap (λ (m : ℕ). Some (numbered m (places_text places))) (sym done.number);
+      },
+      ap (λ (bytes : List ℕ). records_at j.len places bytes) seen_is,
+    )

@@ -1,0 +1,48 @@
+-- What a journal's file stands for. Behind the root lie regions of one length, each of them a log. The root's text names the places
+-- of those that count, in order, and their records are the journal's.
+use Rattle.std.specs.Prelude.{◌≡◌, ◌⊎◌, ℕ, ◌+◌, ◌≤◌, List, [], ◌∷◌, ◌++◌, take, drop, Option, Some, None, ⊤}
+use Rattle.cq_disk.specs.Region.{part}
+use Rattle.cq_records.specs.Frames.{records}
+use Rattle.cq_journal.specs.Numbers.{digits, number_of}
+use Rattle.cq_journal.specs.Roots.{root_of}
+
+-- these numbers, five digits each
+abbrev pub places_text : List ℕ → List ℕ
+places_text [] = []
+places_text (n ∷ ns) = digits n ++ places_text ns
+
+-- the numbers that a text says
+abbrev pub places_in : List ℕ → List ℕ
+places_in (a ∷ b ∷ c ∷ d ∷ e ∷ rest) = number_of (a ∷ b ∷ c ∷ d ∷ e ∷ []) ∷ places_in rest
+places_in rest = []
+
+-- the records of the regions at these places, one region after another
+abbrev pub records_at : ℕ → List ℕ → List ℕ → List (List ℕ)
+records_at len [] bytes = []
+records_at len (n ∷ ns) bytes = records (part n len bytes) ++ records_at len ns bytes
+
+-- the records of the regions that a root's record names
+abbrev pub named_records : ℕ → List ℕ → Option (List ℕ) → Option (List (List ℕ))
+named_records len bytes None = None
+named_records len bytes (Some root) = Some (records_at len (places_in (drop 5 root)) bytes)
+
+-- the journal's records, with halves of the root and regions of these lengths; none, where there is no root
+abbrev pub kept : ℕ → ℕ → List ℕ → Option (List (List ℕ))
+kept half len bytes = named_records len bytes (root_of half bytes)
+
+-- each of these numbers is so
+abbrev pub Each : (ℕ → Type 0) → List ℕ → Type 0
+Each P [] = ⊤
+Each P (n ∷ ns) = P n × Each P ns
+
+-- no byte is of both regions
+abbrev pub AreApart : ℕ → ℕ → ℕ → Type 0
+AreApart len a b = (a + len ≤ b) ⊎ (b + len ≤ a)
+
+-- the journal's records are those from before, and behind them so many of the batch's, from the first on
+abbrev pub HasPrefixOf : ℕ → ℕ → List (List ℕ) → List (List ℕ) → List ℕ → Type 0
+HasPrefixOf half len before batch bytes = (many : ℕ) × (kept half len bytes ≡ Some (before ++ take many batch))
+
+-- these are the journal's records
+abbrev pub HasRecords : ℕ → ℕ → List (List ℕ) → List ℕ → Type 0
+HasRecords half len rs bytes = kept half len bytes ≡ Some rs

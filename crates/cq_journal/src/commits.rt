@@ -1,0 +1,56 @@
+//! Regions behind a root, each of them a log.
+ghost use Rattle.std.specs.Prelude.{◌≡◌, ◌++◌, ◌+◌, ◌<◌, ◌≤◌, length, IsTrue, OnOk, IsErrOf};
+ghost use Rattle.cq_disk.specs.Device.{LeavesOnly};
+ghost use Rattle.cq_disk.specs.Region.{part, Beside};
+ghost use Rattle.cq_records.specs.Batch.{batch_bytes};
+ghost use Rattle.cq_records.specs.Frames.{frames};
+ghost use Rattle.cq_records.specs.Layout.{IsLog};
+ghost use Rattle.cq_records.specs.Outcomes.{HasPrefixInPart};
+ghost use Rattle.cq_journal.specs.Root.{root_half, root_device, root_number, log_end, IsRoot};
+
+use crate::Root;
+use cq_disk::Device;
+use cq_records::{Batch, LogFault};
+
+impl<D: Device> Root<D> {
+    /// Adds the records of a batch to the log in the region of this length at this place, which ends there. The root is
+    /// the same. Afterwards `log.end` is the end of that log.
+    pub(crate) fn commit_at(
+        &mut self,
+        place: usize,
+        len: usize,
+        end: usize,
+        batch: &Batch,
+    ) -> Result<(), LogFault>
+        requires root { IsRoot self.old }
+        requires behind { root_half self.old + root_half self.old ≤ place }
+        requires within { place + len ≤ length (D.seen (root_device self.old)) }
+        requires log { IsLog (part place len (D.seen (root_device self.old))) end }
+
+        ensures root { OnOk result (IsRoot self.new) }
+        ensures half { root_half self.new ≡ root_half self.old }
+        ensures number { root_number self.new ≡ root_number self.old }
+        ensures acknowledged { OnOk result (frames (part place len (D.seen (root_device self.new))) ≡ frames (part place len (D.seen (root_device self.old))) ++ frames (batch_bytes batch.now)) }
+        ensures log { OnOk result (IsLog (part place len (D.seen (root_device self.new))) (log_end self.new)) }
+        ensures length { length (D.seen (root_device self.new)) ≡ length (D.seen (root_device self.old)) }
+        ensures beside { Beside place len (D.seen (root_device self.old)) (D.seen (root_device self.new)) }
+        ensures any_moment { LeavesOnly D.moment D.left_since (root_device self.old) (root_device self.new)
+            (HasPrefixInPart place len (frames (part place len (D.seen (root_device self.old)))) (frames (batch_bytes batch.now)) (D.seen (root_device self.old))) }
+        ensures keeps { D.keeps (root_device self.old) (root_device self.new) }
+        ensures honest { D.is_honest (root_device self.new) ≡ D.is_honest (root_device self.old) }
+        ensures full { IsErrOf result LogFault.Full → IsRoot self.new × (root_device self.new ≡ root_device self.old) × (log_end self.new ≡ end) }
+        ensures failed { IsErrOf result LogFault.Failed → D.faults (root_device self.old) < D.faults (root_device self.new) }
+    {
+        let _len = self.log.device.device.len();
+        let (start, half) = (self.log.device.start, self.log.device.len);
+        self.log.device.len = 0;
+        self.log.device.start = place;
+        self.log.device.len = len;
+        self.log.end = end;
+        let done = self.log.commit(batch);
+        self.log.device.len = 0;
+        self.log.device.start = start;
+        self.log.device.len = half;
+        done
+    }
+}

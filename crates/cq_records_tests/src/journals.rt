@@ -1,0 +1,70 @@
+//! Journals whose machine loses its power in the middle of a call that a seed chooses.
+use crate::{Simulated, count_journal, write};
+use cq_disk::{Memory, Modelled, TornWrites, Unknown};
+use cq_journal::Journal;
+use cq_records::ReadFault;
+use rand_xoshiro::Xoshiro256PlusPlus;
+use rand_xoshiro::rand_core::{Rng, SeedableRng};
+use std::alloc::Global;
+use std::test::Fail;
+
+const SEEDS: u64 = 1_000;
+
+/// The length of a half of the root.
+const HALF: usize = 60;
+
+/// The length of a region.
+const LEN: usize = 64;
+
+/// The length of a device with room for five regions.
+const WHOLE: usize = 2 * HALF + 5 * LEN;
+
+/// Whether what the crash leaves has each record that was acknowledged, once and in order, and of the others only so many
+/// of the batch under way, from the first on.
+fn is_kept(alloc: Global, seed: u64, torn: TornWrites) -> Result<bool, ReadFault> {
+    let mut random = Xoshiro256PlusPlus::seed_from_u64(seed);
+    let stale = (random.next_u64() % 3) as u8;
+    let bytes = vec![in alloc; stale; WHOLE]?;
+    let file = Simulated::new(alloc, &bytes, 1 + random.next_u64() % 200)?;
+    let device: Modelled<Simulated, Unknown> = Modelled::new(file, WHOLE, torn);
+    let Ok(journal) = Journal::create(alloc, device, HALF, LEN) else {
+        return Ok(true);
+    };
+    let written = write(alloc, journal, 2 * HALF, LEN, &mut random)?;
+    let file = written.journal.into_device().into_calls();
+    let medium = file.into_medium(&mut random, torn);
+    let kept = count_journal(alloc, &medium, HALF, LEN, torn)?;
+    let least = written.acknowledged;
+    Ok(kept.is_some_and(|kept| least <= kept && kept - least <= written.under_way))
+}
+
+#[test]
+fn acknowledged_records_outlive_changes_of_regions(rt: HostRuntime) -> Result<(), Fail> {
+    for seed in 0..SEEDS {
+        assert!(rt; is_kept(rt.alloc(), seed, TornWrites::OldOrNew)?);
+    }
+    Ok(())
+}
+
+#[test]
+fn also_where_torn_writes_leave_any_bytes(rt: HostRuntime) -> Result<(), Fail> {
+    for seed in 0..SEEDS {
+        assert!(rt; is_kept(rt.alloc(), seed, TornWrites::Any)?);
+    }
+    Ok(())
+}
+
+#[test]
+fn a_journal_fills_all_regions(rt: HostRuntime) -> Result<(), Fail> {
+    let alloc = rt.alloc();
+    let mut random = Xoshiro256PlusPlus::seed_from_u64(1);
+    let device = Memory::new(alloc, vec![in alloc; 9u8; WHOLE]?, TornWrites::OldOrNew);
+    let journal = Journal::create(alloc, device, HALF, LEN)?;
+    let written = write(alloc, journal, 2 * HALF, LEN, &mut random)?;
+    assert_eq!(rt; written.place, 2 * HALF + 4 * LEN);
+    let bytes = written.journal.into_device();
+    let kept = count_journal(alloc, bytes.bytes(), HALF, LEN, TornWrites::OldOrNew)?;
+    assert_eq!(rt; kept, Some(written.acknowledged));
+    assert!(rt; written.acknowledged > 10);
+    Ok(())
+}

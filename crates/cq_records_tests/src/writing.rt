@@ -1,0 +1,135 @@
+//! Journals whose records say their numbers.
+ghost use Rattle.std.specs.Prelude.{OnOk};
+ghost use Rattle.cq_journal.specs.Journal.{IsJournal};
+
+use crate::count_records;
+use crate::filling::add_records;
+use cq_disk::{Device, Memory, Region, TornWrites};
+use cq_journal::{Journal, read_root};
+use cq_records::{Batch, LogFault, ReadFault};
+use rand_xoshiro::Xoshiro256PlusPlus;
+use rand_xoshiro::rand_core::Rng;
+use std::alloc::{AllocError, Global};
+
+/// A journal, and what became of its records.
+#[derive(Drop)]
+pub struct Written<D: Device> {
+    pub journal: Journal<D>,
+    /// So many records were acknowledged.
+    pub acknowledged: usize,
+    /// So many more were in the batch whose commit failed.
+    pub under_way: usize,
+    /// The place of the last region that was begun.
+    pub place: usize,
+}
+
+/// Commits a batch, and answers true. Where the region is full, it has the journal go on at the next place instead, and
+/// answers false. An error is true where the batch may be there all the same.
+fn step<D: Device>(
+    alloc: Global,
+    journal: &mut Journal<D>,
+    batch: &Batch,
+    next: usize,
+) -> Result<bool, bool>
+    requires { IsJournal journal.old }
+    ensures { OnOk result (IsJournal journal.new) }
+{
+    match journal.commit(batch) {
+        Ok(()) => Ok(true),
+        Err(LogFault::Full) => match journal.next_region(alloc, next) {
+            Ok(()) => Ok(false),
+            Err(_) => Err(false),
+        },
+        Err(_) => Err(true),
+    }
+}
+
+/// Commits batches of up to three records until one fails or no region is free. Where one is full, the journal goes on in
+/// the next one, behind it.
+pub fn write<D: Device>(
+    alloc: Global,
+    journal: Journal<D>,
+    first: usize,
+    len: usize,
+    random: &mut Xoshiro256PlusPlus,
+) -> Result<Written<D>, AllocError>
+    requires { IsJournal journal }
+{
+    let mut journal = journal;
+    let mut place = first;
+    let mut acknowledged: usize = 0;
+    for _ in 0..1_000 {
+        let mut batch = Batch::new(alloc);
+        let many = (random.next_u64() % 4) as usize;
+        let added = add_records(alloc, &mut batch, acknowledged, many)?;
+        let next = place.saturating_add(len);
+        match step(alloc, &mut journal, &batch, next) {
+            Ok(true) => acknowledged = acknowledged.saturating_add(added),
+            Ok(false) => place = next,
+            Err(is_under_way) => {
+                return Ok(Written {
+                    journal,
+                    acknowledged,
+                    under_way: if is_under_way { added } else { 0 },
+                    place,
+                });
+            }
+        }
+    }
+    Ok(Written {
+        journal,
+        acknowledged,
+        under_way: 0,
+        place,
+    })
+}
+
+fn digit(byte: u8) -> usize {
+    byte.saturating_sub(1) as usize
+}
+
+/// The places that a root's record names, behind its number.
+fn places_in(alloc: Global, record: &[u8]) -> Result<Vec<usize>, AllocError> {
+    let mut places = Vec::new(alloc);
+    for digits in record.chunks(5).skip(1) {
+        let mut place: usize = 0;
+        for byte in digits.iter().rev() {
+            place = place.saturating_mul(255).saturating_add(digit(*byte));
+        }
+        places.push(place)?;
+    }
+    Ok(places)
+}
+
+/// How many records the journal has that these bytes stand for, if they are those of the numbers from 0 on.
+pub fn count_journal(
+    alloc: Global,
+    bytes: &[u8],
+    half: usize,
+    len: usize,
+    torn: TornWrites,
+) -> Result<Option<usize>, ReadFault> {
+    if half > bytes.len() / 2 {
+        return Ok(None);
+    }
+    let mut region = Region {
+        device: Memory::new(alloc, bytes.to_vec(alloc)?, torn),
+        start: 0,
+        len: half,
+    };
+    let Some(found) = read_root(alloc, &mut region)? else {
+        return Ok(None);
+    };
+    let mut number = 0;
+    for place in &places_in(alloc, &found.bytes)? {
+        let Some(part) = bytes.get(*place..place.saturating_add(len)) else {
+            return Ok(None);
+        };
+        let device = Memory::new(alloc, part.to_vec(alloc)?, torn);
+        let Some(next) = count_records(alloc, device, number)? else {
+            return Ok(None);
+        };
+        number = next;
+    }
+    Ok(Some(number))
+}
