@@ -106,9 +106,13 @@ class Started:
 
 def programs_of(gateway: Started) -> list[int]:
     """The processes of cq in the order of their starts, which is that of their shards. Each thread of the gateway has a
-    list of the children that it started."""
-    lists = list(Path(f"/proc/{gateway.process.pid}/task").glob("*/children"))
-    return sorted(int(child) for child in " ".join(one.read_text() for one in lists).split())
+    list of the children that it started. One that ends meanwhile leaves them to another: then all are read anew."""
+    while True:
+        lists = list(Path(f"/proc/{gateway.process.pid}/task").glob("*/children"))
+        try:
+            return sorted(int(child) for child in " ".join(one.read_text() for one in lists).split())
+        except (FileNotFoundError, ProcessLookupError):
+            continue
 
 
 def boto3_client(url: str | None, **more: Any):
