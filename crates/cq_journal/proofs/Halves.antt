@@ -8,10 +8,11 @@ use Rattle.cq_disk.specs.Region.{part, Leaves, Beside, KeepsBeside}
 use Rattle.cq_disk.proofs.Parts.{whole_again}
 use Rattle.cq_records.specs.Frames.{text_of, frames, records}
 use Rattle.cq_records.specs.Layout.{IsPrefixOf}
+use Rattle.cq_journal.specs.declared.number.TheConstants.{NUMBER_LIMIT}
 use Rattle.cq_journal.specs.Numbers.{number_of}
 use Rattle.cq_journal.specs.Roots.{first_of, number_in, later, half_of, root_of, numbered, IsSameRoot, IsOldOrNew}
 
-pub number_back : (n : ℕ) (text : List ℕ) → n < 1078203909375 → number_of (numbered n text) ≡ n
+pub number_back : (n : ℕ) (text : List ℕ) → n < NUMBER_LIMIT → number_of (numbered n text) ≡ n
 number_back n text small = omega (arith, small)
 
 first_counts : (a b : Option (List ℕ)) → number_in b < number_in a → later a b ≡ a

@@ -1,2 +1,3 @@
 mod Halves
+mod Moves
 mod Regions

@@ -6,6 +6,7 @@ use Rattle.std.proofs.lemmas.Bool.Decides.{nat_tests}
 use Rattle.cq_disk.specs.Region.{part, Beside}
 use Rattle.cq_records.specs.Frames.{text_of, frames, records, has_no_zero}
 use Rattle.cq_records.specs.Layout.{IsPrefixOf}
+use Rattle.cq_journal.specs.declared.number.TheConstants.{NUMBER_LIMIT}
 use Rattle.cq_journal.specs.Numbers.{digits, number_of}
 use Rattle.cq_records.proofs.Frames.{of_zeros}
 use Rattle.cq_journal.specs.Roots.{first_of, later, root_of, numbered, IsOldOrNew}
@@ -13,7 +14,7 @@ use Rattle.cq_journal.specs.Regions.{places_text, places_in, records_at, named_r
 
 -- ---- the places that a text names
 
-pub places_back : (ns : List ℕ) → Each (λ n. n < 1078203909375) ns → places_in (places_text ns) ≡ ns
+pub places_back : (ns : List ℕ) → Each (λ n. n < NUMBER_LIMIT) ns → places_in (places_text ns) ≡ ns
 places_back [] small = refl
 places_back (n ∷ ns) small = λ i. (number_is i) ∷ (places_back ns small.1 i)
   where
@@ -68,7 +69,7 @@ records_more len [] g bytes = append-none (records (part g len bytes))
 records_more len (n ∷ ns) g bytes = ap (λ (xs : List (List ℕ)). records (part n len bytes) ++ xs) (records_more len ns g bytes) ∙ sym (append_assoc (records (part n len bytes)) (records_at len ns bytes) (records (part g len bytes)))
 
 -- what is kept where the root names these places
-pub kept_of : (half len number : ℕ) (ns : List ℕ) (bytes : List ℕ) → Each (λ n. n < 1078203909375) ns → root_of half bytes ≡ Some (numbered number (places_text ns)) → kept half len bytes ≡ Some (records_at len ns bytes)
+pub kept_of : (half len number : ℕ) (ns : List ℕ) (bytes : List ℕ) → Each (λ n. n < NUMBER_LIMIT) ns → root_of half bytes ≡ Some (numbered number (places_text ns)) → kept half len bytes ≡ Some (records_at len ns bytes)
 kept_of half len number ns bytes small root = ap (named_records len bytes) root ∙ ap (λ (ms : List ℕ). Some (records_at len ms bytes)) (places_back ns small)
 
 text_map : (k : ℕ) (fs : List (List ℕ)) → map text_of (take k fs) ≡ take k (map text_of fs)
@@ -81,7 +82,7 @@ text_append [] more = refl
 text_append (f ∷ fs) more = ap (λ (xs : List (List ℕ)). text_of f ∷ xs) (text_append fs more)
 
 -- While a batch is written into the region that grows, the journal's records are those from before and so many of the batch's.
-pub grows : (half len number g : ℕ) (ns : List ℕ) (old c : List ℕ) (batch : List (List ℕ)) → Each (λ n. n < 1078203909375) (ns ++ g ∷ []) → Each (λ n. AreApart len n g) ns → half + half ≤ g
+pub grows : (half len number g : ℕ) (ns : List ℕ) (old c : List ℕ) (batch : List (List ℕ)) → Each (λ n. n < NUMBER_LIMIT) (ns ++ g ∷ []) → Each (λ n. AreApart len n g) ns → half + half ≤ g
     → root_of half old ≡ Some (numbered number (places_text (ns ++ g ∷ []))) → Beside g len old c → IsPrefixOf (frames (part g len old)) batch (part g len c)
     → HasPrefixOf half len (records_at len (ns ++ g ∷ []) old) (map text_of batch) c
 grows half len number g ns old c batch small apart le root beside prefix =
@@ -184,7 +185,7 @@ module _ (h len : ℕ) (old c : List ℕ) (same : drop (h + h) c ≡ drop (h + h
   records_same (n ∷ ns) low = λ i. (ap records (part_same n low.0) i) ++ (records_same ns low.1 i)
 
 -- while a region that the root doesn't name is blanked
-pub kept_blanked : (h len number p : ℕ) (places old c : List ℕ) → Each (λ n. n < 1078203909375) places → h + h ≤ p → Each (λ n. AreApart len n p) places → root_of h old ≡ Some (numbered number (places_text places)) → Beside p len old c
+pub kept_blanked : (h len number p : ℕ) (places old c : List ℕ) → Each (λ n. n < NUMBER_LIMIT) places → h + h ≤ p → Each (λ n. AreApart len n p) places → root_of h old ≡ Some (numbered number (places_text places)) → Beside p len old c
     → HasRecords h len (records_at len places old) c
 kept_blanked h len number p places old c small low_p apart root near =
     kept_of h len number places c small (root_apart h p len old c low_p near ∙ root) ∙ ap (λ (xs : List (List ℕ)). Some xs) (records_apart len p places old c apart near)
@@ -201,7 +202,7 @@ records_kept h len p places old mid c low low_p apart beside zeros same =
     none = ap records (part_same h len mid c same p low_p ∙ zeros) ∙ ap (map text_of) (of_zeros len)
 
 -- The region at p is blanked, which the root doesn't name, and then named behind the others.
-module _ (h len number p : ℕ) (places old mid : List ℕ) (small : Each (λ n. n < 1078203909375) places) (small_p : p < 1078203909375)
+module _ (h len number p : ℕ) (places old mid : List ℕ) (small : Each (λ n. n < NUMBER_LIMIT) places) (small_p : p < NUMBER_LIMIT)
     (low : Each (λ n. h + h ≤ n) places) (low_p : h + h ≤ p) (apart : Each (λ n. AreApart len n p) places)
     (root : root_of h old ≡ Some (numbered number (places_text places))) (beside : Beside p len old mid) (zeros : part p len mid ≡ replicate len 0) where
   abbrev pub rs : List (List ℕ)
@@ -217,7 +218,7 @@ module _ (h len number p : ℕ) (places old mid : List ℕ) (small : Each (λ n.
       as_old is = kept_of h len number places c small (is ∙ mid_root) ∙ ap (λ (xs : List (List ℕ)). Some xs) (records_same h len mid c either.behind places low ∙ records_apart len p places old mid apart beside)
 
       as_new : root_of h c ≡ Some (numbered m (places_text (places ++ p ∷ []))) → HasRecords h len rs c
-      as_new is = kept_of h len m (places ++ p ∷ []) c (each_more (λ n. n < 1078203909375) places p small small_p) is ∙ ap (λ (xs : List (List ℕ)). Some xs) (records_kept h len p places old mid c low low_p apart beside zeros either.behind)
+      as_new is = kept_of h len m (places ++ p ∷ []) c (each_more (λ n. n < NUMBER_LIMIT) places p small small_p) is ∙ ap (λ (xs : List (List ℕ)). Some xs) (records_kept h len p places old mid c low low_p apart beside zeros either.behind)
 
 -- ---- those before a place of a list
 

@@ -4,6 +4,8 @@ use Rattle.cq_disk.specs.Region.{part}
 use Rattle.cq_disk.specs.declared.device.Device.{Ghosts}
 use Rattle.cq_records.specs.Layout.{IsLog}
 use Rattle.cq_journal.specs.declared.journal.Journal.{Journal}
+use Rattle.cq_journal.specs.declared.journal.TheConstants.{REGION_LIMIT}
+use Rattle.cq_journal.specs.declared.number.TheConstants.{NUMBER_LIMIT}
 use Rattle.cq_journal.specs.Regions.{Each, AreApart, places_text, records_at}
 use Rattle.cq_journal.specs.Root.{IsRoot, root_device, root_half, root_number}
 use Rattle.cq_journal.specs.Roots.{root_of, numbered}
@@ -27,21 +29,25 @@ module _ {D : Type 0} {g : Ghosts D} where
   abbrev pub journal_records : Journal D g → List (List ℕ)
   journal_records j = records_at j.len (journal_places j) (g.seen (journal_device j))
 
-  -- All regions lie behind the root and in the device, the one that grows is a log and apart from the others. If reads gave what
-  -- was seen, the root names the regions.
-  pub record IsJournal (j : Journal D g) : Type 0 where
+  -- All regions lie behind the root and in the device, the one that grows apart from the others. If reads gave what was seen, the
+  -- root names them.
+  pub record HasRegions (j : Journal D g) : Type 0 where
     pub root : IsRoot j.root
     pub behind : Each (λ n. journal_half j + journal_half j ≤ n) (journal_places j)
     pub within : Each (λ n. n + j.len ≤ length (g.seen (journal_device j))) (journal_places j)
     pub apart : Each (λ n. AreApart j.len n j.growing) j.closed.items
-    pub small : Each (λ n. n < 1078203909375) (journal_places j)
-    pub log : IsLog (part j.growing j.len (g.seen (journal_device j))) j.end
+    pub small : Each (λ n. n < NUMBER_LIMIT) (journal_places j)
     pub names : IsTrue (g.is_honest (journal_device j)) → root_of (journal_half j) (g.seen (journal_device j)) ≡ Some (numbered (root_number j.root) (places_text (journal_places j)))
+
+  -- and the region that grows is a log
+  pub record IsJournal (j : Journal D g) : Type 0 where
+    pub regions : HasRegions j
+    pub log : IsLog (part j.growing j.len (g.seen (journal_device j))) j.end
 
   -- a region at this place lies behind the root, in the device and apart from all that count, and the root may name it
   pub record IsFree (j : Journal D g) (place : ℕ) : Type 0 where
     pub behind : journal_half j + journal_half j ≤ place
     pub within : place + j.len ≤ length (g.seen (journal_device j))
-    pub small : place < 1078203909375
+    pub small : place < NUMBER_LIMIT
     pub apart : Each (λ n. AreApart j.len n place) (journal_places j)
-    pub few : length (journal_places j) < 3000000
+    pub few : length (journal_places j) < REGION_LIMIT

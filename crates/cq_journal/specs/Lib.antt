@@ -5,3 +5,4 @@ pub mod Roots
 pub mod within
 pub mod Regions
 pub mod Journal
+pub mod Faults

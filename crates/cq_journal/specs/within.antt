@@ -1,2 +1,3 @@
 -- What only the private functions cite.
 pub mod Turns
+pub mod Bounds

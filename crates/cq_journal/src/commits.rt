@@ -40,6 +40,7 @@ impl<D: Device> Root<D> {
         ensures honest { D.is_honest (root_device self.new) ≡ D.is_honest (root_device self.old) }
         ensures full { IsErrOf result LogFault.Full → IsRoot self.new × (root_device self.new ≡ root_device self.old) × (log_end self.new ≡ end) }
         ensures failed { IsErrOf result LogFault.Failed → D.faults (root_device self.old) < D.faults (root_device self.new) }
+        ensures later { D.faults (root_device self.old) ≤ D.faults (root_device self.new) }
     {
         let _len = self.log.device.device.len();
         let (start, half) = (self.log.device.start, self.log.device.len);

@@ -12,8 +12,8 @@ use cq_disk::Device;
 use cq_records::{Batch, LogFault};
 use std::alloc::Global;
 
-/// The most regions that count beside the one that grows.
-const REGION_LIMIT: usize = 2_999_998;
+/// The most regions that count.
+pub const REGION_LIMIT: usize = 3_000_000;
 
 /// Records in their order, on one device: a root, and behind it regions of one length, each of them a log. The root names
 /// those that count. Records are added to the last of these.
@@ -31,13 +31,13 @@ pub struct Journal<D: Device> {
 }
 
 impl<D: Device> Journal<D> {
-    ghost use Rattle.cq_journal.specs.Journal.{IsJournal, journal_device, IsFree, journal_half, journal_records, region_len};
+    ghost use Rattle.cq_journal.specs.Journal.{HasRegions, IsJournal, journal_device, IsFree, journal_half, journal_records, region_len};
 
     /// Makes a journal on a device: a root of two halves of this length, and behind it one region of this length. Whatever
     /// the device has is lost. `Full`: it is too short. It takes time in proportion to what it makes.
     pub fn create(alloc: Global, device: D, half: usize, len: usize) -> Result<Journal<D>, LogFault>
         requires root { half + half ≤ length (D.seen device) }
-        requires small { half + half < 1078203909375 }
+        requires small { half + half < NUMBER_LIMIT }
         ensures journal { IfOk result IsJournal }
         ensures empty { IfOk result (λ journal. journal_records journal ≡ []) }
         ensures half { IfOk result (λ journal. journal_half journal ≡ half) }
@@ -68,6 +68,7 @@ impl<D: Device> Journal<D> {
         requires { IsJournal self.old }
 
         ensures journal { OnOk result (IsJournal self.new) }
+        ensures lengths { (journal_half self.new ≡ journal_half self.old) × (region_len self.new ≡ region_len self.old) }
         ensures acknowledged { OnOk result (journal_records self.new ≡ journal_records self.old ++ records (batch_bytes batch.now)) }
         ensures kept { OnOk result (IsTrue (D.is_honest (journal_device self.new)) → kept (journal_half self.new) (region_len self.new) (D.seen (journal_device self.new)) ≡ Some (journal_records self.new)) }
 
@@ -93,8 +94,8 @@ impl<D: Device> Journal<D> {
 
     /// Whether the region of the journal's length at this place lies behind the root, in the device, and apart from all that
     /// count: O(regions that count).
-    fn is_free(&self, place: usize) -> bool
-        requires { IsJournal self.now }
+    pub(crate) fn is_free(&self, place: usize) -> bool
+        requires { HasRegions self.now }
         ensures { result ≡ true → IsFree self.now place }
     {
         let half = self.root.log.device.len;
@@ -102,7 +103,7 @@ impl<D: Device> Journal<D> {
         if place < half + half || place > whole || whole - place < self.len {
             return false;
         }
-        if place as u64 >= NUMBER_LIMIT || self.closed.len() >= REGION_LIMIT {
+        if place as u64 >= NUMBER_LIMIT || self.closed.len() + 1 >= REGION_LIMIT {
             return false;
         }
         is_apart(self.len, self.growing, place) && are_apart(self.len, &self.closed, place)
@@ -116,6 +117,7 @@ impl<D: Device> Journal<D> {
         requires { IsJournal self.old }
 
         ensures journal { OnOk result (IsJournal self.new) }
+        ensures lengths { OnOk result ((journal_half self.new ≡ journal_half self.old) × (region_len self.new ≡ region_len self.old)) }
         ensures records { OnOk result (journal_records self.new ≡ journal_records self.old) }
         ensures any_moment { IsTrue (D.is_honest (journal_device self.new)) → LeavesOnly D.moment D.left_since (journal_device self.old) (journal_device self.new)
             (HasRecords (journal_half self.old) (region_len self.old) (journal_records self.old)) }
@@ -134,6 +136,7 @@ impl<D: Device> Journal<D> {
         requires free { IsFree self.old place }
 
         ensures journal { OnOk result (IsJournal self.new) }
+        ensures lengths { OnOk result ((journal_half self.new ≡ journal_half self.old) × (region_len self.new ≡ region_len self.old)) }
         ensures records { OnOk result (journal_records self.new ≡ journal_records self.old) }
         ensures any_moment { IsTrue (D.is_honest (journal_device self.new)) → LeavesOnly D.moment D.left_since (journal_device self.old) (journal_device self.new)
             (HasRecords (journal_half self.old) (region_len self.old) (journal_records self.old)) }

@@ -5,15 +5,21 @@
 
 mod blanks;
 mod commits;
+mod fault;
 mod journal;
+mod laws;
 mod making;
 mod number;
 mod opening;
 mod places;
+mod reads;
+mod recovery;
 mod root;
 
-pub use journal::Journal;
+pub use fault::OpenFault;
+pub use journal::{Journal, REGION_LIMIT};
+pub use laws::a_journal_keeps_its_records;
 pub use making::create;
 pub use number::NUMBER_LIMIT;
 pub use opening::{Found, read_root};
-pub use root::Root;
+pub use root::{ROOT_TEXT_LIMIT, Root};

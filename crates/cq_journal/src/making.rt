@@ -4,8 +4,8 @@ ghost use Rattle.cq_records.specs.Frames.{has_no_zero};
 ghost use Rattle.cq_journal.specs.Root.{root_half, root_device, root_number, IsRoot};
 ghost use Rattle.cq_journal.specs.Roots.{root_of, numbered};
 
-use crate::Root;
 use crate::root::batch_of;
+use crate::{ROOT_TEXT_LIMIT, Root};
 use cq_disk::{Device, Region};
 use cq_records::{Log, LogFault, blank};
 use std::alloc::Global;
@@ -19,7 +19,7 @@ pub fn create<D: Device>(
 ) -> Result<Root<D>, LogFault>
     requires room { half + half ≤ length (D.seen device) }
     requires text { has_no_zero text.now ≡ true }
-    requires short { length text.now < 16581370 }
+    requires short { length text.now ≤ ROOT_TEXT_LIMIT }
     ensures root { IfOk result (λ root. IsRoot root) }
     ensures half { IfOk result (λ root. root_half root ≡ half) }
     ensures number { IfOk result (λ root. root_number root ≡ 1) }

@@ -4,7 +4,7 @@ ghost use Rattle.cq_journal.specs.Numbers.{digits, number_of};
 
 use std::alloc::AllocError;
 
-/// Numbers are below this, which is 255 to the fifth.
+/// Numbers are below this, which is 255 to the fifth: five digits have any of them.
 pub const NUMBER_LIMIT: u64 = 1_078_203_909_375;
 
 /// Adds a number: five digits in base 255, the lowest first, each one above its value.
@@ -33,7 +33,8 @@ fn digit(bytes: &[u8], at: usize) -> u64
 
 /// The number that bytes begin with. A byte that is missing or zero counts as the digit 0.
 pub(crate) fn read_number(bytes: &[u8]) -> u64
-    ensures { result ≡ number_of bytes.now }
+    ensures value { result ≡ number_of bytes.now }
+    ensures small { result < NUMBER_LIMIT }
 {
     digit(bytes, 0)
         + (255 * digit(bytes, 1)

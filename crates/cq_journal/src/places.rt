@@ -1,8 +1,11 @@
 //! The places of regions as the text of a root.
 ghost use Rattle.std.specs.Prelude.{◌≡◌, ◌++◌, ◌∷◌, [], ◌<◌, true, OnOk, IfOk};
 ghost use Rattle.cq_journal.specs.Regions.{AreApart, Each, places_text};
+ghost use Rattle.cq_journal.specs.Roots.{numbered};
+ghost use Rattle.cq_journal.specs.within.Bounds.{IsWithin};
 
-use crate::number::push_number;
+use crate::NUMBER_LIMIT;
+use crate::number::{push_number, read_number};
 use std::alloc::{AllocError, Global};
 
 /// Whether two regions of this length have no byte in common.
@@ -26,13 +29,25 @@ pub(crate) fn are_apart(len: usize, places: &[u64], place: usize) -> bool
 
 /// Adds these places, five digits each: O(places).
 fn push_places(text: &mut Vec<u8>, places: &[u64]) -> Result<(), AllocError>
-    requires { Each (λ n. n < 1078203909375) places.now }
+    requires { Each (λ n. n < NUMBER_LIMIT) places.now }
     ensures { OnOk result (text.new.items ≡ text.old.items ++ places_text places.now) }
 {
     for place in places {
         push_number(text, *place)?;
     }
     Ok(())
+}
+
+/// The text that names these places and one more behind them: O(places).
+pub(crate) fn text_of(alloc: Global, closed: &[u64], growing: u64) -> Result<Vec<u8>, AllocError>
+    requires closed { Each (λ n. n < NUMBER_LIMIT) closed.now }
+    requires growing { growing < NUMBER_LIMIT }
+    ensures { IfOk result (λ text. text.items ≡ places_text (closed.now ++ growing ∷ [])) }
+{
+    let mut text = Vec::new(alloc);
+    push_places(&mut text, closed)?;
+    push_number(&mut text, growing)?;
+    Ok(text)
 }
 
 /// The places with one more behind them, and the text that names these and the next one: O(places).
@@ -42,17 +57,70 @@ pub(crate) fn with_next(
     growing: u64,
     next: u64,
 ) -> Result<(Vec<u64>, Vec<u8>), AllocError>
-    requires closed { Each (λ n. n < 1078203909375) closed.now }
-    requires growing { growing < 1078203909375 }
-    requires next { next < 1078203909375 }
+    requires closed { Each (λ n. n < NUMBER_LIMIT) closed.now }
+    requires growing { growing < NUMBER_LIMIT }
+    requires next { next < NUMBER_LIMIT }
     ensures closed { IfOk result (λ made. made.0.items ≡ closed.now ++ growing ∷ []) }
     ensures text { IfOk result (λ made. made.1.items ≡ places_text ((closed.now ++ growing ∷ []) ++ next ∷ [])) }
 {
     let mut places = closed.to_vec(alloc)?;
     places.push(growing)?;
-    let mut text = Vec::new(alloc);
-    push_places(&mut text, closed)?;
-    push_number(&mut text, growing)?;
-    push_number(&mut text, next)?;
+    let text = text_of(alloc, &places, next)?;
     Ok((places, text))
+}
+
+/// Whether a region of this length at this place begins at `low` or behind it, and ends at `high` or before it.
+fn is_within(len: usize, low: usize, high: usize, place: u64) -> bool
+    ensures { result ≡ true → IsWithin len low high place }
+{
+    if place >= NUMBER_LIMIT {
+        return false;
+    }
+    let at = place as usize;
+    low <= at && at <= high && high - at >= len
+}
+
+/// Whether all of these regions lie there: O(places).
+pub(crate) fn are_within(len: usize, low: usize, high: usize, places: &[u64]) -> bool
+    ensures { result ≡ true → Each (IsWithin len low high) places.now }
+{
+    for place in places {
+        if !is_within(len, low, high, *place) {
+            return false;
+        }
+    }
+    true
+}
+
+/// The numbers that a root's record names behind its own, five bytes each: O(bytes).
+pub(crate) fn read_places(alloc: Global, bytes: &[u8]) -> Result<Vec<u64>, AllocError>
+    ensures { IfOk result (λ places. Each (λ n. n < NUMBER_LIMIT) places.items) }
+{
+    let mut places = Vec::new(alloc);
+    let mut at = bytes.len().min(5);
+    while bytes.len() - at >= 5 {
+        let place = read_number(&bytes[at..at + 5]);
+        places.push(place)?;
+        at += 5;
+    }
+    Ok(places)
+}
+
+/// Whether a root's record has this number, and names these places and one more behind them: O(places).
+pub(crate) fn is_record_of(
+    alloc: Global,
+    bytes: &[u8],
+    number: u64,
+    closed: &[u64],
+    growing: u64,
+) -> Result<bool, AllocError>
+    requires number { number < NUMBER_LIMIT }
+    requires closed { Each (λ n. n < NUMBER_LIMIT) closed.now }
+    requires growing { growing < NUMBER_LIMIT }
+    ensures { IfOk result (λ is. is ≡ true → bytes.now ≡ numbered number (places_text (closed.now ++ growing ∷ []))) }
+{
+    let mut record = Vec::new(alloc);
+    push_number(&mut record, number)?;
+    record.extend_from_slice(&text_of(alloc, closed, growing)?)?;
+    Ok(record.as_slice() == bytes)
 }

@@ -11,6 +11,9 @@ use cq_disk::{Device, DeviceFault, Region};
 use cq_records::{Batch, Log, LogFault, blank};
 use std::alloc::{AllocError, Global};
 
+/// The most bytes that the text of a root may have: a record's, without those of its number.
+pub const ROOT_TEXT_LIMIT: usize = 16_581_369;
+
 /// A root in the first bytes of a device: two halves of one length, of which one has the text. Each change is written
 /// into the other one, which is then in use.
 #[derive(Drop)]
@@ -25,7 +28,7 @@ pub struct Root<D: Device> {
 pub(crate) fn batch_of(alloc: Global, number: u64, text: &[u8]) -> Result<Batch, AllocError>
     requires number { number < NUMBER_LIMIT }
     requires text { has_no_zero text.now ≡ true }
-    requires short { length text.now < 16581370 }
+    requires short { length text.now ≤ ROOT_TEXT_LIMIT }
     ensures { IfOk result (λ batch. records (batch_bytes batch) ≡ numbered number text.now ∷ []) }
 {
     let mut record = Vec::new(alloc);
@@ -69,7 +72,7 @@ impl<D: Device> Root<D> {
     pub fn put(&mut self, alloc: Global, text: &[u8]) -> Result<(), LogFault>
         requires root { IsRoot self.old }
         requires text { has_no_zero text.now ≡ true }
-        requires short { length text.now < 16581370 }
+        requires short { length text.now ≤ ROOT_TEXT_LIMIT }
 
         ensures root { OnOk result (IsRoot self.new) }
         ensures half { OnOk result (root_half self.new ≡ root_half self.old) }

@@ -7,3 +7,4 @@ mod Outcomes
 mod Examples
 mod Torn
 mod Zeros
+mod Steps

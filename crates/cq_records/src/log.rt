@@ -1,5 +1,5 @@
 //! A log of records on a device: each commit puts a batch on the medium before it is acknowledged.
-ghost use Rattle.std.specs.Prelude.{◌≡◌, ◌+◌, ◌<◌, ◌++◌, [], length, replicate, OnOk, IfOk, IsErrOf};
+ghost use Rattle.std.specs.Prelude.{◌≡◌, ◌+◌, ◌<◌, ◌≤◌, ◌++◌, [], length, replicate, OnOk, IfOk, IsErrOf};
 ghost use Rattle.cq_disk.specs.Device.{Only, LeavesOnly};
 ghost use Rattle.cq_records.specs.Frames.{frames};
 
@@ -63,6 +63,7 @@ impl<D: Device> Log<D> {
         // It doesn't give up by itself.
         ensures full { IsErrOf result LogFault.Full → (self.new ≡ self.old) × (length (D.seen self.old.device) < self.old.end + length (batch_bytes batch.now)) }
         ensures failed { IsErrOf result LogFault.Failed → D.faults self.old.device < D.faults self.new.device }
+        ensures later { D.faults self.old.device ≤ D.faults self.new.device }
     {
         let bytes = batch.as_slice();
         if bytes.len() > self.device.len() - self.end {

@@ -1,10 +1,11 @@
 //! Reading the records of a log that a crash may have left.
-ghost use Rattle.std.specs.Prelude.{◌≡◌, ◌+◌, ◌<◌, ◌≤◌, ◌++◌, [], length, drop, map, vec_items, IsTrue, IfOk, IfSome, IsErrOf, MatchOption};
+ghost use Rattle.std.specs.Prelude.{◌≡◌, ◌+◌, ◌<◌, ◌≤◌, ◌++◌, [], true, false, length, drop, IsTrue, IfOk, OnOk, IfSome, IsErrOf, MatchOption};
 ghost use Rattle.cq_disk.specs.Device.{LeavesOnly};
-ghost use Rattle.cq_records.specs.Frames.{frames, records, joined, BeginsWith, IsDamaged};
+ghost use Rattle.cq_records.specs.Batch.{batch_bytes};
+ghost use Rattle.cq_records.specs.Frames.{is_text, frames, records, all_sound, BeginsWith, IsDamaged};
 
 use crate::frame::{HEAD_LENGTH, has_no_zero, read_head};
-use crate::{ReadFault, checksum};
+use crate::{Batch, ReadFault, checksum};
 use cq_disk::Device;
 use std::alloc::Global;
 
@@ -26,6 +27,7 @@ pub fn read_record<D: Device>(
     ensures found { IfOk result (λ found. IsTrue (D.is_honest device.new)
         → MatchOption found (frames (drop at (D.seen device.old)) ≡ []) (λ it. BeginsWith it.text.items (drop at (D.seen device.old)))) }
     ensures behind { IfOk result (λ found. IfSome found (λ it. (it.behind ≡ at + 9 + length it.text.items) × (it.behind ≤ length (D.seen device.old)))) }
+    ensures text { IfOk result (λ found. IfSome found (λ it. is_text it.text.items ≡ true)) }
     ensures damaged { IsErrOf result ReadFault.Damaged → IsTrue (D.is_honest device.new) → IsDamaged (drop at (D.seen device.old)) }
     ensures failed { IsErrOf result ReadFault.Failed → D.faults device.old < D.faults device.new }
     ensures later { D.faults device.old ≤ D.faults device.new }
@@ -57,4 +59,29 @@ pub fn read_record<D: Device>(
     }
     let behind = at + HEAD_LENGTH + text.len();
     Ok(Some(Found { text, behind }))
+}
+
+/// Adds the records of a log to a batch, in order: those before the first that isn't whole. It takes memory for all of
+/// them. After a fault the batch may have some of them.
+pub fn read_into<D: Device>(
+    alloc: Global,
+    device: &mut D,
+    batch: &mut Batch,
+) -> Result<(), ReadFault>
+    ensures read { OnOk result (IsTrue (D.is_honest device.new) → records (batch_bytes batch.new) ≡ records (batch_bytes batch.old) ++ records (D.seen device.old)) }
+    ensures damaged { IsErrOf result ReadFault.Damaged → IsTrue (D.is_honest device.new) → all_sound (frames (D.seen device.old)) ≡ false }
+    ensures failed { IsErrOf result ReadFault.Failed → D.faults device.old < D.faults device.new }
+    ensures later { D.faults device.old ≤ D.faults device.new }
+
+    ensures seen { D.seen device.new ≡ D.seen device.old }
+    ensures honest { IsTrue (D.is_honest device.new) → IsTrue (D.is_honest device.old) }
+    ensures any_moment { LeavesOnly D.moment D.left_since device.old device.new (D.may_leave device.old) }
+    ensures keeps { D.keeps device.old device.new }
+{
+    let mut at = 0;
+    while let Some(found) = read_record(alloc, device, at)? {
+        batch.add(&found.text)?;
+        at = found.behind;
+    }
+    Ok(())
 }

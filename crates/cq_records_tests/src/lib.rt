@@ -4,11 +4,13 @@
 
 mod changes;
 mod filling;
+mod lives;
 mod simulated;
 mod writing;
 
 pub use changes::{Changed, change, count_changes};
 pub use filling::{Filled, count_records, fill, text_of};
+pub use lives::{Life, live};
 pub use simulated::Simulated;
 pub use writing::{Written, count_journal, write};
 
@@ -18,5 +20,7 @@ mod crashes;
 mod files;
 #[cfg(test)]
 mod journals;
+#[cfg(test)]
+mod recoveries;
 #[cfg(test)]
 mod roots;

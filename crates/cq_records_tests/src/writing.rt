@@ -19,59 +19,62 @@ pub struct Written<D: Device> {
     pub acknowledged: usize,
     /// So many more were in the batch whose commit failed.
     pub under_way: usize,
-    /// The place of the last region that was begun.
-    pub place: usize,
+    /// So many regions were begun.
+    pub begun: usize,
 }
 
-/// Commits a batch, and answers true. Where the region is full, it has the journal go on at the next place instead, and
-/// answers false. An error is true where the batch may be there all the same.
-fn step<D: Device>(
-    alloc: Global,
-    journal: &mut Journal<D>,
-    batch: &Batch,
-    next: usize,
-) -> Result<bool, bool>
+/// Goes on in a free region. An error: there is none, or a call failed.
+fn go_on<D: Device>(alloc: Global, journal: &mut Journal<D>) -> Result<(), ()>
+    requires { IsJournal journal.old }
+    ensures { OnOk result (IsJournal journal.new) }
+{
+    let Some(place) = journal.free_region() else {
+        return Err(());
+    };
+    journal.next_region(alloc, place).map_err(|_| ())
+}
+
+/// Commits a batch, and answers true. Where the region is full, it has the journal go on in a free one instead, and answers
+/// false. An error is true where the batch may be there all the same.
+fn step<D: Device>(alloc: Global, journal: &mut Journal<D>, batch: &Batch) -> Result<bool, bool>
     requires { IsJournal journal.old }
     ensures { OnOk result (IsJournal journal.new) }
 {
     match journal.commit(batch) {
         Ok(()) => Ok(true),
-        Err(LogFault::Full) => match journal.next_region(alloc, next) {
+        Err(LogFault::Full) => match go_on(alloc, journal) {
             Ok(()) => Ok(false),
-            Err(_) => Err(false),
+            Err(()) => Err(false),
         },
         Err(_) => Err(true),
     }
 }
 
-/// Commits batches of up to three records until one fails or no region is free. Where one is full, the journal goes on in
-/// the next one, behind it.
+/// Commits batches of up to three records, from this number on, until one fails or no region is free.
 pub fn write<D: Device>(
     alloc: Global,
     journal: Journal<D>,
     first: usize,
-    len: usize,
     random: &mut Xoshiro256PlusPlus,
 ) -> Result<Written<D>, AllocError>
     requires { IsJournal journal }
 {
     let mut journal = journal;
-    let mut place = first;
-    let mut acknowledged: usize = 0;
+    let mut begun: usize = 0;
+    let mut acknowledged = first;
     for _ in 0..1_000 {
         let mut batch = Batch::new(alloc);
         let many = (random.next_u64() % 4) as usize;
         let added = add_records(alloc, &mut batch, acknowledged, many)?;
-        let next = place.saturating_add(len);
-        match step(alloc, &mut journal, &batch, next) {
+        match step(alloc, &mut journal, &batch) {
             Ok(true) => acknowledged = acknowledged.saturating_add(added),
-            Ok(false) => place = next,
+            Ok(false) => begun = begun.saturating_add(1),
             Err(is_under_way) => {
                 return Ok(Written {
                     journal,
                     acknowledged,
                     under_way: if is_under_way { added } else { 0 },
-                    place,
+                    begun,
                 });
             }
         }
@@ -80,7 +83,7 @@ pub fn write<D: Device>(
         journal,
         acknowledged,
         under_way: 0,
-        place,
+        begun,
     })
 }
 

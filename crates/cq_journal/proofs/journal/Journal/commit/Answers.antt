@@ -26,16 +26,18 @@ returns-clause-journal g c =
     let new_bytes = g.D.Device.seen new.log.device.device in
     let places : List ℕ = j.closed.items ++ j.growing ∷ [] in
     on_both c.commit_at-done.result done.root done.log (λ root log. record {
-      root = root;
-      behind = each_so (λ n. h + h ≤ n) (λ n. new.log.device.len + new.log.device.len ≤ n) (λ n low. subst (λ (m : ℕ). m + m ≤ n) (sym done.half) low) places q.behind;
-      within = each_so (λ n. n + j.len ≤ length old_bytes) (λ n. n + j.len ≤ length new_bytes) (λ n low. subst (λ (m : ℕ). n + j.len ≤ m) (sym done.length) low) places q.within;
-      apart = q.apart;
-      small = q.small;
+      regions = record {
+        root = root;
+        behind = each_so (λ n. h + h ≤ n) (λ n. new.log.device.len + new.log.device.len ≤ n) (λ n low. subst (λ (m : ℕ). m + m ≤ n) (sym done.half) low) places q.regions.behind;
+        within = each_so (λ n. n + j.len ≤ length old_bytes) (λ n. n + j.len ≤ length new_bytes) (λ n low. subst (λ (m : ℕ). n + j.len ≤ m) (sym done.length) low) places q.regions.within;
+        apart = q.regions.apart;
+        small = q.regions.small;
+        names = λ honest.
+            ap (λ (m : ℕ). root_of m new_bytes) done.half
+            ∙ root_apart h j.growing j.len old_bytes new_bytes (last_of (λ n. h + h ≤ n) j.closed.items j.growing q.regions.behind) done.beside ∙ q.regions.names (sym done.honest ∙ honest)
+            ∙ ap (λ (m : ℕ). Some (numbered m (places_text places))) (sym done.number);
+      };
       log = log;
-      names = λ honest.
-          ap (λ (m : ℕ). root_of m new_bytes) done.half
-          ∙ root_apart h j.growing j.len old_bytes new_bytes (last_of (λ n. h + h ≤ n) j.closed.items j.growing q.behind) done.beside ∙ q.names (sym done.honest ∙ honest)
-          ∙ ap (λ (m : ℕ). Some (numbered m (places_text places))) (sym done.number);
     })
 
 pub returns-clause-acknowledged : goal.returns-clause-acknowledged
@@ -53,7 +55,7 @@ returns-clause-acknowledged g c =
     let grown : records (part s n new_bytes) ≡ records (part s n old_bytes) ++ map text_of batch =
     ap (map text_of) acknowledged ∙ text_append (frames (part s n old_bytes)) batch in
     records_more n ns s new_bytes
-    ∙ (λ i. (records_apart n s ns old_bytes new_bytes q.apart done.beside i) ++ (grown i))
+    ∙ (λ i. (records_apart n s ns old_bytes new_bytes q.regions.apart done.beside i) ++ (grown i))
     ∙ sym (append_assoc (records_at n ns old_bytes) (records (part s n old_bytes)) (map text_of batch))
     ∙ ap (λ (xs : List (List ℕ)). xs ++ map text_of batch) (sym (records_more n ns s old_bytes)))
 
@@ -68,9 +70,9 @@ returns-clause-kept g c =
     let new_bytes = g.D.Device.seen new.log.device.device in
     let places : List ℕ = j.closed.items ++ j.growing ∷ [] in
     on_both c.commit_at-done.result done.root done.root (λ root again honest.
-    kept_of new.log.device.len j.len j.root.number places new_bytes q.small
+    kept_of new.log.device.len j.len j.root.number places new_bytes q.regions.small
     (ap (λ (m : ℕ). root_of m new_bytes) done.half
-    ∙ root_apart h j.growing j.len old_bytes new_bytes (last_of (λ n. h + h ≤ n) j.closed.items j.growing q.behind) done.beside ∙ q.names (sym done.honest ∙ honest)))
+    ∙ root_apart h j.growing j.len old_bytes new_bytes (last_of (λ n. h + h ≤ n) j.closed.items j.growing q.regions.behind) done.beside ∙ q.regions.names (sym done.honest ∙ honest)))
 
 pub returns-clause-any_moment : goal.returns-clause-any_moment
 returns-clause-any_moment g c = λ honest.
@@ -83,7 +85,7 @@ returns-clause-any_moment g c = λ honest.
     let ns : List ℕ = j.closed.items in
     let batch = frames (batch_bytes c.args.batch.now) in
     weakened g.D.Device.moment g.D.Device.left_since j.root.log.device.device new.log.device.device _ _ done.any_moment (λ f both.
-    grows h j.len j.root.number j.growing ns old_bytes f batch q.small q.apart (last_of (λ n. h + h ≤ n) ns j.growing q.behind) (q.names (sym done.honest ∙ honest)) both.1 both.0)
+    grows h j.len j.root.number j.growing ns old_bytes f batch q.regions.small q.regions.apart (last_of (λ n. h + h ≤ n) ns j.growing q.regions.behind) (q.regions.names (sym done.honest ∙ honest)) both.1 both.0)
 
 pub returns-clause-full : goal.returns-clause-full
 returns-clause-full g c err =
@@ -96,14 +98,16 @@ returns-clause-full g c err =
     let full = done.full err in
     let seen_is : g.D.Device.seen new.log.device.device ≡ g.D.Device.seen j.root.log.device.device = ap g.D.Device.seen full.1 in (
       record {
-        root = full.0;
-        behind = each_so (λ n. h + h ≤ n) (λ n. new.log.device.len + new.log.device.len ≤ n) (λ n low. subst (λ (m : ℕ). m + m ≤ n) (sym done.half) low) places q.behind;
-        within = subst (λ (bytes : List ℕ). Each (λ n. n + j.len ≤ length bytes) places) (sym seen_is) q.within;
-        apart = q.apart;
-        small = q.small;
+        regions = record {
+          root = full.0;
+          behind = each_so (λ n. h + h ≤ n) (λ n. new.log.device.len + new.log.device.len ≤ n) (λ n low. subst (λ (m : ℕ). m + m ≤ n) (sym done.half) low) places q.regions.behind;
+          within = subst (λ (bytes : List ℕ). Each (λ n. n + j.len ≤ length bytes) places) (sym seen_is) q.regions.within;
+          apart = q.regions.apart;
+          small = q.regions.small;
+          names = λ honest.
+              (λ i. root_of (done.half i) (seen_is i)) ∙ q.regions.names (sym done.honest ∙ honest) ∙ ap (λ (m : ℕ). Some (numbered m (places_text places))) (sym done.number);
+        };
         log = subst (λ (m : ℕ). IsLog (part j.growing j.len (g.D.Device.seen new.log.device.device)) m) (sym full.2) (subst (λ (bytes : List ℕ). IsLog (part j.growing j.len bytes) j.end) (sym seen_is) q.log);
-        names = λ honest.
-            (λ i. root_of (done.half i) (seen_is i)) ∙ q.names (sym done.honest ∙ honest) ∙ ap (λ (m : ℕ). Some (numbered m (places_text places))) (sym done.number);
       },
       ap (λ (bytes : List ℕ). records_at j.len places bytes) seen_is,
     )

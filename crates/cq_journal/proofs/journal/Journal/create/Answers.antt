@@ -4,6 +4,7 @@ use Rattle.std.specs.Prelude.{Some, map}
 use Rattle.cq_disk.specs.Region.{part}
 use Rattle.cq_records.specs.Frames.{text_of, frames, records, joined, all_sound}
 use Rattle.cq_records.proofs.Frames.{of_zeros}
+use Rattle.cq_journal.specs.declared.number.TheConstants.{NUMBER_LIMIT}
 use Rattle.cq_journal.specs.Numbers.{digits}
 use Rattle.cq_journal.specs.Regions.{Each, AreApart, places_text, records_at}
 use Rattle.cq_journal.specs.Roots.{root_of, numbered}
@@ -33,19 +34,21 @@ returns-clause-journal g c =
     let none : frames (part p n bytes) ≡ [] = ap frames b.zeros ∙ of_zeros n in
     let empty : c.new.result.items ≡ [] = c.new.ensures.items in
     record {
-      root = b.root;
-      behind = subst (λ (xs : List ℕ). Each (λ a. new.log.device.len + new.log.device.len ≤ a) (xs ++ p ∷ [])) (sym empty) (omega (arith, half_is), tt);
-      within = subst (λ (xs : List ℕ). Each (λ a. a + n ≤ length bytes) (xs ++ p ∷ [])) (sym empty) (omega (arith, b.length, c.len-whole.ensures, c.if-whole-place.false, c.if-whole-place-2.false), tt);
-      apart = subst (λ (xs : List ℕ). Each (λ a. AreApart n a p) xs) (sym empty) tt;
-      small = subst (λ (xs : List ℕ). Each (λ a. a < 1078203909375) (xs ++ p ∷ [])) (sym empty) (c.requires.small, tt);
+      regions = record {
+        root = b.root;
+        behind = subst (λ (xs : List ℕ). Each (λ a. new.log.device.len + new.log.device.len ≤ a) (xs ++ p ∷ [])) (sym empty) (omega (arith, half_is), tt);
+        within = subst (λ (xs : List ℕ). Each (λ a. a + n ≤ length bytes) (xs ++ p ∷ [])) (sym empty) (omega (arith, b.length, c.len-whole.ensures, c.if-whole-place.false, c.if-whole-place-2.false), tt);
+        apart = subst (λ (xs : List ℕ). Each (λ a. AreApart n a p) xs) (sym empty) tt;
+        small = subst (λ (xs : List ℕ). Each (λ a. a < NUMBER_LIMIT) (xs ++ p ∷ [])) (sym empty) (c.requires.small, tt);
+        names = λ honest.
+            ap (λ (h : ℕ). root_of h bytes) half_is ∙ root_apart c.args.half p n old bytes (omega arith) b.beside ∙ made.text
+            ∙ (λ i. Some (numbered (sym (b.number ∙ made.number) i) (text_is i)))
+            ∙ ap (λ (xs : List ℕ). Some (numbered new.number (places_text (xs ++ p ∷ [])))) (sym empty);
+      };
       log = record {
         room = n;
         is = b.zeros ∙ ap (λ (fs : List (List ℕ)). joined fs ++ replicate n 0) (sym none);
         ends = sym (ap (λ (fs : List (List ℕ)). length (joined fs)) none);
         sound = ap all_sound none;
       };
-      names = λ honest.
-          ap (λ (h : ℕ). root_of h bytes) half_is ∙ root_apart c.args.half p n old bytes (omega arith) b.beside ∙ made.text
-          ∙ (λ i. Some (numbered (sym (b.number ∙ made.number) i) (text_is i)))
-          ∙ ap (λ (xs : List ℕ). Some (numbered new.number (places_text (xs ++ p ∷ [])))) (sym empty);
     }

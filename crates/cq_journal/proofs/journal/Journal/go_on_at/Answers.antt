@@ -6,6 +6,7 @@ use Rattle.cq_disk.specs.Region.{part}
 use Rattle.cq_disk.proofs.Moments.{weakened, runs_on, started}
 use Rattle.cq_records.specs.Frames.{frames, has_no_zero, joined, all_sound}
 use Rattle.cq_records.proofs.Frames.{of_zeros}
+use Rattle.cq_journal.specs.declared.number.TheConstants.{NUMBER_LIMIT}
 use Rattle.cq_journal.specs.Regions.{Each, AreApart, places_text, HasRecords, records_at}
 use Rattle.cq_journal.specs.Roots.{numbered, IsOldOrNew}
 use Rattle.cq_journal.proofs.Regions.{kept_of, last_of, each_so, each_more, each_left, places_long, no_zero_places, part_same, kept_blanked, while_named, records_kept}
@@ -13,10 +14,10 @@ use Rattle.cq_journal.proofs.journal.Journal.go_on_at.Goals as goal
 
 pub with_next-requires-clause-closed : goal.with_next-requires-clause-closed
 with_next-requires-clause-closed g c =
-    subst (λ (xs : List ℕ). Each (λ n. n < 1078203909375) xs) (sym c.deref.ensures.value) (each_left (λ n. n < 1078203909375) c.args.self.now.closed.items c.args.self.now.growing c.requires.journal.small)
+    subst (λ (xs : List ℕ). Each (λ n. n < NUMBER_LIMIT) xs) (sym c.deref.ensures.value) (each_left (λ n. n < NUMBER_LIMIT) c.args.self.now.closed.items c.args.self.now.growing c.requires.journal.regions.small)
 
 pub with_next-requires-clause-growing : goal.with_next-requires-clause-growing
-with_next-requires-clause-growing g c = last_of (λ n. n < 1078203909375) c.args.self.now.closed.items c.args.self.now.growing c.requires.journal.small
+with_next-requires-clause-growing g c = last_of (λ n. n < NUMBER_LIMIT) c.args.self.now.closed.items c.args.self.now.growing c.requires.journal.regions.small
 
 pub put-requires-clause-text : goal.put-requires-clause-text
 put-requires-clause-text g c =
@@ -42,7 +43,7 @@ returns-in_err-closed-clause-any_moment g c = λ honest.
     let places : List ℕ = j.closed.items ++ j.growing ∷ [] in
     let P : List ℕ → Type 0 = HasRecords j.root.log.device.len j.len (records_at j.len places (d.seen device)) in
     started d.moment d.left_since device P (λ f left.
-    subst P (sym (q.root.durable f (g.met.D.Device.only_now device f left))) (kept_of j.root.log.device.len j.len j.root.number places (d.seen device) q.small (q.names honest)))
+    subst P (sym (q.regions.root.durable f (g.met.D.Device.only_now device f left))) (kept_of j.root.log.device.len j.len j.root.number places (d.seen device) q.regions.small (q.regions.names honest)))
 
 pub returns-in_err-blank_at-clause-any_moment : goal.returns-in_err-blank_at-clause-any_moment
 returns-in_err-blank_at-clause-any_moment g c = λ honest.
@@ -54,7 +55,7 @@ returns-in_err-blank_at-clause-any_moment g c = λ honest.
     let places : List ℕ = j.closed.items ++ j.growing ∷ [] in
     let h = j.root.log.device.len in
     weakened d.moment d.left_since device mid _ _ c.blank_at.ensures.any_moment (λ f near.
-    kept_blanked h j.len j.root.number c.args.place places (d.seen device) f q.small c.requires.free.behind c.requires.free.apart (q.names (c.blank_at.ensures.honest honest)) near)
+    kept_blanked h j.len j.root.number c.args.place places (d.seen device) f q.regions.small c.requires.free.behind c.requires.free.apart (q.regions.names (c.blank_at.ensures.honest honest)) near)
 
 pub returns-in_err-put-clause-any_moment : goal.returns-in_err-put-clause-any_moment
 returns-in_err-put-clause-any_moment g c = λ honest.
@@ -70,13 +71,13 @@ returns-in_err-put-clause-any_moment g c = λ honest.
     let p = c.args.place in
     let b = c.in_ok-blank_at.ensures in
     let honest_mid = c.put.ensures.honest honest in
-    let names = q.names (c.blank_at.ensures.honest honest_mid) in
+    let names = q.regions.names (c.blank_at.ensures.honest honest_mid) in
     let P : List ℕ → Type 0 = HasRecords h j.len (records_at j.len places (d.seen device)) in
     let text_is : c.deref-2.result.now ≡ places_text (places ++ p ∷ []) = c.deref-2.ensures.value ∙ c.in_ok-closed.ensures.text ∙ ap (λ (xs : List ℕ). places_text ((xs ++ j.growing ∷ []) ++ p ∷ [])) c.deref.ensures.value in
     let first : LeavesOnly d.moment d.left_since device mid P = weakened d.moment d.left_since device mid _ P c.blank_at.ensures.any_moment (λ f near.
-    kept_blanked h j.len j.root.number p places (d.seen device) f q.small c.requires.free.behind c.requires.free.apart names near) in
+    kept_blanked h j.len j.root.number p places (d.seen device) f q.regions.small c.requires.free.behind c.requires.free.apart names near) in
     let second : LeavesOnly d.moment d.left_since mid fin P = weakened d.moment d.left_since mid fin _ P (c.put.ensures.any_moment honest) (λ f either.
-    while_named h j.len j.root.number p places (d.seen device) (d.seen mid) q.small c.requires.free.small q.behind c.requires.free.behind c.requires.free.apart names b.beside b.zeros (blanked.number + 1) f
+    while_named h j.len j.root.number p places (d.seen device) (d.seen mid) q.regions.small c.requires.free.small q.regions.behind c.requires.free.behind c.requires.free.apart names b.beside b.zeros (blanked.number + 1) f
     (subst (λ (k : ℕ). IsOldOrNew k (d.seen mid) (numbered (blanked.number + 1) (places_text (places ++ p ∷ []))) f) b.half
     (subst (λ (text : List ℕ). IsOldOrNew blanked.log.device.len (d.seen mid) (numbered (blanked.number + 1) text) f) text_is either))) in
     runs_on d.moment d.left_since device mid fin P first second
@@ -95,13 +96,13 @@ returns-clause-any_moment g c = λ honest.
     let p = c.args.place in
     let b = c.in_ok-blank_at.ensures in
     let honest_mid = c.put.ensures.honest honest in
-    let names = q.names (c.blank_at.ensures.honest honest_mid) in
+    let names = q.regions.names (c.blank_at.ensures.honest honest_mid) in
     let P : List ℕ → Type 0 = HasRecords h j.len (records_at j.len places (d.seen device)) in
     let text_is : c.deref-2.result.now ≡ places_text (places ++ p ∷ []) = c.deref-2.ensures.value ∙ c.in_ok-closed.ensures.text ∙ ap (λ (xs : List ℕ). places_text ((xs ++ j.growing ∷ []) ++ p ∷ [])) c.deref.ensures.value in
     let first : LeavesOnly d.moment d.left_since device mid P = weakened d.moment d.left_since device mid _ P c.blank_at.ensures.any_moment (λ f near.
-    kept_blanked h j.len j.root.number p places (d.seen device) f q.small c.requires.free.behind c.requires.free.apart names near) in
+    kept_blanked h j.len j.root.number p places (d.seen device) f q.regions.small c.requires.free.behind c.requires.free.apart names near) in
     let second : LeavesOnly d.moment d.left_since mid fin P = weakened d.moment d.left_since mid fin _ P (c.put.ensures.any_moment honest) (λ f either.
-    while_named h j.len j.root.number p places (d.seen device) (d.seen mid) q.small c.requires.free.small q.behind c.requires.free.behind c.requires.free.apart names b.beside b.zeros (blanked.number + 1) f
+    while_named h j.len j.root.number p places (d.seen device) (d.seen mid) q.regions.small c.requires.free.small q.regions.behind c.requires.free.behind c.requires.free.apart names b.beside b.zeros (blanked.number + 1) f
     (subst (λ (k : ℕ). IsOldOrNew k (d.seen mid) (numbered (blanked.number + 1) (places_text (places ++ p ∷ []))) f) b.half
     (subst (λ (text : List ℕ). IsOldOrNew blanked.log.device.len (d.seen mid) (numbered (blanked.number + 1) text) f) text_is either))) in
     runs_on d.moment d.left_since device mid fin P first second
@@ -121,7 +122,7 @@ returns-clause-records g c =
     let closed_is : c.in_ok-closed.closed.items ≡ places = c.in_ok-closed.ensures.closed ∙ ap (λ (xs : List ℕ). xs ++ j.growing ∷ []) c.deref.ensures.value in
     let behind : drop (h + h) fin ≡ drop (h + h) mid = subst (λ (k : ℕ). drop (k + k) fin ≡ drop (k + k) mid) b.half c.in_ok-put.ensures.behind in
     ap (λ (xs : List ℕ). records_at j.len (xs ++ p ∷ []) fin) closed_is
-    ∙ records_kept h j.len p places old mid fin q.behind c.requires.free.behind c.requires.free.apart b.beside b.zeros behind
+    ∙ records_kept h j.len p places old mid fin q.regions.behind c.requires.free.behind c.requires.free.apart b.beside b.zeros behind
 
 pub returns-clause-journal : goal.returns-clause-journal
 returns-clause-journal g c =
@@ -144,24 +145,26 @@ returns-clause-journal g c =
     let text_is : c.deref-2.result.now ≡ places_text all = c.deref-2.ensures.value ∙ c.in_ok-closed.ensures.text ∙ ap (λ (xs : List ℕ). places_text ((xs ++ j.growing ∷ []) ++ p ∷ [])) c.deref.ensures.value in
     let half_is : new.log.device.len ≡ h = put.half ∙ b.half in
     let behind : drop (h + h) fin ≡ drop (h + h) mid = subst (λ (k : ℕ). drop (k + k) fin ≡ drop (k + k) mid) b.half put.behind in
-    let long : length fin ≡ length old = omega (arith, ap length behind, length-drop (h + h) fin, length-drop (h + h) mid, b.length, q.root.room, put.root.room, half_is) in
+    let long : length fin ≡ length old = omega (arith, ap length behind, length-drop (h + h) fin, length-drop (h + h) mid, b.length, q.regions.root.room, put.root.room, half_is) in
     let zeros : part p n fin ≡ replicate n 0 = part_same h n mid fin behind p c.requires.free.behind ∙ b.zeros in
     let none : frames (part p n fin) ≡ [] = ap frames zeros ∙ of_zeros n in
     record {
-      root = put.root;
-      behind = subst (λ (xs : List ℕ). Each (λ a. new.log.device.len + new.log.device.len ≤ a) (xs ++ p ∷ [])) (sym closed_is)
-          (each_so (λ a. h + h ≤ a) (λ a. new.log.device.len + new.log.device.len ≤ a) (λ a low. subst (λ (m : ℕ). m + m ≤ a) (sym half_is) low) all (each_more (λ a. h + h ≤ a) places p q.behind c.requires.free.behind));
-      within = subst (λ (xs : List ℕ). Each (λ a. a + n ≤ length fin) (xs ++ p ∷ [])) (sym closed_is)
-          (each_so (λ a. a + n ≤ length old) (λ a. a + n ≤ length fin) (λ a low. subst (λ (m : ℕ). a + n ≤ m) (sym long) low) all (each_more (λ a. a + n ≤ length old) places p q.within c.requires.free.within));
-      apart = subst (λ (xs : List ℕ). Each (λ a. AreApart n a p) xs) (sym closed_is) c.requires.free.apart;
-      small = subst (λ (xs : List ℕ). Each (λ a. a < 1078203909375) (xs ++ p ∷ [])) (sym closed_is) (each_more (λ a. a < 1078203909375) places p q.small c.requires.free.small);
+      regions = record {
+        root = put.root;
+        behind = subst (λ (xs : List ℕ). Each (λ a. new.log.device.len + new.log.device.len ≤ a) (xs ++ p ∷ [])) (sym closed_is)
+            (each_so (λ a. h + h ≤ a) (λ a. new.log.device.len + new.log.device.len ≤ a) (λ a low. subst (λ (m : ℕ). m + m ≤ a) (sym half_is) low) all (each_more (λ a. h + h ≤ a) places p q.regions.behind c.requires.free.behind));
+        within = subst (λ (xs : List ℕ). Each (λ a. a + n ≤ length fin) (xs ++ p ∷ [])) (sym closed_is)
+            (each_so (λ a. a + n ≤ length old) (λ a. a + n ≤ length fin) (λ a low. subst (λ (m : ℕ). a + n ≤ m) (sym long) low) all (each_more (λ a. a + n ≤ length old) places p q.regions.within c.requires.free.within));
+        apart = subst (λ (xs : List ℕ). Each (λ a. AreApart n a p) xs) (sym closed_is) c.requires.free.apart;
+        small = subst (λ (xs : List ℕ). Each (λ a. a < NUMBER_LIMIT) (xs ++ p ∷ [])) (sym closed_is) (each_more (λ a. a < NUMBER_LIMIT) places p q.regions.small c.requires.free.small);
+        names = λ honest.
+            put.text honest ∙ ap (λ (text : List ℕ). Some (numbered (blanked.number + 1) text)) text_is
+            ∙ (λ i. Some (numbered (sym put.number i) (places_text (sym closed_is i ++ p ∷ []))));
+      };
       log = record {
         room = n;
         is = zeros ∙ ap (λ (fs : List (List ℕ)). joined fs ++ replicate n 0) (sym none);
         ends = sym (ap (λ (fs : List (List ℕ)). length (joined fs)) none);
         sound = ap all_sound none;
       };
-      names = λ honest.
-          put.text honest ∙ ap (λ (text : List ℕ). Some (numbered (blanked.number + 1) text)) text_is
-          ∙ (λ i. Some (numbered (sym put.number i) (places_text (sym closed_is i ++ p ∷ []))));
     }

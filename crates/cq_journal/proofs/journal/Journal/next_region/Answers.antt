@@ -14,4 +14,4 @@ returns-then-not-is_free-clause-any_moment g c = λ honest.
     let places : List ℕ = j.closed.items ++ j.growing ∷ [] in
     let P : List ℕ → Type 0 = HasRecords j.root.log.device.len j.len (records_at j.len places (d.seen device)) in
     started d.moment d.left_since device P (λ f left.
-    subst P (sym (q.root.durable f (g.met.D.Device.only_now device f left))) (kept_of j.root.log.device.len j.len j.root.number places (d.seen device) q.small (q.names honest)))
+    subst P (sym (q.regions.root.durable f (g.met.D.Device.only_now device f left))) (kept_of j.root.log.device.len j.len j.root.number places (d.seen device) q.regions.small (q.regions.names honest)))

@@ -1,0 +1,70 @@
+-- The records of the region that grows are written into a free one, and the root names that in its place.
+use Rattle.std.proofs.Common.{◌≡◌, ⊎_elim, ℕ, zero, suc, ◌+◌, ◌<◌, ◌≤◌, List, [], ◌∷◌, ◌++◌, length, take, drop, sym, ◌∙◌, ap}
+use Rattle.std.specs.Prelude.{map, replicate, Some}
+use Rattle.cq_disk.specs.Region.{part, Beside}
+use Rattle.cq_records.specs.Frames.{text_of, frames, records, joined, all_sound}
+use Rattle.cq_records.specs.Layout.{IsLog}
+use Rattle.cq_records.specs.Outcomes.{HasPrefixInPart}
+use Rattle.cq_records.proofs.Frames.{of_zeros}
+use Rattle.cq_journal.specs.declared.number.TheConstants.{NUMBER_LIMIT}
+use Rattle.cq_journal.specs.Roots.{root_of, numbered, IsOldOrNew}
+use Rattle.cq_journal.specs.Regions.{places_text, records_at, Each, AreApart, HasRecords}
+use Rattle.cq_journal.proofs.Regions.{append-none, each_left, each_more, grows, kept_blanked, kept_of, last_of, part_same, records_apart, records_more, records_same, root_apart}
+
+take_none : (n : ℕ) (rs : List (List ℕ)) → rs ++ take n (map text_of []) ≡ rs
+take_none zero rs = append-none rs
+take_none (suc n) rs = append-none rs
+
+-- The region at g grows and is read, and the one at p is free.
+module _ (h len number g p : ℕ) (ns old : List ℕ) (small : Each (λ n. n < NUMBER_LIMIT) (ns ++ g ∷ [])) (low : Each (λ n. h + h ≤ n) (ns ++ g ∷ [])) (apart : Each (λ n. AreApart len n g) ns)
+    (root : root_of h old ≡ Some (numbered number (places_text (ns ++ g ∷ [])))) where
+  abbrev pub rs : List (List ℕ)
+  rs = records_at len (ns ++ g ∷ []) old
+
+  -- while it is read
+  pub while_read : (c : List ℕ) → HasPrefixInPart g len (frames (part g len old)) [] old c → HasRecords h len rs c
+  while_read c both =
+      let prefix = grows h len number g ns old c [] small apart (last_of (λ n. h + h ≤ n) ns g low) root both.1 both.0 in
+      prefix.1 ∙ ap (λ (xs : List (List ℕ)). Some xs) (take_none prefix.0 rs)
+
+  module _ (low_p : h + h ≤ p) (small_p : p < NUMBER_LIMIT) (free : Each (λ n. AreApart len n p) (ns ++ g ∷ [])) where
+    -- while the free region is written
+    pub while_copied : (c : List ℕ) → Beside p len old c → HasRecords h len rs c
+    while_copied c near = kept_blanked h len number p (ns ++ g ∷ []) old c small low_p free root near
+
+    -- The copy has the same records.
+    module _ (mid : List ℕ) (beside : Beside p len old mid) (copied : records (part p len mid) ≡ records (part g len old)) where
+      pub records_moved : (c : List ℕ) → drop (h + h) c ≡ drop (h + h) mid → records_at len (ns ++ p ∷ []) c ≡ rs
+      records_moved c same =
+          records_more len ns p c
+          ∙ (λ i. ((records_same h len mid c same ns (each_left (λ n. h + h ≤ n) ns g low) ∙ records_apart len p ns old mid (each_left (λ n. AreApart len n p) ns g free) beside) i)
+          ++ ((ap records (part_same h len mid c same p low_p) ∙ copied) i))
+          ∙ sym (records_more len ns g old)
+
+      -- while the root changes
+      pub while_moved : (m : ℕ) (c : List ℕ) → IsOldOrNew h mid (numbered m (places_text (ns ++ p ∷ []))) c → HasRecords h len rs c
+      while_moved m c either = ⊎_elim as_old as_new either.root
+        where
+          as_old : root_of h c ≡ root_of h mid → HasRecords h len rs c
+          as_old is =
+              kept_of h len number (ns ++ g ∷ []) c small (is ∙ root_apart h p len old mid low_p beside ∙ root)
+              ∙ ap (λ (xs : List (List ℕ)). Some xs) (records_same h len mid c either.behind (ns ++ g ∷ []) low ∙ records_apart len p (ns ++ g ∷ []) old mid free beside)
+
+          as_new : root_of h c ≡ Some (numbered m (places_text (ns ++ p ∷ []))) → HasRecords h len rs c
+          as_new is =
+              kept_of h len m (ns ++ p ∷ []) c (each_more (λ n. n < NUMBER_LIMIT) ns p (each_left (λ n. n < NUMBER_LIMIT) ns g small) small_p) is
+              ∙ ap (λ (xs : List (List ℕ)). Some xs) (records_moved c either.behind)
+
+-- a region of zeros is an empty log
+pub blank_frames : (len : ℕ) (bytes : List ℕ) → bytes ≡ replicate len 0 → frames bytes ≡ []
+blank_frames len bytes zeros = ap frames zeros ∙ of_zeros len
+
+pub blank_log : (len : ℕ) (bytes : List ℕ) → bytes ≡ replicate len 0 → IsLog bytes 0
+blank_log len bytes zeros =
+    let none = blank_frames len bytes zeros in
+    record {
+      room = len;
+      is = zeros ∙ ap (λ (fs : List (List ℕ)). joined fs ++ replicate len 0) (sym none);
+      ends = sym (ap (λ (fs : List (List ℕ)). length (joined fs)) none);
+      sound = ap all_sound none;
+    }

@@ -1,0 +1,23 @@
+-- Reading goes on behind a record.
+use Rattle.std.proofs.Common.{◌≡◌, ℕ, ◌+◌, List, [], ◌∷◌, ◌++◌, length, drop, sym, ◌∙◌, ap, arith, append_assoc, drop-drop}
+use Rattle.std.specs.Prelude.{Bool, false, ◌&&◌, map}
+use Rattle.cq_records.specs.Frames.{text_of, frames, records, all_sound, BeginsWith}
+
+module _ (at behind : ℕ) (bytes text : List ℕ) (begins : BeginsWith text (drop at bytes)) (is : behind ≡ at + 9 + length text) where
+  later : drop (9 + length text) (drop at bytes) ≡ drop behind bytes
+  later = drop-drop (9 + length text) at bytes ∙ ap (λ (k : ℕ). drop k bytes) (omega (arith, is))
+
+  pub one_read : records (drop at bytes) ≡ text ∷ records (drop behind bytes)
+  one_read = ap (map text_of) begins.whole ∙ (λ i. sym begins.reads i ∷ records (later i))
+
+  pub still_unsound : all_sound (frames (drop behind bytes)) ≡ false → all_sound (frames (drop at bytes)) ≡ false
+  still_unsound unsound =
+      ap all_sound begins.whole ∙ ap (λ (sound : Bool). sound && all_sound (frames (drop (9 + length text) (drop at bytes)))) begins.sound
+      ∙ ap (λ (rest : List ℕ). all_sound (frames rest)) later ∙ unsound
+
+  -- the records of a batch, and those that are left
+  pub one_added : (batch added all : List (List ℕ)) → added ≡ batch ++ text ∷ [] → batch ++ records (drop at bytes) ≡ all → added ++ records (drop behind bytes) ≡ all
+  one_added batch added all added_is so_far =
+      ap (λ (rs : List (List ℕ)). rs ++ records (drop behind bytes)) added_is
+      ∙ append_assoc batch (text ∷ []) (records (drop behind bytes))
+      ∙ ap (λ (rs : List (List ℕ)). batch ++ rs) (sym one_read) ∙ so_far
