@@ -2,6 +2,7 @@
 use Rattle.std.specs.Prelude.{◌≡◌, ◌⊎◌, ℕ, ◌+◌, ◌-◌, ◌<◌, ◌≤◌, length, IsTrue}
 use Rattle.cq_disk.specs.Device.{Only}
 use Rattle.cq_disk.specs.declared.device.Device.{Ghosts}
+use Rattle.cq_journal.specs.declared.number.TheConstants.{NUMBER_LIMIT}
 use Rattle.cq_journal.specs.declared.root.Root.{Root}
 use Rattle.cq_journal.specs.Roots.{number_in, half_of}
 
@@ -23,6 +24,10 @@ module _ {D : Type 0} {g : Ghosts D} where
   -- where the half in use begins
   abbrev pub root_start : Root D g → ℕ
   root_start root = root.log.device.start
+
+  -- there is a number left, and a half has room for a record with a text of this length
+  abbrev pub HasRoom : Root D g → ℕ → Type 0
+  HasRoom root len = (root.number + 1 < NUMBER_LIMIT) × (len + 14 ≤ root_half root)
 
   -- Both halves lie in the device, which is on the medium as it is seen. If reads gave what was seen, the half in use has the root's
   -- number, and the other one a lower one.

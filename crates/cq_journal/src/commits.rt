@@ -38,7 +38,7 @@ impl<D: Device> Root<D> {
             (HasPrefixInPart place len (frames (part place len (D.seen (root_device self.old)))) (frames (batch_bytes batch.now)) (D.seen (root_device self.old))) }
         ensures keeps { D.keeps (root_device self.old) (root_device self.new) }
         ensures honest { D.is_honest (root_device self.new) ≡ D.is_honest (root_device self.old) }
-        ensures full { IsErrOf result LogFault.Full → IsRoot self.new × (root_device self.new ≡ root_device self.old) × (log_end self.new ≡ end) }
+        ensures full { IsErrOf result LogFault.Full → IsRoot self.new × (root_device self.new ≡ root_device self.old) × (log_end self.new ≡ end) × (len < end + length (batch_bytes batch.now)) }
         ensures failed { IsErrOf result LogFault.Failed → D.faults (root_device self.old) < D.faults (root_device self.new) }
         ensures later { D.faults (root_device self.old) ≤ D.faults (root_device self.new) }
     {

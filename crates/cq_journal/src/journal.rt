@@ -110,8 +110,8 @@ impl<D: Device> Journal<D> {
     }
 
     /// Goes on in another region, which loses what it has: records are added there from then on. The records are the same,
-    /// also after a crash at any moment of the call. `Full`: there is no free region at this place, which changes nothing,
-    /// or the root has no room for one more place. After any other fault the journal is to be opened anew. It takes time in
+    /// also after a crash at any moment of the call. `Full`: there is no free region at this place, or the
+    /// root has no room for one more; nothing was changed. After any other fault the journal is to be opened anew. It takes time in
     /// proportion to the length of a region.
     pub fn next_region(&mut self, alloc: Global, place: usize) -> Result<(), LogFault>
         requires { IsJournal self.old }
@@ -122,6 +122,7 @@ impl<D: Device> Journal<D> {
         ensures any_moment { IsTrue (D.is_honest (journal_device self.new)) → LeavesOnly D.moment D.left_since (journal_device self.old) (journal_device self.new)
             (HasRecords (journal_half self.old) (region_len self.old) (journal_records self.old)) }
         ensures honest { IsTrue (D.is_honest (journal_device self.new)) → IsTrue (D.is_honest (journal_device self.old)) }
+        ensures full { IsErrOf result LogFault.Full → self.new ≡ self.old }
         ensures failed { IsErrOf result LogFault.Failed → D.faults (journal_device self.old) < D.faults (journal_device self.new) }
     {
         if !self.is_free(place) {
@@ -141,9 +142,13 @@ impl<D: Device> Journal<D> {
         ensures any_moment { IsTrue (D.is_honest (journal_device self.new)) → LeavesOnly D.moment D.left_since (journal_device self.old) (journal_device self.new)
             (HasRecords (journal_half self.old) (region_len self.old) (journal_records self.old)) }
         ensures honest { IsTrue (D.is_honest (journal_device self.new)) → IsTrue (D.is_honest (journal_device self.old)) }
+        ensures full { IsErrOf result LogFault.Full → self.new ≡ self.old }
         ensures failed { IsErrOf result LogFault.Failed → D.faults (journal_device self.old) < D.faults (journal_device self.new) }
     {
         let (closed, text) = with_next(alloc, &self.closed, self.growing as u64, place as u64)?;
+        if !self.root.has_room(&text) {
+            return Err(LogFault::Full);
+        }
         self.root.blank_at(place, self.len)?;
         self.root.put(alloc, &text)?;
         self.closed = closed;

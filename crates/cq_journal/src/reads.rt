@@ -29,6 +29,7 @@ impl<D: Device> Root<D> {
         ensures half { root_half self.new ≡ root_half self.old }
         ensures number { root_number self.new ≡ root_number self.old }
         ensures read { OnOk result (IsTrue (D.is_honest (root_device self.new)) → records (batch_bytes batch.new) ≡ records (batch_bytes batch.old) ++ records (part place len (D.seen (root_device self.old)))) }
+        ensures length { OnOk result (length (batch_bytes batch.new) ≤ length (batch_bytes batch.old) + len) }
         ensures damaged { IsErrOf result ReadFault.Damaged → IsTrue (D.is_honest (root_device self.new)) → all_sound (frames (part place len (D.seen (root_device self.old)))) ≡ false }
         ensures seen { D.seen (root_device self.new) ≡ D.seen (root_device self.old) }
         ensures any_moment { LeavesOnly D.moment D.left_since (root_device self.old) (root_device self.new)

@@ -105,8 +105,9 @@ impl<D: Device> Journal<D> {
 
     /// Makes a journal ready for records after any crash: those of the region that grows are written into a free one, which
     /// the root then names in its place. So what a sync that failed had left behind counts for nothing. The records are the
-    /// same, also after a crash at any moment of the call. `Full`: there is no free region, which changes nothing. After
-    /// another fault it is to be opened anew. It takes memory and time in proportion to the length of a region.
+    /// same, also after a crash at any moment of the call. `Full`: there is no free region, or the root has no number left;
+    /// nothing was changed. After another fault it is to be opened anew. It takes memory and time in proportion to the length
+    /// of a region.
     pub fn recover(&mut self, alloc: Global) -> Result<(), OpenFault>
         requires { HasRegions self.old }
 
@@ -116,6 +117,7 @@ impl<D: Device> Journal<D> {
         ensures any_moment { IsTrue (D.is_honest (journal_device self.new)) → LeavesOnly D.moment D.left_since (journal_device self.old) (journal_device self.new)
             (HasRecords (journal_half self.old) (region_len self.old) (journal_records self.old)) }
         ensures honest { IsTrue (D.is_honest (journal_device self.new)) → IsTrue (D.is_honest (journal_device self.old)) }
+        ensures full { IsErrOf result OpenFault.Full → self.new ≡ self.old }
         ensures failed { IsErrOf result OpenFault.Failed → D.faults (journal_device self.old) < D.faults (journal_device self.new) }
     {
         let Some(place) = self.free_region() else {
@@ -135,9 +137,13 @@ impl<D: Device> Journal<D> {
         ensures any_moment { IsTrue (D.is_honest (journal_device self.new)) → LeavesOnly D.moment D.left_since (journal_device self.old) (journal_device self.new)
             (HasRecords (journal_half self.old) (region_len self.old) (journal_records self.old)) }
         ensures honest { IsTrue (D.is_honest (journal_device self.new)) → IsTrue (D.is_honest (journal_device self.old)) }
+        ensures full { IsErrOf result OpenFault.Full → self.new ≡ self.old }
         ensures failed { IsErrOf result OpenFault.Failed → D.faults (journal_device self.old) < D.faults (journal_device self.new) }
     {
         let text = text_of(alloc, &self.closed, place as u64)?;
+        if !self.root.has_room(&text) {
+            return Err(OpenFault::Full);
+        }
         let end = self.copy_to(alloc, place)?;
         self.root.put(alloc, &text)?;
         self.growing = place;
@@ -153,6 +159,7 @@ impl<D: Device> Journal<D> {
         ensures regions { OnOk result (HasRegions self.new) }
         ensures same { (self.new.closed ≡ self.old.closed) × (self.new.growing ≡ self.old.growing) × (region_len self.new ≡ region_len self.old) }
         ensures half { journal_half self.new ≡ journal_half self.old }
+        ensures number { root_number self.new.root ≡ root_number self.old.root }
         ensures log { IfOk result (λ end. IsLog (part place (region_len self.old) (D.seen (journal_device self.new))) end) }
         ensures copied { OnOk result (IsTrue (D.is_honest (journal_device self.new)) → records (part place (region_len self.old) (D.seen (journal_device self.new))) ≡ records (part self.old.growing (region_len self.old) (D.seen (journal_device self.old)))) }
         ensures length { length (D.seen (journal_device self.new)) ≡ length (D.seen (journal_device self.old)) }
@@ -160,6 +167,7 @@ impl<D: Device> Journal<D> {
         ensures any_moment { IsTrue (D.is_honest (journal_device self.new)) → LeavesOnly D.moment D.left_since (journal_device self.old) (journal_device self.new)
             (HasRecords (journal_half self.old) (region_len self.old) (journal_records self.old)) }
         ensures honest { IsTrue (D.is_honest (journal_device self.new)) → IsTrue (D.is_honest (journal_device self.old)) }
+        ensures full { IsErrOf result OpenFault.Full → ⊥ }
         ensures failed { IsErrOf result OpenFault.Failed → D.faults (journal_device self.old) < D.faults (journal_device self.new) }
         ensures later { D.faults (journal_device self.old) ≤ D.faults (journal_device self.new) }
     {

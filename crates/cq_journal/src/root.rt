@@ -1,5 +1,5 @@
 //! The root of a file: a text that is replaced as a whole.
-ghost use Rattle.std.specs.Prelude.{◌≡◌, ◌⊎◌, ◌+◌, ◌<◌, ◌≤◌, ◌^◌, [], ◌∷◌, true, length, drop, Some, IsTrue, IfOk, OnOk, IsErrOf};
+ghost use Rattle.std.specs.Prelude.{◌≡◌, ◌⊎◌, ◌+◌, ◌<◌, ◌≤◌, ◌^◌, [], ◌∷◌, true, false, length, drop, Some, IsTrue, IfOk, OnOk, IsErrOf};
 ghost use Rattle.cq_disk.specs.Device.{Only, LeavesOnly, HasCause};
 ghost use Rattle.cq_records.specs.Frames.{has_no_zero, records};
 ghost use Rattle.cq_records.specs.Batch.{batch_bytes};
@@ -8,11 +8,14 @@ ghost use Rattle.cq_journal.specs.Roots.{root_of, numbered};
 use crate::number::push_number;
 use crate::{Found, NUMBER_LIMIT};
 use cq_disk::{Device, DeviceFault, Region};
-use cq_records::{Batch, Log, LogFault, blank};
+use cq_records::{Batch, HEAD_LENGTH, Log, LogFault, blank};
 use std::alloc::{AllocError, Global};
 
 /// The most bytes that the text of a root may have: a record's, without those of its number.
 pub const ROOT_TEXT_LIMIT: usize = 16_581_369;
+
+/// The bytes of a root's record before its text, with the head of its frame and its number.
+const RECORD_HEAD: usize = HEAD_LENGTH + 5;
 
 /// A root in the first bytes of a device: two halves of one length, of which one has the text. Each change is written
 /// into the other one, which is then in use.
@@ -29,7 +32,8 @@ pub(crate) fn batch_of(alloc: Global, number: u64, text: &[u8]) -> Result<Batch,
     requires number { number < NUMBER_LIMIT }
     requires text { has_no_zero text.now ≡ true }
     requires short { length text.now ≤ ROOT_TEXT_LIMIT }
-    ensures { IfOk result (λ batch. records (batch_bytes batch) ≡ numbered number text.now ∷ []) }
+    ensures records { IfOk result (λ batch. records (batch_bytes batch) ≡ numbered number text.now ∷ []) }
+    ensures length { IfOk result (λ batch. length (batch_bytes batch) ≡ length text.now + 14) }
 {
     let mut record = Vec::new(alloc);
     push_number(&mut record, number)?;
@@ -40,7 +44,7 @@ pub(crate) fn batch_of(alloc: Global, number: u64, text: &[u8]) -> Result<Batch,
 }
 
 impl<D: Device> Root<D> {
-    ghost use Rattle.cq_journal.specs.Root.{root_half, root_device, root_number, IsRoot};
+    ghost use Rattle.cq_journal.specs.Root.{root_half, root_device, root_number, IsRoot, HasRoom};
     ghost use Rattle.cq_journal.specs.Found.{IsRootAt};
     ghost use Rattle.cq_journal.specs.Roots.{IsOldOrNew, IsSameRoot};
     ghost use Rattle.cq_journal.specs.within.Turns.{IsTurned};
@@ -66,8 +70,18 @@ impl<D: Device> Root<D> {
         }
     }
 
+    /// Whether another text of this length can be put: there is a number left, and a half has room for the record.
+    pub fn has_room(&self, text: &[u8]) -> bool
+        ensures room { result ≡ true → HasRoom self.now (length text.now) }
+        ensures none { result ≡ false → HasRoom self.now (length text.now) → ⊥ }
+    {
+        self.number < NUMBER_LIMIT - 1
+            && self.log.device.len >= RECORD_HEAD
+            && text.len() <= self.log.device.len - RECORD_HEAD
+    }
+
     /// Puts another text in the place of the root's. After `Ok` each crash leaves it; a crash at any moment of the
-    /// call leaves the old one or the new one. `Full`: it doesn't fit in a half, or there is no number left. After a
+    /// call leaves the old one or the new one. `Full`: there is no room for it, and nothing was changed. After another
     /// fault the root is to be opened anew.
     pub fn put(&mut self, alloc: Global, text: &[u8]) -> Result<(), LogFault>
         requires root { IsRoot self.old }
@@ -83,9 +97,10 @@ impl<D: Device> Root<D> {
             (IsOldOrNew (root_half self.old) (D.seen (root_device self.old)) (numbered (root_number self.old + 1) text.now)) }
         ensures keeps { D.keeps (root_device self.old) (root_device self.new) }
         ensures honest { IsTrue (D.is_honest (root_device self.new)) → IsTrue (D.is_honest (root_device self.old)) }
+        ensures full { IsErrOf result LogFault.Full → (self.new ≡ self.old) × (HasRoom self.old (length text.now) → ⊥) }
         ensures failed { IsErrOf result LogFault.Failed → D.faults (root_device self.old) < D.faults (root_device self.new) }
     {
-        if self.number >= NUMBER_LIMIT - 1 {
+        if !self.has_room(text) {
             return Err(LogFault::Full);
         }
         let batch = batch_of(alloc, self.number + 1, text)?;

@@ -69,6 +69,7 @@ pub fn read_into<D: Device>(
     batch: &mut Batch,
 ) -> Result<(), ReadFault>
     ensures read { OnOk result (IsTrue (D.is_honest device.new) → records (batch_bytes batch.new) ≡ records (batch_bytes batch.old) ++ records (D.seen device.old)) }
+    ensures length { OnOk result (length (batch_bytes batch.new) ≤ length (batch_bytes batch.old) + length (D.seen device.old)) }
     ensures damaged { IsErrOf result ReadFault.Damaged → IsTrue (D.is_honest device.new) → all_sound (frames (D.seen device.old)) ≡ false }
     ensures failed { IsErrOf result ReadFault.Failed → D.faults device.old < D.faults device.new }
     ensures later { D.faults device.old ≤ D.faults device.new }

@@ -39,7 +39,7 @@ returns-clause-text g c =
     let at : part last.start last.len s3 ≡ part 0 h s3 = λ i. part (start_is i) (len_is i) s3 in
     let is_new : half_of 0 h s3 ≡ Some new =
     ap (λ (l : List ℕ). first_of (records l)) (sym at) ∙ ap (λ (fs : List (List ℕ)). first_of (map text_of fs)) (c.in_ok-commit.ensures.acknowledged ∙ ap (λ (fs : List (List ℕ)). fs ++ frames batch) c.new-log.ensures.empty)
-    ∙ ap first_of c.in_ok-batch.ensures in
+    ∙ ap first_of c.in_ok-batch.ensures.records in
     made h new s3 one is_new other_none
 
 pub returns-clause-root : goal.returns-clause-root
@@ -71,7 +71,7 @@ returns-clause-root g c =
     let at : part last.start last.len s3 ≡ part 0 h s3 = λ i. part (start_is i) (len_is i) s3 in
     let is_new : half_of 0 h s3 ≡ Some new =
     ap (λ (l : List ℕ). first_of (records l)) (sym at) ∙ ap (λ (fs : List (List ℕ)). first_of (map text_of fs)) (c.in_ok-commit.ensures.acknowledged ∙ ap (λ (fs : List (List ℕ)). fs ++ frames batch) c.new-log.ensures.empty)
-    ∙ ap first_of c.in_ok-batch.ensures in
+    ∙ ap first_of c.in_ok-batch.ensures.records in
     let back : last.len - last.start ≡ h = omega (arith, start_is, len_is) in
     let other_is : number_in (half_of (last.len - last.start) last.len s3) ≡ number_in (half_of h h s3) = λ i. number_in (half_of (back i) (len_is i) s3) in
     let zero_in : number_in (half_of h h s3) ≡ 0 = ap (λ (fs : List (List ℕ)). number_in (first_of (map text_of fs))) other_none in

@@ -1,8 +1,8 @@
 -- A record more.
-use Rattle.std.proofs.Common.{◌≡◌, ◌≤◌, ◌∙◌, ℕ, List, length, drop, sym, ap, subst, arith}
+use Rattle.std.proofs.Common.{◌≡◌, ◌≤◌, ◌∙◌, ℕ, List, length, drop, sym, ap, subst, arith, length-append}
 use Rattle.std.specs.Prelude.{[], ◌∷◌, ◌++◌, ◌+◌, IsTrue, IfSome, MatchOption}
 use Rattle.cq_disk.proofs.Moments.{runs_on, weakened}
-use Rattle.cq_records.specs.Frames.{frames, records, BeginsWith}
+use Rattle.cq_records.specs.Frames.{framed, frames, records, BeginsWith}
 use Rattle.cq_records.proofs.Steps.{one_added, still_unsound}
 use Rattle.cq_records.proofs.reading.read_into.Goals as goal
 
@@ -22,6 +22,7 @@ loop-found-preserved g c =
     (subst (λ (o : _). MatchOption o (frames (drop c.loop-found.at (d.seen now)) ≡ []) (λ it. BeginsWith it.text.items (drop c.loop-found.at (d.seen now)))) c.in-Some.is (c.in_ok-found.ensures.found honest)) in
     record {
       within = subst (λ (bytes : List ℕ). found.behind ≤ length bytes) (sym e.seen) behind.1;
+      long = omega (arith, i.long, behind.0, ap length c.in_ok-add.ensures.bytes, length-append c.loop-found.batch.bytes.items (framed c.deref.result.now), ap length c.deref.ensures.value);
       seen = e.seen ∙ i.seen;
       read = λ honest. one_added c.loop-found.at found.behind old found.text.items (begins honest) behind.0 _ _ _ (c.in_ok-add.ensures.records ∙ ap (λ (text : List ℕ). records c.loop-found.batch.bytes.items ++ text ∷ []) c.deref.ensures.value) (i.read (e.honest honest));
       damaged = λ honest unsound. i.damaged (e.honest honest) (still_unsound c.loop-found.at found.behind old found.text.items (begins honest) behind.0 unsound);

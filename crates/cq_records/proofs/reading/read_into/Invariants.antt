@@ -1,5 +1,5 @@
 -- The records before the place have been added.
-use Rattle.std.proofs.Common.{◌≡◌, ◌-◌, ◌≤◌, ◌++◌, List, ℕ, length, drop}
+use Rattle.std.proofs.Common.{◌≡◌, ◌+◌, ◌-◌, ◌≤◌, ◌++◌, List, ℕ, length, drop}
 use Rattle.std.specs.Prelude.{IsTrue, false}
 use Rattle.cq_disk.specs.Device.{LeavesOnly}
 use Rattle.cq_records.specs.Frames.{frames, records, all_sound}
@@ -8,6 +8,7 @@ use Rattle.cq_records.proofs.reading.read_into.Given as goal
 abbrev pub invariant-loop-found : goal.invariant-loop-found
 invariant-loop-found g l = record {
   within : l.at ≤ length (g.D.Device.seen l.device);
+  long : length l.batch.bytes.items ≡ length l.fn.batch.bytes.items + l.at;
   seen : g.D.Device.seen l.device ≡ g.D.Device.seen l.fn.device;
   read : IsTrue (g.D.Device.is_honest l.device) → records l.batch.bytes.items ++ records (drop l.at (g.D.Device.seen l.fn.device)) ≡ records l.fn.batch.bytes.items ++ records (g.D.Device.seen l.fn.device);
   damaged : IsTrue (g.D.Device.is_honest l.device) → all_sound (frames (drop l.at (g.D.Device.seen l.fn.device))) ≡ false → all_sound (frames (g.D.Device.seen l.fn.device)) ≡ false;

@@ -22,7 +22,7 @@ with_next-requires-clause-growing g c = last_of (λ n. n < NUMBER_LIMIT) c.args.
 pub put-requires-clause-text : goal.put-requires-clause-text
 put-requires-clause-text g c =
     let j = c.args.self.now in
-    let text_is = c.deref-2.ensures.value ∙ c.in_ok-closed.ensures.text in
+    let text_is = c.deref-3.ensures.value ∙ c.in_ok-closed.ensures.text in
     ap has_no_zero text_is ∙ no_zero_places ((c.deref.result.now ++ j.growing ∷ []) ++ c.args.place ∷ [])
 
 pub put-requires-clause-short : goal.put-requires-clause-short
@@ -30,12 +30,23 @@ put-requires-clause-short g c =
     let j = c.args.self.now in
     let ns : List ℕ = c.deref.result.now ++ j.growing ∷ [] in
     let all : List ℕ = ns ++ c.args.place ∷ [] in
-    let text_is = c.deref-2.ensures.value ∙ c.in_ok-closed.ensures.text in
+    let text_is = c.deref-3.ensures.value ∙ c.in_ok-closed.ensures.text in
     let few : length ns ≡ length (j.closed.items ++ j.growing ∷ []) = ap (λ (xs : List ℕ). length (xs ++ j.growing ∷ [])) c.deref.ensures.value in
     omega (arith, ap length text_is, places_long all, length-append ns (c.args.place ∷ []), few, c.requires.free.few)
 
 pub returns-in_err-closed-clause-any_moment : goal.returns-in_err-closed-clause-any_moment
 returns-in_err-closed-clause-any_moment g c = λ honest.
+    let j = c.args.self.now in
+    let q = c.requires.journal in
+    let d = g.D.Device in
+    let device = j.root.log.device.device in
+    let places : List ℕ = j.closed.items ++ j.growing ∷ [] in
+    let P : List ℕ → Type 0 = HasRecords j.root.log.device.len j.len (records_at j.len places (d.seen device)) in
+    started d.moment d.left_since device P (λ f left.
+    subst P (sym (q.regions.root.durable f (g.met.D.Device.only_now device f left))) (kept_of j.root.log.device.len j.len j.root.number places (d.seen device) q.regions.small (q.regions.names honest)))
+
+pub returns-then-not-has_room-clause-any_moment : goal.returns-then-not-has_room-clause-any_moment
+returns-then-not-has_room-clause-any_moment g c = λ honest.
     let j = c.args.self.now in
     let q = c.requires.journal in
     let d = g.D.Device in
@@ -73,7 +84,7 @@ returns-in_err-put-clause-any_moment g c = λ honest.
     let honest_mid = c.put.ensures.honest honest in
     let names = q.regions.names (c.blank_at.ensures.honest honest_mid) in
     let P : List ℕ → Type 0 = HasRecords h j.len (records_at j.len places (d.seen device)) in
-    let text_is : c.deref-2.result.now ≡ places_text (places ++ p ∷ []) = c.deref-2.ensures.value ∙ c.in_ok-closed.ensures.text ∙ ap (λ (xs : List ℕ). places_text ((xs ++ j.growing ∷ []) ++ p ∷ [])) c.deref.ensures.value in
+    let text_is : c.deref-3.result.now ≡ places_text (places ++ p ∷ []) = c.deref-3.ensures.value ∙ c.in_ok-closed.ensures.text ∙ ap (λ (xs : List ℕ). places_text ((xs ++ j.growing ∷ []) ++ p ∷ [])) c.deref.ensures.value in
     let first : LeavesOnly d.moment d.left_since device mid P = weakened d.moment d.left_since device mid _ P c.blank_at.ensures.any_moment (λ f near.
     kept_blanked h j.len j.root.number p places (d.seen device) f q.regions.small c.requires.free.behind c.requires.free.apart names near) in
     let second : LeavesOnly d.moment d.left_since mid fin P = weakened d.moment d.left_since mid fin _ P (c.put.ensures.any_moment honest) (λ f either.
@@ -98,7 +109,7 @@ returns-clause-any_moment g c = λ honest.
     let honest_mid = c.put.ensures.honest honest in
     let names = q.regions.names (c.blank_at.ensures.honest honest_mid) in
     let P : List ℕ → Type 0 = HasRecords h j.len (records_at j.len places (d.seen device)) in
-    let text_is : c.deref-2.result.now ≡ places_text (places ++ p ∷ []) = c.deref-2.ensures.value ∙ c.in_ok-closed.ensures.text ∙ ap (λ (xs : List ℕ). places_text ((xs ++ j.growing ∷ []) ++ p ∷ [])) c.deref.ensures.value in
+    let text_is : c.deref-3.result.now ≡ places_text (places ++ p ∷ []) = c.deref-3.ensures.value ∙ c.in_ok-closed.ensures.text ∙ ap (λ (xs : List ℕ). places_text ((xs ++ j.growing ∷ []) ++ p ∷ [])) c.deref.ensures.value in
     let first : LeavesOnly d.moment d.left_since device mid P = weakened d.moment d.left_since device mid _ P c.blank_at.ensures.any_moment (λ f near.
     kept_blanked h j.len j.root.number p places (d.seen device) f q.regions.small c.requires.free.behind c.requires.free.apart names near) in
     let second : LeavesOnly d.moment d.left_since mid fin P = weakened d.moment d.left_since mid fin _ P (c.put.ensures.any_moment honest) (λ f either.
@@ -142,7 +153,7 @@ returns-clause-journal g c =
     let mid = d.seen blanked.log.device.device in
     let fin = d.seen new.log.device.device in
     let closed_is : c.in_ok-closed.closed.items ≡ places = c.in_ok-closed.ensures.closed ∙ ap (λ (xs : List ℕ). xs ++ j.growing ∷ []) c.deref.ensures.value in
-    let text_is : c.deref-2.result.now ≡ places_text all = c.deref-2.ensures.value ∙ c.in_ok-closed.ensures.text ∙ ap (λ (xs : List ℕ). places_text ((xs ++ j.growing ∷ []) ++ p ∷ [])) c.deref.ensures.value in
+    let text_is : c.deref-3.result.now ≡ places_text all = c.deref-3.ensures.value ∙ c.in_ok-closed.ensures.text ∙ ap (λ (xs : List ℕ). places_text ((xs ++ j.growing ∷ []) ++ p ∷ [])) c.deref.ensures.value in
     let half_is : new.log.device.len ≡ h = put.half ∙ b.half in
     let behind : drop (h + h) fin ≡ drop (h + h) mid = subst (λ (k : ℕ). drop (k + k) fin ≡ drop (k + k) mid) b.half put.behind in
     let long : length fin ≡ length old = omega (arith, ap length behind, length-drop (h + h) fin, length-drop (h + h) mid, b.length, q.regions.root.room, put.root.room, half_is) in

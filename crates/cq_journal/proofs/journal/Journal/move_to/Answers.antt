@@ -19,17 +19,28 @@ text_of-requires-clause-closed g c =
 
 pub put-requires-clause-text : goal.put-requires-clause-text
 put-requires-clause-text g c =
-    ap has_no_zero (c.deref-2.ensures.value ∙ c.in_ok-text.ensures) ∙ no_zero_places (c.deref.result.now ++ c.args.place ∷ [])
+    ap has_no_zero (c.deref-3.ensures.value ∙ c.in_ok-text.ensures) ∙ no_zero_places (c.deref.result.now ++ c.args.place ∷ [])
 
 pub put-requires-clause-short : goal.put-requires-clause-short
 put-requires-clause-short g c =
     let j = c.args.self.now in
     let all : List ℕ = c.deref.result.now ++ c.args.place ∷ [] in
     let places : List ℕ = j.closed.items ++ j.growing ∷ [] in
-    omega (arith, ap length (c.deref-2.ensures.value ∙ c.in_ok-text.ensures), places_long all, length-append c.deref.result.now (c.args.place ∷ []), ap length c.deref.ensures.value, length-append j.closed.items (j.growing ∷ []), c.requires.free.few)
+    omega (arith, ap length (c.deref-3.ensures.value ∙ c.in_ok-text.ensures), places_long all, length-append c.deref.result.now (c.args.place ∷ []), ap length c.deref.ensures.value, length-append j.closed.items (j.growing ∷ []), c.requires.free.few)
 
 pub returns-in_err-text-clause-any_moment : goal.returns-in_err-text-clause-any_moment
 returns-in_err-text-clause-any_moment g c = λ honest.
+    let j = c.args.self.now in
+    let q = c.requires.regions in
+    let d = g.D.Device in
+    let device = j.root.log.device.device in
+    let places : List ℕ = j.closed.items ++ j.growing ∷ [] in
+    let P : List ℕ → Type 0 = HasRecords j.root.log.device.len j.len (records_at j.len places (d.seen device)) in
+    started d.moment d.left_since device P (λ f left.
+    subst P (sym (q.root.durable f (g.met.D.Device.only_now device f left))) (kept_of j.root.log.device.len j.len j.root.number places (d.seen device) q.small (q.names honest)))
+
+pub returns-then-not-has_room-clause-any_moment : goal.returns-then-not-has_room-clause-any_moment
+returns-then-not-has_room-clause-any_moment g c = λ honest.
     let j = c.args.self.now in
     let q = c.requires.regions in
     let d = g.D.Device in
@@ -56,7 +67,7 @@ returns-in_err-put-clause-any_moment g c = λ honest.
     let ok = c.in_ok-end.ensures in
     let honest_mid = c.put.ensures.honest honest in
     let root = q.names (c.copy_to.ensures.honest honest_mid) in
-    let text_is : c.deref-2.result.now ≡ places_text (ns ++ p ∷ []) = c.deref-2.ensures.value ∙ c.in_ok-text.ensures ∙ ap (λ (xs : List ℕ). places_text (xs ++ p ∷ [])) c.deref.ensures.value in
+    let text_is : c.deref-3.result.now ≡ places_text (ns ++ p ∷ []) = c.deref-3.ensures.value ∙ c.in_ok-text.ensures ∙ ap (λ (xs : List ℕ). places_text (xs ++ p ∷ [])) c.deref.ensures.value in
     let P : List ℕ → Type 0 = HasRecords h j.len (records_at j.len (ns ++ j.growing ∷ []) old) in
     let second : LeavesOnly d.moment d.left_since mid fin P = weakened d.moment d.left_since mid fin _ P (c.put.ensures.any_moment honest) (λ f either.
     while_moved h j.len j.root.number j.growing p ns old q.small q.behind q.apart root free.behind free.small free.apart (d.seen mid) ok.beside (ok.copied honest_mid) (copied.root.number + 1) f
@@ -81,7 +92,7 @@ returns-clause-any_moment g c = λ honest.
     let ok = c.in_ok-end.ensures in
     let honest_mid = c.put.ensures.honest honest in
     let root = q.names (c.copy_to.ensures.honest honest_mid) in
-    let text_is : c.deref-2.result.now ≡ places_text (ns ++ p ∷ []) = c.deref-2.ensures.value ∙ c.in_ok-text.ensures ∙ ap (λ (xs : List ℕ). places_text (xs ++ p ∷ [])) c.deref.ensures.value in
+    let text_is : c.deref-3.result.now ≡ places_text (ns ++ p ∷ []) = c.deref-3.ensures.value ∙ c.in_ok-text.ensures ∙ ap (λ (xs : List ℕ). places_text (xs ++ p ∷ [])) c.deref.ensures.value in
     let P : List ℕ → Type 0 = HasRecords h j.len (records_at j.len (ns ++ j.growing ∷ []) old) in
     let second : LeavesOnly d.moment d.left_since mid fin P = weakened d.moment d.left_since mid fin _ P (c.put.ensures.any_moment honest) (λ f either.
     while_moved h j.len j.root.number j.growing p ns old q.small q.behind q.apart root free.behind free.small free.apart (d.seen mid) ok.beside (ok.copied honest_mid) (copied.root.number + 1) f
@@ -133,7 +144,7 @@ returns-clause-journal g c =
     let closed_is : copied.closed.items ≡ ns = λ i. (same.0 i).items in
     let len_is : copied.len ≡ n = same.2 in
     let half_is : new.log.device.len ≡ h = put.half ∙ half in
-    let text_is : c.deref-2.result.now ≡ places_text all = c.deref-2.ensures.value ∙ c.in_ok-text.ensures ∙ ap (λ (xs : List ℕ). places_text (xs ++ p ∷ [])) c.deref.ensures.value in
+    let text_is : c.deref-3.result.now ≡ places_text all = c.deref-3.ensures.value ∙ c.in_ok-text.ensures ∙ ap (λ (xs : List ℕ). places_text (xs ++ p ∷ [])) c.deref.ensures.value in
     let behind : drop (h + h) fin ≡ drop (h + h) mid = subst (λ (k : ℕ). drop (k + k) fin ≡ drop (k + k) mid) half put.behind in
     let long : length fin ≡ length old = omega (arith, ap length behind, length-drop (h + h) fin, length-drop (h + h) mid, c.copy_to.ensures.length, q.root.room, put.root.room, half_is) in
     record {

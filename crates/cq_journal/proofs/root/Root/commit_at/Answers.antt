@@ -3,7 +3,7 @@ use Rattle.std.proofs.Common.{◌≡◌, ⊎_elim, ℕ, ◌+◌, ◌-◌, ◌<�
 use Rattle.std.specs.Prelude.{Result, Ok, Err, OnOk}
 use Rattle.cq_disk.specs.Device.{Only}
 use Rattle.cq_disk.specs.Region.{part, Leaves, Beside}
-use Rattle.cq_disk.proofs.Parts.{alone, whole_again}
+use Rattle.cq_disk.proofs.Parts.{alone, part_same_length, whole_again}
 use Rattle.cq_records.specs.Batch.{batch_bytes}
 use Rattle.cq_records.specs.Frames.{frames, records}
 use Rattle.cq_records.specs.Layout.{IsPrefixOf, IsLog}
@@ -80,6 +80,7 @@ returns-clause-full g c err =
       },
       device_is,
       ap (λ l. l.end) same,
+      subst (λ (k : ℕ). k < c.args.end + length (batch_bytes c.args.batch.now)) (part_same_length c.args.place c.args.len (g.D.Device.seen r.log.device.device) c.requires.within) (c.commit-done.ensures.full err).1,
     )
 
 pub returns-clause-length : goal.returns-clause-length

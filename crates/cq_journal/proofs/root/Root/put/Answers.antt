@@ -44,7 +44,7 @@ returns-in_err-commit-clause-any_moment g c = λ honest.
     let batch = batch_bytes c.in_ok-batch.batch in
     let none : frames (part turned.log.device.start turned.log.device.len mid) ≡ [] = ap frames t.blank ∙ of_zeros turned.log.device.len in
     let beside_mid : Beside (h - s) h old mid = beside_at _ _ _ _ old mid t.start t.half t.beside in
-    let next : number_of new ≡ r.number + 1 = number_back (r.number + 1) c.args.text.now (omega (arith, c.if-self.false)) in
+    let next : number_of new ≡ r.number + 1 = number_back (r.number + 1) c.args.text.now (omega (arith, (c.has_room.ensures.room c.if-not-has_room.false).0)) in
     let honest_turned : IsTrue (g.D.Device.is_honest turned.log.device.device) = sym c.commit.ensures.honest ∙ honest in
     let honest_old : IsTrue (g.D.Device.is_honest r.log.device.device) = c.turn.ensures.honest honest_turned in
     let P : List ℕ → Type 0 = IsOldOrNew h old new in
@@ -59,7 +59,7 @@ returns-in_err-commit-clause-any_moment g c = λ honest.
     let second : LeavesOnly g.D.Device.moment g.D.Device.left_since turned.log.device.device c.commit.new.self.device.device P =
     weakened g.D.Device.moment g.D.Device.left_since turned.log.device.device c.commit.new.self.device.device _ P run (λ f both.
     let same : part turned.log.device.start turned.log.device.len f ≡ part (h - s) h f = λ i. part (t.start i) (t.half i) f in
-    old_or_new h s q.place old r.number (q.current honest_old) (q.other honest_old) new (frames batch) c.in_ok-batch.ensures next f (subst (λ (x : List ℕ). IsPrefixOf [] (frames batch) x) same both.0)
+    old_or_new h s q.place old r.number (q.current honest_old) (q.other honest_old) new (frames batch) c.in_ok-batch.ensures.records next f (subst (λ (x : List ℕ). IsPrefixOf [] (frames batch) x) same both.0)
     (beside_both (h - s) h old mid f beside_mid (beside_at _ _ _ _ mid f t.start t.half both.1))) in
     runs_on g.D.Device.moment g.D.Device.left_since r.log.device.device turned.log.device.device c.commit.new.self.device.device P first second
 
@@ -77,7 +77,7 @@ returns-clause-any_moment g c = λ honest.
     let batch = batch_bytes c.in_ok-batch.batch in
     let none : frames (part turned.log.device.start turned.log.device.len mid) ≡ [] = ap frames t.blank ∙ of_zeros turned.log.device.len in
     let beside_mid : Beside (h - s) h old mid = beside_at _ _ _ _ old mid t.start t.half t.beside in
-    let next : number_of new ≡ r.number + 1 = number_back (r.number + 1) c.args.text.now (omega (arith, c.if-self.false)) in
+    let next : number_of new ≡ r.number + 1 = number_back (r.number + 1) c.args.text.now (omega (arith, (c.has_room.ensures.room c.if-not-has_room.false).0)) in
     let honest_turned : IsTrue (g.D.Device.is_honest turned.log.device.device) = sym c.commit.ensures.honest ∙ honest in
     let honest_old : IsTrue (g.D.Device.is_honest r.log.device.device) = c.turn.ensures.honest honest_turned in
     let P : List ℕ → Type 0 = IsOldOrNew h old new in
@@ -92,7 +92,7 @@ returns-clause-any_moment g c = λ honest.
     let second : LeavesOnly g.D.Device.moment g.D.Device.left_since turned.log.device.device c.commit.new.self.device.device P =
     weakened g.D.Device.moment g.D.Device.left_since turned.log.device.device c.commit.new.self.device.device _ P run (λ f both.
     let same : part turned.log.device.start turned.log.device.len f ≡ part (h - s) h f = λ i. part (t.start i) (t.half i) f in
-    old_or_new h s q.place old r.number (q.current honest_old) (q.other honest_old) new (frames batch) c.in_ok-batch.ensures next f (subst (λ (x : List ℕ). IsPrefixOf [] (frames batch) x) same both.0)
+    old_or_new h s q.place old r.number (q.current honest_old) (q.other honest_old) new (frames batch) c.in_ok-batch.ensures.records next f (subst (λ (x : List ℕ). IsPrefixOf [] (frames batch) x) same both.0)
     (beside_both (h - s) h old mid f beside_mid (beside_at _ _ _ _ mid f t.start t.half both.1))) in
     runs_on g.D.Device.moment g.D.Device.left_since r.log.device.device turned.log.device.device c.commit.new.self.device.device P first second
 
@@ -110,7 +110,7 @@ returns-clause-text g c =
     let batch = batch_bytes c.in_ok-batch.batch in
     let none : frames (part turned.log.device.start turned.log.device.len mid) ≡ [] = ap frames t.blank ∙ of_zeros turned.log.device.len in
     let beside_mid : Beside (h - s) h old mid = beside_at _ _ _ _ old mid t.start t.half t.beside in
-    let next : number_of new ≡ r.number + 1 = number_back (r.number + 1) c.args.text.now (omega (arith, c.if-self.false)) in
+    let next : number_of new ≡ r.number + 1 = number_back (r.number + 1) c.args.text.now (omega (arith, (c.has_room.ensures.room c.if-not-has_room.false).0)) in
     let k = c.commit.ensures.keeps in
     let fin = g.D.Device.seen c.commit.new.self.device.device in
     let start_is : c.commit.new.self.device.start ≡ h - s = k.same_start ∙ t.start in
@@ -119,7 +119,7 @@ returns-clause-text g c =
     let moved : (f : List ℕ) → part c.commit.new.self.device.start c.commit.new.self.device.len f ≡ part (h - s) h f = λ f i. part (start_is i) (len_is i) f in
     let written_is : half_of (h - s) h fin ≡ Some new =
     ap (λ (l : List ℕ). first_of (records l)) (sym (moved fin)) ∙ ap (λ (fs : List (List ℕ)). first_of (map text_of fs)) (c.in_ok-commit.ensures.acknowledged ∙ ap (λ (fs : List (List ℕ)). fs ++ frames batch) none)
-    ∙ ap first_of c.in_ok-batch.ensures in
+    ∙ ap first_of c.in_ok-batch.ensures.records in
     let kept_is : half_of s h fin ≡ half_of s h old = same_half h s q.place old fin beside_fin in
     let honest_before : IsTrue (g.D.Device.is_honest c.commit.new.self.device.device) → IsTrue (g.D.Device.is_honest r.log.device.device) = λ honest. c.turn.ensures.honest (sym c.commit.ensures.honest ∙ honest) in
     λ honest. ap (λ (n : ℕ). root_of n fin) len_is ∙ new_counts h s q.place r.number new fin written_is (ap number_in kept_is ∙ q.current (honest_before honest)) next
@@ -138,7 +138,7 @@ returns-clause-root g c =
     let batch = batch_bytes c.in_ok-batch.batch in
     let none : frames (part turned.log.device.start turned.log.device.len mid) ≡ [] = ap frames t.blank ∙ of_zeros turned.log.device.len in
     let beside_mid : Beside (h - s) h old mid = beside_at _ _ _ _ old mid t.start t.half t.beside in
-    let next : number_of new ≡ r.number + 1 = number_back (r.number + 1) c.args.text.now (omega (arith, c.if-self.false)) in
+    let next : number_of new ≡ r.number + 1 = number_back (r.number + 1) c.args.text.now (omega (arith, (c.has_room.ensures.room c.if-not-has_room.false).0)) in
     let k = c.commit.ensures.keeps in
     let fin = g.D.Device.seen c.commit.new.self.device.device in
     let start_is : c.commit.new.self.device.start ≡ h - s = k.same_start ∙ t.start in
@@ -147,7 +147,7 @@ returns-clause-root g c =
     let moved : (f : List ℕ) → part c.commit.new.self.device.start c.commit.new.self.device.len f ≡ part (h - s) h f = λ f i. part (start_is i) (len_is i) f in
     let written_is : half_of (h - s) h fin ≡ Some new =
     ap (λ (l : List ℕ). first_of (records l)) (sym (moved fin)) ∙ ap (λ (fs : List (List ℕ)). first_of (map text_of fs)) (c.in_ok-commit.ensures.acknowledged ∙ ap (λ (fs : List (List ℕ)). fs ++ frames batch) none)
-    ∙ ap first_of c.in_ok-batch.ensures in
+    ∙ ap first_of c.in_ok-batch.ensures.records in
     let kept_is : half_of s h fin ≡ half_of s h old = same_half h s q.place old fin beside_fin in
     let honest_before : IsTrue (g.D.Device.is_honest c.commit.new.self.device.device) → IsTrue (g.D.Device.is_honest r.log.device.device) = λ honest. c.turn.ensures.honest (sym c.commit.ensures.honest ∙ honest) in
     let within : h - s + h ≤ length fin = omega (arith, c.commit.new.self.device.within, start_is, len_is) in
