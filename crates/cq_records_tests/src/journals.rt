@@ -1,8 +1,11 @@
 //! Journals whose machine loses its power in the middle of a call that a seed chooses.
+ghost use Rattle.std.specs.Prelude.{OnOk};
+ghost use Rattle.cq_journal.specs.Journal.{IsJournal};
+
 use crate::{Simulated, count_journal, write};
-use cq_disk::{Memory, Modelled, TornWrites, Unknown};
+use cq_disk::{Device, Memory, Modelled, TornWrites, Unknown};
 use cq_journal::Journal;
-use cq_records::ReadFault;
+use cq_records::{Batch, LogFault, ReadFault, is_text};
 use rand_xoshiro::Xoshiro256PlusPlus;
 use rand_xoshiro::rand_core::{Rng, SeedableRng};
 use std::alloc::Global;
@@ -18,6 +21,18 @@ const LEN: usize = 64;
 
 /// The length of a device with room for five regions.
 const WHOLE: usize = 2 * HALF + 5 * LEN;
+
+/// The file that stands in docs/JOURNAL.md.
+const EXAMPLE: [u8; 128] = [
+    0x01, 0x0b, 0x01, 0x01, 0x5e, 0xa0, 0x24, 0xe7, 0x01, 0x02, 0x01, 0x01, 0x01, 0x01, 0x41, 0x01,
+    0x01, 0x01, 0x01, 0x00, 0x00, 0x00, 0x00, 0x00, 0x00, 0x00, 0x00, 0x00, 0x00, 0x00, 0x00, 0x00,
+    0x01, 0x10, 0x01, 0x01, 0x31, 0xc9, 0xea, 0x6a, 0x01, 0x03, 0x01, 0x01, 0x01, 0x01, 0x41, 0x01,
+    0x01, 0x01, 0x01, 0x61, 0x01, 0x01, 0x01, 0x01, 0x00, 0x00, 0x00, 0x00, 0x00, 0x00, 0x00, 0x00,
+    0x01, 0x03, 0x01, 0x01, 0x44, 0xde, 0x22, 0xdc, 0x01, 0x68, 0x69, 0x01, 0x04, 0x01, 0x01, 0x61,
+    0x84, 0xa1, 0x68, 0x01, 0x79, 0x6f, 0x75, 0x00, 0x00, 0x00, 0x00, 0x00, 0x00, 0x00, 0x00, 0x00,
+    0x01, 0x02, 0x01, 0x01, 0xde, 0xb5, 0x4b, 0xa1, 0x01, 0x21, 0x00, 0x00, 0x00, 0x00, 0x00, 0x00,
+    0x00, 0x00, 0x00, 0x00, 0x00, 0x00, 0x00, 0x00, 0x00, 0x00, 0x00, 0x00, 0x00, 0x00, 0x00, 0x00,
+];
 
 /// Whether what the crash leaves has each record that was acknowledged, once and in order, and of the others only so many
 /// of the batch under way, from the first on.
@@ -66,5 +81,30 @@ fn a_journal_fills_all_regions(rt: HostRuntime) -> Result<(), Fail> {
     let kept = count_journal(alloc, bytes.bytes(), HALF, LEN, TornWrites::OldOrNew)?;
     assert_eq!(rt; kept, Some(written.acknowledged));
     assert!(rt; written.acknowledged > 10);
+    Ok(())
+}
+
+fn add<D: Device>(alloc: Global, journal: &mut Journal<D>, record: &[u8]) -> Result<(), LogFault>
+    requires { IsJournal journal.old }
+    ensures { OnOk result (IsJournal journal.new) }
+{
+    let mut batch = Batch::new(alloc);
+    if is_text(record) {
+        batch.add(record)?;
+    }
+    journal.commit(&batch)
+}
+
+#[test]
+fn a_journal_has_the_bytes_of_the_page(rt: HostRuntime) -> Result<(), Fail> {
+    let alloc = rt.alloc();
+    let device = Memory::new(alloc, vec![in alloc; 9u8; 128]?, TornWrites::OldOrNew);
+    let mut journal = Journal::create(alloc, device, 32, 32)?;
+    add(alloc, &mut journal, b"hi")?;
+    add(alloc, &mut journal, b"you")?;
+    journal.next_region(alloc, 96)?;
+    add(alloc, &mut journal, b"!")?;
+    let device = journal.into_device();
+    assert_eq!(rt; device.bytes(), EXAMPLE.as_slice());
     Ok(())
 }
