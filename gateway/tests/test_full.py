@@ -3,7 +3,7 @@
 from __future__ import annotations
 
 import time
-from collections.abc import Callable
+from collections.abc import Callable, Sequence
 from pathlib import Path
 
 import pytest
@@ -16,12 +16,17 @@ BODY = "x" * 50_000
 
 
 class Filled:
-    """A gateway whose queue has been sent messages until no more were taken."""
+    """A gateway whose queue has been sent messages until no more were taken. Another one was sent `kept` before."""
 
-    def __init__(self, room: Path, *words: str) -> None:
+    def __init__(self, room: Path, *words: str, kept: Sequence[str] = ()) -> None:
         self.gateway = Started(*words, room=room)
         self.call = ByJson(self.gateway.url)
         self.call("CreateQueue", QueueName="q.fifo", Attributes={"FifoQueue": "true", "VisibilityTimeout": "600"})
+        if kept:
+            self.call("CreateQueue", QueueName="kept.fifo", Attributes={"FifoQueue": "true"})
+        for place, body in enumerate(kept):
+            self.call("SendMessage", QueueUrl="kept.fifo", MessageBody=body, MessageGroupId="g",
+                      MessageDeduplicationId=str(place))
         self.count = 0
         while self.sends():
             assert self.count < 1000, "it is never full"

@@ -66,6 +66,39 @@ def test_a_disk_with_one_segment_comes_free_when_all_is_deleted(tmp_path, disk):
     assert full.gateway.stop() == 0
 
 
+def test_closed_segments_are_written_anew_on_a_disk_with_little_free(tmp_path, disk):
+    """What stays of them is more than is free, so it needs a part of the space that is kept ahead."""
+    spare = disk / "spare"
+    spare.write_bytes(b"\0" * 20_000)
+    full = Filled(tmp_path, "--journal", str(disk / "journal"), kept=["k" * 200_000])
+    fill(disk)
+    spare.unlink()
+    full.delete_all()
+    full.gateway.set_clock(full.gateway.moment + WINDOW)
+    assert full.sends_again(20)
+    (message,) = full.call("ReceiveMessage", QueueUrl="kept.fifo")["Messages"]
+    assert message["Body"] == "k" * 200_000
+    assert full.gateway.stop() == 0
+
+
+def test_space_that_is_too_little_to_write_segments_anew_is_there_for_receives_and_deletes(tmp_path, disk):
+    """What stays of them is more than there is in all."""
+    kept = [f"{number}" * 200_000 for number in range(10)] * 4
+    full = Filled(tmp_path, "--journal", str(disk / "journal"), kept=kept)
+    fill(disk)
+    full.delete_all()
+    full.gateway.set_clock(full.gateway.moment + WINDOW)
+    # That is tried meanwhile, and then not for a minute.
+    time.sleep(3)
+    found = []
+    while messages := full.call("ReceiveMessage", QueueUrl="kept.fifo", MaxNumberOfMessages=10).get("Messages"):
+        found += [message["Body"] for message in messages]
+        full.call("DeleteMessageBatch", QueueUrl="kept.fifo", Entries=[
+            {"Id": str(place), "ReceiptHandle": message["ReceiptHandle"]} for place, message in enumerate(messages)])
+    assert found == kept and not full.sends()
+    assert full.gateway.stop() == 0
+
+
 def test_a_start_is_possible_where_nothing_can_be_written(tmp_path, disk):
     """A message was about to be moved when the gateway was killed, and its journal has no space at all."""
     cq, journal = SteeredCq(tmp_path), disk / "journal"

@@ -275,7 +275,7 @@ fn write_zeros(file: &File, length: u64) -> io::Result<()> {
 }
 
 #[cfg(test)]
-mod tests {
+pub mod tests {
     use std::os::unix::fs::symlink;
     use std::sync::Arc;
 
@@ -285,10 +285,10 @@ mod tests {
     use crate::queues::shards::Shards;
 
     /// A folder that goes with this.
-    struct Room(PathBuf);
+    pub struct Room(pub PathBuf);
 
     impl Room {
-        fn new(name: &str) -> Room {
+        pub fn new(name: &str) -> Room {
             let path = std::env::temp_dir().join(format!("hobbychair-{name}-{}", std::process::id()));
             std::fs::create_dir_all(&path).unwrap();
             Room(path)

@@ -117,11 +117,16 @@ struct Shared {
 /// When closed segments were written anew.
 #[derive(Default)]
 struct Rewriting {
+    /// They are being written, or whoever did that lets others go first.
     goes_on: bool,
+    /// They are being written: what a full disk has free is for them.
+    is_writing: bool,
     /// It failed the last time.
     has_failed: bool,
     /// How many names had been removed then.
     removed: usize,
+    /// How much of the space ahead was left to the disk for it.
+    lent: u64,
     /// Not before this moment again.
     next: Option<Instant>,
 }

@@ -175,24 +175,31 @@ fn length_of_first(records: &[u8], most: usize) -> usize {
 /// Has the log begin another segment. Where the disk is full, that one has less space: as much as there is, and what
 /// this one doesn't need. False if there is too little.
 fn begin_segment(log: &mut Log<Files>, journal: &Journal) -> Result<bool, JournalError> {
-    let (before, piece) = (log.room(), log.piece());
-    let wanted = piece.max(before);
+    let before = log.room();
+    let is_begun = begin_smaller_segment(log, journal)?;
+    if log.room() < before {
+        // What the old one had is free by now.
+        change_room(journal, log, |log| log.reach(before));
+    }
+    Ok(is_begun)
+}
+
+/// The same, but what the old segment had ahead and the new one hasn't is left to the disk.
+fn begin_smaller_segment(log: &mut Log<Files>, journal: &Journal) -> Result<bool, JournalError> {
+    let wanted = log.piece().max(log.room());
     if begin_segment_with(log, journal, wanted)? {
         return Ok(true);
     }
     for is_shrunk in [false, true] {
         if is_shrunk {
-            give_back(log, journal)?;
+            give_back(log, journal, unpromised(journal))?;
         }
         for room in halves_of(wanted) {
             if begin_segment_with(log, journal, room)? {
-                // What the old one had is free by now.
-                change_room(journal, log, |log| log.reach(before));
                 return Ok(true);
             }
         }
     }
-    change_room(journal, log, |log| log.reach(before));
     Ok(false)
 }
 
@@ -228,13 +235,24 @@ fn lend(journal: &Journal, bytes: u64) -> Option<i64> {
     Some(bytes)
 }
 
-/// Gives the disk the space that isn't promised.
-fn give_back(log: &mut Log<Files>, journal: &Journal) -> Result<(), JournalError> {
-    let free = journal.0.room.load(Ordering::Relaxed).max(0) as u64;
-    if let Some(lent) = lend(journal, free) {
+/// The space ahead that isn't promised to anybody.
+fn unpromised(journal: &Journal) -> u64 {
+    journal.0.room.load(Ordering::Relaxed).max(0) as u64
+}
+
+/// Gives so much of the space ahead to the disk, unless it was promised meanwhile.
+fn give_back(log: &mut Log<Files>, journal: &Journal, bytes: u64) -> Result<(), JournalError> {
+    if let Some(lent) = lend(journal, bytes) {
         log.give_back(lent as u64)?;
     }
     Ok(())
+}
+
+/// Takes space again that was given to the disk: all of it, or as large a part as is there.
+fn take_again(log: &mut Log<Files>, journal: &Journal, bytes: u64) {
+    let before = log.room();
+    let mut parts = std::iter::once(bytes).chain(halves_of(bytes)).filter(|part| *part > 0);
+    change_room(journal, log, |log| parts.any(|part| log.reach(before + part)));
 }
 
 /// Does something to the log, and counts the room that it has from then on.
@@ -253,14 +271,29 @@ fn commit_nothing(log: &mut Log<Files>, journal: &Journal) -> Result<(), Journal
     commit(log, journal, &CommitBatch::default())
 }
 
-/// Allocates space, or finds that there is none.
+/// Allocates space, or finds that there is none. What a full disk has free while segments are written anew is left to
+/// them: they take as much as they have records that stay, and give back far more.
 fn grow(log: &mut Log<Files>, journal: &Journal) -> Result<(), JournalError> {
     let shared = &journal.0;
-    let is_grown =
-        if log.is_outdated() { begin_segment(log, journal)? } else { change_room(journal, log, |log| log.grow()) };
-    shared.is_full.store(!is_grown, Ordering::Relaxed);
+    let is_left = shared.is_full.load(Ordering::Relaxed) && locked(&shared.rewriting).is_writing;
+    if !is_left {
+        let is_grown = ask_for_space(log, journal)?;
+        let lent = std::mem::take(&mut locked(&shared.rewriting).lent);
+        if !is_grown {
+            take_again(log, journal, lent);
+        }
+        shared.is_full.store(!is_grown, Ordering::Relaxed);
+    }
+    // Whoever waits for space is told in any case: where there is none, it is refused.
     shared.grown.send_replace(());
     Ok(())
+}
+
+fn ask_for_space(log: &mut Log<Files>, journal: &Journal) -> Result<bool, JournalError> {
+    if log.is_outdated() {
+        return begin_segment(log, journal);
+    }
+    Ok(change_room(journal, log, |log| log.grow()))
 }
 
 /// Has the closed segments written anew by a thread of its own, where names were removed since the last time: now and
@@ -268,22 +301,29 @@ fn grow(log: &mut Log<Files>, journal: &Journal) -> Result<(), JournalError> {
 fn rewrite_aside(log: &mut Log<Files>, journal: &Journal, failed: fn(&str)) -> Result<(), JournalError> {
     let shared = &journal.0;
     let removed = locked(&shared.removed).len();
-    let mut rewriting = locked(&shared.rewriting);
-    if rewriting.goes_on || removed == rewriting.removed {
-        return Ok(());
-    }
-    let is_early = rewriting.next.is_some_and(|next| Instant::now() < next);
-    let is_urgent = journal.wants_space() && !(is_early && rewriting.has_failed);
+    let (is_early, has_failed) = {
+        let rewriting = locked(&shared.rewriting);
+        if rewriting.goes_on || removed == rewriting.removed {
+            return Ok(());
+        }
+        (rewriting.next.is_some_and(|next| Instant::now() < next), rewriting.has_failed)
+    };
+    let is_urgent = journal.wants_space() && !(is_early && has_failed);
     if !is_urgent && (is_early || closed_bytes(journal) < WORTH_REWRITING) {
         return Ok(());
     }
-    if is_urgent && log.active().end >= worth_closing(journal) && !begin_segment(log, journal)? {
+    let before = log.room();
+    let has_way = !is_urgent || make_way(log, journal, has_failed)?;
+    let mut rewriting = locked(&shared.rewriting);
+    if !has_way {
         rewriting.has_failed = true;
         rewriting.next = Some(Instant::now() + REST);
         return Ok(());
     }
     rewriting.goes_on = true;
+    rewriting.is_writing = true;
     rewriting.removed = removed;
+    rewriting.lent = before.saturating_sub(log.room());
     drop(rewriting);
     // All of these are on disk by the last commit.
     let (removed, rests_on) = (locked(&shared.removed).clone(), log.active().last);
@@ -296,6 +336,7 @@ fn rewrite_aside(log: &mut Log<Files>, journal: &Journal, failed: fn(&str)) -> R
             false
         });
         let took = since.elapsed();
+        end_writing(&journal);
         if is_urgent {
             // Half of the time is left to others, also where names go one after the other.
             std::thread::sleep(took.min(REST));
@@ -309,6 +350,39 @@ fn rewrite_aside(log: &mut Log<Files>, journal: &Journal, failed: fn(&str)) -> R
         journal.0.more.notify_one();
     })?;
     Ok(())
+}
+
+/// Leaves a full disk space for what is written anew. The last segment is closed, where that is worth it, and what it
+/// had ahead and the next one hasn't stays free. So does half of the space ahead that isn't promised; the other half is
+/// for deletes. If the log took all that is free, nothing could be written anew, and the disk would be full for good.
+/// False if no segment could be begun: then all is as it was.
+fn make_way(log: &mut Log<Files>, journal: &Journal, has_failed: bool) -> Result<bool, JournalError> {
+    let before = log.room();
+    if log.active().end >= worth_closing(journal) && !begin_smaller_segment(log, journal)? {
+        change_room(journal, log, |log| log.reach(before));
+        return Ok(false);
+    }
+    if log.is_short() {
+        grow(log, journal)?;
+    }
+    let is_full = &journal.0.is_full;
+    // Where the last time failed, the disk lacked space also if this log has enough.
+    is_full.fetch_or(has_failed, Ordering::Relaxed);
+    if is_full.load(Ordering::Relaxed) {
+        give_back(log, journal, unpromised(journal) / 2)?;
+    }
+    Ok(true)
+}
+
+/// Nothing is being written anew any more. A disk that was full may have space by now. One that wasn't is asked for
+/// none, so that the space ahead doesn't grow each time.
+fn end_writing(journal: &Journal) {
+    locked(&journal.0.rewriting).is_writing = false;
+    let mut inbox = journal.inbox();
+    inbox.wants_room |= journal.0.is_full.load(Ordering::Relaxed);
+    inbox.looks_again = true;
+    drop(inbox);
+    journal.0.more.notify_one();
 }
 
 fn worth_closing(journal: &Journal) -> u64 {
@@ -353,7 +427,10 @@ fn rewrite_closed(journal: &Journal, removed: &HashSet<StoreName>, rests_on: u64
 
 #[cfg(test)]
 mod tests {
+    use super::super::disk::tests::Room;
+    use super::super::{LockedJournal, Need, Opened};
     use super::*;
+    use crate::queues::shards::Shards;
 
     #[test]
     fn commits_have_whole_lines() {
@@ -367,5 +444,53 @@ mod tests {
         ] {
             assert_eq!(length_of_first(records.as_bytes(), most), length, "{records:?}");
         }
+    }
+
+    fn opened(room: &Room) -> (Log<Files>, Journal) {
+        let locked = LockedJournal::new(&room.0.join("journal")).unwrap();
+        let Opened { log, journal } = locked.open(Shards::ONE).unwrap();
+        (log, journal)
+    }
+
+    fn counted(journal: &Journal) -> u64 {
+        u64::try_from(journal.0.room.load(Ordering::Relaxed)).unwrap()
+    }
+
+    #[test]
+    fn a_full_disk_is_left_to_what_is_written_anew_and_no_promise_is_broken() {
+        let room = Room::new("left");
+        let (mut log, journal) = opened(&room);
+        let before = log.room();
+        let promised = journal.set_aside(Need::Less, before / 2).unwrap().unwrap();
+        assert!(make_way(&mut log, &journal, false).unwrap());
+        assert_eq!(log.room(), before, "the disk isn't full");
+        assert!(make_way(&mut log, &journal, true).unwrap());
+        let left = (before - promised) - (before - promised) / 2;
+        assert_eq!((log.room(), counted(&journal)), (promised + left, left));
+        locked(&journal.0.rewriting).is_writing = true;
+        locked(&journal.0.rewriting).lent = before - log.room();
+        grow(&mut log, &journal).unwrap();
+        assert_eq!((log.room(), counted(&journal)), (promised + left, left), "what is free is for others");
+        assert!(journal.set_aside(Need::Less, left).is_err(), "nobody waits for it");
+        journal.inbox().wants_room = false;
+        end_writing(&journal);
+        assert!(journal.inbox().wants_room);
+        grow(&mut log, &journal).unwrap();
+        assert_eq!((log.room(), counted(&journal)), (promised + left + log.piece(), left + log.piece()));
+        journal.inbox().wants_room = false;
+        end_writing(&journal);
+        assert!(!journal.inbox().wants_room, "the space ahead would grow each time");
+    }
+
+    #[test]
+    fn space_that_was_left_to_the_disk_is_taken_again() {
+        let room = Room::new("again");
+        let (mut log, journal) = opened(&room);
+        let before = log.room();
+        give_back(&mut log, &journal, before / 2).unwrap();
+        assert_eq!((log.room(), counted(&journal)), (before - before / 2, before - before / 2));
+        take_again(&mut log, &journal, before / 2);
+        take_again(&mut log, &journal, 0);
+        assert_eq!((log.room(), counted(&journal)), (before, before));
     }
 }
