@@ -177,7 +177,7 @@ fn put_behind(store: &Store, queue: &Queue, message: &Delayed, error: &SqsError)
 }
 
 fn send_of(message: &Delayed) -> Result<Ask, SqsError> {
-    let envelope = Envelope::of_whole(message.id, message.envelope.clone());
+    let envelope = Envelope::of_whole(Some(message.id), message.envelope.clone());
     let envelope =
         envelope.map_err(|error| SqsError::InternalFailure(format!("The message can't be kept: {error}")))?;
     let (group, dedup) = (GroupId::of_message(message.id), DedupId::of_message(message.id));

@@ -20,7 +20,7 @@ pub const QUEUE_BYTES: u64 = 4_096;
 pub const ID_BYTES: u64 = 3_500;
 
 /// What is left of the call of a send to a standard queue for five minutes, in bytes: a part of its digest, kept twice,
-/// and the message's id.
+/// and which message it sent.
 pub const CALL_BYTES: u64 = 120;
 
 /// How much may be in use; none where nobody asks.

@@ -2,11 +2,13 @@
 
 use std::collections::BTreeMap;
 
+use md5::{Digest, Md5};
 use serde::{Deserialize, Serialize};
 use uuid::Uuid;
 
 use crate::clock::Moment;
 use crate::errors::SqsError;
+use crate::handles::Mark;
 use crate::texts::{is_xml_character, test_characters, Body, DedupId, GroupId, QueueName, STORE_LIMIT};
 
 /// The one message system attribute that a send may carry (API Reference, SendMessage, `MessageSystemAttributes`).
@@ -194,8 +196,10 @@ pub fn size_of_attributes(attributes: &MessageAttributes) -> usize {
 /// The metadata of a message: all beside its body and its place, and in a FIFO queue beside its group.
 #[derive(Clone, Debug, PartialEq, Eq, Serialize, Deserialize)]
 pub struct Metadata {
-    /// The MessageId.
-    pub id: Uuid,
+    /// The MessageId, where it isn't made of the message's place: of one that was moved or delayed, or that an earlier
+    /// version sent. It stands first, where `own_id` finds it.
+    #[serde(default, skip_serializing_if = "Option::is_none")]
+    pub id: Option<Uuid>,
     /// When it was sent, in milliseconds.
     pub sent: u64,
     /// The deduplication id that clients see, of a FIFO queue.
@@ -217,10 +221,18 @@ pub struct Metadata {
     pub source: Option<QueueName>,
 }
 
-/// The head of a envelope that says that the rest of it stands elsewhere.
+impl Metadata {
+    /// The MessageId, if the message has this place.
+    pub fn id_at(&self, mark: Mark, sequence: u64) -> Uuid {
+        self.id.unwrap_or_else(|| message_id(mark, sequence))
+    }
+}
+
+/// The head of an envelope that says that the rest of it stands elsewhere.
 #[derive(Serialize, Deserialize)]
 struct Elsewhere {
-    id: Uuid,
+    #[serde(default, skip_serializing_if = "Option::is_none")]
+    id: Option<Uuid>,
     elsewhere: bool,
 }
 
@@ -243,8 +255,8 @@ impl Envelope {
         Envelope::of_whole(metadata.id, whole)
     }
 
-    /// The envelope of the message of this id, by its whole text.
-    pub fn of_whole(id: Uuid, whole: String) -> Result<Envelope, serde_json::Error> {
+    /// The envelope by its whole text, and the id that stands in it.
+    pub fn of_whole(id: Option<Uuid>, whole: String) -> Result<Envelope, serde_json::Error> {
         if whole.len() <= STORE_LIMIT {
             return Ok(Envelope::Whole(whole));
         }
@@ -291,25 +303,48 @@ pub fn read_envelope(whole: &str) -> Option<(Metadata, &str)> {
 /// The metadata that the tables need.
 #[derive(Clone, Copy, Debug, PartialEq, Eq, Deserialize)]
 pub struct EnvelopeHead {
-    pub id: Uuid,
     /// In a whole envelope.
     pub sent: Option<Moment>,
 }
 
 impl EnvelopeHead {
-    /// The head of a envelope, whole or not. Takes time in proportion to its first line.
+    /// The head of an envelope, whole or not. Takes time in proportion to its first line.
     pub fn of(envelope: &str) -> Option<EnvelopeHead> {
         serde_json::from_str(envelope.split('\n').next()?).ok()
     }
 }
 
+/// The id that stands in an envelope, whole or not, if one does: then it stands first. Takes the same time for each.
+pub fn own_id(envelope: &str) -> Option<Uuid> {
+    const LENGTH: usize = uuid::fmt::Hyphenated::LENGTH;
+    envelope.strip_prefix("{\"id\":\"")?.get(..LENGTH)?.parse().ok()
+}
+
+/// The MessageId of the message with this sequence number in the queue of this mark, where none stands in its envelope.
+///
+/// No two messages have the same two numbers. A mark is 64 random bits, which each creation of a queue draws anew, also
+/// under the name of one that was removed. In a queue numbers begin at 1 and none is given twice, also where the queue
+/// goes over to another name in the store, which counts from 1 again (`Before::base`). The store answers a repeat of a
+/// send with the first one's number, so the repeat is told the first one's id, and nobody has to keep ids. (A journal
+/// that was put back from a copy gives the numbers of what the copy lacks once more, and the ids with them.)
+///
+/// The digest gives it the look of a random id. No client chooses what goes into it, and it hides nothing that a
+/// receipt handle doesn't say. So it is MD5, the quickest one at hand.
+pub fn message_id(mark: Mark, sequence: u64) -> Uuid {
+    let place = (u128::from(mark.0) << 64) | u128::from(sequence);
+    let digest = Md5::digest(place.to_be_bytes());
+    uuid::Builder::from_random_bytes(digest.into()).into_uuid()
+}
+
 #[cfg(test)]
 mod tests {
+    use std::collections::BTreeSet;
+
     use super::*;
 
     fn metadata() -> Metadata {
         Metadata {
-            id: Uuid::from_u128(7),
+            id: None,
             sent: 1_700_000_000_000,
             dedup: DedupId::parse("d").ok(),
             group: None,
@@ -383,26 +418,51 @@ mod tests {
     }
 
     #[test]
-    fn a_form_comes_back() {
+    fn an_envelope_comes_back() {
         let mut metadata = metadata();
         let value = AttributeValue::new("a", "Binary.x", None, Some("AP8=")).unwrap();
         metadata.attributes.insert("a".into(), value);
         metadata.trace = Some(AttributeValue::new("t", "String", Some("Root=1"), None).unwrap());
-        let envelope = Envelope::new(&metadata, &Body::parse("one\ntwo").unwrap()).unwrap();
-        assert_eq!(read_envelope(envelope.stored()), Some((metadata.clone(), "one\ntwo")));
-        assert_eq!(
-            EnvelopeHead::of(envelope.stored()),
-            Some(EnvelopeHead { id: metadata.id, sent: Some(metadata.sent) })
-        );
+        for id in [None, Some(Uuid::from_u128(7))] {
+            let metadata = Metadata { id, ..metadata.clone() };
+            let envelope = Envelope::new(&metadata, &Body::parse("one\ntwo").unwrap()).unwrap();
+            assert_eq!(read_envelope(envelope.stored()), Some((metadata.clone(), "one\ntwo")));
+            assert_eq!(EnvelopeHead::of(envelope.stored()), Some(EnvelopeHead { sent: Some(metadata.sent) }));
+            assert_eq!(own_id(envelope.stored()), id);
+        }
         assert_eq!(read_envelope("hello"), None);
     }
 
     #[test]
-    fn a_form_above_the_stores_limit_is_split() {
+    fn an_envelope_above_the_stores_limit_is_split() {
         let body = Body::parse(&"x".repeat(STORE_LIMIT)).unwrap();
-        let envelope = Envelope::new(&metadata(), &body).unwrap();
-        assert!(matches!(&envelope, Envelope::Split { whole, .. } if read_envelope(whole).unwrap().1 == body.as_str()));
-        assert_eq!(EnvelopeHead::of(envelope.stored()), Some(EnvelopeHead { id: Uuid::from_u128(7), sent: None }));
-        assert!(read_envelope(envelope.stored()).is_none());
+        for id in [None, Some(Uuid::from_u128(7))] {
+            let envelope = Envelope::new(&Metadata { id, ..metadata() }, &body).unwrap();
+            let Envelope::Split { stub, whole } = &envelope else { panic!("{} bytes", envelope.bytes()) };
+            assert_eq!((read_envelope(whole).unwrap().1, read_envelope(stub)), (body.as_str(), None));
+            assert_eq!((own_id(stub), own_id(whole)), (id, id));
+            assert_eq!(EnvelopeHead::of(stub), Some(EnvelopeHead { sent: None }));
+        }
+    }
+
+    #[test]
+    fn ids_are_digests_of_places_in_the_form_of_random_ones() {
+        // hashlib.md5(mark.to_bytes(8, "big") + sequence.to_bytes(8, "big")).hexdigest(), with the bits of version 4
+        let known = [
+            (1, 2, "f014c44f-99b5-4616-afc8-52fea57caceb"),
+            (1, 3, "7d3d1d27-964f-4da8-a560-b347010716ee"),
+            (2, 2, "a78c2aac-4503-4497-a702-f650e0aac24e"),
+        ];
+        for (mark, sequence, text) in known {
+            let id = message_id(Mark(mark), sequence);
+            assert_eq!((id.to_string().as_str(), id.get_version_num()), (text, 4));
+            assert_eq!(metadata().id_at(Mark(mark), sequence), id);
+        }
+        let own = Some(Uuid::from_u128(7));
+        assert_eq!(Metadata { id: own, ..metadata() }.id_at(Mark(1), 2), Uuid::from_u128(7));
+        let marks = [0, 1, u64::MAX];
+        let of_queue = |mark| (1..=1000).map(move |sequence| message_id(Mark(mark), sequence));
+        let ids: BTreeSet<_> = marks.into_iter().flat_map(of_queue).collect();
+        assert_eq!(ids.len(), 3000);
     }
 }

@@ -9,7 +9,6 @@ use std::sync::{Arc, Mutex, MutexGuard, PoisonError};
 use std::time::Duration;
 
 use serde::{Deserialize, Serialize};
-use uuid::Builder;
 
 use crate::errors::SqsError;
 use crate::handles::Receipt;
@@ -190,10 +189,9 @@ fn copy_of(store: &Store, queue: &Queue, handed: &Handed, kind: MoveKind) -> Res
     if kind == MoveKind::Redrive || queue.name.kind() == QueueKind::Fifo {
         metadata.sent = store.clock().now();
     }
-    metadata.source = (kind == MoveKind::DeadLetter).then(|| queue.name.clone());
-    if kind == MoveKind::Redrive {
-        metadata.id = Builder::from_random_bytes(rand::random()).into_uuid();
-    }
+    let is_dead_letter = kind == MoveKind::DeadLetter;
+    metadata.source = is_dead_letter.then(|| queue.name.clone());
+    metadata.id = is_dead_letter.then(|| metadata.id_at(queue.mark, handed.receipt.sequence));
     let envelope = Envelope::new(&metadata, &Body::parse(body)?).map_err(|_| no_envelope())?;
     let group = GroupId::parse(&handed.group)?;
     let dedup = DedupId::parse(&hex(&rand::random::<[u8; 16]>()))?;

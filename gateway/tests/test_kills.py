@@ -31,7 +31,8 @@ class FifoLoad(Load):
         self.deleted: set[str] = set()
         self.maybe_deleted: set[str] = set()
         self.counts: dict[str, int] = {}
-        self.numbers: dict[str, str] = {}
+        # The sequence number and the id of each.
+        self.numbers: dict[str, tuple[str, str]] = {}
         self.round = 0
 
     def count_of_sends(self) -> int:
@@ -65,7 +66,7 @@ class FifoLoad(Load):
         self.maybe_sent.add(body)
         result = call("SendMessage", QueueUrl=queue, MessageBody=text_of(body, LARGE), MessageGroupId=f"g{client}",
                       MessageDeduplicationId=body)
-        self.numbers[body] = result["SequenceNumber"]
+        self.numbers[body] = result["SequenceNumber"], result["MessageId"]
         self.sent.setdefault(f"g{client}", []).append(body)
         self.recent.append(body)
 
@@ -87,16 +88,16 @@ class FifoLoad(Load):
         assert body in self.maybe_sent, f"{body} was never sent"
         assert body not in self.deleted, f"{body} came again after its deletion was acknowledged"
         assert count > self.counts.get(body, 0), f"an acknowledged handing of {body} was forgotten"
-        assert self.numbers.get(body) in (None, message["Attributes"]["SequenceNumber"])
+        assert self.numbers.get(body) in (None, (message["Attributes"]["SequenceNumber"], message["MessageId"]))
         self.counts[body] = count
         return body
 
     def repeat(self, call, queue: str) -> None:
-        """A repeated send is told the number of the first."""
+        """A repeated send is told the number and the id of the first."""
         for body in self.random.sample(self.recent, min(20, len(self.recent))):
             again = call("SendMessage", QueueUrl=queue, MessageBody=body, MessageGroupId="other",
                          MessageDeduplicationId=body)
-            assert again["SequenceNumber"] == self.numbers[body]
+            assert (again["SequenceNumber"], again["MessageId"]) == self.numbers[body]
         self.recent = []
 
     def drain(self, call, queue: str) -> None:

@@ -45,6 +45,7 @@ class Handing:
 @dataclass
 class Message:
     due: int
+    id: str | None = None
     acknowledged: bool = False
     delete_begun: bool = False
     deleted: float | None = None
@@ -75,6 +76,7 @@ class LoadOfBothKinds(Load):
         self.least = gateway.moment
         self.lock = threading.Lock()
         self.messages: dict[str, Message] = {}
+        self.names: dict[str, str] = {}
         self.numbers = itertools.count(1)
         self.sends = 0
         self.kills_of_cq = 0
@@ -110,8 +112,9 @@ class LoadOfBothKinds(Load):
         message = Message(self.least + 1000 * delay)
         with self.lock:
             self.messages[name] = message
-        call("SendMessage", QueueUrl=queue.name, MessageBody=text_of(name, LARGE), **more)
+        told = call("SendMessage", QueueUrl=queue.name, MessageBody=text_of(name, LARGE), **more)
         with self.lock:
+            self.note_id(name, told)
             message.acknowledged = True
             self.sends += 1
 
@@ -138,10 +141,18 @@ class LoadOfBothKinds(Load):
         with self.lock:
             return [self.note(source, one, Handing(before, after), began) for one in told]
 
+    def note_id(self, name: str, told: dict) -> None:
+        """What a message's send and its handings are told is one id, and no other message's."""
+        message = self.messages[name]
+        assert message.id in (None, told["MessageId"]), f"{name} has two ids"
+        assert self.names.setdefault(told["MessageId"], name) == name, f"{name} has another one's id"
+        message.id = told["MessageId"]
+
     def note(self, source: str, told: dict, handing: Handing, began: float) -> tuple[str, int, str]:
         name, count = told["Body"].rstrip("."), int(told["Attributes"]["ApproximateReceiveCount"])
         assert told["Body"] == text_of(name, LARGE) and source in (name.split("/")[0], f"dead-{name.split('/')[0]}")
         message = self.messages[name]
+        self.note_id(name, told)
         assert handing.after >= message.due, f"{name} came before it was due"
         assert message.deleted is None or message.deleted > began, f"{name} came again after its deletion"
         assert (source, count) not in message.handings, f"an acknowledged handing of {name} was forgotten"

@@ -8,7 +8,7 @@ use super::{Actions, Caller, Performed};
 use crate::attributes::LONGEST_MESSAGE;
 use crate::digests::{md5_of_attributes, md5_of_text};
 use crate::errors::SqsError;
-use crate::messages::{Envelope, MessageAttributes, Metadata, TRACE_HEADER};
+use crate::messages::{message_id, Envelope, MessageAttributes, Metadata, TRACE_HEADER};
 use crate::queues::ask::{Ask, Cause, Changer, Delayed, Outcome, TableChange};
 use crate::queues::Queue;
 use crate::store::{Answer, Operation};
@@ -68,7 +68,7 @@ impl Actions {
                 let metadata = Metadata { group: group.clone(), ..self.metadata(message, caller) };
                 let own_delay = queue.state().attributes.delay();
                 let delay = delay.map_or(own_delay, |seconds| 1000 * u64::from(seconds));
-                standard_send(&metadata, call, delay, &message.body)
+                standard_send(metadata, call, delay, &message.body)
             }
         }
     }
@@ -99,7 +99,7 @@ impl Actions {
     /// The metadata of a message of either kind of queue.
     fn metadata(&self, message: &NewMessage, caller: &Caller) -> Metadata {
         Metadata {
-            id: Uuid::new_v4(),
+            id: None,
             sent: self.store.clock().now(),
             dedup: None,
             group: None,
@@ -198,14 +198,22 @@ fn cannot_be_kept(error: serde_json::Error) -> SqsError {
 
 /// Sends a message to a standard queue: at once, or into the tables where it is delayed, by `delay` milliseconds. Where
 /// repeats of the call can be told, `call` stands for this message of it.
-fn standard_send(metadata: &Metadata, call: Option<DedupId>, delay: u64, body: &Body) -> Result<Operation, SqsError> {
-    let envelope = Envelope::new(metadata, body).map_err(cannot_be_kept)?;
+fn standard_send(
+    mut metadata: Metadata,
+    call: Option<DedupId>,
+    delay: u64,
+    body: &Body,
+) -> Result<Operation, SqsError> {
+    let own = Uuid::new_v4();
+    // One that is delayed gets its place later, and its id is told now.
+    metadata.id = (delay > 0).then_some(own);
+    let envelope = Envelope::new(&metadata, body).map_err(cannot_be_kept)?;
     if delay > 0 {
-        let delayed = Delayed { id: metadata.id, due: metadata.sent + delay, call, envelope: envelope.into_whole() };
+        let delayed = Delayed { id: own, due: metadata.sent + delay, call, envelope: envelope.into_whole() };
         return Ok(Operation::Change(TableChange::Delayed(Arc::new(delayed))));
     }
-    let dedup = call.unwrap_or_else(|| DedupId::of_message(metadata.id));
-    Ok(Operation::Ask(Ask::Send { group: GroupId::of_message(metadata.id), dedup, envelope, cause: Cause::Client }))
+    let dedup = call.unwrap_or_else(|| DedupId::of_message(own));
+    Ok(Operation::Ask(Ask::Send { group: GroupId::of_message(own), dedup, envelope, cause: Cause::Client }))
 }
 
 fn no_answer() -> SqsError {
@@ -229,8 +237,11 @@ fn change_ask(queue: &Queue, change: &VisibilityChange) -> Result<Ask, SqsError>
 
 /// The MD5s are of what this send carried, also where the message is one that was sent before.
 fn sent(queue: &Queue, message: &NewMessage, outcome: &Outcome) -> Result<Sent, SqsError> {
-    let (id, number) = match outcome {
-        Outcome::Sent { sequence, id } => (id, sequence_number(queue.name.kind(), *sequence)),
+    let (id, number) = match *outcome {
+        Outcome::Sent { sequence, id } => {
+            let id = id.unwrap_or_else(|| message_id(queue.mark, sequence));
+            (id, sequence_number(queue.name.kind(), sequence))
+        }
         Outcome::Delayed { id } => (id, None),
         _ => return Err(no_answer()),
     };

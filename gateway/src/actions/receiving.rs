@@ -88,6 +88,7 @@ impl Actions {
 pub fn show(queue: &Queue, handed: &Handed, shown: &Shown, owner: &Owner) -> Result<ReceivedMessage, SqsError> {
     let (metadata, body) = read_envelope(&handed.envelope)
         .ok_or_else(|| SqsError::InternalFailure("The store has a message in no form.".into()))?;
+    let id = metadata.id_at(queue.mark, handed.receipt.sequence);
     let handle = Handle { mark: queue.mark, receipt: handed.receipt, moment: handed.moment };
     let system = shown.system().iter();
     let with_name =
@@ -96,7 +97,7 @@ pub fn show(queue: &Queue, handed: &Handed, shown: &Shown, owner: &Owner) -> Res
     let wanted = metadata.attributes.into_iter().filter(|(name, _)| shown.has(name));
     let message_attributes: MessageAttributes = wanted.collect();
     Ok(ReceivedMessage {
-        message_id: metadata.id.to_string(),
+        message_id: id.to_string(),
         receipt_handle: handle.outward(),
         md5_of_body: md5_of_text(body),
         body: body.into(),

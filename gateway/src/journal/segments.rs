@@ -25,7 +25,7 @@ pub enum JournalError {
     InUse(String),
     #[error("{0} is no journal: it doesn't begin as one")]
     NoJournal(String),
-    #[error("{0} is a journal of version {1}, and this gateway reads versions 1 to 3")]
+    #[error("{0} is a journal of version {1}, and this gateway reads versions 1 to 4")]
     NewerVersion(String, u32),
     #[error("segment {segment} of the journal is damaged at byte {place}, and there are good commits behind it")]
     Damaged { segment: u64, place: u64 },
@@ -60,10 +60,11 @@ impl From<io::Error> for JournalError {
 }
 
 /// A segment begins with these bytes, which name the version.
-pub const MAGIC: &[u8] = b"hobbychair journal 3\n";
+pub const MAGIC: &[u8] = b"hobbychair journal 4\n";
 
-/// The version that a gateway writes. Version 2 has the same frames, and no records of standard queues.
-const VERSION: u32 = 3;
+/// The version that a gateway writes. The others have the same frames. In version 3 the envelope of each message has
+/// its id, and a gateway of that version can't do without. In version 2 there are no records of standard queues.
+const VERSION: u32 = 4;
 const OLDEST: u32 = 2;
 
 fn oldest() -> u32 {

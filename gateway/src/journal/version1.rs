@@ -269,7 +269,7 @@ impl Conversion {
                     None => DedupId::of_body(body),
                 };
                 let metadata = Metadata {
-                    id: old_message_id(&queue.mark, queue.sends),
+                    id: Some(old_message_id(&queue.mark, queue.sends)),
                     sent: clock,
                     dedup: Some(message.dedup),
                     group: None,

@@ -201,10 +201,11 @@ pub enum Fate {
 pub enum Outcome {
     /// It was done, and there is nothing to tell.
     Done,
-    /// The sequence number and the id of the message; those of the first send where this one repeats it.
+    /// The sequence number of the message; that of the first send where this one repeats it. The id is made of it,
+    /// unless one stands here.
     Sent {
         sequence: u64,
-        id: Uuid,
+        id: Option<Uuid>,
     },
     /// A message with a delay is kept; the id is that of the first send where this one repeats it.
     Delayed {

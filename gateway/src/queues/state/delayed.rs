@@ -37,13 +37,13 @@ pub(super) struct DelayedMessages {
 
 impl DelayedMessages {
     /// Adds a message that was sent at `moment`. Where it repeats one of the last five minutes, it isn't added, and the
-    /// id of the first one is told.
-    pub(super) fn add(&mut self, message: &Arc<Delayed>, moment: Moment) -> Option<Uuid> {
+    /// first one is told.
+    pub(super) fn add(&mut self, message: &Arc<Delayed>, moment: Moment) -> Option<First> {
         if let Some(call) = &message.call {
             if let Some(first) = self.calls.find(call, moment) {
-                return Some(first.id);
+                return Some(first);
             }
-            self.calls.insert(call, First { id: message.id, is_delayed: true }, moment);
+            self.calls.insert(call, First::Delayed(message.id), moment);
         }
         self.added += 1;
         let place = (message.due, self.added);
@@ -85,16 +85,19 @@ impl DelayedMessages {
         self.set_aside.len()
     }
 
-    /// A message of this call went to the store without a delay.
-    pub(super) fn remember_call(&mut self, call: &DedupId, id: Uuid, moment: Moment) {
+    /// The message of this call and number went to the store without a delay.
+    pub(super) fn remember_call(&mut self, call: &DedupId, sequence: u64, moment: Moment) {
         if self.calls.find(call, moment).is_none() {
-            self.calls.insert(call, First { id, is_delayed: false }, moment);
+            self.calls.insert(call, First::Stored(sequence), moment);
         }
     }
 
     /// The delayed message of the last five minutes that this call sent.
     pub(super) fn first_of(&mut self, call: &DedupId, now: Moment) -> Option<Uuid> {
-        self.calls.find(call, now).filter(|first| first.is_delayed).map(|first| first.id)
+        match self.calls.find(call, now) {
+            Some(First::Delayed(id)) => Some(id),
+            Some(First::Stored(_)) | None => None,
+        }
     }
 
     pub(super) fn has(&self, id: Uuid) -> bool {
@@ -159,10 +162,12 @@ impl DelayedMessages {
 }
 
 /// What a call sent.
-#[derive(Clone, Copy, Debug)]
-struct First {
-    id: Uuid,
-    is_delayed: bool,
+#[derive(Clone, Copy, Debug, PartialEq, Eq)]
+pub(super) enum First {
+    /// A delayed message, by its id.
+    Delayed(Uuid),
+    /// One that went to the store at once, by its sequence number.
+    Stored(u64),
 }
 
 /// The calls of the last five minutes that can be told from others, and what they sent.
@@ -249,9 +254,9 @@ mod tests {
         assert_eq!(delayed.add(&message(2, 60, Some("b")), 20), None);
         delayed.remove(Uuid::from_u128(1));
         delayed.clear();
-        assert_eq!(delayed.add(&message(3, 70, Some("a")), 9 + WINDOW), Some(Uuid::from_u128(1)));
+        assert_eq!(delayed.add(&message(3, 70, Some("a")), 9 + WINDOW), Some(First::Delayed(Uuid::from_u128(1))));
         assert_eq!(delayed.add(&message(4, 70, Some("a")), 10 + WINDOW), None);
-        assert_eq!(delayed.add(&message(5, 70, Some("b")), 19 + WINDOW), Some(Uuid::from_u128(2)));
+        assert_eq!(delayed.add(&message(5, 70, Some("b")), 19 + WINDOW), Some(First::Delayed(Uuid::from_u128(2))));
         delayed.forget_old_calls(10 + 2 * WINDOW);
         assert_eq!(delayed.bytes(), MESSAGE_BYTES + "{}\nbody".len() as u64);
     }
@@ -276,8 +281,8 @@ mod tests {
     #[test]
     fn a_call_is_known_also_where_it_sent_its_message_without_a_delay() {
         let mut delayed = DelayedMessages::default();
-        delayed.remember_call(&call("a"), Uuid::from_u128(1), 10);
-        assert_eq!(delayed.add(&message(2, 50, Some("a")), 20), Some(Uuid::from_u128(1)));
+        delayed.remember_call(&call("a"), 1, 10);
+        assert_eq!(delayed.add(&message(2, 50, Some("a")), 20), Some(First::Stored(1)));
         assert_eq!(delayed.add(&message(3, 50, Some("b")), 20), None);
         let firsts = ["a", "b", "c"].map(|name| delayed.first_of(&call(name), 30));
         assert_eq!(firsts, [None, Some(Uuid::from_u128(3)), None], "of the first one the store knows");

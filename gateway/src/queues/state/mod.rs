@@ -21,16 +21,16 @@ use super::groups::{Group, Groups};
 use crate::attributes::QueueAttributes;
 use crate::clock::Moment;
 use crate::errors::SqsError;
-use crate::handles::Receipt;
+use crate::handles::{Mark, Receipt};
 use crate::limits::{ID_BYTES, MESSAGE_BYTES, QUEUE_BYTES};
 use crate::lines::{read_receipt, StoreMessage, StoreReply};
-use crate::messages::{Envelope, EnvelopeHead};
+use crate::messages::{message_id, own_id, Envelope, EnvelopeHead};
 use crate::move_tasks::{self, MoveTask, Status};
 use crate::redrive::RedrivePolicy;
 use crate::retention::Jumps;
 use crate::texts::{AttemptId, GroupId, QueueKind};
 use attempts::{Attempt, Attempts};
-use delayed::DelayedMessages;
+use delayed::{DelayedMessages, First};
 use message::{Handing, Message, Messages};
 pub use peek::{Chunk, Cursor, Peeked, Visibility};
 
@@ -56,6 +56,7 @@ struct Receiving {
 #[derive(Debug)]
 pub struct State {
     kind: QueueKind,
+    mark: Mark,
     pub store: StoreName,
     /// Names that it had in the store before, and that the store has still.
     pub earlier: Vec<StoreName>,
@@ -77,12 +78,13 @@ pub struct State {
     /// How often something happened that can open a group.
     pub openings: u64,
     messages: Messages,
-    /// The ids of the messages that were sent within the window, in order; the last is `last_sequence`'s.
-    recent: VecDeque<(Moment, Uuid)>,
-    /// How many of them were found to count no more. They stay for requests that are still on their way.
-    old: usize,
-    /// How many of those that count are of messages that were deleted.
+    /// When the messages were sent whose deduplication ids count, in order; the last of them is `last_sequence`.
+    recent: VecDeque<Moment>,
+    /// How many of these messages were deleted.
     left_ids: u64,
+    /// The ids that an earlier version gave to some of them, in order of sequence numbers. Older ones may be there,
+    /// too, for repeats that are still on their way.
+    own_ids: VecDeque<(u64, Uuid)>,
     /// What the envelopes of the messages take.
     envelope_bytes: u64,
     /// The longest envelope since the queue was empty.
@@ -135,6 +137,7 @@ impl State {
         let delay = delay_of_all(kind, &creation.attributes);
         State {
             kind,
+            mark: Mark(creation.mark),
             store,
             earlier: Vec::new(),
             base: before.base,
@@ -152,8 +155,8 @@ impl State {
             openings: 0,
             messages: Messages::default(),
             recent: VecDeque::new(),
-            old: 0,
             left_ids: 0,
+            own_ids: VecDeque::new(),
             envelope_bytes: 0,
             longest_envelope: 0,
             attempts: Attempts::default(),
@@ -191,11 +194,11 @@ impl State {
                 Ok(Applied::done(true))
             }
             (Ask::Send { group, dedup, envelope, cause }, StoreReply::Sent(place)) => {
-                let applied = self.sent(group, envelope, place, moment)?;
+                let applied = self.sent(group, envelope, *cause, place, moment)?;
                 match (cause, &applied.outcome) {
                     (Cause::Due(id), _) => self.delayed.remove(*id),
-                    (Cause::Client, Outcome::Sent { id, .. }) if self.kind == QueueKind::Standard => {
-                        self.delayed.remember_call(dedup, *id, moment);
+                    (Cause::Client, Outcome::Sent { sequence, .. }) if self.kind == QueueKind::Standard => {
+                        self.delayed.remember_call(dedup, *sequence, moment);
                     }
                     _ => {}
                 }
@@ -219,22 +222,32 @@ impl State {
         self.openings += 1;
     }
 
-    fn sent(&mut self, group: &GroupId, envelope: &Envelope, place: u64, moment: Moment) -> Result<Applied, SqsError> {
+    fn sent(
+        &mut self,
+        group: &GroupId,
+        envelope: &Envelope,
+        cause: Cause,
+        place: u64,
+        moment: Moment,
+    ) -> Result<Applied, SqsError> {
         let sequence = self.base + place;
         if sequence <= self.last_sequence {
-            let id = self.recent_id(sequence).ok_or_else(misfit)?;
-            return Ok(Applied::unchanged(Outcome::Sent { sequence, id }));
+            return Ok(Applied::unchanged(Outcome::Sent { sequence, id: self.own_id(sequence) }));
         }
         if sequence != self.last_sequence + 1 {
             return Err(misfit());
         }
-        let EnvelopeHead { id, sent } = EnvelopeHead::of(envelope.whole()).ok_or_else(misfit)?;
         let sent = match self.kind {
             QueueKind::Fifo => moment,
             // It may have been delayed, or be moved with the age that it has.
-            QueueKind::Standard => sent.map_or(moment, |sent| sent.min(moment)),
+            QueueKind::Standard => {
+                let head = EnvelopeHead::of(envelope.whole()).ok_or_else(misfit)?;
+                head.sent.map_or(moment, |sent| sent.min(moment))
+            }
         };
-        self.remember(moment, id);
+        // No client can repeat the gateway's own sends.
+        let id = if cause == Cause::Client { own_id(envelope.whole()) } else { None };
+        self.remember(moment, sequence, id);
         self.last_sequence = sequence;
         self.last_send = moment;
         let bytes = envelope.bytes();
@@ -253,31 +266,41 @@ impl State {
         Ok(Applied { outcome: Outcome::Sent { sequence, id }, changed: true, opened: true })
     }
 
-    fn remember(&mut self, moment: Moment, id: Uuid) {
-        self.count_old(moment);
-        self.recent.drain(..self.old);
-        self.old = 0;
-        self.recent.push_back((moment, id));
+    /// Takes up that the next message, of this number, was sent at this moment, with an id of its own or without.
+    fn remember(&mut self, moment: Moment, sequence: u64, id: Option<Uuid>) {
+        self.forget_old_sends(moment);
+        let first = self.first_recent();
+        while self.own_ids.front().is_some_and(|(own, _)| *own < first) {
+            self.own_ids.pop_front();
+        }
+        self.recent.push_back(moment);
+        self.own_ids.extend(id.map(|id| (sequence, id)));
     }
 
-    /// Counts the ids that are too old at this moment. `last_sequence` is that of the last id.
-    fn count_old(&mut self, now: Moment) {
-        while self.recent.get(self.old).is_some_and(|(sent, _)| sent + WINDOW <= now) {
-            let sequence = self.last_sequence + 1 + self.old as u64 - self.recent.len() as u64;
-            if !self.messages.has(sequence) {
+    /// Forgets the sends that are too old at this moment.
+    fn forget_old_sends(&mut self, now: Moment) {
+        while self.recent.front().is_some_and(|sent| sent + WINDOW <= now) {
+            if !self.messages.has(self.first_recent()) {
                 self.left_ids = self.left_ids.saturating_sub(1);
             }
-            self.old += 1;
+            self.recent.pop_front();
         }
     }
 
-    fn place_of(&self, sequence: u64) -> Option<usize> {
-        let from_end = usize::try_from(self.last_sequence.checked_sub(sequence)?).ok()?;
-        self.recent.len().checked_sub(1 + from_end)
+    /// The number of the first message whose deduplication id counts, or of the next one where there is none.
+    fn first_recent(&self) -> u64 {
+        self.last_sequence + 1 - self.recent.len() as u64
     }
 
-    fn recent_id(&self, sequence: u64) -> Option<Uuid> {
-        self.recent.get(self.place_of(sequence)?).map(|(_, id)| *id)
+    /// The id that an earlier version gave to this message, if it did and a repeat may come.
+    fn own_id(&self, sequence: u64) -> Option<Uuid> {
+        let place = self.own_ids.binary_search_by_key(&sequence, |(own, _)| *own).ok()?;
+        self.own_ids.get(place).map(|(_, id)| *id)
+    }
+
+    /// The id that was told of this message.
+    fn told_id(&self, sequence: u64) -> Uuid {
+        self.own_id(sequence).unwrap_or_else(|| message_id(self.mark, sequence))
     }
 
     fn received(
@@ -349,7 +372,7 @@ impl State {
             if self.messages.is_empty() {
                 self.longest_envelope = 0;
             }
-            if self.place_of(receipt.sequence).is_some_and(|place| place >= self.old) {
+            if receipt.sequence >= self.first_recent() {
                 self.left_ids += 1;
             }
         }
@@ -432,7 +455,8 @@ impl State {
 
     fn delay_message(&mut self, message: &Arc<Delayed>, moment: Moment) -> Applied {
         match self.delayed.add(message, moment) {
-            Some(first) => Applied::unchanged(Outcome::Delayed { id: first }),
+            Some(First::Delayed(id)) => Applied::unchanged(Outcome::Delayed { id }),
+            Some(First::Stored(sequence)) => Applied::unchanged(Outcome::Delayed { id: self.told_id(sequence) }),
             None => {
                 self.last_send = moment;
                 Applied { outcome: Outcome::Delayed { id: message.id }, changed: true, opened: false }
@@ -461,7 +485,7 @@ impl State {
 
     /// Finds what counts no more at this moment: ids, and what attempts were given.
     pub fn look_at_ages(&mut self, now: Moment) {
-        self.count_old(now);
+        self.forget_old_sends(now);
         self.attempts.forget_old(now);
         self.delayed.forget_old_calls(now);
     }
@@ -557,8 +581,8 @@ impl State {
         self.base = self.last_sequence;
         self.change_count = 0;
         self.recent = VecDeque::new();
-        self.old = 0;
         self.left_ids = 0;
+        self.own_ids = VecDeque::new();
         self.messages = Messages::default();
         self.groups = (self.delay > 0).then(Groups::default);
         self.envelope_bytes = 0;

@@ -288,8 +288,7 @@ fn looks_come_to_each_message_once_and_change_nothing() {
     let bytes = state.bytes_in_use();
     for at_once in 1..9 {
         let seen = peek_at_all(&state, at_once, 55);
-        let ids =
-            seen.iter().map(|one| EnvelopeHead::of(&Arc::<str>::from(one.envelope.clone())).unwrap().id.as_u128());
+        let ids = seen.iter().map(|one| own_id(&Arc::<str>::from(one.envelope.clone())).unwrap().as_u128());
         assert_eq!(ids.collect::<Vec<_>>(), [1, 3, 4, 5, 7, 6, 8], "{at_once} at once");
         let seen: Vec<_> = seen.iter().map(|one| (one.visibility, one.count, one.first)).collect();
         let (visible, delayed) = ((Visibility::Visible, 0, None), (Visibility::Delayed, 0, None));
@@ -331,4 +330,57 @@ fn own_handings_and_delays_are_told_by_a_look() {
     assert_eq!(look(&state, 20_000), (Visibility::InFlight, 0, "g".into()));
     receive(&mut state, 2, false, 30_000);
     assert_eq!(look(&state, 35_000), (Visibility::Visible, 1, "g".into()));
+}
+
+/// Sends a message with an id in its envelope or without, and tells the id that isn't made of its place.
+fn own_id_told(state: &mut State, place: u64, id: Option<u128>, dedup: &DedupId, moment: Moment) -> Option<u128> {
+    let id = id.map_or(String::new(), |id| format!("\"id\":\"{}\",", Uuid::from_u128(id)));
+    let envelope = Envelope::Whole(format!("{{{id}\"sent\":{moment}}}\nbody"));
+    let group = GroupId::parse("g").unwrap();
+    let ask = Ask::Send { group, dedup: dedup.clone(), envelope, cause: Cause::Client };
+    let applied = state.apply_reply(&ask, StoreReply::Sent(place), moment, &Jumps::default()).unwrap();
+    match applied.outcome {
+        Outcome::Sent { sequence, id } if sequence == place => id.map(|id| id.as_u128()),
+        other => panic!("{other:?}"),
+    }
+}
+
+#[test]
+fn a_repeat_is_told_the_first_ones_place_and_no_id_is_kept() {
+    let (mut state, dedup) = (state(), DedupId::parse("d").unwrap());
+    let sends = [(1, 0), (2, 10), (1, 20), (3, WINDOW + 10), (1, WINDOW + 20), (2, 2 * WINDOW), (3, 2 * WINDOW)];
+    for (place, moment) in sends {
+        assert_eq!(own_id_told(&mut state, place, None, &dedup, moment), None);
+    }
+    assert_eq!((state.last_sequence, state.own_ids.len()), (3, 0));
+}
+
+#[test]
+fn a_repeat_is_told_the_id_that_an_earlier_version_gave() {
+    for name in ["q.fifo", "standard"] {
+        let (mut state, dedup) = (state_of(name), DedupId::parse("d").unwrap());
+        let send = |state: &mut State, place, id, moment| own_id_told(state, place, id, &dedup, moment);
+        assert_eq!(send(&mut state, 1, Some(7), 0), Some(7));
+        assert_eq!(send(&mut state, 2, Some(8), 1000), Some(8));
+        delete(&mut state, 1, 2000);
+        assert_eq!(send(&mut state, 1, None, 3000), Some(7));
+        state.look_at_ages(WINDOW);
+        assert_eq!(send(&mut state, 1, None, WINDOW - 1), Some(7), "it was on its way");
+        assert_eq!(send(&mut state, 3, None, WINDOW), None);
+        assert_eq!([1, 2, 3].map(|place| send(&mut state, place, None, WINDOW)), [None, Some(8), None]);
+        assert_eq!(send(&mut state, 4, None, WINDOW + 1000), None);
+        assert!(state.own_ids.is_empty());
+    }
+}
+
+#[test]
+fn a_call_that_is_repeated_with_a_delay_is_told_the_first_ones_id() {
+    let call = DedupId::of_call(&[0; 32], None);
+    for (own, told) in [(None, message_id(Mark(1), 1)), (Some(7), Uuid::from_u128(7))] {
+        let mut state = state_of("standard");
+        own_id_told(&mut state, 1, own, &call, 10);
+        let message = Delayed { id: Uuid::from_u128(9), due: 5000, call: Some(call.clone()), envelope: "{}\nb".into() };
+        let applied = state.apply_change(&TableChange::Delayed(Arc::new(message)), 20);
+        assert!(matches!(applied.outcome, Outcome::Delayed { id } if id == told) && !applied.changed);
+    }
 }
