@@ -73,6 +73,8 @@ impl<'a, R: Clock> Counting<'a, R> {
 }
 
 impl<'a, R: Clock> Gate for Counting<'a, R> {
+    ghost lets = { λ _ _ _ _. Unit {0} };
+
     fn enter(&self, party: Party, turn: u64) -> bool {
         if party != Party::Master {
             self.count(turn);

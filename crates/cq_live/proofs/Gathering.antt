@@ -1,8 +1,8 @@
 -- What is left of servers, one after another.
-use Rattle.std.proofs.Common.{◌≡◌, ℕ, zero, suc, ◌∙◌, ap, sym, subst, refl, List, [], ◌∷◌, ◌++◌, map, slice_get, Bool, true, false, inl, Some}
+use Rattle.std.proofs.Common.{◌≡◌, ◌⊎◌, ℕ, zero, suc, ◌∙◌, ap, sym, subst, refl, List, [], ◌∷◌, ◌++◌, map, slice_get, Bool, true, false, inl, inr, Some}
 use Rattle.std.proofs.lemmas.List.{append_assoc, append-nil, map_push}
 use Rattle.std.proofs.lemmas.Option.{same_Some, none-some}
-use Rattle.cq_base.proofs.Among.{among-left, among-right}
+use Rattle.cq_base.proofs.Among.{among-append, among-left, among-right}
 use Rattle.cq_base.specs.Relations.{Among}
 use Rattle.cq_base.specs.declared.party.Party.TheVariants as parties
 use Rattle.cq_chain.specs.declared.message.Message.{Message}
@@ -43,6 +43,20 @@ among_starved (q ∷ parts) (suc place) p at is = among-right p.id (starved_part
 
 all_among : (parts : List Parts) (ids : List ℕ) → ids ≡ starved_in parts → (place : ℕ) (p : Parts) → slice_get parts place ≡ Some p → p.starved ≡ true → Among p.id ids
 all_among parts ids e place p at is = subst (Among p.id) (sym e) (among_starved parts place p at is)
+
+-- who is named found no memory
+one_named : (n : ℕ) (starved : Bool) (id : ℕ) → Among id (starved_part n starved) → (id ≡ n) × (starved ≡ true)
+one_named n true id (inl is) = (is, refl)
+one_named n true id (inr nothing) = absurd nothing
+one_named n false id h = absurd h
+
+pub starved_named : (parts : List Parts) (id : ℕ) → Among id (starved_in parts) → (i : ℕ) × (p : Parts) × (slice_get parts i ≡ Some p) × (p.id ≡ id) × (p.starved ≡ true)
+starved_named [] id h = absurd h
+starved_named (q ∷ parts) id h = go (among-append id (starved_part q.id q.starved) (starved_in parts) h) (starved_named parts id) where
+  go : Among id (starved_part q.id q.starved) ⊎ Among id (starved_in parts) → (Among id (starved_in parts) → (i : ℕ) × (p : Parts) × (slice_get parts i ≡ Some p) × (p.id ≡ id) × (p.starved ≡ true))
+      → (i : ℕ) × (p : Parts) × (slice_get (q ∷ parts) i ≡ Some p) × (p.id ≡ id) × (p.starved ≡ true)
+  go (inl here) rest = let own = one_named q.id q.starved id here in (0, q, refl, sym own.0, own.1)
+  go (inr later) rest = let r = rest later in (suc r.0, r.1, r.2, r.3, r.4)
 
 -- ---- one server more
 

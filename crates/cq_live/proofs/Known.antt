@@ -13,10 +13,10 @@ use Rattle.cq_nodes.specs.Moves.{ArePut, AreTaken}
 use Rattle.cq_nodes.specs.Nodes.{IsBound, HasNoLink}
 use Rattle.cq_live.proofs.Elements.{past_end}
 use Rattle.cq_live.specs.Ended.{Nodes}
-use Rattle.cq_live_plan.specs.Steps.{joins_of}
+use Rattle.cq_live_plan.specs.Steps.{joiners_of}
 use Rattle.cq_live_plan.specs.declared.step.LiveStep.{LiveStep}
 use Rattle.cq_live_plan.specs.Steps.{crash_of}
-use Rattle.cq_events.specs.Actions.{Action, Joined, Lived, put_to, taken_from}
+use Rattle.cq_events.specs.Actions.{Action, Crashed, Joined, Lived, put_to, taken_from}
 use Rattle.cq_events.specs.Worlds.{first_world}
 
 module _ {P T I : Type 0} (put : P → List Message) (taken : T → List Message) (got : I → List Request) where
@@ -30,6 +30,7 @@ module _ {P T I : Type 0} (put : P → List Message) (taken : T → List Message
     pub firsts : put s.clients.first ≡ of_client false (put_to parties.Clients actions)
     pub seconds : put s.clients.second ≡ of_client true (put_to parties.Clients actions)
     pub bound : IsBound (crash_of id steps) s.starved (got s.inbox) actions
+    pub starved : s.starved ≡ true → (count : ℕ) × Among (Crashed count) actions
 
 -- The master did this.
 pub record MasterKnown {P T : Type 0} (put : P → List Message) (taken : T → List Message) (size : ℕ) (steps : List LiveStep) (master : MasterEnds P T) (actions : List Action) : Type 0 where
@@ -37,7 +38,7 @@ pub record MasterKnown {P T : Type 0} (put : P → List Message) (taken : T → 
   pub puts : ArePut put master.outs.items (λ place. put_to (parties.Server (suc place)) actions)
   pub takes : AreTaken taken master.ins.items (λ place. taken_from (parties.Server (suc place)) actions)
   pub others : (p : Party) → HasNoPlace (length master.ins.items) p → taken_from p actions ≡ []
-  pub planned : (id : ℕ) → Among (Joined id) actions → Among id (joins_of steps)
+  pub planned : (id : ℕ) → Among (Joined id) actions → Among id (joiners_of steps)
 
 -- the party has no node among so many servers and the master
 abbrev pub HasNoNode : ℕ → Party → Type 0

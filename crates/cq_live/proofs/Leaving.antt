@@ -23,6 +23,7 @@ use Rattle.cq_nodes.specs.Nodes.{held_in}
 use Rattle.cq_nodes.specs.declared.ends.In.{In}
 use Rattle.cq_nodes.specs.declared.ends.Out.{Out}
 use Rattle.cq_live_plan.specs.declared.joins.Join.{Join}
+use Rattle.cq_live.proofs.Gathering.{starved_named}
 use Rattle.cq_live.proofs.Images.{mapped_at, counterpart}
 use Rattle.cq_live.proofs.Staying.{same_wired, seat}
 use Rattle.cq_live.specs.within.Chains.{server_wiring, master_wiring, wiring_of, IsServerOf, IsChain}
@@ -124,7 +125,7 @@ module _ (count size : ℕ) (steps : List LiveStep) (own : Own) (master : Master
   its_master = record {
     joins = master.joins;
     lived = subst (λ n. MasterLived put_on taken_from n master.joins left.ends.outs.items left.ends.ins.items left.ends.trace.items) chain.its_master.size left.its_master.lived;
-    planned = λ join is. subst (Among join.server) chain.its_master.joins (among-image (λ (j : Join). j.server) join master.joins is);
+    planned = λ join is. subst (Among join.server) (ap (map (λ (j : Join). j.server)) chain.its_master.joins) (among-image (λ (j : Join). j.server) join master.joins is);
   }
 
   its_server : (i : ℕ) (p : Parts) → slice_get left.parts i ≡ Some p → IsServer put_on taken_from requests_in size steps (i + 1) p
@@ -162,7 +163,7 @@ module _ (count size : ℕ) (steps : List LiveStep) (own : Own) (master : Master
     served = record { to_first = to_first; to_second = to_second; requests = requests }
 
     known : HaveEnded put_on taken_from requests_in put_in count size steps its_nodes apart.starved.items
-    known = record { whole = whole; master = its_master; servers = its_server; first = its_first; second = its_second; delivered = delivered; served = served; noted = left.gathered.all_starved }
+    known = record { whole = whole; master = its_master; servers = its_server; first = its_first; second = its_second; delivered = delivered; served = served; noted = left.gathered.all_starved; named = λ id h. starved_named left.parts id (subst (λ ids. Among id ids) left.gathered.starved h) }
 
     told : AreOf apart.traces.items its_nodes
     told = together (λ party events. (party, events)) (λ (t : Trace). t.party) (λ (t : Trace). t.events.items) (λ (x : Party × List Event). x.0) (λ (x : Party × List Event). x.1) (λ x. refl) apart.traces.items (events_of its_nodes)

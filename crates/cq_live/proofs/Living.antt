@@ -1,7 +1,7 @@
 -- What nodes show together is what a live run promises.
 use Rattle.std.proofs.Common.{◌≡◌, ℕ, zero, suc, ◌∙◌, ap, sym, refl, subst, cond, List, [], ◌∷◌, map, length, slice_get, Bool, true, false, Option, Some, None, inl, inr, arith}
 use Rattle.std.proofs.lemmas.Option.{same_Some, none-some}
-use Rattle.cq_base.proofs.Among.{among-map}
+use Rattle.cq_base.proofs.Among.{among-map, among-image}
 use Rattle.cq_base.specs.declared.ask.Query.{Query}
 use Rattle.cq_base.specs.declared.ask.Request.{Request}
 use Rattle.cq_base.specs.declared.party.Party.{Party}
@@ -29,6 +29,15 @@ own_among event (e ∷ es) (inr h) = go (same (party_of event) (party_of e)) (ow
   go : (t : Bool) → Among event (of_party (party_of event) es) → Among event (cond t (e ∷ of_party (party_of event) es) (of_party (party_of event) es))
   go true there = inr there
   go false there = there
+
+-- and one of its party's is an event of the order
+order_among : (p : Party) (event : Event) (order : List Event) → Among event (of_party p order) → Among event order
+order_among p event [] h = absurd h
+order_among p event (e ∷ es) h = go (same p (party_of e)) (order_among p event es) h where
+  go : (t : Bool) → (Among event (of_party p es) → Among event es) → Among event (cond t (e ∷ of_party p es) (of_party p es)) → Among event (e ∷ es)
+  go true rest (inl is) = inl is
+  go true rest (inr later) = inr (rest later)
+  go false rest later = inr (rest later)
 
 -- so its party did it
 action_of : (size : ℕ) (actions : Party → List Action) (order : List Event) (event : Event) → IsOrder size actions order → Among event order → (d : Action) × Among d (actions (party_of event)) × (event ≡ event_of (party_of event) d)
@@ -112,6 +121,9 @@ nodes_live plan size actions put taken closed starved order accepted nodes o all
   joins = λ id h.
       let d = action_of size actions order (events.Join id) o h in
       nodes.joins id (subst (λ x. Among x (actions parties.Master)) (join_action parties.Master id d.0 (ap join_in d.2)) d.1);
+  starved_crash = λ id h.
+      let d = nodes.starved_crash id h in
+      order_among (parties.Server id) (events.Crash id) order (subst (λ es. Among (events.Crash id) es) (sym (o.each (parties.Server id))) (among-image (event_of (parties.Server id)) (Crashed d.0) (actions (parties.Server id)) d.1));
 } where
   did : IsWhatTheyDid size actions order
   did = orders_agree size actions order nodes.done o

@@ -11,7 +11,6 @@ use Rattle.cq_link.specs.declared.link.Taker.{Taker}
 use Rattle.cq_base.specs.declared.ask.Request.{Request}
 use Rattle.cq_link.specs.Links.{putter_link, taker_link}
 use Rattle.cq_nodes.specs.ClientNodes.{client_held}
-use Rattle.cq_live_plan.specs.declared.joins.Join.{Join}
 use Rattle.cq_live.proofs.Images.{all_at, pushed_at}
 use Rattle.cq_live.proofs.Staying.{same_wired, seat}
 use Rattle.cq_live.specs.declared.roles.Role.{Role}
@@ -106,7 +105,7 @@ module _ (count size : ℕ) (steps : List LiveStep) (wires : Wires) (port : Port
   made = servers_of size (roles_of steps count) ports wires.clients.servers.items
 
   abbrev a_client : ℕ → List (InPut Request) → List (Taker Message) → Client
-  a_client id outs ins = client_held id (asks_of id steps) outs ins []
+  a_client id outs ins = client_held id (asks_of id steps) outs ins [] false
 
   abbrev port_wiring : Ports Message → Wiring
   port_wiring p = record { outs = map putter_link p.outs.items; ins = map taker_link p.ins.items }
@@ -125,7 +124,7 @@ module _ (count size : ℕ) (steps : List LiveStep) (wires : Wires) (port : Port
       })
 
   module _ (own : Own) (master : Master) (outs : own.0 ∷ master.outs ≡ port.outs.items) (ins : own.1 ∷ master.ins ≡ port.ins.items) (of_size : master.size ≡ size)
-      (of_joins : map (λ (join : Join). join.server) master.joins ≡ joins_of steps) where
+      (of_joins : master.joins ≡ joins_of steps) where
     same_wiring : wiring_of own master made ≡ wiring wires.ports.items
     same_wiring = ap (λ w. w ∷ map server_wiring made) (same_wired (map putter_link (own.0 ∷ master.outs)) (map putter_link port.outs.items) (map taker_link (own.1 ∷ master.ins)) (map taker_link port.ins.items) (ap (map putter_link) outs) (ap (map taker_link) ins))
         ∙ ap (λ ws. port_wiring port ∷ ws) (of_ports size server_wiring port_wiring (λ role p w. refl) (roles_of steps count) ports wires.clients.servers.items roles_of_ports roles_of_wires)
@@ -158,8 +157,8 @@ module _ (count size : ℕ) (steps : List LiveStep) (wires : Wires) (port : Port
     }
 
     pub is_chain : (servers : List Server) (first second : Client) → servers ≡ servers_of size (roles_of steps count) ports wires.clients.servers.items
-        → first ≡ client_held 1 (asks_of 1 steps) wires.clients.first.outs.items wires.clients.first.ins.items []
-        → second ≡ client_held 2 (asks_of 2 steps) wires.clients.second.outs.items wires.clients.second.ins.items []
+        → first ≡ client_held 1 (asks_of 1 steps) wires.clients.first.outs.items wires.clients.first.ins.items [] false
+        → second ≡ client_held 2 (asks_of 2 steps) wires.clients.second.outs.items wires.clients.second.ins.items [] false
         → IsChain count size steps own master servers first second
     is_chain servers first second a b c = subst (λ ss. IsChain count size steps own master ss first second) (sym a) (subst (λ f. IsChain count size steps own master made f second) (sym b)
         (subst (λ s. IsChain count size steps own master made (a_client 1 wires.clients.first.outs.items wires.clients.first.ins.items) s) (sym c) made_chain))

@@ -58,6 +58,13 @@ module _ {P T I Q : Type 0} (put : P → List Message) (taken : T → List Messa
   pub crashes : (id count : ℕ) → Among (Crashed count) (actions (parties.Server id)) → MayCrash (plan_of steps) starved id count
   crashes id = crash (parties.Server id)
 
+  -- a server that is named among those that found no memory crashed
+  pub starved_crashes : ((id : ℕ) → Among id starved → (i : ℕ) × (s : ServerParts P T I) × (slice_get nodes.servers i ≡ Some s) × (s.id ≡ id) × (s.starved ≡ true)) → (id : ℕ) → Among id starved → (count : ℕ) × Among (Crashed count) (actions (parties.Server id))
+  starved_crashes named id h =
+      let s = named id h in
+      let its = known.servers s.0 s.1 s.2 in
+      subst (λ n. (count : ℕ) × Among (Crashed count) (actions (parties.Server n))) (sym its.number ∙ s.3) (its.starved s.4)
+
   -- ---- queries
 
   pub silent : (p : Party) (query : Query) → Among (Asked query) (actions p) → ⊥
@@ -73,7 +80,7 @@ module _ {Q T : Type 0} (asked : Q → List Request) (taken : T → List Message
   asks_only request h =
       let out = among-flat_map asked request client.outs h in
       let at = place_of out.0 client.outs out.1 in
-      subst (λ asks. IsAskOf c asks request) node.asks (subst (λ id. IsAskOf id client.asks request) node.id (node.did.asked at.0 out.0 at.1 request out.2))
+      subst (λ asks. IsAskOf c asks request) node.asks (subst (λ id. IsAskOf id client.asks request) node.id (node.did.asked at.0 out.0 at.1 request out.2).one)
 
   closes : (place : ℕ) (answer : Answer) → slice_get client.closed place ≡ Some answer → Closed c place (flat_map taken client.ins) answer
   closes place answer is =

@@ -10,7 +10,7 @@ use Rattle.cq_live.specs.Lives.{AreNodes, actions_of}
 use Rattle.cq_live.proofs.Delivering.{delivers}
 use Rattle.cq_live.proofs.Known.{HasNoNode, Known, by_party}
 use Rattle.cq_live.proofs.Lives.{lives_of, lives_known, lives_told}
-use Rattle.cq_live.proofs.Planned.{crashes, silent, clients}
+use Rattle.cq_live.proofs.Planned.{crashes, starved_crashes, silent, clients}
 use Rattle.cq_live.proofs.Serving.{arrivals, answers}
 use Rattle.cq_live.specs.Ended.{Nodes, HaveEnded, AreOf, Show, Shows, put_by, taken_by, closed_of, requests_in}
 use Rattle.cq_live.specs.Plans.{plan_of}
@@ -44,6 +44,7 @@ module _ {P T I Q : Type 0} (put : P → List Message) (taken : T → List Messa
       clients = clients asked taken steps nodes ended.first ended.second;
       crashes = crashes put taken got size steps nodes starved actions ended.noted known;
       joins = known.master.planned;
+      starved_crash = starved_crashes put taken got size steps nodes starved actions ended.noted known ended.named;
     }
 
   pub show : (traces : List Trace) → AreOf traces nodes → Show taken asked size steps nodes starved traces

@@ -6,7 +6,6 @@ use Rattle.cq_link.specs.Inboxes.{InboxId, take_inbox}
 use Rattle.cq_link.specs.Links.{LinkId, putter_link, taker_link}
 use Rattle.cq_nodes.specs.ClientNodes.{IsSameClient}
 use Rattle.cq_nodes.specs.MasterNodes.{IsSameNode}
-use Rattle.cq_live_plan.specs.declared.joins.Join.{Join}
 use Rattle.cq_live.proofs.Images.{beside}
 use Rattle.cq_live.specs.within.Chains.{master_wiring, server_wiring, wiring_of, AreTied, IsMasterOf, IsServerOf, IsClientOf, IsChain}
 use Rattle.cq_live.proofs.Mapped.{same_map, same_length}
@@ -61,7 +60,7 @@ module _ (count size : ℕ) (steps : List LiveStep) where
     outs = same_length putter_link putter_link n.outs m.outs same.outs ∙ of.outs;
     ins = same_length taker_link taker_link n.ins m.ins same.ins ∙ of.ins;
     size = same.size ∙ of.size;
-    joins = ap (map (λ (join : Join). join.server)) same.joins ∙ of.joins;
+    joins = same.joins ∙ of.joins;
   }
 
   same_server_of : (ss ts : List Server) → AreSame putter_link taker_link take_inbox ss ts → ((i : ℕ) (s : Server) → slice_get ss i ≡ Some s → IsServerOf count size steps (i + 1) s)

@@ -24,7 +24,7 @@ use Rattle.cq_nodes.specs.MasterNodes.{MasterLived}
 use Rattle.cq_nodes.specs.Nodes.{Tells}
 use Rattle.cq_live.specs.Plans.{plan_of}
 use Rattle.cq_live_plan.specs.declared.step.LiveStep.{LiveStep}
-use Rattle.cq_live_plan.specs.Steps.{asks_of, crash_of, joins_of}
+use Rattle.cq_live_plan.specs.Steps.{asks_of, crash_of, joiners_of}
 use Rattle.cq_events.specs.declared.trace.Trace.{Trace}
 use Rattle.cq_events.specs.declared.event.Event.{Event}
 
@@ -109,7 +109,7 @@ pub record IsServer {P T I : Type 0} (put : P → List Message) (taken : T → L
 pub record IsMaster {P T : Type 0} (put : P → List Message) (taken : T → List Message) (size : ℕ) (steps : List LiveStep) (master : MasterEnds P T) : Type 0 where
   pub joins : List Join
   pub lived : MasterLived put taken size joins master.outs.items master.ins.items master.trace.items
-  pub planned : (join : Join) → Among join joins → Among join.server (joins_of steps)
+  pub planned : (join : Join) → Among join joins → Among join.server (joiners_of steps)
 
 -- A client's node was made for the client of that id by the steps, and did what such a node does.
 pub record IsClientNode {Q T : Type 0} (asked : Q → List Request) (taken : T → List Message) (steps : List LiveStep) (number : ℕ) (client : ClientHeld Q T) : Type 0 where
@@ -127,7 +127,7 @@ module _ {P T I Q : Type 0} (put : P → List Message) (taken : T → List Messa
         → (request : Request) → Among request (got s.inbox) → Among request (asked one) ⊎ Among request (asked two)
 
   -- What is known of the nodes of a live run of the steps, with so many servers, once all have ended and all links and
-  -- inboxes are settled. Each server that found no memory is in the last list.
+  -- inboxes are settled. The servers that found no memory are those of the last list.
   pub record HaveEnded (count size : ℕ) (steps : List LiveStep) (nodes : Nodes P T I Q) (starved : List ℕ) : Type 0 where
     pub whole : AreWhole count nodes
     pub master : IsMaster put taken size steps nodes.master
@@ -137,6 +137,7 @@ module _ {P T I Q : Type 0} (put : P → List Message) (taken : T → List Messa
     pub delivered : HaveDelivered put taken (rows nodes)
     pub served : HaveServed nodes
     pub noted : (i : ℕ) (s : ServerParts P T I) → slice_get nodes.servers i ≡ Some s → s.starved ≡ true → Among s.id starved
+    pub named : (id : ℕ) → Among id starved → (i : ℕ) × (s : ServerParts P T I) × (slice_get nodes.servers i ≡ Some s) × (s.id ≡ id) × (s.starved ≡ true)
 
 -- what a client put on all its ends, one after another
 abbrev pub put_by : {P T I Q : Type 0} → (Q → List Request) → Nodes P T I Q → ℕ → List Request

@@ -1,6 +1,10 @@
 -- The number and the name of each fault of a live run.
 use Rattle.std.specs.Prelude.{ℕ, List, codes, Bool, true, false}
 use Rattle.cq_live.specs.declared.fault.LiveFault.{LiveFault}
+use Rattle.cq_threads.specs.declared.fault.ThreadFault.{ThreadFault}
+use Rattle.cq_threads.specs.declared.fault.ThreadFault.TheVariants as threads
+use Rattle.cq_trace.specs.declared.fault.AuditFault.{AuditFault}
+use Rattle.cq_trace.specs.declared.fault.AuditFault.TheVariants as audits
 use Rattle.cq_live.specs.declared.fault.LiveFault.TheVariants.{TurnLimit, AuditRefused, SpawnFailed, BadScript, NoMemory}
 
 -- the number of a fault
@@ -23,3 +27,14 @@ name_of NoMemory = codes "NoMemory"
 abbrev pub is_of_steps : LiveFault → Bool
 is_of_steps (BadScript step) = true
 is_of_steps fault = false
+
+-- a fault of threads, as one of a live run
+abbrev pub of_threads : ThreadFault → LiveFault
+of_threads threads.SpawnFailed = SpawnFailed
+of_threads threads.NoMemory = NoMemory
+
+-- a fault of an audit, of which want of memory is told as that
+abbrev pub of_audit : AuditFault → LiveFault
+of_audit (audits.NoNextEvent parties) = AuditRefused (audits.NoNextEvent parties)
+of_audit (audits.BadTrace number) = AuditRefused (audits.BadTrace number)
+of_audit audits.NoMemory = NoMemory

@@ -81,6 +81,8 @@ pub record AreNodes (plan : Plan) (size : ℕ) (actions : Party → List Action)
   pub clients : (c : ℕ) → IsClientId c → IsClient c (plan.asks c) (put c) (taken c) (closed c)
   pub crashes : (id count : ℕ) → Among (Crashed count) (actions (parties.Server id)) → MayCrash plan starved id count
   pub joins : (id : ℕ) → Among (Joined id) (actions parties.Master) → Among id plan.joins
+  -- a server that found no memory crashed
+  pub starved_crash : (id : ℕ) → Among id starved → (count : ℕ) × Among (Crashed count) (actions (parties.Server id))
 
 -- ---- what is promised
 
@@ -105,6 +107,8 @@ pub record IsLive (plan : Plan) (size : ℕ) (order : List Event) (closed : ℕ 
   pub sends : accepted ≡ sends_closed (plan.asks 1) (closed 1) + sends_closed (plan.asks 2) (closed 2)
   pub crashes : (before rest : List Event) (id : ℕ) → order ≡ before ++ (events.Crash id ∷ rest) → MayCrash plan starved id (length ((world_after (first_world size) before).server id).entries)
   pub joins : (id : ℕ) → Among (events.Join id) order → Among id plan.joins
+  -- each server that found no memory crashes
+  pub starved_crash : (id : ℕ) → Among id starved → Among (events.Crash id) order
 
 -- What nodes show, with an order of what they did and all asks closed, is what is promised.
 abbrev pub NodesLive : Type 0

@@ -1,6 +1,6 @@
 //! The faults of a live run.
 ghost use Rattle.std.specs.Prelude.{◌≡◌, false};
-ghost use Rattle.cq_live.specs.Faults.{code_of, name_of, is_of_steps};
+ghost use Rattle.cq_live.specs.Faults.{code_of, name_of, is_of_steps, of_threads, of_audit};
 ghost use Rattle.cq_live.specs.declared.fault.LiveFault.TheVariants as faults;
 
 use cq_base::NoMemory as OutOfMemory;
@@ -15,7 +15,7 @@ use std::fmt;
 pub enum LiveFault {
     /// A client ended before all its asks were answered, or a gate answered false.
     TurnLimit,
-    /// The audit found no order of what the nodes did, or no memory for one.
+    /// The audit found no order of what the nodes did.
     AuditRefused(AuditFault),
     /// A thread could not be started.
     SpawnFailed,
@@ -96,7 +96,7 @@ impl From<LinkFault> for LiveFault {
 }
 
 impl From<ThreadFault> for LiveFault {
-    ghost from_gives = { λ _ fault. is_of_steps fault ≡ false };
+    ghost from_gives = { λ fault it. (it ≡ of_threads fault) × (is_of_steps it ≡ false) };
 
     fn from(fault: ThreadFault) -> LiveFault {
         match fault {
@@ -107,13 +107,18 @@ impl From<ThreadFault> for LiveFault {
 }
 
 impl From<AuditFault> for LiveFault {
-    ghost from_gives = { λ _ fault. is_of_steps fault ≡ false };
+    ghost from_gives = { λ fault it. (it ≡ of_audit fault) × (is_of_steps it ≡ false) };
 
     /// An audit that found no memory is told as that.
     fn from(fault: AuditFault) -> LiveFault {
         match fault {
             AuditFault::NoMemory => LiveFault::NoMemory,
-            refused => LiveFault::AuditRefused(refused),
+            AuditFault::NoNextEvent(parties) => {
+                LiveFault::AuditRefused(AuditFault::NoNextEvent(parties))
+            }
+            AuditFault::BadTrace(number) => {
+                LiveFault::AuditRefused(AuditFault::BadTrace(number))
+            }
         }
     }
 }

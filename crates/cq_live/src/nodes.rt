@@ -1,5 +1,5 @@
 //! All nodes of a run, before it begins.
-ghost use Rattle.std.specs.Prelude.{◌≡◌, ◌<◌, ◌∷◌, [], length, map, IfOk};
+ghost use Rattle.std.specs.Prelude.{◌≡◌, ◌<◌, ◌∷◌, [], length, false, IfOk};
 ghost use Rattle.cq_nodes.specs.ClientNodes.{client_held};
 ghost use Rattle.cq_live_plan.specs.Steps.{asks_of};
 ghost use Rattle.cq_live_plan.specs.Steps.{joins_of};
@@ -63,7 +63,7 @@ fn client_of<'a>(
     flags: &'a Flags,
 ) -> Result<Client<'a>, NoMemory>
     requires { IsClientFit ports }
-    ensures { IfOk result (λ node. node ≡ client_held id (asks_of id steps.now) ports.outs.items ports.ins.items []) }
+    ensures { IfOk result (λ node. node ≡ client_held id (asks_of id steps.now) ports.outs.items ports.ins.items [] false) }
 {
     let asks = asks_of(alloc, id, steps)?;
     let links = client_links_of(alloc, ports.outs, ports.ins)?;
@@ -80,8 +80,8 @@ fn clients_of<'a>(
 ) -> Result<(Client<'a>, Client<'a>), NoMemory>
     requires first { IsClientFit first }
     requires second { IsClientFit second }
-    ensures first { IfOk result (λ nodes. nodes.0 ≡ client_held 1 (asks_of 1 steps.now) first.outs.items first.ins.items []) }
-    ensures second { IfOk result (λ nodes. nodes.1 ≡ client_held 2 (asks_of 2 steps.now) second.outs.items second.ins.items []) }
+    ensures first { IfOk result (λ nodes. nodes.0 ≡ client_held 1 (asks_of 1 steps.now) first.outs.items first.ins.items [] false) }
+    ensures second { IfOk result (λ nodes. nodes.1 ≡ client_held 2 (asks_of 2 steps.now) second.outs.items second.ins.items [] false) }
 {
     let first = client_of(alloc, 1, steps, first, flags)?;
     let second = client_of(alloc, 2, steps, second, flags)?;
@@ -99,7 +99,7 @@ pub(crate) fn nodes_of<'a>(
     flags: &'a Flags,
 ) -> Result<LiveNodes<'a>, NoMemory>
     requires wired { AreWired servers wires }
-    requires joins { map (λ join. join.server) joins.items ≡ joins_of steps.now }
+    requires joins { joins.items ≡ joins_of steps.now }
     ensures { IfOk result (λ live. IsChain servers size steps.now live.own live.nodes.master live.nodes.servers.items live.nodes.first live.nodes.second) }
 {
     let roles = roles_of(alloc, servers, steps)?;

@@ -43,6 +43,7 @@ pub(crate) fn report_of(
 ) -> Result<LiveReport, LiveFault>
     requires { HasEnded size steps.now ended }
     ensures live { IfOk result (IsReport size steps.now) }
+    ensures memory { IfOk result (λ report. ended.is_starved ≡ false) }
     ensures others { IfErr result (λ fault. is_of_steps fault ≡ false) }
 {
     let first = asks_of(alloc, 1, steps)?;
@@ -52,7 +53,7 @@ pub(crate) fn report_of(
     }
     let accepted = accepted_of(&first, &second, &ended);
     let events = audit(alloc, size, &ended.traces)?;
-    if ended.is_master_starved {
+    if ended.is_starved {
         return Err(LiveFault::NoMemory);
     }
     Ok(LiveReport {

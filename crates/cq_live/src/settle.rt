@@ -1,5 +1,5 @@
 //! The end of a run: all links and inboxes are settled.
-ghost use Rattle.std.specs.Prelude.{IfOk};
+ghost use Rattle.std.specs.Prelude.{◌≡◌, IfOk};
 ghost use Rattle.cq_link.specs.Clients.{AreTied};
 ghost use Rattle.cq_link.specs.Wirings.{AreCrossed, wiring};
 ghost use Rattle.cq_live.specs.within.Runs.{IsSettled};
@@ -23,15 +23,16 @@ pub(crate) struct Ended {
     pub second: Vec<Answer>,
     /// The servers that found no memory, and so crashed.
     pub starved: Vec<ServerId>,
-    /// Whether the master ended for want of memory.
-    pub is_master_starved: bool,
+    /// Whether the master or a client ended for want of memory.
+    pub is_starved: bool,
 }
 
 /// Settles all links and inboxes of nodes that were taken apart. What is left on them is dropped.
 pub(crate) fn settle(alloc: Global, done: Done) -> Result<Ended, NoMemory>
     requires crossed { AreCrossed (wiring done.apart.ports.items) }
     requires tied { AreTied done.apart.wires }
-    ensures { IfOk result (IsSettled done.apart) }
+    ensures settled { IfOk result (IsSettled done.apart) }
+    ensures memory { IfOk result (λ ended. ended.is_starved ≡ done.is_starved) }
 {
     let Apart {
         ports,
@@ -48,6 +49,6 @@ pub(crate) fn settle(alloc: Global, done: Done) -> Result<Ended, NoMemory>
         first,
         second,
         starved,
-        is_master_starved: done.is_master_starved,
+        is_starved: done.is_starved,
     })
 }

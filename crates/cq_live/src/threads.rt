@@ -1,5 +1,5 @@
 //! The run of all nodes.
-ghost use Rattle.std.specs.Prelude.{◌≡◌, false, IfOk, IfErr};
+ghost use Rattle.std.specs.Prelude.{◌≡◌, ◌||◌, false, IfOk, IfErr};
 ghost use Rattle.cq_live.specs.Faults.{is_of_steps};
 ghost use Rattle.cq_live.specs.within.Runs.{WasRun};
 
@@ -16,8 +16,15 @@ use std::thread::Threads;
 #[derive(Drop)]
 pub(crate) struct Done {
     pub apart: Apart,
-    /// Whether the master ended for want of memory.
-    pub is_master_starved: bool,
+    /// Whether the master or a client ended for want of memory.
+    pub is_starved: bool,
+}
+
+/// Whether one of these is so.
+fn is_any(one: bool, other: bool, third: bool) -> bool
+    ensures { result ≡ (one || other || third) }
+{
+    one || other || third
 }
 
 /// Runs each node on a thread of its own, and takes the nodes apart.
@@ -29,7 +36,7 @@ pub(crate) fn run_nodes<R: Threads + Wait + Sync, G: Gate + Sync>(
     gate: &G,
     flags: &Flags,
 ) -> Result<Done, LiveFault>
-    ensures run { IfOk result (λ done. WasRun live.entry done.apart) }
+    ensures run { IfOk result (λ done. WasRun live.entry done.apart done.is_starved) }
     ensures others { IfErr result (λ fault. is_of_steps fault ≡ false) }
 {
     let LiveNodes { own, nodes } = live;
@@ -39,10 +46,7 @@ pub(crate) fn run_nodes<R: Threads + Wait + Sync, G: Gate + Sync>(
         first,
         second,
     } = nodes.run(rt, alloc, turns, gate, flags)?;
-    let is_master_starved = master.is_starved();
+    let is_starved = is_any(master.is_starved(), first.is_starved(), second.is_starved());
     let apart = take_apart(alloc, master, own, servers, first, second)?;
-    Ok(Done {
-        apart,
-        is_master_starved,
-    })
+    Ok(Done { apart, is_starved })
 }

@@ -2,7 +2,7 @@
 use Rattle.std.proofs.Common.{◌≡◌, ℕ, List, [], ◌∷◌, Some, None, refl, codes}
 use Rattle.cq_base.specs.declared.ask.Ask.{Ask}
 use Rattle.cq_base.specs.declared.ask.Ask.TheVariants.{Create, Remove}
-use Rattle.cq_live_plan.specs.Steps.{asks_of, crash_of, first_bad}
+use Rattle.cq_live_plan.specs.Steps.{asks_of, crash_of, to_join, joins_of, joiners_of, first_bad}
 use Rattle.cq_live_plan.specs.declared.step.LiveStep.{LiveStep}
 use Rattle.cq_live_plan.specs.declared.step.LiveStep.TheVariants.{Client, Crash, Join}
 
@@ -59,3 +59,9 @@ crash_at = refl
 
 pub no_crash : crash_of 3 (Crash 1 4 ∷ Join 3 2 ∷ []) ≡ None
 no_crash = refl
+
+pub joined : joins_of (Join 4 7 ∷ Crash 2 5 ∷ Join 3 1 ∷ []) ≡ to_join 4 7 ∷ to_join 3 1 ∷ []
+joined = refl
+
+pub joiners : joiners_of (Join 4 7 ∷ Crash 2 5 ∷ Join 3 1 ∷ []) ≡ 4 ∷ 3 ∷ []
+joiners = refl

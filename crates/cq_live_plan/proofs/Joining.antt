@@ -1,7 +1,7 @@
 -- What steps one after another ask for.
 use Rattle.std.proofs.Common.{◌≡◌, ℕ, suc, ◌+◌, ◌∙◌, ap, subst, List, [], ◌∷◌, ◌++◌, take, slice_get, Some, zero, refl, arith}
 use Rattle.std.proofs.lemmas.Option.{same_Some, none-some}
-use Rattle.cq_live_plan.specs.Steps.{joins_of}
+use Rattle.cq_live_plan.specs.Steps.{to_join, joins_of}
 use Rattle.cq_live_plan.specs.declared.step.LiveStep.{LiveStep}
 use Rattle.cq_live_plan.specs.declared.step.LiveStep.TheVariants.{Client, Crash, Join}
 
@@ -10,7 +10,7 @@ joins_append : (xs ys : List LiveStep) → joins_of (xs ++ ys) ≡ joins_of xs +
 joins_append [] ys = refl
 joins_append (Client client ask ∷ xs) ys = joins_append xs ys
 joins_append (Crash server after ∷ xs) ys = joins_append xs ys
-joins_append (Join server after ∷ xs) ys = ap (λ us. server ∷ us) (joins_append xs ys)
+joins_append (Join server after ∷ xs) ys = ap (λ us. to_join server after ∷ us) (joins_append xs ys)
 
 -- the steps up to one are those before it, and it
 to_place : (steps : List LiveStep) (i : ℕ) (s : LiveStep) → slice_get steps i ≡ Some s → take (suc i) steps ≡ take i steps ++ s ∷ []

@@ -1,8 +1,9 @@
 -- What the steps of a live run ask for, and which steps it can't do.
-use Rattle.std.specs.Prelude.{◌==◌, ℕ, zero, suc, ◌+◌, ◌&&◌, ◌||◌, not, nat_le, nat_lt, List, [], ◌∷◌, ◌++◌, length, Bool, true, false, if◌then◌else◌, Option, None, Some}
+use Rattle.std.specs.Prelude.{◌==◌, ℕ, zero, suc, ◌+◌, ◌&&◌, ◌||◌, not, nat_le, nat_lt, List, [], ◌∷◌, ◌++◌, length, map, Bool, true, false, if◌then◌else◌, Option, None, Some}
 use Rattle.std.specs.List.{list_any}
 use Rattle.cq_base.specs.declared.ask.Ask.{Ask}
 use Rattle.cq_base.specs.declared.limits.TheConstants.{CHAIN_LIMIT}
+use Rattle.cq_live_plan.specs.declared.joins.Join as planned
 use Rattle.cq_live_plan.specs.declared.step.LiveStep.{LiveStep}
 use Rattle.cq_live_plan.specs.declared.step.LiveStep.TheVariants.{Client, Crash, Join}
 
@@ -22,12 +23,20 @@ crash_of id (Client client ask ∷ steps) = crash_of id steps
 crash_of id (Crash server after ∷ steps) = if server == id then Some after else crash_of id steps
 crash_of id (Join server after ∷ steps) = crash_of id steps
 
--- which servers join by the steps, in order
-abbrev pub joins_of : List LiveStep → List ℕ
+-- the server joins from that turn of the master on
+abbrev pub to_join : ℕ → ℕ → planned.Join
+to_join server after = record { server = server; after = after }
+
+-- which servers join by the steps, and from which turn on, in order
+abbrev pub joins_of : List LiveStep → List planned.Join
 joins_of [] = []
 joins_of (Client client ask ∷ steps) = joins_of steps
 joins_of (Crash server after ∷ steps) = joins_of steps
-joins_of (Join server after ∷ steps) = server ∷ joins_of steps
+joins_of (Join server after ∷ steps) = to_join server after ∷ joins_of steps
+
+-- these servers alone
+abbrev pub joiners_of : List LiveStep → List ℕ
+joiners_of steps = map (λ join. join.server) (joins_of steps)
 
 -- ---- what can't be done
 

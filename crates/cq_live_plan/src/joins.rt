@@ -1,5 +1,5 @@
 //! The servers that the steps of a live run let join.
-ghost use Rattle.std.specs.Prelude.{◌≡◌, ◌++◌, ◌∷◌, [], IfOk, OnOk, MatchOption, map};
+ghost use Rattle.std.specs.Prelude.{◌≡◌, ◌++◌, ◌∷◌, [], IfOk, OnOk, MatchOption};
 ghost use Rattle.cq_live_plan.specs.Steps.{joins_of};
 
 use crate::step::LiveStep;
@@ -16,7 +16,7 @@ pub struct Join {
 
 /// The join that the step asks for, if it does.
 fn join_in(step: &LiveStep) -> Option<Join>
-    ensures { MatchOption result (joins_of (step.now ∷ []) ≡ []) (λ join. joins_of (step.now ∷ []) ≡ join.server ∷ []) }
+    ensures { MatchOption result (joins_of (step.now ∷ []) ≡ []) (λ join. joins_of (step.now ∷ []) ≡ join ∷ []) }
 {
     match step {
         LiveStep::Join { server, after } => Some(Join {
@@ -29,7 +29,7 @@ fn join_in(step: &LiveStep) -> Option<Join>
 
 /// Adds the join that the step asks for, if it does.
 fn add_join(joins: &mut Vec<Join>, step: &LiveStep) -> Result<(), NoMemory>
-    ensures { OnOk result (map (λ join. join.server) joins.new.items ≡ map (λ join. join.server) joins.old.items ++ joins_of (step.now ∷ [])) }
+    ensures { OnOk result (joins.new.items ≡ joins.old.items ++ joins_of (step.now ∷ [])) }
 {
     if let Some(join) = join_in(step) {
         joins.push(join)?;
@@ -39,7 +39,7 @@ fn add_join(joins: &mut Vec<Join>, step: &LiveStep) -> Result<(), NoMemory>
 
 /// The joins that the steps ask for, in order: O(steps). It keeps the allocator.
 pub fn joins_of(alloc: Global, steps: &[LiveStep]) -> Result<Vec<Join>, NoMemory>
-    ensures { IfOk result (λ joins. map (λ join. join.server) joins.items ≡ joins_of steps.now) }
+    ensures { IfOk result (λ joins. joins.items ≡ joins_of steps.now) }
 {
     let mut joins = Vec::new(alloc);
     for step in steps {

@@ -46,6 +46,8 @@ impl Meeting {
 }
 
 impl Gate for Meeting {
+    ghost lets = { λ _ _ _ _. Unit {0} };
+
     fn enter(&self, party: Party, turn: u64) -> bool {
         if turn != 2 {
             return true;
@@ -81,6 +83,8 @@ impl Holding {
 }
 
 impl Gate for Holding {
+    ghost lets = { λ _ _ _ _. Unit {0} };
+
     fn enter(&self, party: Party, turn: u64) -> bool {
         if party == self.head && turn == 3_001 {
             self.goes_on.store(true, SeqCst);

@@ -186,6 +186,8 @@ fn events_are_those_of_the_nodes(rt: HostRuntime) -> Result<(), Fail> {
 struct Shut;
 
 impl Gate for Shut {
+    ghost lets = { λ _ _ _ _. Unit {0} };
+
     fn enter(&self, _party: Party, _turn: u64) -> bool {
         false
     }

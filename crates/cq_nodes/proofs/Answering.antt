@@ -9,7 +9,8 @@ use Rattle.cq_nodes.specs.declared.ends.ToClients.{ToClients}
 use Rattle.cq_nodes.specs.Ends.{with_back, back_of, if_for}
 use Rattle.cq_nodes.specs.Moves.{Passes, PutsToOne}
 use Rattle.cq_nodes.proofs.Moving.{put-done}
-use Rattle.cq_events.specs.Actions.{Put, StandsAs, Keeps, Does}
+use Rattle.cq_nodes.specs.Acts.{Acts}
+use Rattle.cq_events.specs.Actions.{Put, StandsAs, Keeps}
 
 -- what is kept for the clients takes the place of what was
 back_clients : {P : Type 0} (outs : List (Out P)) (before after : Option rust.Message) (p : Party) → with_back (back_of outs before) parties.Clients after p ≡ back_of outs after p
@@ -23,7 +24,7 @@ module _ {P : Type 0} (list : P → List rust.Message) (old new : rust_server.Se
       → PutsToOne list old new outs before after
   answer_put m passes none firsts seconds = record {
     message = m;
-    done = subst (λ back. Does (Put parties.Clients m) (record { core = old; back = back_of outs before.kept }) (record { core = new; back = back })) (λ i p. (back_clients outs before.kept None p ∙ ap (λ kept. back_of outs kept p) (sym none)) i)
+    done = subst (λ back. Acts (Put parties.Clients m) (record { core = old; back = back_of outs before.kept }) (record { core = new; back = back })) (λ i p. (back_clients outs before.kept None p ∙ ap (λ kept. back_of outs kept p) (sym none)) i)
         (put-done old new (back_of outs before.kept) parties.Clients m passes);
     firsts = firsts;
     seconds = seconds;

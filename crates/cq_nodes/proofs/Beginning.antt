@@ -62,6 +62,7 @@ ran_begun put taken got size id core outs clients ins inbox due stood unput unta
   puts = none_put put outs unput;
   takes = none_taken_at taken ins untaken;
   others = λ p apart. refl;
+  unput = λ p apart. refl;
   firsts = first;
   seconds = second;
   bound = record { may = λ d there. absurd there; arrived = tt };

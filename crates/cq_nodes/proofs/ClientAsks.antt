@@ -6,12 +6,12 @@ use Rattle.std.proofs.lemmas.Option.{none-some, slice_get_within}
 use Rattle.cq_base.specs.declared.ask.Ask.{Ask}
 use Rattle.cq_base.specs.declared.ask.Request.{Request}
 use Rattle.cq_base.proofs.Among.{among-append}
-use Rattle.cq_chain.specs.Clients.{Client, StandsFor, refusal_of_ask, asked, open_request, request_of, closes, closed as with_closed, after_answer}
+use Rattle.cq_chain.specs.Clients.{Client, StandsFor, refusal_of_ask, asked, open_request, request_of, next_request, closes, closed as with_closed, after_answer}
 use Rattle.cq_chain.specs.declared.client.Client as rust_client
 use Rattle.cq_chain.specs.declared.fault.ClientFault.{ClientFault}
 use Rattle.cq_chain.specs.declared.fault.ClientFault.TheVariants.{Busy}
 use Rattle.cq_chain.specs.declared.message.Answer.{Answer}
-use Rattle.cq_nodes.specs.ClientMoves.{IsAskOf, IsOpen, IsAlong, Closes}
+use Rattle.cq_nodes.specs.ClientMoves.{IsDueAsk, IsOpen, IsAlong, Closes}
 use Rattle.cq_nodes.proofs.Places.{both_no}
 
 -- ---- lists
@@ -43,14 +43,20 @@ module _ (id : ℕ) (asks : List Ask) (old new : rust_client.Client) (closed : L
     longest = h.longest;
   }
 
+  -- the request that is made is the ask behind those that are closed
+  pub asked_due : (ask : Ask) → slice_get asks (length closed) ≡ Some ask → refusal_of_ask h.client ≡ None → (request : Request) → request ≡ next_request h.client ask → IsDueAsk id asks (length closed) request
+  asked_due ask here free request is =
+      let so = made free in
+      subst (IsDueAsk id asks (length closed)) (sym is) (record { one = record { place = length closed; client = h.own; number = ap (λ n. n + 1) so; ask = here }; early = omega (arith, so) })
+
 -- ---- the open request again
 
-open_is : (id : ℕ) (asks : List Ask) (client : Client) (closed : ℕ) (pending : Option Ask) → client.id ≡ id → IsOpen asks client.used closed pending → IfSome (option_map (request_of client client.used) pending) (IsAskOf id asks)
+open_is : (id : ℕ) (asks : List Ask) (client : Client) (closed : ℕ) (pending : Option Ask) → client.id ≡ id → IsOpen asks client.used closed pending → IfSome (option_map (request_of client client.used) pending) (IsDueAsk id asks closed)
 open_is id asks client closed None own waits = tt
-open_is id asks client closed (Some ask) own waits = record { place = closed; client = own; number = waits.0; ask = waits.1 }
+open_is id asks client closed (Some ask) own waits = let number = waits.0 in record { one = record { place = closed; client = own; number = number; ask = waits.1 }; early = omega (arith, number) }
 
-pub again_is : {E : Type 0} (id : ℕ) (asks : List Ask) (core : rust_client.Client) (closed : List Answer) (r : Result (Option Request) E) → (h : IsAlong id asks core closed) → IfOk r (λ request. request ≡ open_request h.client) → IfOk r (λ request. IfSome request (IsAskOf id asks))
-again_is id asks core closed (Ok request) h is = subst (λ o. IfSome o (IsAskOf id asks)) (sym is) (open_is id asks h.client (length closed) h.client.pending h.own h.pending)
+pub again_is : {E : Type 0} (id : ℕ) (asks : List Ask) (core : rust_client.Client) (closed : List Answer) (r : Result (Option Request) E) → (h : IsAlong id asks core closed) → IfOk r (λ request. request ≡ open_request h.client) → IfOk r (λ request. IfSome request (IsDueAsk id asks (length closed)))
+again_is id asks core closed (Ok request) h is = subst (λ o. IfSome o (IsDueAsk id asks (length closed))) (sym is) (open_is id asks h.client (length closed) h.client.pending h.own h.pending)
 again_is id asks core closed (Err fault) h is = tt
 
 -- ---- an answer

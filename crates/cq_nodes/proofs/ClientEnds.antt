@@ -11,7 +11,7 @@ use Rattle.cq_chain.specs.declared.message.Answer.{Answer}
 use Rattle.cq_chain.specs.declared.message.Message.{Message}
 use Rattle.cq_chain.specs.declared.message.Message.TheVariants as stored
 use Rattle.cq_chain.specs.Stands.{answer_of}
-use Rattle.cq_nodes.specs.ClientMoves.{IsAskOf, AreAsked, IsTaken}
+use Rattle.cq_nodes.specs.ClientMoves.{IsDueAsk, AreAsked, IsTaken}
 use Rattle.cq_nodes.proofs.Places.{apart_of, at_each}
 
 -- ---- places
@@ -31,15 +31,15 @@ at_other (y ∷ ys) (suc i) now (suc at) apart = at_other ys i now at (λ e. apa
 -- ---- puts
 
 -- one more request is one of the asks
-pub asked_more : (id : ℕ) (asks : List Ask) (request : Request) (before after : List Request) → after ≡ before ++ request ∷ [] → IsAskOf id asks request → ((other : Request) → Among other before → IsAskOf id asks other) → (other : Request) → Among other after → IsAskOf id asks other
-asked_more id asks request before after is ask all other among = elim (among-append other before (request ∷ []) (subst (λ xs. Among other xs) is among)) [ inl l ↦ all other l | inr r ↦ elim r [ inl e ↦ subst (IsAskOf id asks) (sym e) ask | inr none ↦ absurd none ] ]
+pub asked_more : (id : ℕ) (asks : List Ask) (closed : ℕ) (request : Request) (before after : List Request) → after ≡ before ++ request ∷ [] → IsDueAsk id asks closed request → ((other : Request) → Among other before → IsDueAsk id asks closed other) → (other : Request) → Among other after → IsDueAsk id asks closed other
+asked_more id asks closed request before after is ask all other among = elim (among-append other before (request ∷ []) (subst (λ xs. Among other xs) is among)) [ inl l ↦ all other l | inr r ↦ elim r [ inl e ↦ subst (IsDueAsk id asks closed) (sym e) ask | inr none ↦ absurd none ] ]
 
-pub asked_same : (id : ℕ) (asks : List Ask) (before after : List Request) → after ≡ before → ((other : Request) → Among other before → IsAskOf id asks other) → (other : Request) → Among other after → IsAskOf id asks other
-asked_same id asks before after is all other among = all other (subst (λ xs. Among other xs) is among)
+pub asked_same : (id : ℕ) (asks : List Ask) (closed : ℕ) (before after : List Request) → after ≡ before → ((other : Request) → Among other before → IsDueAsk id asks closed other) → (other : Request) → Among other after → IsDueAsk id asks closed other
+asked_same id asks closed before after is all other among = all other (subst (λ xs. Among other xs) is among)
 
-pub asked_set : {P : Type 0} (list : P → List Request) (id : ℕ) (asks : List Ask) (outs : List P) (i : ℕ) (out now : P) → slice_get outs i ≡ Some out → (((other : Request) → Among other (list out) → IsAskOf id asks other) → (other : Request) → Among other (list now) → IsAskOf id asks other)
-    → AreAsked list id asks outs → AreAsked list id asks (slice_set outs i now)
-asked_set {P} list id asks outs i out now is step all = at_each (λ at (x : P). (other : Request) → Among other (list x) → IsAskOf id asks other) (λ at (x : P). (other : Request) → Among other (list x) → IsAskOf id asks other) outs i out now is all (step (all i out is)) (λ at x apart told. told)
+pub asked_set : {P : Type 0} (list : P → List Request) (id : ℕ) (asks : List Ask) (closed : ℕ) (outs : List P) (i : ℕ) (out now : P) → slice_get outs i ≡ Some out → (((other : Request) → Among other (list out) → IsDueAsk id asks closed other) → (other : Request) → Among other (list now) → IsDueAsk id asks closed other)
+    → AreAsked list id asks closed outs → AreAsked list id asks closed (slice_set outs i now)
+asked_set {P} list id asks closed outs i out now is step all = at_each (λ at (x : P). (other : Request) → Among other (list x) → IsDueAsk id asks closed other) (λ at (x : P). (other : Request) → Among other (list x) → IsDueAsk id asks closed other) outs i out now is all (step (all i out is)) (λ at x apart told. told)
 
 -- ---- takes
 

@@ -1,6 +1,7 @@
 -- What a client's node did, after one more step.
-use Rattle.std.proofs.Common.{arith, ◌≡◌, ◌<◌, ◌≤◌, ℕ, zero, suc, ◌+◌, ◌∙◌, ◌⊎◌, ap, sym, refl, subst, length, List, [], ◌∷◌, ◌++◌, slice_get, inl, inr, Option, Some, None}
-use Rattle.std.proofs.lemmas.Option.{same_Some, none-some}
+use Rattle.std.proofs.Common.{arith, ◌≡◌, ◌<◌, ◌≤◌, ℕ, zero, suc, ◌+◌, ◌∙◌, ◌⊎◌, ap, sym, refl, subst, length, List, [], ◌∷◌, ◌++◌, slice_get, inl, inr, Bool, Option, Some, None}
+use Rattle.std.proofs.lemmas.Option.{same_Some, none-some, IfSome_then}
+use Rattle.std.specs.Option.{IfSome}
 use Rattle.cq_base.specs.declared.ask.Ask.{Ask}
 use Rattle.cq_base.specs.declared.ask.Request.{Request}
 use Rattle.cq_base.specs.Relations.{Among}
@@ -9,7 +10,7 @@ use Rattle.cq_chain.specs.Clients.{StandsFor, first_client}
 use Rattle.cq_chain.specs.declared.client.Client as rust_client
 use Rattle.cq_chain.specs.declared.message.Answer.{Answer}
 use Rattle.cq_chain.specs.declared.message.Message.{Message}
-use Rattle.cq_nodes.specs.ClientMoves.{IsTaken, IsAlong, ClosesBy}
+use Rattle.cq_nodes.specs.ClientMoves.{IsDueAsk, AreAsked, IsTaken, IsAlong, ClosesBy}
 use Rattle.cq_nodes.specs.ClientNodes.{AreFresh, IsClosedBy, ClientRan, client_held}
 use Rattle.cq_nodes.proofs.ClientAsks.{one_more}
 
@@ -30,8 +31,8 @@ each_push Q xs x all last i y is = elim (at_push xs x y i is) [ inl l ↦ all i 
 
 module _ {P T : Type 0} (put : P → List Request) (taken : T → List Message) where
   -- it did nothing yet
-  pub ran_first : (id : ℕ) (asks : List Ask) (core : rust_client.Client) (outs : List P) (ins : List T) (closed : List Answer) → StandsFor core (first_client id) → AreFresh put taken outs ins → closed ≡ [] → ClientRan put taken core None (client_held id asks outs ins closed)
-  ran_first id asks core outs ins closed stands fresh none = subst (λ xs. ClientRan put taken core None (client_held id asks outs ins xs)) (sym none) (record {
+  pub ran_first : (id : ℕ) (asks : List Ask) (core : rust_client.Client) (outs : List P) (ins : List T) (closed : List Answer) (starved : Bool) → StandsFor core (first_client id) → AreFresh put taken outs ins → closed ≡ [] → ClientRan put taken core None (client_held id asks outs ins closed starved)
+  ran_first id asks core outs ins closed starved stands fresh none = subst (λ xs. ClientRan put taken core None (client_held id asks outs ins xs starved)) (sym none) (record {
     did = record {
       asked = λ place out here request among. absurd (subst (λ xs. Among request xs) (fresh.nothing_put place out here) among);
       closed_by = λ place answer nobody. absurd (none-some answer nobody);
@@ -42,7 +43,7 @@ module _ {P T : Type 0} (put : P → List Request) (taken : T → List Message) 
     back = tt;
   })
 
-  module _ (id : ℕ) (asks : List Ask) (old new : rust_client.Client) (back : Option Request) (outs : List P) (ins : List T) (closed longer : List Answer) (h : ClientRan put taken old back (client_held id asks outs ins closed)) where
+  module _ (id : ℕ) (asks : List Ask) (old new : rust_client.Client) (back : Option Request) (outs : List P) (ins : List T) (closed longer : List Answer) (starved : Bool) (h : ClientRan put taken old back (client_held id asks outs ins closed starved)) where
     -- what was taken before is taken still
     closed_still : (after : List T) → ((m : Message) → IsTaken taken m ins → IsTaken taken m after) → (place : ℕ) (answer : Answer) → slice_get closed place ≡ Some answer → IsClosedBy put taken id after place answer
     closed_still after kept place answer here =
@@ -50,19 +51,28 @@ module _ {P T : Type 0} (put : P → List Request) (taken : T → List Message) 
         record { taken_here = kept _ was.taken_here; client = was.client; number = was.number; no_query = was.no_query }
 
     -- it took a message that closed nothing, or none
-    pub ran_took : (after : List T) → ((m : Message) → IsTaken taken m ins → IsTaken taken m after) → IsAlong id asks new closed → longer ≡ closed → ClientRan put taken new back (client_held id asks outs after longer)
-    ran_took after kept along is = subst (λ xs. ClientRan put taken new back (client_held id asks outs after xs)) (sym is) (record {
+    pub ran_took : (after : List T) → ((m : Message) → IsTaken taken m ins → IsTaken taken m after) → IsAlong id asks new closed → longer ≡ closed → ClientRan put taken new back (client_held id asks outs after longer starved)
+    ran_took after kept along is = subst (λ xs. ClientRan put taken new back (client_held id asks outs after xs starved)) (sym is) (record {
       did = record { asked = h.did.asked; closed_by = closed_still after kept; rising = h.did.rising; few = h.did.few };
       along = along;
       back = h.back;
     })
 
+    -- it put a request, or keeps it
+    pub ran_put : (after : List P) (request : Request) (left : Option Request) → IsDueAsk id asks (length closed) request → (AreAsked put id asks (length closed) outs → AreAsked put id asks (length closed) after) → IfSome left (λ kept. kept ≡ request)
+        → ClientRan put taken old left (client_held id asks after ins closed starved)
+    ran_put after request left due puts kept = record {
+      did = record { asked = puts h.did.asked; closed_by = h.did.closed_by; rising = h.did.rising; few = h.did.few };
+      along = h.along;
+      back = IfSome_then left kept (λ r is. subst (IsDueAsk id asks (length closed)) (sym is) due);
+    }
+
     -- it took an answer that closed its open request
     pub ran_closed : (after : List T) (message : Message) (answer : Answer) → ((m : Message) → IsTaken taken m ins → IsTaken taken m after) → IsTaken taken message after → ClosesBy id asks new closed message answer → (room : List Answer) → room ≡ closed → longer ≡ room ++ answer ∷ []
-        → ClientRan put taken new None (client_held id asks outs after longer)
-    ran_closed after message answer kept there one room same is = subst (λ xs. ClientRan put taken new None (client_held id asks outs after xs)) (sym (is ∙ ap (λ xs. xs ++ answer ∷ []) same)) (record {
+        → ClientRan put taken new None (client_held id asks outs after longer starved)
+    ran_closed after message answer kept there one room same is = subst (λ xs. ClientRan put taken new None (client_held id asks outs after xs starved)) (sym (is ∙ ap (λ xs. xs ++ answer ∷ []) same)) (record {
       did = record {
-        asked = h.did.asked;
+        asked = λ place out here request among. later request (h.did.asked place out here request among);
         closed_by = each_push (IsClosedBy put taken id after) closed answer (closed_still after kept) (record {
           taken_here = subst (λ m. IsTaken taken m after) one.bears there;
           client = one.closes.next.client;
@@ -75,5 +85,10 @@ module _ {P T : Type 0} (put : P → List Request) (taken : T → List Message) 
       along = one.closes.along;
       back = tt;
     }) where
+      -- what was due before is one of those up to the next
+      later : (request : Request) → IsDueAsk id asks (length closed) request → IsDueAsk id asks (length (closed ++ answer ∷ [])) request
+      later request due = let more = one_more closed answer in let early = due.early in record { one = due.one; early = omega (arith, more, early) }
+
+      -- there are at most as many as asks
       few : {n k m : ℕ} → n ≡ k + 1 → k < m → n ≤ m
       few e f = omega arith

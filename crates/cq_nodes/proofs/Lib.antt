@@ -12,3 +12,8 @@ pub mod ClientAsks
 pub mod ClientSteps
 pub mod MasterMoving
 pub mod MasterSteps
+pub mod Growing
+pub mod ServerTurns
+pub mod MasterTurns
+pub mod ClientTurns
+mod Examples

@@ -7,7 +7,8 @@ use Rattle.cq_base.specs.declared.party.Party.{Party}
 use Rattle.cq_base.specs.declared.party.Party.TheVariants as parties
 use Rattle.cq_chain.specs.declared.master.Master as rust_master
 use Rattle.cq_chain.specs.declared.message.Message as rust
-use Rattle.cq_chain.specs.Masters.{Master, hears, hears_from}
+use Rattle.cq_chain.specs.Masters.{Master, hears, hears_from, detected, joined, refusal_of_detection, refusal_of_join}
+use Rattle.cq_nodes.specs.Acts.{ActsMaster}
 use Rattle.cq_chain.specs.Messages.{Message}
 use Rattle.cq_chain.specs.Parties.{same}
 use Rattle.cq_chain.specs.Stands as chain
@@ -21,7 +22,7 @@ use Rattle.cq_nodes.proofs.ActionRuns.{orders-after}
 use Rattle.cq_nodes.proofs.Moving.{back_same}
 use Rattle.cq_nodes.proofs.Places.{itself, apart_of, is_apart, get_same, get_other, at_each, empty_end}
 use Rattle.cq_nodes.proofs.CoreStates.{as-put, as-drawn, master-order}
-use Rattle.cq_events.specs.Actions.{Put, IsMasterAs, Keeps, DoesMaster, behind}
+use Rattle.cq_events.specs.Actions.{Put, Detected, Joined, IsMasterAs, Keeps, DoesMaster, behind}
 use Rattle.cq_events.proofs.Parties.{same-true, same-refl}
 
 -- ---- calls
@@ -47,9 +48,9 @@ drawn_for old new back to None none first drawn = λ m outbox h.
     stays_for new back to None none m outbox (subst (chain.MasterStandsFor new m) (λ i p. same_box (parties.Server to) box (first m box h.0) p i) (drawn m box h.0), h.1)
 
 -- a first message was put
-pub put_for : (old new : rust_master.Master) (back : Party → Option rust.Message) (to : ℕ) (x : rust.Message) → PassesFor old new back to (Some x)
+put_of_core : (old new : rust_master.Master) (back : Party → Option rust.Message) (to : ℕ) (x : rust.Message) → PassesFor old new back to (Some x)
     → DoesMaster (Put (parties.Server to) x) (record { core = old; back = back }) (record { core = new; back = with_back back (parties.Server to) None })
-put_for old new back to x passes = orders-after (Put own x) (record { core = old; back = back }) (record { core = new; back = with_back back own (Some x) }) (record { core = new; back = with_back back own None }) passes
+put_of_core old new back to x passes = orders-after (Put own x) (record { core = old; back = back }) (record { core = new; back = with_back back own (Some x) }) (record { core = new; back = with_back back own None }) passes
     (subst (λ bk. DoesMaster (Put own x) (record { core = new; back = with_back back own (Some x) }) (record { core = new; back = bk })) (λ i p. twice p i) (as-put chain.MasterStandsFor new (with_back back own (Some x)) own x here))
   where
     own : Party
@@ -64,11 +65,24 @@ put_for old new back to x passes = orders-after (Put own x) (record { core = old
       go true = refl
       go false = refl
 
+pub put_for : (old new : rust_master.Master) (back : Party → Option rust.Message) (to : ℕ) (x : rust.Message) → PassesFor old new back to (Some x)
+    → ActsMaster (Put (parties.Server to) x) (record { core = old; back = back }) (record { core = new; back = with_back back (parties.Server to) None })
+put_for old new back to x passes = (put_of_core old new back to x passes, tt)
+
 -- the core took a message, whatever it means
 pub took_of : (E : Type 0) (old new : rust_master.Master) (back : Party → Option rust.Message) (from : ℕ) (x : rust.Message) (r : Result (Unit {0}) E) → ((m : Message) → Means x m → OnOk r (chain.Orders old new (hears from m)))
     → OnOk r (TakesOneOf old new back from x)
-took_of E old new back from x (Ok u) h = λ m means. master-order old new back (hears_from (parties.Server from) m) (h m means)
+took_of E old new back from x (Ok u) h = (λ m means. master-order old new back (hears_from (parties.Server from) m) (h m means), tt)
 took_of E old new back from x (Err e) h = tt
+
+-- a detection and a join that weren't refused
+pub detected_by : (old new : rust_master.Master) (back : Party → Option rust.Message) (id : ℕ) → chain.Orders old new (detected id) → ((m : Master) (outbox : Party → List Message) → chain.MasterStandsFor old m outbox → refusal_of_detection id m ≡ None)
+    → ActsMaster (Detected id) (record { core = old; back = back }) (record { core = new; back = back })
+detected_by old new back id does free = (master-order old new back (detected id) does, λ m outbox i. free m (λ to. behind (back to) (outbox to)) i.0)
+
+pub joined_by : (old new : rust_master.Master) (back : Party → Option rust.Message) (id : ℕ) → chain.Orders old new (joined id) → ((m : Master) (outbox : Party → List Message) → chain.MasterStandsFor old m outbox → refusal_of_join id m ≡ None)
+    → ActsMaster (Joined id) (record { core = old; back = back }) (record { core = new; back = back })
+joined_by old new back id does free = (master-order old new back (joined id) does, λ m outbox i. free m (λ to. behind (back to) (outbox to)) i.0)
 
 -- ---- places
 
@@ -118,7 +132,8 @@ module _ {P : Type 0} (list : P → List rust.Message) (old new : rust_master.Ma
       let one = h (back_of_servers outs) (back_at_place outs place to out there is) in
       record {
         message = one.message;
-        done = subst (λ back. DoesMaster (Put (parties.Server to) one.message) (record { core = old; back = back_of_servers outs }) (record { core = new; back = back })) (λ i p. back_set_place outs place to out now there is p i) one.done;
+        linked = (omega (arith, there), subst (λ n. to ≤ n) (sym (length-set outs place now)) (omega (arith, there, slice_get_within outs place out is)));
+        done = subst (λ back. ActsMaster (Put (parties.Server to) one.message) (record { core = old; back = back_of_servers outs }) (record { core = new; back = back })) (λ i p. back_set_place outs place to out now there is p i) one.done;
         lists = at_each (λ at x. list x.end ≡ sent at) (λ at x. list x.end ≡ sent at ++ cond (at + 1 == to) (one.message ∷ []) []) outs place out now is put
             (one.list ∙ ap (λ us. us ++ one.message ∷ []) (put place out is) ∙ ap (λ t. sent place ++ cond t (one.message ∷ []) []) (sym (here_for place to there)))
             (λ at x apart told. told ∙ sym (empty_end (sent at)) ∙ ap (λ t. sent at ++ cond t (one.message ∷ []) []) (sym (apart_for at place to there apart)));

@@ -7,8 +7,11 @@ use Rattle.cq_chain.specs.Messages.{Message}
 use Rattle.cq_chain.specs.Parties.{same}
 use Rattle.cq_chain.specs.Servers.{Server}
 use Rattle.cq_chain.specs.Stands as chain
-use Rattle.cq_chain.specs.Stands.{Means, IsFirst, drained}
+use Rattle.cq_chain.specs.Stands.{Means, IsFirst, IsRefusedBy, drained}
+use Rattle.cq_chain.specs.Refusals.{refusal_of_taking}
 use Rattle.cq_chain.specs.Steps.{takes}
+use Rattle.cq_chain.specs.declared.fault.WorldFault.{WorldFault}
+use Rattle.cq_nodes.specs.Acts.{Acts}
 use Rattle.cq_nodes.specs.Ends.{with_back}
 use Rattle.cq_nodes.specs.Moves.{Passes, TakesOne}
 use Rattle.cq_events.specs.Actions.{Put, StandsAs, Keeps, Does, behind}
@@ -40,9 +43,9 @@ passes-drawn old new back to None none first drawn = λ s outbox h.
       go false e = refl
 
 -- a first message was put
-pub put-done : (old new : rust_server.Server) (back : Party → Option rust.Message) (to : Party) (m : rust.Message) → Passes old new back to (Some m)
+put-does : (old new : rust_server.Server) (back : Party → Option rust.Message) (to : Party) (m : rust.Message) → Passes old new back to (Some m)
     → Does (Put to m) (record { core = old; back = back }) (record { core = new; back = with_back back to None })
-put-done old new back to m passes = does-after (Put to m) (record { core = old; back = back }) (record { core = new; back = with_back back to (Some m) }) (record { core = new; back = with_back back to None }) passes
+put-does old new back to m passes = does-after (Put to m) (record { core = old; back = back }) (record { core = new; back = with_back back to (Some m) }) (record { core = new; back = with_back back to None }) passes
     (subst (λ bk. Does (Put to m) (record { core = new; back = with_back back to (Some m) }) (record { core = new; back = bk })) (λ i p. twice p i) (server-put new (with_back back to (Some m)) to m here))
   where
     here : with_back back to (Some m) to ≡ Some m
@@ -54,8 +57,12 @@ put-done old new back to m passes = does-after (Put to m) (record { core = old; 
       go true = refl
       go false = refl
 
--- a core took a message, whatever it means
-pub took-done : (E : Type 0) (old new : rust_server.Server) (back : Party → Option rust.Message) (from : Party) (x : rust.Message) (r : Result (Unit {0}) E) → ((m : Message) → Means x m → OnOk r (chain.Does old new (takes from m)))
-    → OnOk r (TakesOne old new back from x)
-took-done E old new back from x (Ok u) h = server-took old new back from x h
-took-done E old new back from x (Err e) h = tt
+pub put-done : (old new : rust_server.Server) (back : Party → Option rust.Message) (to : Party) (m : rust.Message) → Passes old new back to (Some m)
+    → Acts (Put to m) (record { core = old; back = back }) (record { core = new; back = with_back back to None })
+put-done old new back to m passes = (put-does old new back to m passes, tt)
+
+-- a core took a message, whatever it means, and didn't refuse it
+pub took-done : (old new : rust_server.Server) (back : Party → Option rust.Message) (from : Party) (x : rust.Message) (r : Result (Unit {0}) WorldFault) → ((m : Message) → Means x m → OnOk r (chain.Does old new (takes from m)))
+    → ((s : Server) (outbox : Party → List Message) (m : Message) → chain.StandsFor old s outbox → Means x m → IsRefusedBy (refusal_of_taking from m s) r) → OnOk r (TakesOne old new back from x)
+took-done old new back from x (Ok u) h free = server-took old new back from x h (λ m means s outbox stands. free s outbox m stands means)
+took-done old new back from x (Err e) h free = tt

@@ -13,12 +13,13 @@ use Rattle.cq_nodes.specs.declared.ends.Out.{Out}
 use Rattle.cq_nodes.specs.declared.ends.ToClients.{ToClients}
 use Rattle.cq_nodes.specs.Ends.{party_at, back_of, listed, if_for, of_client}
 use Rattle.cq_nodes.specs.Moves.{ArePut, PutsAt, AreTaken, TakesAt, PutsToOne, Part, Arrives}
-use Rattle.cq_nodes.specs.Nodes.{ServerDid, ServerRan, IsBound, MayDo, HasRoom, HasNoLink, request_in, requests_in}
+use Rattle.cq_nodes.specs.Acts.{Acts}
+use Rattle.cq_nodes.specs.Nodes.{ServerDid, ServerRan, IsBound, MayDo, HasRoom, HasNoLink, HasNoWay, request_in, requests_in}
 use Rattle.cq_nodes.proofs.Bounds.{bound_more, bound_starved, part_both}
 use Rattle.cq_nodes.proofs.ActionRuns.{server-more, run-kept, put-more, taken-more}
 use Rattle.cq_nodes.proofs.Places.{both_no, itself, apart_of, is_apart, empty_end}
 use Rattle.cq_nodes.proofs.CoreStates.{as-kept}
-use Rattle.cq_events.specs.Actions.{Action, Put, Took, Arrived, Crashed, StandsAs, Keeps, Does, event_of, put_in, put_to, taken_in, taken_from}
+use Rattle.cq_events.specs.Actions.{Action, Put, Took, Arrived, Crashed, StandsAs, Keeps, event_of, put_in, put_to, taken_in, taken_from}
 use Rattle.cq_events.specs.declared.event.Event.{Event}
 use Rattle.cq_events.specs.declared.event.Event.TheVariants as events
 
@@ -56,6 +57,17 @@ no_link places place linked (parties.Server id) apart = go (place == 0) refl whe
     past_it (inl none) = is_apart id place (λ e. apart_of place 0 past (sym e ∙ none))
     past_it (inr over) = is_apart id place (λ e. absurd (omega (arith, e, over, linked)))
 
+-- nor is it one to which none is
+way_link : (places : ℕ) (p : Party) → HasNoWay places p → HasNoLink places p
+way_link places parties.Master apart = apart
+way_link places parties.Clients apart = tt
+way_link places (parties.Server id) apart = apart
+
+no_way_clients : (places : ℕ) (p : Party) → HasNoWay places p → same p parties.Clients ≡ false
+no_way_clients places parties.Master apart = refl
+no_way_clients places parties.Clients apart = absurd apart
+no_way_clients places (parties.Server id) apart = refl
+
 -- what a call answers that took nothing
 abbrev is_taken : {E : Type 0} → Result Bool E → Bool
 is_taken (Ok taken) = taken
@@ -87,7 +99,7 @@ room_if false len capacity h = h
 -- ---- what was done
 
 pub did_more : (size id : ℕ) (old new : rust_server.Server) (back now : Party → Option rust.Message) (trace longer : List Event) (actions : List Action) (d : Action) → ServerDid size id old back trace actions
-    → Does d (record { core = old; back = back }) (record { core = new; back = now }) → longer ≡ trace ++ event_of (parties.Server id) d ∷ [] → ServerDid size id new now longer (actions ++ d ∷ [])
+    → Acts d (record { core = old; back = back }) (record { core = new; back = now }) → longer ≡ trace ++ event_of (parties.Server id) d ∷ [] → ServerDid size id new now longer (actions ++ d ∷ [])
 did_more size id old new back now trace longer actions d h does is = record {
   first = h.first;
   stood = h.stood;
@@ -100,7 +112,7 @@ pub did_kept : (size id : ℕ) (old new : rust_server.Server) (back now : Party 
 did_kept size id old new back now trace longer actions h keeps is = record {
   first = h.first;
   stood = h.stood;
-  run = run-kept Does StandsAs actions h.first (record { core = old; back = back }) (record { core = new; back = now }) h.run keeps;
+  run = run-kept Acts StandsAs actions h.first (record { core = old; back = back }) (record { core = new; back = now }) h.run keeps;
   events = is ∙ h.events;
 }
 
@@ -125,17 +137,19 @@ module _ {P T I : Type 0} (put : P → List rust.Message) (taken : T → List ru
 
   -- it did one thing more
   ran_more : (d : Action) (outs_now : List (Out P)) (clients_now : ToClients P) (ins_now : List (In T)) (inbox_now : I) (starved_now : Bool)
-      → Does d (record { core = old; back = back_of outs clients.kept }) (record { core = new; back = back_of outs_now clients_now.kept }) → longer ≡ trace ++ event_of (parties.Server id) d ∷ []
+      → Acts d (record { core = old; back = back_of outs clients.kept }) (record { core = new; back = back_of outs_now clients_now.kept }) → longer ≡ trace ++ event_of (parties.Server id) d ∷ []
       → ArePut put outs_now (λ at. sent at ++ put_in (party_at at) d) → AreTaken taken ins_now (λ at. seen at ++ taken_in (party_at at) d)
       → ((p : Party) → HasNoLink (length ins_now) p → taken_from p h.actions ++ taken_in p d ≡ [])
+      → ((p : Party) → HasNoWay (length outs_now) p → put_to p h.actions ++ put_in p d ≡ [])
       → put clients_now.first ≡ of_client false (answers ++ put_in parties.Clients d) → put clients_now.second ≡ of_client true (answers ++ put_in parties.Clients d)
       → IsBound due starved_now (got inbox_now) (h.actions ++ d ∷ []) → ServerRan put taken got size id new outs_now clients_now ins_now inbox_now longer due starved_now
-  ran_more d outs_now clients_now ins_now inbox_now starved_now does is puts takes others firsts seconds bound = record {
+  ran_more d outs_now clients_now ins_now inbox_now starved_now does is puts takes others unput firsts seconds bound = record {
     actions = h.actions ++ d ∷ [];
     did = did_more size id old new (back_of outs clients.kept) (back_of outs_now clients_now.kept) trace longer h.actions d h.did does is;
     puts = λ at out here. puts at out here ∙ sym (put-more (party_at at) h.actions d);
     takes = λ at end here. takes at end here ∙ ap (λ us. us ++ listed end.unread) (sym (taken-more (party_at at) h.actions d));
     others = λ p apart. taken-more p h.actions d ∙ others p apart;
+    unput = λ p apart. put-more p h.actions d ∙ unput p apart;
     firsts = firsts ∙ ap (of_client false) (sym (put-more parties.Clients h.actions d));
     seconds = seconds ∙ ap (of_client true) (sym (put-more parties.Clients h.actions d));
     bound = bound;
@@ -144,14 +158,15 @@ module _ {P T I : Type 0} (put : P → List rust.Message) (taken : T → List ru
   -- it did nothing
   ran_kept : (outs_now : List (Out P)) (clients_now : ToClients P) (ins_now : List (In T)) (inbox_now : I)
       → Keeps StandsAs (record { core = old; back = back_of outs clients.kept }) (record { core = new; back = back_of outs_now clients_now.kept }) → longer ≡ trace
-      → ArePut put outs_now sent → AreTaken taken ins_now seen → length ins_now ≡ length ins → put clients_now.first ≡ put clients.first → put clients_now.second ≡ put clients.second → Part (requests_in h.actions) (got inbox_now)
+      → ArePut put outs_now sent → AreTaken taken ins_now seen → length ins_now ≡ length ins → length outs_now ≡ length outs → put clients_now.first ≡ put clients.first → put clients_now.second ≡ put clients.second → Part (requests_in h.actions) (got inbox_now)
       → ServerRan put taken got size id new outs_now clients_now ins_now inbox_now longer due starved
-  ran_kept outs_now clients_now ins_now inbox_now keeps is puts takes count firsts seconds arrived = record {
+  ran_kept outs_now clients_now ins_now inbox_now keeps is puts takes count ways firsts seconds arrived = record {
     actions = h.actions;
     did = did_kept size id old new (back_of outs clients.kept) (back_of outs_now clients_now.kept) trace longer h.actions h.did keeps is;
     puts = puts;
     takes = takes;
     others = λ p apart. h.others p (subst (λ n. HasNoLink n p) count apart);
+    unput = λ p apart. h.unput p (subst (λ n. HasNoWay n p) ways apart);
     firsts = firsts ∙ h.firsts;
     seconds = seconds ∙ h.seconds;
     bound = record { may = h.bound.may; arrived = arrived };
@@ -167,18 +182,23 @@ module _ {P T I : Type 0} (put : P → List rust.Message) (taken : T → List ru
   others_still : (p : Party) → HasNoLink (length ins) p → taken_from p h.actions ++ [] ≡ []
   others_still p apart = empty_end (taken_from p h.actions) ∙ h.others p apart
 
+  unput_still : (p : Party) → HasNoWay (length outs) p → put_to p h.actions ++ [] ≡ []
+  unput_still p apart = empty_end (put_to p h.actions) ∙ h.unput p apart
+
   -- an action is what the server may do, and no request arrives
   still_bound : (d : Action) → MayDo due starved d → request_in d ≡ [] → IsBound due starved (got inbox) (h.actions ++ d ∷ [])
   still_bound d may none = bound_more due starved (got inbox) (got inbox) h.actions d h.bound may (subst (λ us. Part us (got inbox)) (sym (empty_end (requests_in h.actions)) ∙ ap (λ us. requests_in h.actions ++ us) (sym none)) h.bound.arrived)
 
   -- it put a message
-  pub ran_put : (after : List (Out P)) (place : ℕ) → PutsAt put old new outs after clients.kept sent place → longer ≡ trace ++ events.Put (parties.Server id) (party_at place) ∷ []
+  pub ran_put : (after : List (Out P)) (place : ℕ) → length after ≡ length outs → PutsAt put old new outs after clients.kept sent place → longer ≡ trace ++ events.Put (parties.Server id) (party_at place) ∷ []
       → ServerRan put taken got size id new after clients ins inbox longer due starved
-  ran_put after place one is =
+  ran_put after place count one is =
       let d : Action = Put (party_at place) one.message in
       ran_more d after clients ins inbox starved one.done is
       (λ at out here. one.lists at out here ∙ ap (λ t. sent at ++ cond t (one.message ∷ []) []) (sym (same_at at place)))
-      seen_still others_still (h.firsts ∙ ap (of_client false) none) (h.seconds ∙ ap (of_client true) none) (still_bound d tt refl)
+      seen_still others_still
+      (λ p apart. ap (λ t. put_to p h.actions ++ cond t (one.message ∷ []) []) (no_link (length after) place one.linked p (way_link (length after) p apart)) ∙ unput_still p (subst (λ n. HasNoWay n p) count apart))
+      (h.firsts ∙ ap (of_client false) none) (h.seconds ∙ ap (of_client true) none) (still_bound d tt refl)
     where
       none : answers ≡ answers ++ cond (same parties.Clients (party_at place)) (one.message ∷ []) []
       none = sym (empty_end answers) ∙ ap (λ t. answers ++ cond t (one.message ∷ []) []) (sym (not_clients place))
@@ -190,7 +210,8 @@ module _ {P T I : Type 0} (put : P → List rust.Message) (taken : T → List ru
       let d : Action = Put parties.Clients one.message in
       ran_more d outs after ins inbox starved one.done is
       (λ at out here. h.puts at out here ∙ sent_still at ∙ ap (λ t. sent at ++ cond t (one.message ∷ []) []) (sym (not_at at)))
-      seen_still others_still (one.firsts ∙ ap (λ us. us ++ if_for false one.message) h.firsts ∙ sym (client_more false answers one.message)) (one.seconds ∙ ap (λ us. us ++ if_for true one.message) h.seconds ∙ sym (client_more true answers one.message)) (still_bound d tt refl)
+      seen_still others_still (λ p apart. ap (λ t. put_to p h.actions ++ cond t (one.message ∷ []) []) (no_way_clients (length outs) p apart) ∙ unput_still p apart)
+      (one.firsts ∙ ap (λ us. us ++ if_for false one.message) h.firsts ∙ sym (client_more false answers one.message)) (one.seconds ∙ ap (λ us. us ++ if_for true one.message) h.seconds ∙ sym (client_more true answers one.message)) (still_bound d tt refl)
     where
       not_at : (at : ℕ) → same (party_at at) parties.Clients ≡ false
       not_at at = go (at == 0) where
@@ -207,6 +228,7 @@ module _ {P T I : Type 0} (put : P → List rust.Message) (taken : T → List ru
       (λ at out here. h.puts at out here ∙ sent_still at)
       (λ at end here. one.lists at end here ∙ ap (λ us. us ++ listed end.unread) (ap (λ t. seen at ++ cond t (one.message ∷ []) []) (sym (same_at at place))))
       (λ p apart. ap (λ t. taken_from p h.actions ++ cond t (one.message ∷ []) []) (no_link (length after) place one.linked p apart) ∙ others_still p (subst (λ n. HasNoLink n p) count apart))
+      unput_still
       (h.firsts ∙ ap (of_client false) (sym (empty_end answers))) (h.seconds ∙ ap (of_client true) (sym (empty_end answers))) (still_bound d tt refl)
 
   -- a request arrived
@@ -214,37 +236,37 @@ module _ {P T I : Type 0} (put : P → List rust.Message) (taken : T → List ru
       → ServerRan put taken got size id new outs clients ins after longer due starved
   ran_arrived after clock request one is =
       let d : Action = Arrived clock request in
-      ran_more d outs clients ins after starved one.done is (λ at out here. h.puts at out here ∙ sent_still at) seen_still others_still
+      ran_more d outs clients ins after starved one.done is (λ at out here. h.puts at out here ∙ sent_still at) seen_still others_still unput_still
       (h.firsts ∙ ap (of_client false) (sym (empty_end answers))) (h.seconds ∙ ap (of_client true) (sym (empty_end answers)))
       (bound_more due starved (got inbox) (got after) h.actions d h.bound tt (subst (λ us. Part (requests_in h.actions ++ request ∷ []) us) (sym one.list) (part_both (requests_in h.actions) (got inbox) request h.bound.arrived)))
 
   -- it crashed
-  pub ran_crashed : (count : ℕ) → Does (Crashed count) (record { core = old; back = back_of outs clients.kept }) (record { core = new; back = back_of outs clients.kept }) → MayDo due starved (Crashed count)
+  pub ran_crashed : (count : ℕ) → Acts (Crashed count) (record { core = old; back = back_of outs clients.kept }) (record { core = new; back = back_of outs clients.kept }) → MayDo due starved (Crashed count)
       → longer ≡ trace ++ events.Crash id ∷ [] → ServerRan put taken got size id new outs clients ins inbox longer due starved
   ran_crashed count does may is =
       let d : Action = Crashed count in
-      ran_more d outs clients ins inbox starved does is (λ at out here. h.puts at out here ∙ sent_still at) seen_still others_still
+      ran_more d outs clients ins inbox starved does is (λ at out here. h.puts at out here ∙ sent_still at) seen_still others_still unput_still
       (h.firsts ∙ ap (of_client false) (sym (empty_end answers))) (h.seconds ∙ ap (of_client true) (sym (empty_end answers))) (still_bound d may refl)
 
   -- it put none
-  pub ran_idle : (after : List (Out P)) → Keeps StandsAs (record { core = old; back = back_of outs clients.kept }) (record { core = new; back = back_of after clients.kept })
+  pub ran_idle : (after : List (Out P)) → length after ≡ length outs → Keeps StandsAs (record { core = old; back = back_of outs clients.kept }) (record { core = new; back = back_of after clients.kept })
       → ((sent : ℕ → List rust.Message) → ArePut put outs sent → ArePut put after sent) → longer ≡ trace → ServerRan put taken got size id new after clients ins inbox longer due starved
-  ran_idle after keeps lists is = ran_kept after clients ins inbox keeps is (lists sent h.puts) h.takes refl refl refl h.bound.arrived
+  ran_idle after count keeps lists is = ran_kept after clients ins inbox keeps is (lists sent h.puts) h.takes refl count refl refl h.bound.arrived
 
   -- it put none to the clients
   pub ran_silent : (after : ToClients P) → Keeps StandsAs (record { core = old; back = back_of outs clients.kept }) (record { core = new; back = back_of outs after.kept })
       → put after.first ≡ put clients.first → put after.second ≡ put clients.second → longer ≡ trace → ServerRan put taken got size id new outs after ins inbox longer due starved
-  ran_silent after keeps first second is = ran_kept outs after ins inbox keeps is h.puts h.takes refl first second h.bound.arrived
+  ran_silent after keeps first second is = ran_kept outs after ins inbox keeps is h.puts h.takes refl refl first second h.bound.arrived
 
   -- it took none
   pub ran_waiting : (after : List (In T)) → length after ≡ length ins → chain.Keeps old new → ((seen : ℕ → List rust.Message) → AreTaken taken ins seen → AreTaken taken after seen) → longer ≡ trace
       → ServerRan put taken got size id new outs clients after inbox longer due starved
-  ran_waiting after count keeps lists is = ran_kept outs clients after inbox (as-kept chain.StandsFor old new (back_of outs clients.kept) keeps) is h.puts (lists seen h.takes) count refl refl h.bound.arrived
+  ran_waiting after count keeps lists is = ran_kept outs clients after inbox (as-kept chain.StandsFor old new (back_of outs clients.kept) keeps) is h.puts (lists seen h.takes) count refl refl refl h.bound.arrived
 
   -- no request arrived
   pub ran_unasked : (after : I) → chain.Keeps old new → ((xs : List Request) → Part xs (got inbox) → Part xs (got after)) → longer ≡ trace
       → ServerRan put taken got size id new outs clients ins after longer due starved
-  ran_unasked after keeps lists is = ran_kept outs clients ins after (as-kept chain.StandsFor old new (back_of outs clients.kept) keeps) is h.puts h.takes refl refl refl (lists (requests_in h.actions) h.bound.arrived)
+  ran_unasked after keeps lists is = ran_kept outs clients ins after (as-kept chain.StandsFor old new (back_of outs clients.kept) keeps) is h.puts h.takes refl refl refl refl (lists (requests_in h.actions) h.bound.arrived)
 
 -- what it did, it may have done without memory
 pub ran_starved : {P T I : Type 0} (put : P → List rust.Message) (taken : T → List rust.Message) (got : I → List Request) (size id : ℕ) (core : rust_server.Server) (outs : List (Out P)) (clients : ToClients P) (ins : List (In T)) (inbox : I) (trace : List Event) (due : Option ℕ) (starved : Bool)
@@ -255,6 +277,7 @@ ran_starved put taken got size id core outs clients ins inbox trace due starved 
   puts = h.puts;
   takes = h.takes;
   others = h.others;
+  unput = h.unput;
   firsts = h.firsts;
   seconds = h.seconds;
   bound = bound_starved due starved (got inbox) h.actions h.bound;

@@ -11,7 +11,8 @@ use Rattle.cq_nodes.specs.declared.ends.In.{In}
 use Rattle.cq_nodes.specs.declared.ends.Out.{Out}
 use Rattle.cq_nodes.specs.Ends.{party_at, listed, with_back, kept_at, back_of}
 use Rattle.cq_nodes.specs.Moves.{Passes, PutsOne, Reads, ArePut, PutsAt, AreTaken, TakesAt}
-use Rattle.cq_events.specs.Actions.{Put, StandsAs, Keeps, Does}
+use Rattle.cq_nodes.specs.Acts.{Acts}
+use Rattle.cq_events.specs.Actions.{Put, StandsAs, Keeps}
 use Rattle.cq_events.proofs.Parties.{same-refl}
 
 -- ---- numbers
@@ -101,7 +102,8 @@ module _ {P : Type 0} (list : P → List rust.Message) (old new : rust_server.Se
       let one = subst (λ p. (back : Party → Option rust.Message) → back p ≡ out.kept → PutsOne old new back p now.kept (list out.end) (list now.end)) there h (back_of outs kept) (back_at outs kept place out is) in
       record {
         message = one.message;
-        done = subst (λ back. Does (Put (party_at place) one.message) (record { core = old; back = back_of outs kept }) (record { core = new; back = back })) (λ i p. back_set outs kept place out now is p i) one.done;
+        linked = subst (λ n. place < n) (sym (length-set outs place now)) (slice_get_within outs place out is);
+        done = subst (λ back. Acts (Put (party_at place) one.message) (record { core = old; back = back_of outs kept }) (record { core = new; back = back })) (λ i p. back_set outs kept place out now is p i) one.done;
         lists = at_each (λ at x. list x.end ≡ sent at) (λ at x. list x.end ≡ sent at ++ cond (at == place) (one.message ∷ []) []) outs place out now is put
             (one.list ∙ ap (λ us. us ++ one.message ∷ []) (put place out is) ∙ ap (λ t. sent place ++ cond t (one.message ∷ []) []) (sym (itself place)))
             (λ at x apart told. told ∙ sym (empty_end (sent at)) ∙ ap (λ t. sent at ++ cond t (one.message ∷ []) []) (sym apart));

@@ -16,12 +16,17 @@ pub record IsAskOf (id : ℕ) (asks : List Ask) (request : Request) : Type 0 whe
   pub number : request.number ≡ place + 1
   pub ask : slice_get asks place ≡ Some request.ask
 
+-- It is one of them, and at most the first that isn't closed, where so many are.
+pub record IsDueAsk (id : ℕ) (asks : List Ask) (closed : ℕ) (request : Request) : Type 0 where
+  pub one : IsAskOf id asks request
+  pub early : request.number ≤ closed + 1
+
 -- ---- ends in their places
 
 module _ {P : Type 0} (list : P → List Request) where
-  -- on each link nothing was put but such requests
-  abbrev pub AreAsked : ℕ → List Ask → List P → Type 0
-  AreAsked id asks outs = (place : ℕ) (out : P) → slice_get outs place ≡ Some out → (request : Request) → Among request (list out) → IsAskOf id asks request
+  -- on each link nothing was put but such requests, where so many asks are closed
+  abbrev pub AreAsked : ℕ → List Ask → ℕ → List P → Type 0
+  AreAsked id asks closed outs = (place : ℕ) (out : P) → slice_get outs place ≡ Some out → (request : Request) → Among request (list out) → IsDueAsk id asks closed request
 
 module _ {T : Type 0} (list : T → List Message) where
   -- The message was taken from one of the links.

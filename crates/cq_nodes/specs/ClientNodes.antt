@@ -1,14 +1,14 @@
 -- What a client's node did, and what it holds.
-use Rattle.std.specs.Prelude.{◌≡◌, ◌<◌, ◌≤◌, ℕ, ◌+◌, length, List, [], map, slice_get, false, Option, Some}
+use Rattle.std.specs.Prelude.{◌≡◌, ◌<◌, ◌≤◌, ℕ, ◌+◌, length, List, [], map, slice_get, Bool, true, false, Option, Some}
 use Rattle.std.specs.Option.{IfSome}
 use Rattle.cq_base.specs.declared.ask.Ask.{Ask}
 use Rattle.cq_base.specs.declared.ask.Request.{Request}
-use Rattle.cq_base.specs.Relations.{Pairwise}
+use Rattle.cq_base.specs.Relations.{Pairwise, IsPrefix}
 use Rattle.cq_chain.specs.declared.client.Client as rust_client
 use Rattle.cq_chain.specs.declared.message.Answer.{Answer}
 use Rattle.cq_chain.specs.declared.message.Message.{Message}
 use Rattle.cq_chain.specs.declared.message.Message.TheVariants as stored
-use Rattle.cq_nodes.specs.ClientMoves.{IsAskOf, AreAsked, IsTaken, IsAlong}
+use Rattle.cq_nodes.specs.ClientMoves.{IsDueAsk, AreAsked, IsTaken, IsAlong}
 
 -- What callers see of a client's links: their ends, the one on which it puts and the one from which it takes, in the order
 -- of the servers.
@@ -16,25 +16,36 @@ pub record ClientEnds (P T : Type 0) : Type 0 where
   pub outs : List P
   pub ins : List T
 
--- What they see of its node: its id, its asks, the ends of its links, and the answers that closed asks, in order.
+-- What they see of its node: its id, its asks, the ends of its links, the answers that closed asks, in order, and whether it
+-- found no memory.
 pub record ClientHeld (P T : Type 0) : Type 0 where
   pub id : ℕ
   pub asks : List Ask
   pub outs : List P
   pub ins : List T
   pub closed : List Answer
+  pub starved : Bool
 
 module _ {P T : Type 0} where
-  abbrev pub client_held : ℕ → List Ask → List P → List T → List Answer → ClientHeld P T
-  client_held id asks outs ins closed = record { id = id; asks = asks; outs = outs; ins = ins; closed = closed }
+  abbrev pub client_held : ℕ → List Ask → List P → List T → List Answer → Bool → ClientHeld P T
+  client_held id asks outs ins closed starved = record { id = id; asks = asks; outs = outs; ins = ins; closed = closed; starved = starved }
 
 module _ {P T L M : Type 0} (put_link : P → L) (take_link : T → M) where
   -- It is the same client with the same asks, and its ends are those of the same links.
+  pub record KeepsClient (old new : ClientHeld P T) : Type 0 where
+    pub id : new.id ≡ old.id
+    pub asks : new.asks ≡ old.asks
+    pub outs : map put_link new.outs ≡ map put_link old.outs
+    pub ins : map take_link new.ins ≡ map take_link old.ins
+
+  -- So it is after turns, by which the closed answers only grew. One that found no memory did nothing in them.
   pub record IsSameClient (old new : ClientHeld P T) : Type 0 where
     pub id : new.id ≡ old.id
     pub asks : new.asks ≡ old.asks
     pub outs : map put_link new.outs ≡ map put_link old.outs
     pub ins : map take_link new.ins ≡ map take_link old.ins
+    pub closed : IsPrefix old.closed new.closed
+    pub over : old.starved ≡ true → new ≡ old
 
 module _ {P T : Type 0} (put : P → List Request) (taken : T → List Message) where
   -- on none of the links anything was put or taken
@@ -52,8 +63,8 @@ module _ {P T : Type 0} (put : P → List Request) (taken : T → List Message) 
 
   -- What a client's node did.
   pub record ClientDid (node : ClientHeld P T) : Type 0 where
-    -- it put only its asks
-    pub asked : AreAsked put node.id node.asks node.outs
+    -- it put only its asks, each once those before it were closed
+    pub asked : AreAsked put node.id node.asks (length node.closed) node.outs
     -- one answer closed each ask that is closed
     pub closed_by : (place : ℕ) (answer : Answer) → slice_get node.closed place ≡ Some answer → IsClosedBy node.id node.ins place answer
     -- each is longer than those before
@@ -64,4 +75,4 @@ module _ {P T : Type 0} (put : P → List Request) (taken : T → List Message) 
   pub record ClientRan (core : rust_client.Client) (handed_back : Option Request) (node : ClientHeld P T) : Type 0 where
     pub did : ClientDid node
     pub along : IsAlong node.id node.asks core node.closed
-    pub back : IfSome handed_back (IsAskOf node.id node.asks)
+    pub back : IfSome handed_back (IsDueAsk node.id node.asks (length node.closed))

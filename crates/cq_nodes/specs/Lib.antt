@@ -1,3 +1,4 @@
+pub mod Acts
 pub mod Ends
 pub mod FreshLinks
 pub mod MasterMoves
@@ -6,3 +7,5 @@ pub mod Moves
 pub mod Nodes
 pub mod ClientMoves
 pub mod ClientNodes
+pub mod Turns
+pub mod within

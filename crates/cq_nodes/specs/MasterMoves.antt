@@ -6,9 +6,10 @@ use Rattle.cq_chain.specs.declared.message.Message.{Message}
 use Rattle.cq_chain.specs.declared.master.Master.{Master}
 use Rattle.cq_nodes.specs.declared.ends.In.{In}
 use Rattle.cq_nodes.specs.declared.ends.Out.{Out}
+use Rattle.cq_nodes.specs.Acts.{ActsMaster}
 use Rattle.cq_nodes.specs.Ends.{listed, with_back, kept_at}
 use Rattle.cq_nodes.specs.Moves.{ArePut, AreTaken}
-use Rattle.cq_events.specs.Actions.{Put, Took, IsMasterAs, Keeps, DoesMaster}
+use Rattle.cq_events.specs.Actions.{Put, Took, IsMasterAs, Keeps}
 
 -- nothing is done, but the first message for that server may have left the core's outbox and be kept
 abbrev pub PassesFor : Master → Master → (Party → Option Message) → ℕ → Option Message → Type 0
@@ -18,11 +19,11 @@ PassesFor old new back to kept = Keeps IsMasterAs (record { core = old; back = b
 pub record PutsOneFor (old new : Master) (back : Party → Option Message) (to : ℕ) (kept : Option Message) (before after : List Message) : Type 0 where
   pub message : Message
   pub list : after ≡ before ++ message ∷ []
-  pub done : DoesMaster (Put (parties.Server to) message) (record { core = old; back = back }) (record { core = new; back = with_back back (parties.Server to) kept })
+  pub done : ActsMaster (Put (parties.Server to) message) (record { core = old; back = back }) (record { core = new; back = with_back back (parties.Server to) kept })
 
 -- the core takes a message of that server
 abbrev pub TakesOneOf : Master → Master → (Party → Option Message) → ℕ → Message → Type 0
-TakesOneOf old new back from message = DoesMaster (Took (parties.Server from) message) (record { core = old; back = back }) (record { core = new; back = back })
+TakesOneOf old new back from message = ActsMaster (Took (parties.Server from) message) (record { core = old; back = back }) (record { core = new; back = back })
 
 -- The core takes the next message of a link, after those that it took before.
 pub record ReadsOf (old new : Master) (back : Party → Option Message) (from : ℕ) (seen : List Message) (unread : Option Message) (after : List Message) : Type 0 where
@@ -48,7 +49,8 @@ module _ {P : Type 0} (list : P → List Message) where
   -- The first message for that server is put on its link, behind what was put on each link before.
   pub record PutsFor (old new : Master) (before after : List (Out P)) (sent : ℕ → List Message) (to : ℕ) : Type 0 where
     pub message : Message
-    pub done : DoesMaster (Put (parties.Server to) message) (record { core = old; back = back_of_servers before }) (record { core = new; back = back_of_servers after })
+    pub linked : (1 ≤ to) × (to ≤ length after)
+    pub done : ActsMaster (Put (parties.Server to) message) (record { core = old; back = back_of_servers before }) (record { core = new; back = back_of_servers after })
     pub lists : ArePut list after (λ at. sent at ++ (if at + 1 == to then message ∷ [] else []))
 
 module _ {T : Type 0} (list : T → List Message) where

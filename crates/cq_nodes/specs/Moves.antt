@@ -8,8 +8,9 @@ use Rattle.cq_chain.specs.declared.server.Server.{Server}
 use Rattle.cq_nodes.specs.declared.ends.In.{In}
 use Rattle.cq_nodes.specs.declared.ends.Out.{Out}
 use Rattle.cq_nodes.specs.declared.ends.ToClients.{ToClients}
+use Rattle.cq_nodes.specs.Acts.{Acts}
 use Rattle.cq_nodes.specs.Ends.{party_at, listed, with_back, back_of, if_for}
-use Rattle.cq_events.specs.Actions.{Put, Took, Arrived, StandsAs, Keeps, Does}
+use Rattle.cq_events.specs.Actions.{Put, Took, Arrived, StandsAs, Keeps}
 
 -- nothing is done, but the first message for that party may have left the core's outbox and be kept
 abbrev pub Passes : Server → Server → (Party → Option Message) → Party → Option Message → Type 0
@@ -19,11 +20,11 @@ Passes old new back to kept = Keeps StandsAs (record { core = old; back = back }
 pub record PutsOne (old new : Server) (back : Party → Option Message) (to : Party) (kept : Option Message) (before after : List Message) : Type 0 where
   pub message : Message
   pub list : after ≡ before ++ message ∷ []
-  pub done : Does (Put to message) (record { core = old; back = back }) (record { core = new; back = with_back back to kept })
+  pub done : Acts (Put to message) (record { core = old; back = back }) (record { core = new; back = with_back back to kept })
 
 -- the core takes a message of that party
 abbrev pub TakesOne : Server → Server → (Party → Option Message) → Party → Message → Type 0
-TakesOne old new back from message = Does (Took from message) (record { core = old; back = back }) (record { core = new; back = back })
+TakesOne old new back from message = Acts (Took from message) (record { core = old; back = back }) (record { core = new; back = back })
 
 -- The core takes the next message of a link, after those that it took before.
 pub record Reads (old new : Server) (back : Party → Option Message) (from : Party) (seen : List Message) (unread : Option Message) (after : List Message) : Type 0 where
@@ -41,7 +42,8 @@ module _ {P : Type 0} (list : P → List Message) where
   -- The first message for the party at that place is put on its link, behind what was put on each link before.
   pub record PutsAt (old new : Server) (before after : List (Out P)) (kept : Option Message) (sent : ℕ → List Message) (place : ℕ) : Type 0 where
     pub message : Message
-    pub done : Does (Put (party_at place) message) (record { core = old; back = back_of before kept }) (record { core = new; back = back_of after kept })
+    pub linked : place < length after
+    pub done : Acts (Put (party_at place) message) (record { core = old; back = back_of before kept }) (record { core = new; back = back_of after kept })
     pub lists : ArePut after (λ at. sent at ++ (if at == place then message ∷ [] else []))
 
 module _ {T : Type 0} (list : T → List Message) where
@@ -62,7 +64,7 @@ module _ {P : Type 0} (list : P → List Message) where
   -- The first message for the clients is put on the link to the one that it is for.
   pub record PutsToOne (old new : Server) (outs : List (Out P)) (before after : ToClients P) : Type 0 where
     pub message : Message
-    pub done : Does (Put parties.Clients message) (record { core = old; back = back_of outs before.kept }) (record { core = new; back = back_of outs after.kept })
+    pub done : Acts (Put parties.Clients message) (record { core = old; back = back_of outs before.kept }) (record { core = new; back = back_of outs after.kept })
     pub firsts : list after.first ≡ list before.first ++ if_for false message
     pub seconds : list after.second ≡ list before.second ++ if_for true message
 
@@ -74,5 +76,5 @@ Part (x ∷ xs) (y ∷ ys) = ((x ≡ y) × Part xs ys) ⊎ Part (x ∷ xs) ys
 
 -- The next request of an inbox arrives at the core at that moment.
 pub record Arrives (old new : Server) (back : Party → Option Message) (clock : ℕ) (request : Request) (before after : List Request) : Type 0 where
-  pub done : Does (Arrived clock request) (record { core = old; back = back }) (record { core = new; back = back })
+  pub done : Acts (Arrived clock request) (record { core = old; back = back }) (record { core = new; back = back })
   pub list : after ≡ before ++ request ∷ []

@@ -1,10 +1,13 @@
 //! What a server's node does with the requests of its inbox.
-ghost use Rattle.std.specs.Prelude.{◌≡◌, min, List, Ok, Some, Option, IfOk};
+ghost use Rattle.std.specs.Prelude.{◌≡◌, min, List, Ok, Some, None, Option, IfOk};
 ghost use Rattle.cq_base.specs.declared.ask.Request as rust_request;
 ghost use Rattle.cq_base.specs.declared.limits.TheConstants.{MOMENT_LIMIT};
 ghost use Rattle.cq_base.specs.declared.party.Party as rust_party;
 ghost use Rattle.cq_chain.specs.declared.message.Message as rust_message;
-ghost use Rattle.cq_chain.specs.Stands.{Does, Keeps};
+ghost use Rattle.cq_chain.specs.Messages as sent;
+ghost use Rattle.cq_chain.specs.Refusals.{refusal_of_arrival};
+ghost use Rattle.cq_chain.specs.Servers as states;
+ghost use Rattle.cq_chain.specs.Stands.{Does, Keeps, StandsFor};
 ghost use Rattle.cq_chain.specs.Steps.{arrived};
 ghost use Rattle.cq_nodes.specs.Moves.{Part, Arrives};
 
@@ -24,6 +27,8 @@ pub fn moment_of(turns: u64) -> Moment
 fn arrive(core: &mut Server, request: Request, clock: Moment) -> Result<Option<Request>, WorldFault>
     ensures same { (r : rust_request.Request) → result ≡ Ok (Some r) → r ≡ request }
     ensures arrived { (r : rust_request.Request) → result ≡ Ok (Some r) → Does core.old core.new (arrived clock request) }
+    ensures admitted { (r : rust_request.Request) → result ≡ Ok (Some r) → (s : states.Server) (outbox : rust_party.Party → List sent.Message)
+        → StandsFor core.old s outbox → refusal_of_arrival s ≡ None }
     ensures idle { ((r : rust_request.Request) → result ≡ Ok (Some r) → ⊥) → Keeps core.old core.new }
 {
     if !core.is_head() {

@@ -1,12 +1,12 @@
 //! What a client's node does at one end of a link, and what its core makes of asks and answers.
-ghost use Rattle.std.specs.Prelude.{◌≡◌, ℕ, map, true, false, List, IfOk, OnErr, MatchOption};
+ghost use Rattle.std.specs.Prelude.{◌≡◌, ℕ, length, map, true, false, List, IfOk, OnErr, MatchOption};
 ghost use Rattle.std.specs.Option.{IfSome};
 ghost use Rattle.cq_base.specs.Relations.{Among};
 ghost use Rattle.cq_base.specs.declared.ask.Ask as rust_ask;
 ghost use Rattle.cq_base.specs.declared.ask.Request as rust_request;
 ghost use Rattle.cq_chain.specs.declared.message.Answer as rust_answer;
 ghost use Rattle.cq_chain.specs.declared.message.Message as rust_message;
-ghost use Rattle.cq_nodes.specs.ClientMoves.{IsAskOf, AreAsked, IsTaken, IsAlong, Closes, ClosesBy};
+ghost use Rattle.cq_nodes.specs.ClientMoves.{IsDueAsk, AreAsked, IsTaken, IsAlong, Closes, ClosesBy};
 
 use cq_base::{Ask, NoMemory, Request};
 use cq_chain::{Answer, Client, ClientFault, Message};
@@ -21,9 +21,9 @@ fn put_one<R: Wait, P: PutEnd<Request> + Drop>(
 ) -> Option<Request>
     ensures link { P.link out.new ≡ P.link out.old }
     ensures back { IfSome result (λ back. back ≡ request) }
-    ensures asked { (id : ℕ) (asks : List rust_ask.Ask) → IsAskOf id asks request
-        → ((other : rust_request.Request) → Among other (P.list out.old) → IsAskOf id asks other)
-        → (other : rust_request.Request) → Among other (P.list out.new) → IsAskOf id asks other }
+    ensures asked { (id : ℕ) (asks : List rust_ask.Ask) (closed : ℕ) → IsDueAsk id asks closed request
+        → ((other : rust_request.Request) → Among other (P.list out.old) → IsDueAsk id asks closed other)
+        → (other : rust_request.Request) → Among other (P.list out.new) → IsDueAsk id asks closed other }
 {
     match out.put(rt, request) {
         Ok(()) => None,
@@ -41,8 +41,8 @@ pub fn put_at<R: Wait, P: PutEnd<Request> + Drop>(
 ) -> Option<Request>
     ensures links { map P.link outs.new.items ≡ map P.link outs.old.items }
     ensures back { IfSome result (λ back. back ≡ request) }
-    ensures asked { (id : ℕ) (asks : List rust_ask.Ask) → IsAskOf id asks request
-        → AreAsked P.list id asks outs.old.items → AreAsked P.list id asks outs.new.items }
+    ensures asked { (id : ℕ) (asks : List rust_ask.Ask) (closed : ℕ) → IsDueAsk id asks closed request
+        → AreAsked P.list id asks closed outs.old.items → AreAsked P.list id asks closed outs.new.items }
 {
     match outs.get_mut(place) {
         Some(out) => put_one(rt, out, request),
@@ -73,7 +73,7 @@ pub fn ask_next(
     closed: &[Answer],
 ) -> Result<Option<Request>, ClientFault>
     ensures asked { (id : ℕ) → IsAlong id asks.now core.old closed.now
-        → IfOk result (λ request. IfSome request (IsAskOf id asks.now)) }
+        → IfOk result (λ request. IfSome request (IsDueAsk id asks.now (length closed.now))) }
     ensures along { (id : ℕ) → IsAlong id asks.now core.old closed.now → IsAlong id asks.now core.new closed.now }
 {
     match asks.get(closed.len()) {
@@ -85,7 +85,7 @@ pub fn ask_next(
 /// The open request once more, if one is open.
 pub fn ask_again(core: &Client) -> Result<Option<Request>, NoMemory>
     ensures { (id : ℕ) (asks : List rust_ask.Ask) (closed : List rust_answer.Answer) → IsAlong id asks core.now closed
-        → IfOk result (λ request. IfSome request (IsAskOf id asks)) }
+        → IfOk result (λ request. IfSome request (IsDueAsk id asks (length closed))) }
 {
     core.again()
 }

@@ -1,8 +1,10 @@
 //! A client that runs between the ends of its links.
-ghost use Rattle.std.specs.Prelude.{◌≡◌, [], ◌∷◌, ◌++◌, IfOk, OnOk, OnErr};
+ghost use Rattle.std.specs.Prelude.{◌≡◌, ◌≤◌, length, [], ◌∷◌, ◌++◌, true, false, IfOk, OnOk, OnErr};
 ghost use Rattle.std.specs.Option.{IfSome};
-ghost use Rattle.cq_nodes.specs.ClientMoves.{IsAskOf};
-ghost use Rattle.cq_nodes.specs.ClientNodes.{AreFresh, ClientDid, IsSameClient, client_held};
+ghost use Rattle.cq_base.specs.Relations.{IsPrefix};
+ghost use Rattle.cq_nodes.specs.ClientMoves.{IsDueAsk};
+ghost use Rattle.cq_nodes.specs.ClientNodes.{AreFresh, ClientDid, KeepsClient, IsSameClient, client_held};
+ghost use Rattle.cq_nodes.specs.within.Paces.{due_of, place_behind, pace_after};
 
 use crate::client_moves::{ask_again, ask_next, closing, put_at, take_at};
 use crate::flags::Flags;
@@ -110,21 +112,31 @@ struct Pace {
 
 impl Pace {
     /// What is due in the next turn of a client with so many links.
-    fn due(&mut self, links: usize) -> Due {
+    fn due(&mut self, links: usize) -> Due
+        ensures due { result ≡ due_of self.old }
+        ensures pace { self.new ≡ pace_after links self.old }
+    {
         if !self.is_open {
             self.is_open = true;
             self.waited = 0;
             return Due::Next;
         }
-        self.waited = self.waited.saturating_add(1);
-        if self.waited < PATIENCE {
+        if self.waited < PATIENCE - 1 {
+            self.waited += 1;
             return Due::Back;
         }
         self.waited = 0;
-        let next = self.target.saturating_add(1);
-        self.target = if next < links { next } else { 0 };
+        self.target = place_behind(self.target, links);
         Due::Again
     }
+}
+
+/// The place behind that one, of so many: the first behind the last.
+fn place_behind(place: usize, links: usize) -> usize
+    ensures { result ≡ place_behind links place }
+{
+    let next = place.saturating_add(1);
+    if next < links { next } else { 0 }
 }
 
 /// One of the two clients, and the ends of its links. It asks the servers, one ask at a time, each once the one before is
@@ -165,9 +177,9 @@ impl<'a, P: PutEnd<Request> + Drop, T: TakeEnd<Message> + Drop> Model for Client
 
     ghost Value = { ClientHeld P T };
 
-    ghost view = { λ n. client_held n.id n.asks.items n.outs.items n.ins.items n.closed.items };
+    ghost view = { λ n. client_held n.id n.asks.items n.outs.items n.ins.items n.closed.items n.starved };
 
-    ghost invariant = { λ n. ClientRan P.list T.list n.core n.handed_back (client_held n.id n.asks.items n.outs.items n.ins.items n.closed.items) };
+    ghost invariant = { λ n. ClientRan P.list T.list n.core n.handed_back (client_held n.id n.asks.items n.outs.items n.ins.items n.closed.items n.starved) };
 }
 
 impl<'a, P: PutEnd<Request> + Drop, T: TakeEnd<Message> + Drop> ClientNode<'a, P, T> {
@@ -179,7 +191,7 @@ impl<'a, P: PutEnd<Request> + Drop, T: TakeEnd<Message> + Drop> ClientNode<'a, P
         links: ClientLinks<P, T>,
         flags: &'a Flags,
     ) -> ClientNode<'a, P, T>
-        ensures { result ≡ client_held id asks.items links.outs links.ins [] }
+        ensures { result ≡ client_held id asks.items links.outs links.ins [] false }
     {
         let (outs, ins) = links.into_parts();
         ClientNode {
@@ -203,7 +215,9 @@ impl<'a, P: PutEnd<Request> + Drop, T: TakeEnd<Message> + Drop> ClientNode<'a, P
     /// Takes the next message from the link of that place, and closes the open request if the message is its answer. It
     /// answers false where there is no message.
     fn take_from<R: Wait>(&mut self, rt: &R, place: usize) -> Result<bool, NoMemory>
-        ensures { IsSameClient P.link T.link self.old self.new }
+        ensures same { KeepsClient P.link T.link self.old self.new }
+        ensures closed { IsPrefix self.old.closed self.new.closed }
+        ensures starved { self.new.starved ≡ self.old.starved }
     {
         self.closed.reserve(1)?;
         let Some(message) = take_at(rt, &mut self.ins, place) else {
@@ -220,7 +234,9 @@ impl<'a, P: PutEnd<Request> + Drop, T: TakeEnd<Message> + Drop> ClientNode<'a, P
 
     /// Takes a message from each link where one is. It answers whether there was one.
     fn take_from_each<R: Wait>(&mut self, rt: &R) -> Result<bool, NoMemory>
-        ensures { IsSameClient P.link T.link self.old self.new }
+        ensures same { KeepsClient P.link T.link self.old self.new }
+        ensures closed { IsPrefix self.old.closed self.new.closed }
+        ensures starved { self.new.starved ≡ self.old.starved }
     {
         let mut taken = false;
         for place in 0..self.ins.len() {
@@ -232,7 +248,7 @@ impl<'a, P: PutEnd<Request> + Drop, T: TakeEnd<Message> + Drop> ClientNode<'a, P
     /// The request to put in this turn, if there is one.
     fn next_request(&mut self) -> Result<Option<Request>, ClientFault>
         ensures same { self.new ≡ self.old }
-        ensures asked { IfOk result (λ request. IfSome request (IsAskOf self.new.id self.new.asks)) }
+        ensures asked { IfOk result (λ request. IfSome request (IsDueAsk self.new.id self.new.asks (length self.new.closed))) }
     {
         match self.pace.due(self.outs.len()) {
             Due::Next => ask_next(&mut self.core, &self.asks, &self.closed),
@@ -244,8 +260,10 @@ impl<'a, P: PutEnd<Request> + Drop, T: TakeEnd<Message> + Drop> ClientNode<'a, P
     /// Puts a request on the link of the server that it asks. It answers false where the link is full, and keeps the
     /// request.
     fn put<R: Wait>(&mut self, rt: &R, request: Request) -> bool
-        requires { IsAskOf self.old.id self.old.asks request }
-        ensures { IsSameClient P.link T.link self.old self.new }
+        requires { IsDueAsk self.old.id self.old.asks (length self.old.closed) request }
+        ensures same { KeepsClient P.link T.link self.old self.new }
+        ensures closed { self.new.closed ≡ self.old.closed }
+        ensures starved { self.new.starved ≡ self.old.starved }
     {
         self.handed_back = put_at(rt, &mut self.outs, self.pace.target, request);
         self.handed_back.is_none()
@@ -253,7 +271,9 @@ impl<'a, P: PutEnd<Request> + Drop, T: TakeEnd<Message> + Drop> ClientNode<'a, P
 
     /// Puts a request, if it is time to. It answers whether one was put.
     fn put_next<R: Wait>(&mut self, rt: &R) -> Result<bool, ClientFault>
-        ensures { IsSameClient P.link T.link self.old self.new }
+        ensures same { KeepsClient P.link T.link self.old self.new }
+        ensures closed { self.new.closed ≡ self.old.closed }
+        ensures starved { self.new.starved ≡ self.old.starved }
     {
         match self.next_request()? {
             Some(request) => Ok(self.put(rt, request)),
@@ -263,7 +283,9 @@ impl<'a, P: PutEnd<Request> + Drop, T: TakeEnd<Message> + Drop> ClientNode<'a, P
 
     /// Takes from each link, and then puts. It answers whether it did anything.
     fn work<R: Wait>(&mut self, rt: &R) -> Result<bool, ClientFault>
-        ensures { IsSameClient P.link T.link self.old self.new }
+        ensures same { KeepsClient P.link T.link self.old self.new }
+        ensures closed { IsPrefix self.old.closed self.new.closed }
+        ensures starved { self.new.starved ≡ self.old.starved }
     {
         let taken = self.take_from_each(rt)?;
         let put = self.put_next(rt)?;
@@ -271,13 +293,24 @@ impl<'a, P: PutEnd<Request> + Drop, T: TakeEnd<Message> + Drop> ClientNode<'a, P
     }
 
     /// Whether it is at its end: each ask is closed, memory was wanting, or all nodes are to stop or give up.
-    fn is_done(&self) -> bool {
+    fn is_done(&self) -> bool
+        ensures starved { self.now.starved ≡ true → result ≡ true }
+        ensures closed { length self.now.asks ≤ length self.now.closed → result ≡ true }
+    {
         self.starved || self.asks.len() <= self.closed.len() || self.flags.are_to_end()
     }
 
     /// Tells the other nodes that it has ended.
     fn end(&self) {
         self.flags.end(self.id == 2);
+    }
+
+    /// It ends for want of memory, and tells the other nodes.
+    fn starve(&mut self)
+        ensures { self.new ≡ record self.old { starved = true } }
+    {
+        self.starved = true;
+        self.end();
     }
 
     /// A turn: it takes at most one message from each link, and then puts at most one request. It ends once all its asks
@@ -293,8 +326,7 @@ impl<'a, P: PutEnd<Request> + Drop, T: TakeEnd<Message> + Drop> ClientNode<'a, P
             Ok(true) => Turn::Worked,
             Ok(false) => Turn::Idle,
             Err(_fault) => {
-                self.starved = true;
-                self.end();
+                self.starve();
                 Turn::Ended
             }
         }
@@ -307,18 +339,19 @@ impl<'a, P: PutEnd<Request> + Drop, T: TakeEnd<Message> + Drop> ClientNode<'a, P
     {
         let mut rest = Rest::new();
         for _ in 0..turns {
-            let turn = self.turn(rt);
-            if turn == Turn::Ended {
-                return Stop::Ended;
+            match self.turn(rt) {
+                Turn::Ended => return Stop::Ended,
+                turn => rest.after(turn),
             }
-            rest.after(turn);
         }
         self.end();
         Stop::Limit
     }
 
     /// Whether it ended for want of memory.
-    pub fn is_starved(&self) -> bool {
+    pub fn is_starved(&self) -> bool
+        ensures { result ≡ self.now.starved }
+    {
         self.starved
     }
 

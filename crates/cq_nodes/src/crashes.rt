@@ -1,5 +1,5 @@
 //! What a server's node does when its server crashes.
-ghost use Rattle.std.specs.Prelude.{◌≡◌, ◌++◌, ◌∷◌, ◌<◌, [], true, vec_len, vec_capacity};
+ghost use Rattle.std.specs.Prelude.{◌≡◌, ◌↔◌, ◌++◌, ◌∷◌, ◌<◌, [], true, vec_len, vec_capacity};
 ghost use Rattle.cq_chain.specs.Stands.{Does};
 ghost use Rattle.cq_chain.specs.Steps.{crashed};
 ghost use Rattle.cq_nodes.specs.Nodes.{IsDue};
@@ -11,7 +11,7 @@ use cq_events::Event;
 
 /// Whether a server with so many entries is to crash.
 pub fn is_due(crash_after: Option<u64>, count: u64) -> bool
-    ensures { result ≡ true → IsDue crash_after count }
+    ensures { (result ≡ true) ↔ IsDue crash_after count }
 {
     match crash_after {
         Some(least) => least <= count,

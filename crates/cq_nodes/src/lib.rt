@@ -25,4 +25,4 @@ pub use links::Links;
 pub use master_node::{MasterEnds, MasterNode};
 pub use server_ends::{ServerEnds, ServerParts};
 pub use server_node::ServerNode;
-pub use turns::{Always, Gate, Stop, Turn};
+pub use turns::{Always, Gate, Stop, TURNS_LIMIT, Turn};

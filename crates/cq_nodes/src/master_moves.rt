@@ -4,10 +4,11 @@ ghost use Rattle.cq_base.specs.declared.party.Party as rust_party;
 ghost use Rattle.cq_base.specs.declared.party.Party.TheVariants as parties;
 ghost use Rattle.cq_chain.specs.declared.message.Message as rust_message;
 ghost use Rattle.cq_chain.specs.Stands.{KeepsMaster};
+ghost use Rattle.cq_nodes.specs.Acts.{ActsMaster};
 ghost use Rattle.cq_nodes.specs.Ends.{listed};
 ghost use Rattle.cq_nodes.specs.Moves.{ArePut, AreTaken};
 ghost use Rattle.cq_nodes.specs.MasterMoves.{PassesFor, PutsOneFor, TakesOneOf, ReadsOf, back_of_servers, PutsFor, TakesOf};
-ghost use Rattle.cq_events.specs.Actions.{IsMasterAs, Keeps, DoesMaster, Detected, Joined};
+ghost use Rattle.cq_events.specs.Actions.{IsMasterAs, Keeps, Detected, Joined};
 
 use crate::ends::{In, Out};
 use crate::moves::next_message;
@@ -146,7 +147,7 @@ pub fn take_at<R: Wait, T: TakeEnd<Message> + Drop>(
 /// The core learns that a member has crashed: false where it refuses, as it isn't one or is the only one.
 pub fn detect_one(core: &mut Master, id: ServerId) -> Result<bool, NoMemory>
     ensures detected { (back : rust_party.Party → Option rust_message.Message) → result ≡ Ok true
-        → DoesMaster (Detected id) (record { core = core.old; back = back }) (record { core = core.new; back = back }) }
+        → ActsMaster (Detected id) (record { core = core.old; back = back }) (record { core = core.new; back = back }) }
     ensures idle { (result ≡ Ok true → ⊥) → KeepsMaster core.old core.new }
 {
     match core.detect(id) {
@@ -159,7 +160,7 @@ pub fn detect_one(core: &mut Master, id: ServerId) -> Result<bool, NoMemory>
 /// A server joins the core's chain: false where the core refuses.
 pub fn join_one(core: &mut Master, id: ServerId) -> Result<bool, NoMemory>
     ensures joined { (back : rust_party.Party → Option rust_message.Message) → result ≡ Ok true
-        → DoesMaster (Joined id) (record { core = core.old; back = back }) (record { core = core.new; back = back }) }
+        → ActsMaster (Joined id) (record { core = core.old; back = back }) (record { core = core.new; back = back }) }
     ensures idle { (result ≡ Ok true → ⊥) → KeepsMaster core.old core.new }
 {
     match core.join(id) {

@@ -1,13 +1,16 @@
 //! The master that runs between the ends of its links.
-ghost use Rattle.std.specs.Prelude.{◌≡◌, [], IfOk, IfSome, map};
+ghost use Rattle.std.specs.Prelude.{◌≡◌, ◌+◌, min, [], Some, true, false, IfOk, IfSome, map, slice_get};
 ghost use Rattle.cq_base.specs.Relations.{Among};
-ghost use Rattle.cq_nodes.specs.MasterNodes.{IsSameNode, MasterLived};
+ghost use Rattle.cq_base.specs.declared.party.Party.TheVariants as parties;
+ghost use Rattle.cq_events.specs.declared.event.Event.TheVariants as events;
+ghost use Rattle.cq_nodes.specs.MasterNodes.{KeepsNode, IsSameMoment, IsSameNode, MasterLived};
+ghost use Rattle.cq_nodes.specs.Turns.{is_done, noting, taken_at, detected_at, sent_at, due_of, joined_at, GrewBy, GrewByEach, GrewByOrders};
 
 use crate::ends::{In, Out};
 use crate::flags::Flags;
 use crate::links::Links;
 use crate::master_moves::{detect_one, join_one, put_at, take_at};
-use crate::turns::{Gate, Rest, Stop, Turn};
+use crate::turns::{Gate, Rest, Stop, TURNS_LIMIT, Turn, counted};
 use cq_base::{ChainSize, NoMemory, Party, ServerId};
 use cq_chain::{Master, Message};
 use cq_events::Event;
@@ -63,26 +66,40 @@ impl<'a, P: PutEnd<Message> + Drop, T: TakeEnd<Message> + Drop> Model for Master
 
     ghost Value = { Held P T };
 
-    ghost view = { λ n. held n.size n.joins.items n.outs.items n.ins.items n.trace.items };
+    ghost view = { λ n. held n.size n.joins.items n.outs.items n.ins.items n.trace.items n.turns n.starved };
 
     ghost invariant = { λ n. MasterRan P.list T.list n.size n.joins.items n.core n.outs.items n.ins.items n.trace.items };
 }
 
 /// The server of that number, if it has crashed.
-fn crashed(flags: &Flags, number: u32) -> Option<ServerId> {
+fn crashed(flags: &Flags, number: u32) -> Option<ServerId>
+    ensures { IfSome result (λ id. id ≡ number) }
+{
     match ServerId::new(number) {
         Some(id) if flags.has_crashed(id) => Some(id),
         _ => None,
     }
 }
 
-/// The server of the join at that place, if its turn has come.
-fn due(joins: &[Join], place: usize, turn: u64) -> Option<ServerId>
-    ensures { IfSome result (λ id. Among id (map (λ join. join.server) joins.now)) }
+/// The server of a join, if its turn has come.
+fn due(join: &Join, turn: u64) -> Option<ServerId>
+    ensures { result ≡ due_of turn (Some join.now) }
+{
+    if join.after <= turn {
+        Some(join.server)
+    } else {
+        None
+    }
+}
+
+/// The server of the join at that place, if there is one and its turn has come.
+fn due_at(joins: &[Join], place: usize, turn: u64) -> Option<ServerId>
+    ensures due { result ≡ due_of turn (slice_get joins.now place) }
+    ensures named { IfSome result (λ id. Among id (map (λ join. join.server) joins.now)) }
 {
     match joins.get(place) {
-        Some(join) if join.after <= turn => Some(join.server),
-        _ => None,
+        Some(join) => due(join, turn),
+        None => None,
     }
 }
 
@@ -96,7 +113,7 @@ impl<'a, P: PutEnd<Message> + Drop, T: TakeEnd<Message> + Drop> MasterNode<'a, P
         joins: Vec<Join>,
         flags: &'a Flags,
     ) -> Result<MasterNode<'a, P, T>, NoMemory>
-        ensures { IfOk result (λ node. node ≡ record { size = size; joins = joins.items; trace = []; outs = links.outs; ins = links.ins }) }
+        ensures { IfOk result (λ node. node ≡ record { size = size; joins = joins.items; trace = []; outs = links.outs; ins = links.ins; turns = 0; starved = false }) }
     {
         let core = Master::new(alloc, size)?;
         let servers = u32::try_from(links.len()).unwrap_or(u32::MAX);
@@ -123,14 +140,18 @@ impl<'a, P: PutEnd<Message> + Drop, T: TakeEnd<Message> + Drop> MasterNode<'a, P
     }
 
     /// Whether it has ended for want of memory.
-    pub fn is_starved(&self) -> bool {
+    pub fn is_starved(&self) -> bool
+        ensures { result ≡ self.now.starved }
+    {
         self.starved
     }
 
     /// Puts the first message for that server on its link. It answers false where there is no message and no such link,
     /// and where the link is full.
     fn put_on<R: Wait>(&mut self, rt: &R, to: ServerId) -> Result<bool, NoMemory>
-        ensures { IsSameNode P.link T.link self.old self.new }
+        ensures same { KeepsNode P.link T.link self.old self.new }
+        ensures moment { IsSameMoment self.old self.new }
+        ensures noted { self.new.trace ≡ noting (is_done result) (events.Put parties.Master (parties.Server to)) self.old.trace }
     {
         self.trace.reserve(1)?;
         let put = put_at(rt, &mut self.core, &mut self.outs, to);
@@ -139,14 +160,18 @@ impl<'a, P: PutEnd<Message> + Drop, T: TakeEnd<Message> + Drop> MasterNode<'a, P
                 from: Party::Master,
                 to: Party::Server(to),
             });
+            Ok(true)
+        } else {
+            Ok(false)
         }
-        Ok(put)
     }
 
     /// The core takes the next message of that server. It answers false where there is no message and no such link. One
     /// for which there is no memory stays unread.
     fn take_from<R: Wait>(&mut self, rt: &R, from: ServerId) -> Result<bool, NoMemory>
-        ensures { IsSameNode P.link T.link self.old self.new }
+        ensures same { KeepsNode P.link T.link self.old self.new }
+        ensures moment { IsSameMoment self.old self.new }
+        ensures noted { self.new.trace ≡ noting (is_done result) (events.Take (parties.Server from) parties.Master) self.old.trace }
     {
         self.trace.reserve(1)?;
         let taken = take_at(rt, &mut self.core, &mut self.ins, from)?;
@@ -155,35 +180,45 @@ impl<'a, P: PutEnd<Message> + Drop, T: TakeEnd<Message> + Drop> MasterNode<'a, P
                 from: Party::Server(from),
                 to: Party::Master,
             });
+            Ok(true)
+        } else {
+            Ok(false)
         }
-        Ok(taken)
     }
 
     /// The core learns that a server has crashed. It answers false where the core refuses.
     fn detect(&mut self, id: ServerId) -> Result<bool, NoMemory>
-        ensures { IsSameNode P.link T.link self.old self.new }
+        ensures same { KeepsNode P.link T.link self.old self.new }
+        ensures moment { IsSameMoment self.old self.new }
+        ensures noted { self.new.trace ≡ noting (is_done result) (events.Detect id) self.old.trace }
     {
         self.trace.reserve(1)?;
         let detected = detect_one(&mut self.core, id)?;
         if detected {
             self.trace.push_reserved(Event::Detect { server: id });
+            Ok(true)
+        } else {
+            Ok(false)
         }
-        Ok(detected)
     }
 
     /// The server of the join at that place joins the chain, if its turn has come. It answers false where it hasn't, and
     /// where the core refuses, as it does once the server has joined.
     fn join(&mut self, place: usize) -> Result<bool, NoMemory>
-        ensures { IsSameNode P.link T.link self.old self.new }
+        ensures same { KeepsNode P.link T.link self.old self.new }
+        ensures moment { IsSameMoment self.old self.new }
+        ensures joined { GrewBy (joined_at self.old.joins self.old.turns place) self.old.trace self.new.trace }
     {
         self.trace.reserve(1)?;
-        match due(&self.joins, place, self.turns) {
+        match due_at(&self.joins, place, self.turns) {
             Some(id) => {
                 let joined = join_one(&mut self.core, id)?;
                 if joined {
                     self.trace.push_reserved(Event::Join { server: id });
+                    Ok(true)
+                } else {
+                    Ok(false)
                 }
-                Ok(joined)
             }
             None => Ok(false),
         }
@@ -191,7 +226,9 @@ impl<'a, P: PutEnd<Message> + Drop, T: TakeEnd<Message> + Drop> MasterNode<'a, P
 
     /// One put for the server of that number, if there is one.
     fn put_number<R: Wait>(&mut self, rt: &R, number: u32) -> Result<bool, NoMemory>
-        ensures { IsSameNode P.link T.link self.old self.new }
+        ensures same { KeepsNode P.link T.link self.old self.new }
+        ensures moment { IsSameMoment self.old self.new }
+        ensures noted { self.new.trace ≡ noting (is_done result) (events.Put parties.Master (parties.Server number)) self.old.trace }
     {
         match ServerId::new(number) {
             Some(id) => self.put_on(rt, id),
@@ -201,7 +238,9 @@ impl<'a, P: PutEnd<Message> + Drop, T: TakeEnd<Message> + Drop> MasterNode<'a, P
 
     /// One take from the server of that number, if there is one.
     fn take_number<R: Wait>(&mut self, rt: &R, number: u32) -> Result<bool, NoMemory>
-        ensures { IsSameNode P.link T.link self.old self.new }
+        ensures same { KeepsNode P.link T.link self.old self.new }
+        ensures moment { IsSameMoment self.old self.new }
+        ensures noted { self.new.trace ≡ noting (is_done result) (events.Take (parties.Server number) parties.Master) self.old.trace }
     {
         match ServerId::new(number) {
             Some(id) => self.take_from(rt, id),
@@ -211,7 +250,9 @@ impl<'a, P: PutEnd<Message> + Drop, T: TakeEnd<Message> + Drop> MasterNode<'a, P
 
     /// The core learns that the server of that number has crashed, if it has.
     fn detect_number(&mut self, number: u32) -> Result<bool, NoMemory>
-        ensures { IsSameNode P.link T.link self.old self.new }
+        ensures same { KeepsNode P.link T.link self.old self.new }
+        ensures moment { IsSameMoment self.old self.new }
+        ensures noted { self.new.trace ≡ noting (is_done result) (events.Detect number) self.old.trace }
     {
         match crashed(self.flags, number) {
             Some(id) => self.detect(id),
@@ -221,7 +262,9 @@ impl<'a, P: PutEnd<Message> + Drop, T: TakeEnd<Message> + Drop> MasterNode<'a, P
 
     /// One put at each place.
     fn put_all<R: Wait>(&mut self, rt: &R) -> Result<bool, NoMemory>
-        ensures { IsSameNode P.link T.link self.old self.new }
+        ensures same { KeepsNode P.link T.link self.old self.new }
+        ensures moment { IsSameMoment self.old self.new }
+        ensures put { GrewByEach sent_at self.old.trace self.new.trace }
     {
         let mut any = false;
         for number in 0..self.servers {
@@ -232,7 +275,9 @@ impl<'a, P: PutEnd<Message> + Drop, T: TakeEnd<Message> + Drop> MasterNode<'a, P
 
     /// One take at each place.
     fn take_all<R: Wait>(&mut self, rt: &R) -> Result<bool, NoMemory>
-        ensures { IsSameNode P.link T.link self.old self.new }
+        ensures same { KeepsNode P.link T.link self.old self.new }
+        ensures moment { IsSameMoment self.old self.new }
+        ensures taken { GrewByEach taken_at self.old.trace self.new.trace }
     {
         let mut any = false;
         for number in 0..self.servers {
@@ -243,7 +288,9 @@ impl<'a, P: PutEnd<Message> + Drop, T: TakeEnd<Message> + Drop> MasterNode<'a, P
 
     /// The core learns of each crash that it doesn't know.
     fn detect_all(&mut self) -> Result<bool, NoMemory>
-        ensures { IsSameNode P.link T.link self.old self.new }
+        ensures same { KeepsNode P.link T.link self.old self.new }
+        ensures moment { IsSameMoment self.old self.new }
+        ensures detected { GrewByEach detected_at self.old.trace self.new.trace }
     {
         let mut any = false;
         for number in 0..self.servers {
@@ -254,7 +301,9 @@ impl<'a, P: PutEnd<Message> + Drop, T: TakeEnd<Message> + Drop> MasterNode<'a, P
 
     /// Each join whose turn has come, of those that the core doesn't refuse.
     fn join_all(&mut self) -> Result<bool, NoMemory>
-        ensures { IsSameNode P.link T.link self.old self.new }
+        ensures same { KeepsNode P.link T.link self.old self.new }
+        ensures moment { IsSameMoment self.old self.new }
+        ensures joined { GrewByEach (joined_at self.old.joins self.old.turns) self.old.trace self.new.trace }
     {
         let mut any = false;
         for place in 0..self.joins.len() {
@@ -265,7 +314,9 @@ impl<'a, P: PutEnd<Message> + Drop, T: TakeEnd<Message> + Drop> MasterNode<'a, P
 
     /// The steps of a turn: whether one of them did anything.
     fn work<R: Wait>(&mut self, rt: &R) -> Result<bool, NoMemory>
-        ensures { IsSameNode P.link T.link self.old self.new }
+        ensures same { KeepsNode P.link T.link self.old self.new }
+        ensures moment { IsSameMoment self.old self.new }
+        ensures worked { GrewByOrders self.old.joins self.old.turns self.old.trace self.new.trace }
     {
         let taken = self.take_all(rt)?;
         let detected = self.detect_all()?;
@@ -274,21 +325,44 @@ impl<'a, P: PutEnd<Message> + Drop, T: TakeEnd<Message> + Drop> MasterNode<'a, P
         Ok(taken | detected | joined | put)
     }
 
+    /// A turn is counted.
+    fn count_turn(&mut self)
+        ensures { self.new ≡ record self.old { turns = min (self.old.turns + 1) TURNS_LIMIT } }
+    {
+        self.turns = counted(self.turns);
+    }
+
+    /// Whether it has nothing more to do: it found no memory, both clients have ended, or all nodes are to stop or give up.
+    fn is_over(&self) -> bool
+        ensures { self.now.starved ≡ true → result ≡ true }
+    {
+        self.starved || self.flags.have_ended()
+    }
+
+    /// It ends for want of memory, and all nodes give up.
+    fn starve(&mut self)
+        ensures { self.new ≡ record self.old { starved = true } }
+    {
+        self.starved = true;
+        self.flags.give_up();
+    }
+
     /// One turn: a take from each server, the crashes and joins of which it is time, and a put to each server. It has
     /// ended once both clients have, or for want of memory; then all nodes give up. It takes O(links + joins).
     pub fn turn<R: Wait>(&mut self, rt: &R) -> Turn
-        ensures { IsSameNode P.link T.link self.old self.new }
+        ensures same { IsSameNode P.link T.link self.old self.new }
+        ensures turns { self.new.turns ≡ min (self.old.turns + 1) TURNS_LIMIT }
+        ensures had { GrewByOrders self.old.joins self.new.turns self.old.trace self.new.trace }
     {
-        if self.starved || self.flags.have_ended() {
+        self.count_turn();
+        if self.is_over() {
             return Turn::Ended;
         }
-        self.turns = self.turns.saturating_add(1);
         match self.work(rt) {
             Ok(true) => Turn::Worked,
             Ok(false) => Turn::Idle,
             Err(NoMemory) => {
-                self.starved = true;
-                self.flags.give_up();
+                self.starve();
                 Turn::Ended
             }
         }
@@ -304,11 +378,10 @@ impl<'a, P: PutEnd<Message> + Drop, T: TakeEnd<Message> + Drop> MasterNode<'a, P
             if !gate.enter(Party::Master, self.turns.saturating_add(1)) {
                 return Stop::Shut;
             }
-            let turn = self.turn(rt);
-            if turn == Turn::Ended {
-                return Stop::Ended;
+            match self.turn(rt) {
+                Turn::Ended => return Stop::Ended,
+                turn => rest.after(turn),
             }
-            rest.after(turn);
         }
         Stop::Limit
     }

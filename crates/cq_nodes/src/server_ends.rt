@@ -42,4 +42,8 @@ pub struct ServerParts<
     pub crash_after: Option<u64>,
     /// Whether it found no memory, and so crashed.
     pub starved: bool,
+    /// How many turns it had, counted up to `TURNS_LIMIT`.
+    pub turns: u64,
+    /// Whether it has crashed.
+    pub ended: bool,
 }

@@ -9,7 +9,7 @@ use crate::flags::Flags;
 use crate::moves::{put_at, take_at};
 use crate::server_ends::{ServerEnds, ServerParts};
 use crate::to_clients::put_to_one;
-use crate::turns::{Gate, Rest, Stop, Turn};
+use crate::turns::{Gate, Rest, Stop, TURNS_LIMIT, Turn, counted};
 use cq_base::{ChainSize, NoMemory, Party, Request, ServerId};
 use cq_chain::{Message, Server, WorldFault};
 use cq_events::Event;
@@ -17,9 +17,6 @@ use cq_link::{PutEnd, TakeEnd};
 use std::alloc::Global;
 use std::marker::Model;
 use std::sync::Wait;
-
-/// Turns are counted up to 2^62, and no further.
-const TURNS_LIMIT: u64 = 1 << 62;
 
 /// A server, the ends of its links, that of its inbox, and the trace of what it did. The place of an end is that of the
 /// party at the other side of its link: the master at 0, and each server at its number.
@@ -69,14 +66,15 @@ impl<'a, P: PutEnd<Message> + Drop, T: TakeEnd<Message> + Drop, I: TakeEnd<Reque
 impl<'a, P: PutEnd<Message> + Drop, T: TakeEnd<Message> + Drop, I: TakeEnd<Request> + Drop> Model
     for ServerNode<'a, P, T, I> {
     ghost use Rattle.std.specs.Prelude.{vec_len, vec_capacity};
-    ghost use Rattle.cq_nodes.specs.Nodes.{Held, held, ServerRan, HasRoom};
+    ghost use Rattle.cq_nodes.specs.Nodes.{Held, held, ServerRan, HasRoom, NotesCrash};
 
     ghost Value = { Held P T I };
 
-    ghost view = { λ n. held n.size n.id n.crash_after n.outs.items n.clients n.ins.items n.inbox n.trace.items n.starved };
+    ghost view = { λ n. held n.size n.id n.crash_after n.outs.items n.clients n.ins.items n.inbox n.trace.items n.starved n.turns n.ended };
 
     ghost invariant = { λ n. ServerRan P.list T.list I.list n.size n.id n.core n.outs.items n.clients n.ins.items n.inbox n.trace.items n.crash_after n.starved
-        × HasRoom n.ended (vec_len n.trace) (vec_capacity n.trace) };
+        × HasRoom n.ended (vec_len n.trace) (vec_capacity n.trace)
+        × NotesCrash n.id n.trace.items n.starved n.ended };
 }
 
 impl<
@@ -85,8 +83,13 @@ impl<
     T: TakeEnd<Message> + Drop,
     I: TakeEnd<Request> + Drop,
 > ServerNode<'a, P, T, I> {
-    ghost use Rattle.std.specs.Prelude.{[], IfOk};
-    ghost use Rattle.cq_nodes.specs.Nodes.{IsSameServer, begun, held_in, Tells};
+    ghost use Rattle.std.specs.Prelude.{◌+◌, min, [], ◌∷◌, true, false, IfOk};
+    ghost use Rattle.cq_base.specs.declared.limits.TheConstants.{MOMENT_LIMIT};
+    ghost use Rattle.cq_base.specs.declared.party.Party.TheVariants as parties;
+    ghost use Rattle.cq_events.specs.declared.event.Event.TheVariants as events;
+    ghost use Rattle.cq_nodes.specs.Ends.{party_at};
+    ghost use Rattle.cq_nodes.specs.Nodes.{KeepsLinks, IsSameTurn, IsSameServer, begun, held_in, Tells};
+    ghost use Rattle.cq_nodes.specs.Turns.{is_done, noting, take_of, put_of, GrewByEach, GrewByArrival, GrewByWork, HasJustCrashed, HadTurn};
 
     /// The node of that server in a chain that begins with so many, over ends that nobody used. It is a member of the
     /// chain, or may join later. It is to crash at its first turn with so many entries, if that is said. It keeps the
@@ -131,7 +134,9 @@ impl<
     /// Puts the first message for the party at that place on its link. It answers false where there is no message and
     /// no such place, and where the link is full.
     fn put_on<R: Wait>(&mut self, rt: &R, place: u32) -> Result<bool, NoMemory>
-        ensures same { IsSameServer P.link T.link I.link self.old self.new }
+        ensures same { KeepsLinks P.link T.link I.link self.old self.new }
+        ensures turn { IsSameTurn self.old self.new }
+        ensures noted { self.new.trace ≡ noting (is_done result) (events.Put (parties.Server self.old.id) (party_at place)) self.old.trace }
     {
         self.trace.reserve(2)?;
         let put = put_at(rt, &mut self.core, &mut self.outs, place);
@@ -140,14 +145,18 @@ impl<
                 from: Party::Server(self.id),
                 to: party_at(place),
             });
+            Ok(true)
+        } else {
+            Ok(false)
         }
-        Ok(put)
     }
 
     /// The core takes the next message of the party at that place. It answers false where there is no message and no
     /// such place. After a fault the message stays unread.
     fn take_from<R: Wait>(&mut self, rt: &R, place: u32) -> Result<bool, WorldFault>
-        ensures same { IsSameServer P.link T.link I.link self.old self.new }
+        ensures same { KeepsLinks P.link T.link I.link self.old self.new }
+        ensures turn { IsSameTurn self.old self.new }
+        ensures noted { self.new.trace ≡ noting (is_done result) (events.Take (party_at place) (parties.Server self.old.id)) self.old.trace }
     {
         self.trace.reserve(2)?;
         let taken = take_at(rt, &mut self.core, &mut self.ins, place)?;
@@ -156,14 +165,18 @@ impl<
                 from: party_at(place),
                 to: Party::Server(self.id),
             });
+            Ok(true)
+        } else {
+            Ok(false)
         }
-        Ok(taken)
     }
 
     /// Puts the first message for the clients on the link to the one that it is for. It answers false where there is no
     /// message, and where the link is full.
     fn put_to_clients<R: Wait>(&mut self, rt: &R) -> Result<bool, NoMemory>
-        ensures same { IsSameServer P.link T.link I.link self.old self.new }
+        ensures same { KeepsLinks P.link T.link I.link self.old self.new }
+        ensures turn { IsSameTurn self.old self.new }
+        ensures noted { self.new.trace ≡ noting (is_done result) (events.Put (parties.Server self.old.id) parties.Clients) self.old.trace }
     {
         self.trace.reserve(2)?;
         let put = put_to_one(rt, &mut self.core, &mut self.clients);
@@ -172,14 +185,18 @@ impl<
                 from: Party::Server(self.id),
                 to: Party::Clients,
             });
+            Ok(true)
+        } else {
+            Ok(false)
         }
-        Ok(put)
     }
 
     /// The next request of the inbox arrives at the core, if that is the head; any other core drops it. It answers
-    /// whether one arrived.
+    /// whether one arrived. The moment is the number of this turn, up to the limit of moments.
     fn take_request<R: Wait>(&mut self, rt: &R) -> Result<bool, WorldFault>
-        ensures same { IsSameServer P.link T.link I.link self.old self.new }
+        ensures same { KeepsLinks P.link T.link I.link self.old self.new }
+        ensures turn { IsSameTurn self.old self.new }
+        ensures arrived { GrewByArrival self.old.id (min self.old.turns MOMENT_LIMIT) self.old.trace self.new.trace }
     {
         self.trace.reserve(2)?;
         let clock = moment_of(self.turns);
@@ -198,7 +215,11 @@ impl<
 
     /// The server crashes if it is to crash at so many entries. It answers whether it did. It takes no memory.
     fn crash_if_due(&mut self) -> bool
-        ensures same { IsSameServer P.link T.link I.link self.old self.new }
+        ensures same { KeepsLinks P.link T.link I.link self.old self.new }
+        ensures crashed { result ≡ true → HasJustCrashed self.old self.new self.old.trace }
+        ensures starved { self.new.starved ≡ self.old.starved }
+        ensures turns { self.new.turns ≡ self.old.turns }
+        ensures others { result ≡ false → self.new ≡ self.old }
     {
         if self.ended {
             return false;
@@ -213,22 +234,29 @@ impl<
         true
     }
 
-    /// The server crashes since it found no memory. It takes none.
+    /// The server crashes since it found no memory, if it hasn't crashed. It takes none.
     fn starve(&mut self)
-        ensures same { IsSameServer P.link T.link I.link self.old self.new }
+        ensures same { KeepsLinks P.link T.link I.link self.old self.new }
+        ensures turns { self.new.turns ≡ self.old.turns }
+        ensures crashed { self.old.ended ≡ false → HasJustCrashed self.old self.new self.old.trace }
+        ensures starved { self.old.ended ≡ false → self.new.starved ≡ true }
+        ensures others { self.old.ended ≡ true → self.new ≡ self.old }
     {
         let count = self.core.count();
-        if !self.ended {
-            self.starved = true;
-            crash(&mut self.core, self.id, &mut self.trace);
-            self.ended = true;
-            self.flags.crash(self.id);
+        if self.ended {
+            return;
         }
+        self.starved = true;
+        crash(&mut self.core, self.id, &mut self.trace);
+        self.ended = true;
+        self.flags.crash(self.id);
     }
 
     /// One take from each link. It answers whether anything was taken.
     fn take_all<R: Wait>(&mut self, rt: &R) -> Result<bool, WorldFault>
-        ensures same { IsSameServer P.link T.link I.link self.old self.new }
+        ensures same { KeepsLinks P.link T.link I.link self.old self.new }
+        ensures turn { IsSameTurn self.old self.new }
+        ensures taken { GrewByEach (take_of self.old.id) self.old.trace self.new.trace }
     {
         let mut any = false;
         for place in 0..u32::try_from(self.ins.len()).unwrap_or(u32::MAX) {
@@ -240,7 +268,9 @@ impl<
 
     /// One put on each link to a server or to the master. It answers whether anything was put.
     fn put_all<R: Wait>(&mut self, rt: &R) -> Result<bool, NoMemory>
-        ensures same { IsSameServer P.link T.link I.link self.old self.new }
+        ensures same { KeepsLinks P.link T.link I.link self.old self.new }
+        ensures turn { IsSameTurn self.old self.new }
+        ensures put { GrewByEach (put_of self.old.id) self.old.trace self.new.trace }
     {
         let mut any = false;
         for place in 0..u32::try_from(self.outs.len()).unwrap_or(u32::MAX) {
@@ -252,22 +282,30 @@ impl<
 
     /// One take from each link and from the inbox, then one put on each link. It answers whether anything was done.
     fn work<R: Wait>(&mut self, rt: &R) -> Result<bool, WorldFault>
-        ensures same { IsSameServer P.link T.link I.link self.old self.new }
+        ensures same { KeepsLinks P.link T.link I.link self.old self.new }
+        ensures turn { IsSameTurn self.old self.new }
+        ensures worked { GrewByWork self.old.id (min self.old.turns MOMENT_LIMIT) self.old.trace self.new.trace }
     {
         let taken = self.take_all(rt)?;
         let arrived = self.take_request(rt)?;
         let put = self.put_all(rt)?;
         let answered = self.put_to_clients(rt)?;
-        Ok(taken || arrived || put || answered)
+        Ok(taken | arrived | put | answered)
     }
 
-    /// A turn is counted, up to 2^62.
+    /// A turn is counted.
     fn count_turn(&mut self)
-        ensures same { IsSameServer P.link T.link I.link self.old self.new }
+        ensures { self.new ≡ record self.old { turns = min (self.old.turns + 1) TURNS_LIMIT } }
     {
-        if self.turns < TURNS_LIMIT {
-            self.turns += 1;
-        }
+        self.turns = counted(self.turns);
+    }
+
+    /// Whether it has nothing more to do: the server has crashed, both clients have ended, or all nodes are to stop or give
+    /// up.
+    fn is_over(&self) -> bool
+        ensures { self.now.ended ≡ true → result ≡ true }
+    {
+        self.ended || self.flags.have_ended()
     }
 
     /// One turn: the server crashes if it is to, or else takes at most one message from each link and one request from its
@@ -275,9 +313,14 @@ impl<
     /// ended, too, once both clients have. It takes what the core takes for each step.
     pub fn turn<R: Wait>(&mut self, rt: &R) -> Turn
         ensures same { IsSameServer P.link T.link I.link self.old self.new }
+        ensures turns { self.new.turns ≡ min (self.old.turns + 1) TURNS_LIMIT }
+        ensures had { HadTurn self.old self.new }
     {
         self.count_turn();
-        if self.ended || self.flags.have_ended() || self.crash_if_due() {
+        if self.is_over() {
+            return Turn::Ended;
+        }
+        if self.crash_if_due() {
             return Turn::Ended;
         }
         match self.work(rt) {
@@ -293,18 +336,17 @@ impl<
     /// So many turns, each once the gate lets it begin, until the node has ended. After many turns without work it lets
     /// other threads run.
     pub fn run<R: Wait, G: Gate>(&mut self, rt: &R, turns: u64, gate: &G) -> Stop
-        ensures same { IsSameServer P.link T.link I.link self.old self.new }
+        ensures { IsSameServer P.link T.link I.link self.old self.new }
     {
         let mut rest = Rest::new();
         for _ in 0..turns {
             if !gate.enter(Party::Server(self.id), self.turns.saturating_add(1)) {
                 return Stop::Shut;
             }
-            let turn = self.turn(rt);
-            if turn == Turn::Ended {
-                return Stop::Ended;
+            match self.turn(rt) {
+                Turn::Ended => return Stop::Ended,
+                turn => rest.after(turn),
             }
-            rest.after(turn);
         }
         Stop::Limit
     }
@@ -340,9 +382,9 @@ impl<
             trace,
             flags: _,
             crash_after,
-            turns: _,
+            turns,
             starved,
-            ended: _,
+            ended,
         } = self;
         ServerParts {
             size,
@@ -354,6 +396,8 @@ impl<
             trace,
             crash_after,
             starved,
+            turns,
+            ended,
         }
     }
 }

@@ -1,9 +1,15 @@
 //! Turns of nodes, and the gate before them.
+ghost use Rattle.std.specs.Prelude.{◌≡◌, ℕ, ◌+◌, min, Bool, true};
+ghost use Rattle.cq_base.specs.declared.party.Party as rust_party;
+
 use cq_base::Party;
 use std::thread::yield_now;
 
 /// After so many turns in a row without work a node lets other threads run, each time.
 const IDLE_LIMIT: u32 = 64;
+
+/// Turns are counted up to 2^62, and no further.
+pub const TURNS_LIMIT: u64 = 1 << 62;
 
 /// What a node did in a turn.
 #[derive(Clone, Copy, Debug, PartialEq, Eq)]
@@ -25,6 +31,17 @@ pub enum Stop {
     Limit,
     /// The gate let no further turn begin.
     Shut,
+}
+
+/// So many turns with one more.
+pub(crate) fn counted(turns: u64) -> u64
+    ensures { result ≡ min (turns + 1) TURNS_LIMIT }
+{
+    if turns < TURNS_LIMIT {
+        turns + 1
+    } else {
+        TURNS_LIMIT
+    }
 }
 
 /// How long a node has found nothing to do.
@@ -53,8 +70,12 @@ impl Rest {
 
 /// What is asked before each turn of a server or of the master. It may wait.
 pub trait Gate {
+    /// What it may answer to a party before the turn of a number.
+    ghost lets: { Self → rust_party.Party → ℕ → Bool → Type 0 };
+
     /// Whether the party's turn of that number may begin. Turns count from 1.
-    fn enter(&self, party: Party, turn: u64) -> bool;
+    fn enter(&self, party: Party, turn: u64) -> bool
+        ensures { lets self.now party turn result };
 }
 
 /// The gate that lets each turn begin.
@@ -62,6 +83,8 @@ pub trait Gate {
 pub struct Always;
 
 impl Gate for Always {
+    ghost lets = { λ _ _ _ answer. answer ≡ true };
+
     fn enter(&self, _party: Party, _turn: u64) -> bool {
         true
     }

@@ -1,4 +1,6 @@
 //! What can keep nodes from running.
+ghost use Rattle.std.specs.Prelude.{◌≡◌};
+ghost use Rattle.cq_threads.specs.declared.fault.ThreadFault.TheVariants as faults;
 
 use std::alloc::{AllocError, AllocFailed};
 use thiserror::Error;
@@ -15,12 +17,16 @@ pub enum ThreadFault {
 }
 
 impl From<AllocError> for ThreadFault {
+    ghost from_gives = { λ _ fault. fault ≡ faults.NoMemory };
+
     fn from(_fault: AllocError) -> ThreadFault {
         ThreadFault::NoMemory
     }
 }
 
 impl<T: Drop> From<AllocFailed<T>> for ThreadFault {
+    ghost from_gives = { λ _ fault. fault ≡ faults.NoMemory };
+
     fn from(_fault: AllocFailed<T>) -> ThreadFault {
         ThreadFault::NoMemory
     }

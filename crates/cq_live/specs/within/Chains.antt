@@ -32,12 +32,13 @@ pub record AreTied (servers : List Server) (first second : Client) : Type 0 wher
 
 -- ---- what nodes were made for
 
--- the master of that chain, with a link to and from each server, lets the servers join that the steps let join
+-- the master of that chain, with a link to and from each server, lets the servers join that the steps let join, each from
+-- the turn on that they say
 pub record IsMasterOf (count members : ℕ) (steps : List LiveStep) (master : Master) : Type 0 where
   pub outs : length master.outs ≡ count
   pub ins : length master.ins ≡ count
   pub size : master.size ≡ members
-  pub joins : map (λ join. join.server) master.joins ≡ joins_of steps
+  pub joins : master.joins ≡ joins_of steps
 
 -- the server of that number, with a link to and from each party, crashes as the steps say
 pub record IsServerOf (count members : ℕ) (steps : List LiveStep) (number : ℕ) (s : Server) : Type 0 where

@@ -1,5 +1,5 @@
 -- What a run of nodes leaves, and what is known once its links and inboxes are settled.
-use Rattle.std.specs.Prelude.{◌≡◌, ℕ, List}
+use Rattle.std.specs.Prelude.{◌≡◌, ◌||◌, ℕ, List, Bool}
 use Rattle.cq_base.specs.declared.ask.Request.{Request}
 use Rattle.cq_live.specs.within.Aparts.{Server, Master, Client, IsApart}
 use Rattle.cq_live.specs.declared.apart.Apart.{Apart}
@@ -21,8 +21,9 @@ use Rattle.cq_link.specs.Clients as clients
 use Rattle.cq_link.specs.Clients.{seat_of}
 use Rattle.cq_link.specs.Wirings as links
 
--- Nodes that came back from their threads, with ends of the same links, left this.
-pub record WasRun (live : LiveNodes) (apart : Apart) : Type 0 where
+-- Nodes that came back from their threads, with ends of the same links, left this. It is known whether memory was wanting for
+-- the master or a client.
+pub record WasRun (live : LiveNodes) (apart : Apart) (short : Bool) : Type 0 where
   pub master : Master
   pub servers : List Server
   pub first : Client
@@ -32,6 +33,7 @@ pub record WasRun (live : LiveNodes) (apart : Apart) : Type 0 where
   pub same_first : IsSameClient seat_of taker_link live.nodes.first first
   pub same_second : IsSameClient seat_of taker_link live.nodes.second second
   pub left : IsApart master live.own servers first second apart
+  pub memory : short ≡ (master.starved || first.starved || second.starved)
 
 -- All links and inboxes have handed over what they did, in order, and what nodes left is the same.
 pub record IsSettled (apart : Apart) (ended : Ended) : Type 0 where

@@ -12,7 +12,7 @@ returns-in-Some-clause-arrived g c = λ back r is.
     let old = c.args.core.now in
     let new = c.arrive.new.core in
     record {
-      done = server-arrived old new back c.args.clock r (subst (λ q. Does old new (arrived c.args.clock q)) (sym (c.arrive.ensures.same r is)) (c.arrive.ensures.arrived r is));
+      done = server-arrived old new back c.args.clock r (subst (λ q. Does old new (arrived c.args.clock q)) (sym (c.arrive.ensures.same r is)) (c.arrive.ensures.arrived r is)) (c.arrive.ensures.admitted r is);
       list = c.in-Some.ensures.taken ∙ ap (λ q. g.I.TakeEnd.list c.args.inbox.now ++ q ∷ []) (sym (c.arrive.ensures.same r is));
     }
 

@@ -12,7 +12,7 @@ returns-in-Some-clause-links g c =
     links_set _ outs c.args.place c.in-Some.out.now c.put_one.new.out (slice_get_read outs (length outs) c.args.place c.in-Some.out.now refl item.3.0 item.1) c.put_one.ensures.link
 
 pub returns-in-Some-clause-asked : goal.returns-in-Some-clause-asked
-returns-in-Some-clause-asked g c = λ id asks ask.
+returns-in-Some-clause-asked g c = λ id asks closed ask.
     let outs = c.args.outs.now.items in
     let item = c.in-Some.ensures.item in
-    asked_set g.P.PutEnd.list id asks outs c.args.place c.in-Some.out.now c.put_one.new.out (slice_get_read outs (length outs) c.args.place c.in-Some.out.now refl item.3.0 item.1) (c.put_one.ensures.asked id asks ask)
+    asked_set g.P.PutEnd.list id asks closed outs c.args.place c.in-Some.out.now c.put_one.new.out (slice_get_read outs (length outs) c.args.place c.in-Some.out.now refl item.3.0 item.1) (c.put_one.ensures.asked id asks closed ask)

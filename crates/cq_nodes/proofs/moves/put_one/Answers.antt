@@ -2,7 +2,8 @@
 use Rattle.std.proofs.Common.{sym, subst}
 use Rattle.cq_nodes.specs.Ends.{with_back}
 use Rattle.cq_nodes.proofs.Moving.{put-done}
-use Rattle.cq_events.specs.Actions.{Put, Does}
+use Rattle.cq_events.specs.Actions.{Put}
+use Rattle.cq_nodes.specs.Acts.{Acts}
 use Rattle.cq_nodes.proofs.moves.put_one.Goals as goal
 
 pub returns-in-Ok-clause-put : goal.returns-in-Ok-clause-put
@@ -13,6 +14,6 @@ returns-in-Ok-clause-put g c = λ back is ok.
     record {
       message = c.in-Some.message;
       list = c.in-Ok.ensures.ok;
-      done = subst (λ kept. Does (Put to c.in-Some.message) (record { core = old; back = back }) (record { core = new; back = with_back back to kept })) (sym c.in-Some.ensures.kept)
+      done = subst (λ kept. Acts (Put to c.in-Some.message) (record { core = old; back = back }) (record { core = new; back = with_back back to kept })) (sym c.in-Some.ensures.kept)
           (put-done old new back to c.in-Some.message (c.in-Some.ensures.passes back is));
     }

@@ -18,7 +18,7 @@ pub invariant_of-self-then-joined : goal.invariant_of-self-then-joined
 invariant_of-self-then-joined g c =
     let old = c.self.inside in
     master_joined g.P.PutEnd.list g.T.TakeEnd.list old.size old.joins.items old.core c.join_one.new.core old.outs.items old.ins.items old.trace.items c.push_reserved.new.self.items c.self.invariant c.in-Some.id
-    (subst (λ (joins : List Join). Among c.in-Some.id (map (λ join. join.server) joins)) c.deref.ensures.value c.in-Some.ensures)
+    (subst (λ (joins : List Join). Among c.in-Some.id (map (λ join. join.server) joins)) c.deref.ensures.value c.in-Some.ensures.named)
     (c.join_one.ensures.joined (back_of_servers old.outs.items) (c.in_ok-joined-in-Some.was ∙ ap Ok c.if-joined.true))
     (noted old.trace.items c.reserve.new.self.items c.push_reserved.new.self.items (events.Join c.in-Some.id) c.push_reserved.ensures.items c.in_ok-reserve.ensures.items)
 

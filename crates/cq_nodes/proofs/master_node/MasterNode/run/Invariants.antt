@@ -1,4 +1,4 @@
--- So far the node is the same, with ends of the same links.
+-- So far it is the same node.
 use Rattle.cq_nodes.specs.MasterNodes.{IsSameNode}
 use Rattle.cq_nodes.proofs.master_node.MasterNode.run.Given as goal
 

@@ -1,4 +1,4 @@
--- So far each end is still one of the same link.
+-- So far it is the node of the same server.
 use Rattle.cq_nodes.specs.Nodes.{IsSameServer}
 use Rattle.cq_nodes.proofs.server_node.ServerNode.run.Given as goal
 

@@ -2,6 +2,7 @@
 use Rattle.std.proofs.Common.{arith, ◌∙◌, ◌++◌, ◌∷◌, [], ap, Ok}
 use Rattle.cq_base.specs.declared.party.Party.TheVariants as parties
 use Rattle.cq_nodes.specs.Ends.{party_at, back_of}
+use Rattle.cq_nodes.proofs.Growing.{crash_kept, crash_more}
 use Rattle.cq_nodes.proofs.MasterSteps.{same_count}
 use Rattle.cq_nodes.proofs.NodeSteps.{ran_taken, ran_waiting, not_taken, none_taken, room_if}
 use Rattle.cq_events.specs.Actions.{taken_from}
@@ -14,6 +15,7 @@ invariant_of-self-in_err-taken g c =
       ran_waiting g.P.PutEnd.list g.T.TakeEnd.list g.I.TakeEnd.list old.size old.id old.core c.take_at.new.core old.outs.items old.clients old.ins.items old.inbox old.trace.items c.reserve.new.self.items old.crash_after old.starved c.self.invariant.0 c.take_at.new.ins.items (same_count (λ end. end.end) g.T.TakeEnd.link c.take_at.new.ins.items old.ins.items c.take_at.ensures.links)
           (c.take_at.ensures.idle (not_taken c.take_at.result _ c.in_err-taken.was)) (λ seen taken. c.take_at.ensures.lists seen taken (not_taken c.take_at.result _ c.in_err-taken.was)) c.in_ok-reserve.ensures.items,
       room_if old.ended _ _ (omega (arith, c.in_ok-reserve.ensures.ok)),
+      crash_kept old.id old.trace.items c.reserve.new.self.items old.starved old.ended c.self.invariant.2 c.in_ok-reserve.ensures.items,
     )
 
 pub invariant_of-self-then-taken : goal.invariant_of-self-then-taken
@@ -25,6 +27,8 @@ invariant_of-self-then-taken g c =
           (c.take_at.ensures.taken (back_of old.outs.items old.clients.kept) (λ at. taken_from (party_at at) was.actions) was.takes (c.in_ok-taken.was ∙ ap Ok c.if-taken.true))
           (c.push_reserved.ensures.items ∙ ap (λ us. us ++ events.Take c.party_at.result own ∷ []) c.in_ok-reserve.ensures.items ∙ ap (λ from. old.trace.items ++ events.Take from own ∷ []) c.party_at.ensures),
       room_if old.ended _ _ (omega (arith, c.in_ok-reserve.ensures.ok, c.push_reserved.ensures.len, c.push_reserved.ensures.capacity)),
+      crash_more old.id old.trace.items c.push_reserved.new.self.items old.starved old.ended c.self.invariant.2 (events.Take (party_at c.args.place) own)
+          (c.push_reserved.ensures.items ∙ ap (λ us. us ++ events.Take c.party_at.result own ∷ []) c.in_ok-reserve.ensures.items ∙ ap (λ from. old.trace.items ++ events.Take from own ∷ []) c.party_at.ensures) (λ same. absurd (cc)),
     )
 
 pub invariant_of-self-else-taken : goal.invariant_of-self-else-taken
@@ -33,4 +37,5 @@ invariant_of-self-else-taken g c =
       ran_waiting g.P.PutEnd.list g.T.TakeEnd.list g.I.TakeEnd.list old.size old.id old.core c.take_at.new.core old.outs.items old.clients old.ins.items old.inbox old.trace.items c.reserve.new.self.items old.crash_after old.starved c.self.invariant.0 c.take_at.new.ins.items (same_count (λ end. end.end) g.T.TakeEnd.link c.take_at.new.ins.items old.ins.items c.take_at.ensures.links)
           (c.take_at.ensures.idle (none_taken c.take_at.result _ c.in_ok-taken.was c.if-taken.false)) (λ seen taken. c.take_at.ensures.lists seen taken (none_taken c.take_at.result _ c.in_ok-taken.was c.if-taken.false)) c.in_ok-reserve.ensures.items,
       room_if old.ended _ _ (omega (arith, c.in_ok-reserve.ensures.ok)),
+      crash_kept old.id old.trace.items c.reserve.new.self.items old.starved old.ended c.self.invariant.2 c.in_ok-reserve.ensures.items,
     )
