@@ -1,5 +1,5 @@
-"""A program cq that hangs, closes its output, or answers garbage. A stand-in passes on what the real one says, until it is
-told otherwise."""
+"""A program cq that hangs, closes its output, or answers garbage or out of turn. A stand-in passes on what the real one
+says, until it is told otherwise."""
 
 from __future__ import annotations
 
@@ -33,7 +33,8 @@ for number, line in enumerate(iter(lines.readline, b"")):
             os.close(1)
         if what in ("close", "hang"):
             time.sleep(1000)
-        line = {{"garbage": b"garbage\\n", "endless": b"x" * 100_000_000}}[what]
+        misnumbered = line.replace(b'"number":', b'"number":1')
+        line = {{"garbage": b"garbage\\n", "endless": b"x" * 100_000_000, "misnumbered": misnumbered}}[what]
     sys.stdout.buffer.write(line)
     sys.stdout.buffer.flush()
 """
@@ -76,7 +77,7 @@ def is_gone_soon(process: int) -> bool:
     return False
 
 
-@pytest.mark.parametrize("what", ["hang", "close", "garbage", "endless"])
+@pytest.mark.parametrize("what", ["hang", "close", "garbage", "endless", "misnumbered"])
 def test_a_program_that_answers_no_more_is_started_anew(tmp_path, stand_in, what):
     gateway = Started("--cq", str(stand_in.path), "--cq-timeout", "4", "--journal", str(tmp_path / "journal"), "--admin", "0")
     try:
@@ -155,3 +156,22 @@ def test_no_program_outlives_the_gateway(tmp_path, stand_in, number, what):
     assert gateway.process.wait(20) == (0 if number == signal.SIGTERM else -number)
     assert is_gone_soon(stood_in)
     sending.join(20)
+
+
+def test_an_answer_out_of_turn_loses_no_message_of_a_batch(tmp_path, stand_in):
+    """The first of three has an answer with another number. Each is told its own id all the same."""
+    gateway = Started("--cq", str(stand_in.path), "--journal", str(tmp_path / "journal"))
+    try:
+        call = ByJson(gateway.url)
+        call("CreateQueue", QueueName="q.fifo", Attributes=FIFO)
+        stand_in.tell("once-misnumbered")
+        entries = [{"Id": str(number), "MessageBody": str(number), "MessageGroupId": "g",
+                    "MessageDeduplicationId": str(number)} for number in range(3)]
+        sent = call("SendMessageBatch", QueueUrl="q.fifo", Entries=entries)
+        assert not sent.get("Failed")
+        messages = call("ReceiveMessage", QueueUrl="q.fifo", MaxNumberOfMessages=10)["Messages"]
+        assert [message["Body"] for message in messages] == ["0", "1", "2"]
+        told = {entry["Id"]: entry["MessageId"] for entry in sent["Successful"]}
+        assert told == {message["Body"]: message["MessageId"] for message in messages}
+    finally:
+        assert gateway.stop() == 0

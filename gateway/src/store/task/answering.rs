@@ -23,8 +23,18 @@ impl Task {
         Ok(())
     }
 
+    /// Takes the entry at the front, if that is the one which the program answers. One that it doesn't answer stays open:
+    /// it is asked again when the program has been started again.
+    fn take_next(&mut self, is_answered: impl FnOnce(&Entry) -> bool) -> Option<Open> {
+        match self.open.front() {
+            Some(open) if is_answered(&open.entry) => self.open.pop_front(),
+            _ => None,
+        }
+    }
+
     fn refused(&mut self, code: u32) -> Result<(), Ended> {
-        let Some(Open { entry: Entry::Ask(asked), sender }) = self.open.pop_front() else {
+        let next = self.take_next(|entry| matches!(entry, Entry::Ask(_)));
+        let Some(Open { entry: Entry::Ask(asked), sender }) = next else {
             return Err(Ended::NotNext { client: 0, number: 0 });
         };
         self.close(&asked);
@@ -38,28 +48,34 @@ impl Task {
     }
 
     fn answered(&mut self, client: u32, number: u64, reply: StoreReply, text: &str) -> Result<(), Ended> {
-        let Some(Open { entry, sender }) = self.open.pop_front() else {
+        let is_answered = |entry: &Entry| match entry {
+            Entry::Ask(asked) => (asked.client, asked.number) == (client, number),
+            Entry::Moment => number == 0,
+            Entry::Probe { tag, .. } | Entry::Count { tag, .. } => *tag == number,
+            Entry::Change(_) | Entry::Ready(_) => false,
+        };
+        let Some(Open { entry, sender }) = self.take_next(is_answered) else {
             return Err(Ended::NotNext { client, number });
         };
         match entry {
-            Entry::Ask(asked) if (asked.client, asked.number) == (client, number) => {
+            Entry::Ask(asked) => {
                 self.close(&asked);
                 self.ends = 0;
                 let answer = self.apply_and_record(&asked, reply, text)?;
                 self.finish(answer, sender);
                 Ok(())
             }
-            Entry::Moment if number == 0 => {
+            Entry::Moment => {
                 if sender.is_some() {
                     self.finish(Ok(Outcome::Done), sender);
                 }
                 Ok(())
             }
-            Entry::Probe { tag, .. } if tag == number => {
+            Entry::Probe { .. } => {
                 self.ends = 0;
                 Ok(())
             }
-            Entry::Count { tag, .. } if tag == number => {
+            Entry::Count { .. } => {
                 self.ends = 0;
                 let answer = match reply {
                     StoreReply::Counts { visible, in_flight } => Ok(Outcome::Counts { visible, in_flight }),
@@ -69,7 +85,7 @@ impl Task {
                 self.finish(answer, sender);
                 Ok(())
             }
-            _ => Err(Ended::NotNext { client, number }),
+            Entry::Change(_) | Entry::Ready(_) => Ok(()),
         }
     }
 
