@@ -1,7 +1,6 @@
 //! Messages of standard queues that were sent with a delay: when it is over they go to the store.
 //!
-//! Before that the journal and the tables have them. Such a message is sent under a deduplication id of its own, and the
-//! record of that send names it; so after whatever end it is sent once.
+//! Before that the journal and the tables have them. `moves` sends each once, after whatever end.
 
 use std::cmp::{Ordering, Reverse};
 use std::collections::{BinaryHeap, HashMap};
@@ -11,11 +10,10 @@ use tokio::sync::Notify;
 
 use crate::clock::{Clock, Moment};
 use crate::errors::SqsError;
-use crate::messages::Envelope;
-use crate::queues::ask::{Ask, Cause, Delayed};
+use crate::moves::move_due;
+use crate::queues::ask::Delayed;
 use crate::queues::Queue;
 use crate::store::Store;
-use crate::texts::{DedupId, GroupId};
 
 /// So many messages are sent at once.
 const AT_ONCE: usize = 32;
@@ -155,9 +153,9 @@ async fn send_some(store: &Store, queue: &Arc<Queue>) -> Result<bool, SqsError> 
     if due.is_empty() {
         return Ok(false);
     }
-    let asks = due.iter().map(|message| send_of(message)).collect::<Result<_, _>>()?;
+    let answers = move_due(store, queue, &due).await?;
     let mut sent = Ok(true);
-    for (message, answer) in due.iter().zip(store.ask_all(queue, asks).await) {
+    for (message, answer) in due.iter().zip(answers) {
         match answer {
             Ok(_) => {}
             Err(error @ (SqsError::QueueDoesNotExist | SqsError::ServiceUnavailable(_) | SqsError::OverLimit(_))) => {
@@ -174,12 +172,4 @@ fn put_behind(store: &Store, queue: &Queue, message: &Delayed, error: &SqsError)
     if queue.state().refused_delayed(message.id, store.clock().now() + PAUSE) {
         tracing::error!("the delayed message {} of {} is set aside: {error}", message.id, queue.name);
     }
-}
-
-fn send_of(message: &Delayed) -> Result<Ask, SqsError> {
-    let envelope = Envelope::of_whole(Some(message.id), message.envelope.clone());
-    let envelope =
-        envelope.map_err(|error| SqsError::InternalFailure(format!("The message can't be kept: {error}")))?;
-    let (group, dedup) = (GroupId::of_message(message.id), DedupId::of_message(message.id));
-    Ok(Ask::Send { group, dedup, envelope, cause: Cause::Due(message.id) })
 }

@@ -1,20 +1,17 @@
 //! What a receive hands to its client: messages of the store, less those to which the gateway sees itself.
 
+use std::collections::HashSet;
 use std::sync::Arc;
-use std::time::Duration;
 
 use crate::delays::bring_up_to_date;
 use crate::errors::SqsError;
-use crate::moves::{give_back, move_to_target, MoveOutcome};
+use crate::moves::{give_back, move_to_target};
 use crate::queues::ask::{Ask, Fate, Handed, Outcome};
 use crate::queues::Queue;
 use crate::store::{Answer, Store};
 
 /// The most messages to which the gateway sees itself in one request before it answers.
 const MOST_OWN: usize = 100;
-
-/// So long a receive waits for others who move all that it was handed.
-const PAUSE: Duration = Duration::from_millis(5);
 
 /// What a receive came to.
 pub struct Delivered {
@@ -31,8 +28,6 @@ pub enum Seen {
     Nothing,
     /// There were some that are gone now: it is worth asking again.
     Gone,
-    /// There were some that others are about to move.
-    ByOthers,
 }
 
 fn no_messages() -> SqsError {
@@ -66,7 +61,6 @@ async fn receive_on(store: Store, queue: Arc<Queue>, ask: Ask) -> Result<Deliver
         match see_to(&store, &queue, handed, set_aside).await? {
             Seen::Handed(handed) => return Ok(Delivered { handed, openings }),
             Seen::Gone if own < MOST_OWN => {}
-            Seen::ByOthers if own < MOST_OWN => tokio::time::sleep(PAUSE).await,
             _ => return Ok(Delivered { handed: Vec::new(), openings }),
         }
     }
@@ -172,16 +166,12 @@ pub async fn see_to(
     let (store, queue) = (store.clone(), queue.clone());
     let seen = tokio::spawn(async move {
         match see_to_all(&store, &queue, set_aside).await {
-            Ok(MoveOutcome { is_by_others, staying }) => {
+            Ok(staying) => {
                 // What is behind a message that stays must not go out before it.
                 let is_behind = |handed: &Handed| staying.contains(&handed.group);
                 let (behind, handed): (Vec<_>, Vec<_>) = handed.into_iter().partition(is_behind);
                 give_back(&store, &queue, &behind).await;
-                Ok(match (handed.is_empty(), is_by_others) {
-                    (false, _) => Seen::Handed(handed),
-                    (true, true) => Seen::ByOthers,
-                    (true, false) => Seen::Gone,
-                })
+                Ok(if handed.is_empty() { Seen::Gone } else { Seen::Handed(handed) })
             }
             Err(error) => {
                 give_back(&store, &queue, &handed).await;
@@ -192,11 +182,12 @@ pub async fn see_to(
     seen.await.unwrap_or_else(|_| Err(gone()))
 }
 
+/// The groups of what stays are told.
 async fn see_to_all(
     store: &Store,
     queue: &Arc<Queue>,
     set_aside: Vec<(Handed, Fate)>,
-) -> Result<MoveOutcome, SqsError> {
+) -> Result<HashSet<String>, SqsError> {
     let (mut old, mut dead, mut early) = (Vec::new(), Vec::new(), Vec::new());
     for (handed, fate) in set_aside {
         match fate {
@@ -206,13 +197,11 @@ async fn see_to_all(
         }
     }
     give_back(store, queue, &early).await;
-    let is_all = old.is_empty() && early.is_empty();
-    let mut moved = if dead.is_empty() { MoveOutcome::default() } else { move_to_target(store, queue, dead).await? };
-    moved.is_by_others &= is_all;
-    moved.staying.extend(early.into_iter().map(|handed| handed.group));
+    let mut staying = if dead.is_empty() { HashSet::new() } else { move_to_target(store, queue, dead).await? };
+    staying.extend(early.into_iter().map(|handed| handed.group));
     let deleted = if old.is_empty() { Vec::new() } else { store.ask_all(queue, old).await };
     for answer in deleted {
         answer?;
     }
-    Ok(moved)
+    Ok(staying)
 }

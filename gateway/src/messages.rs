@@ -9,6 +9,7 @@ use uuid::Uuid;
 use crate::clock::Moment;
 use crate::errors::SqsError;
 use crate::handles::Mark;
+use crate::moves::Origin;
 use crate::texts::{is_xml_character, test_characters, Body, DedupId, GroupId, QueueName, STORE_LIMIT};
 
 /// The one message system attribute that a send may carry (API Reference, SendMessage, `MessageSystemAttributes`).
@@ -200,6 +201,9 @@ pub struct Metadata {
     /// version sent. It stands first, where `own_id` finds it.
     #[serde(default, skip_serializing_if = "Option::is_none")]
     pub id: Option<Uuid>,
+    /// Of a copy: which message it is one of. It stands first, or second behind the id, where `EnvelopeHead` looks.
+    #[serde(default, skip_serializing_if = "Option::is_none")]
+    pub of: Option<Origin>,
     /// When it was sent, in milliseconds.
     pub sent: u64,
     /// The deduplication id that clients see, of a FIFO queue.
@@ -303,6 +307,7 @@ pub fn read_envelope(whole: &str) -> Option<(Metadata, &str)> {
 /// The metadata that the tables need.
 #[derive(Clone, Copy, Debug, PartialEq, Eq, Deserialize)]
 pub struct EnvelopeHead {
+    pub of: Option<Origin>,
     /// In a whole envelope.
     pub sent: Option<Moment>,
 }
@@ -318,6 +323,13 @@ impl EnvelopeHead {
 pub fn own_id(envelope: &str) -> Option<Uuid> {
     const LENGTH: usize = uuid::fmt::Hyphenated::LENGTH;
     envelope.strip_prefix("{\"id\":\"")?.get(..LENGTH)?.parse().ok()
+}
+
+/// Which message an envelope is a copy of, if it is one. Takes the same time for all others.
+pub fn origin_in(envelope: &str) -> Option<Origin> {
+    // The id, if there is one, and the origin stand before all else.
+    let may_have = envelope.starts_with("{\"id\"") || envelope.starts_with("{\"of\"");
+    may_have.then(|| EnvelopeHead::of(envelope)?.of).flatten()
 }
 
 /// The MessageId of the message with this sequence number in the queue of this mark, where none stands in its envelope.
@@ -345,6 +357,7 @@ mod tests {
     fn metadata() -> Metadata {
         Metadata {
             id: None,
+            of: None,
             sent: 1_700_000_000_000,
             dedup: DedupId::parse("d").ok(),
             group: None,
@@ -427,7 +440,7 @@ mod tests {
             let metadata = Metadata { id, ..metadata.clone() };
             let envelope = Envelope::new(&metadata, &Body::parse("one\ntwo").unwrap()).unwrap();
             assert_eq!(read_envelope(envelope.stored()), Some((metadata.clone(), "one\ntwo")));
-            assert_eq!(EnvelopeHead::of(envelope.stored()), Some(EnvelopeHead { sent: Some(metadata.sent) }));
+            assert_eq!(EnvelopeHead::of(envelope.stored()), Some(EnvelopeHead { of: None, sent: Some(metadata.sent) }));
             assert_eq!(own_id(envelope.stored()), id);
         }
         assert_eq!(read_envelope("hello"), None);
@@ -441,7 +454,7 @@ mod tests {
             let Envelope::Split { stub, whole } = &envelope else { panic!("{} bytes", envelope.bytes()) };
             assert_eq!((read_envelope(whole).unwrap().1, read_envelope(stub)), (body.as_str(), None));
             assert_eq!((own_id(stub), own_id(whole)), (id, id));
-            assert_eq!(EnvelopeHead::of(stub), Some(EnvelopeHead { sent: None }));
+            assert_eq!(EnvelopeHead::of(stub), Some(EnvelopeHead { of: None, sent: None }));
         }
     }
 

@@ -1,8 +1,11 @@
-//! Moving messages to the dead-letter queue of theirs: each one once, whatever ends in between.
+//! Moving messages, each one once: dead letters to the dead-letter queue of theirs, by tasks out of it, and into the
+//! store when their delay is over.
 //!
-//! The message is sent to the other queue, under a deduplication id that nobody can guess, and is then deleted. The
-//! record of the copy names what it copies, so that a start deletes each message that has one. While a message that
-//! has a copy is there, nobody copies it again.
+//! Nobody else has the message's queue meanwhile. A copy is sent to the other queue, under a deduplication id that
+//! nobody can guess, and its envelope says of which message it is one. Behind the copies their originals are deleted,
+//! and the program is asked for nothing between the two. So where a deletion isn't there after a crash, nobody has
+//! touched the copy, and a start that finds both deletes the original. Where the other queue is with another program,
+//! the deletion is asked for when the copy is on disk, and a start finds the copy among the sends of the journal.
 
 use std::collections::{HashMap, HashSet};
 use std::sync::{Arc, Mutex, MutexGuard, PoisonError};
@@ -13,9 +16,9 @@ use serde::{Deserialize, Serialize};
 use crate::errors::SqsError;
 use crate::handles::Receipt;
 use crate::messages::{read_envelope, Envelope};
-use crate::queues::ask::{Ask, Cause, Changer, Handed};
+use crate::queues::ask::{Ask, Cause, Changer, Delayed, Handed};
 use crate::queues::Queue;
-use crate::store::Store;
+use crate::store::{Answer, Copy, Held, Store};
 use crate::texts::{hex, Body, DedupId, GroupId, QueueKind};
 
 /// Which message a copy is of: the mark of its queue, and its sequence number there.
@@ -25,57 +28,36 @@ pub struct Origin {
     pub sequence: u64,
 }
 
-#[derive(Clone, Copy, Debug, PartialEq, Eq)]
-enum CopyProgress {
-    /// Somebody sends the copy.
-    Begun,
-    /// The copy is there, and the message may be.
-    Copied,
-}
-
-/// Messages that are being moved, and those that a journal has copies of.
+/// Messages that have a copy, and that may not be deleted yet.
 #[derive(Default)]
-pub struct Copies(Mutex<HashMap<Origin, CopyProgress>>);
+pub struct Copies(Mutex<HashSet<Origin>>);
 
 impl Copies {
-    fn progress(&self) -> MutexGuard<'_, HashMap<Origin, CopyProgress>> {
+    fn origins(&self) -> MutexGuard<'_, HashSet<Origin>> {
         self.0.lock().unwrap_or_else(PoisonError::into_inner)
-    }
-
-    /// Says that the copy is to be sent now. If somebody has begun it, tells how far that is.
-    fn begin(&self, origin: Origin) -> Option<CopyProgress> {
-        let mut progress = self.progress();
-        let found = progress.get(&origin).copied();
-        progress.entry(origin).or_insert(CopyProgress::Begun);
-        found
     }
 
     /// The copy is there.
     pub fn mark_copied(&self, origin: Origin) {
-        self.progress().insert(origin, CopyProgress::Copied);
+        self.origins().insert(origin);
     }
 
-    /// The copy couldn't be sent, or what it is of isn't there any more.
+    fn has(&self, origin: Origin) -> bool {
+        self.origins().contains(&origin)
+    }
+
+    /// What it is of isn't there any more.
     fn forget(&self, origin: Origin) {
-        self.progress().remove(&origin);
+        self.origins().remove(&origin);
     }
 
     fn take_all(&self) -> Vec<Origin> {
-        self.progress().drain().map(|(origin, _)| origin).collect()
+        self.origins().drain().collect()
     }
 }
 
 /// So long a message waits for its next deletion, where one failed after it was copied.
 const PAUSE: Duration = Duration::from_secs(1);
-
-/// What came of a move.
-#[derive(Debug, Default)]
-pub struct MoveOutcome {
-    /// Nothing was done: others are about to move the messages.
-    pub is_by_others: bool,
-    /// The groups of those that are in the queue still: they were given back, or others have them.
-    pub staying: HashSet<String>,
-}
 
 /// Why messages are moved.
 #[derive(Clone, Copy, Debug, PartialEq, Eq)]
@@ -87,83 +69,42 @@ pub enum MoveKind {
 }
 
 /// Moves messages that a receive set aside to the target of their queue. Where there is none any more they are given
-/// back.
-pub async fn move_to_target(store: &Store, queue: &Arc<Queue>, dead: Vec<Handed>) -> Result<MoveOutcome, SqsError> {
+/// back. Tells the groups of those that are in the queue still.
+pub async fn move_to_target(store: &Store, queue: &Arc<Queue>, dead: Vec<Handed>) -> Result<HashSet<String>, SqsError> {
     let policy = queue.state().redrive().cloned();
     let Some(target) = policy.and_then(|policy| store.queues().find(&policy.target.name)) else {
         give_back(store, queue, &dead).await;
-        return Ok(MoveOutcome { is_by_others: false, staying: groups_of(&dead) });
+        return Ok(groups_of(&dead));
     };
     move_all(store, queue, &target, dead, MoveKind::DeadLetter).await
 }
 
-/// Moves messages that nobody else is handed meanwhile. With an error those that couldn't be moved are given back.
+/// Moves messages that the gateway was handed, and tells the groups of those that are in the queue still. With an error
+/// those that couldn't be moved are given back.
 pub async fn move_all(
     store: &Store,
     queue: &Arc<Queue>,
     target: &Arc<Queue>,
     messages: Vec<Handed>,
     kind: MoveKind,
-) -> Result<MoveOutcome, SqsError> {
-    let copies = store.queues().copies();
-    let (mut to_copy, mut copied, mut is_done) = (Vec::new(), Vec::new(), false);
-    let mut staying = HashSet::new();
-    for handed in messages {
-        let origin = origin_of(queue, &handed);
-        match copies.begin(origin) {
-            // Others that were handed it as well may have moved it before this one began.
-            None if queue.state().last_receipt_of(origin.sequence).is_none() => copies.forget(origin),
-            None => to_copy.push(handed),
-            Some(CopyProgress::Copied) => copied.push(handed.receipt.sequence),
-            Some(CopyProgress::Begun) => {
-                staying.insert(handed.group);
-                continue;
-            }
-        }
-        is_done = true;
-    }
-    let sent = copy_all(store, queue, target, to_copy, kind, &mut copied).await;
-    for sequence in copied {
-        delete(store, queue, sequence).await;
-    }
-    staying.extend(sent?);
-    Ok(MoveOutcome { is_by_others: !is_done, staying })
-}
-
-fn groups_of(messages: &[Handed]) -> HashSet<String> {
-    messages.iter().map(|handed| handed.group.clone()).collect()
-}
-
-fn origin_of(queue: &Queue, handed: &Handed) -> Origin {
-    Origin { mark: queue.mark.0, sequence: handed.receipt.sequence }
-}
-
-/// Sends the copies, one behind the other. What can't be sent is given back, and its groups are told.
-async fn copy_all(
-    store: &Store,
-    queue: &Arc<Queue>,
-    target: &Arc<Queue>,
-    to_copy: Vec<Handed>,
-    kind: MoveKind,
-    copied: &mut Vec<u64>,
 ) -> Result<HashSet<String>, SqsError> {
-    let (mut asks, mut asked, mut failed, mut result) = (Vec::new(), Vec::new(), Vec::new(), Ok(()));
-    for handed in to_copy {
-        match copy_of(store, queue, &handed, kind) {
-            Ok(ask) => {
-                asks.push(ask);
-                asked.push(handed);
-            }
-            Err(error) => {
-                result = Err(error);
-                failed.push(handed);
-            }
+    let held = match store.hold_for_move(queue).await {
+        Ok(held) => held,
+        Err(error) => {
+            give_back(store, queue, &messages).await;
+            return Err(error);
         }
-    }
-    let answers = if asks.is_empty() { Vec::new() } else { store.ask_all(target, asks).await };
-    for (handed, answer) in asked.into_iter().zip(answers) {
+    };
+    let sorted = sort(store, queue, messages, kind);
+    let mut result = sorted.result;
+    let (mut copied, mut failed) = (sorted.copied, sorted.failed);
+    let (handed, copies): (Vec<_>, Vec<_>) = sorted.to_copy.into_iter().unzip();
+    let answers = if copies.is_empty() { Vec::new() } else { held.move_to(target, copies).await };
+    for (handed, answer) in handed.into_iter().zip(answers) {
         match answer {
             Ok(_) => copied.push(handed.receipt.sequence),
+            // The tables know of the copy, whatever was told.
+            Err(_) if store.queues().copies().has(origin_of(queue, &handed)) => copied.push(handed.receipt.sequence),
             Err(error) => {
                 // A target that has gone meanwhile is none, and the next receive knows it.
                 if error != SqsError::QueueDoesNotExist {
@@ -173,11 +114,65 @@ async fn copy_all(
             }
         }
     }
-    for handed in &failed {
-        store.queues().copies().forget(origin_of(queue, handed));
+    give_back_by(&held, queue, &failed).await;
+    drop(held);
+    for sequence in copied {
+        delete(store, queue, sequence).await;
     }
-    give_back(store, queue, &failed).await;
-    result.map(|()| groups_of(&failed))
+    result?;
+    Ok(sorted.staying.into_iter().chain(groups_of(&failed)).collect())
+}
+
+/// What is to be done with messages whose queue nobody else has.
+struct Sorted {
+    to_copy: Vec<(Handed, Copy)>,
+    /// Those that have a copy.
+    copied: Vec<u64>,
+    /// Those of which no copy can be made, and why.
+    failed: Vec<Handed>,
+    result: Result<(), SqsError>,
+    /// The groups of those that others have by now.
+    staying: HashSet<String>,
+}
+
+fn sort(store: &Store, queue: &Arc<Queue>, messages: Vec<Handed>, kind: MoveKind) -> Sorted {
+    let mut sorted =
+        Sorted { to_copy: Vec::new(), copied: Vec::new(), failed: Vec::new(), result: Ok(()), staying: HashSet::new() };
+    for handed in messages {
+        let sequence = handed.receipt.sequence;
+        let (is_there, is_own) = {
+            let state = queue.state();
+            (state.last_receipt_of(sequence).is_some(), state.own_receipt_of(sequence).is_some())
+        };
+        if !is_there {
+            // Others that were handed it as well have moved it.
+            continue;
+        }
+        if store.queues().copies().has(origin_of(queue, &handed)) {
+            sorted.copied.push(sequence);
+            continue;
+        }
+        if !is_own {
+            sorted.staying.insert(handed.group);
+            continue;
+        }
+        match copy_of(store, queue, &handed, kind) {
+            Ok(ask) => sorted.to_copy.push((handed, Copy { sequence, ask })),
+            Err(error) => {
+                sorted.result = Err(error);
+                sorted.failed.push(handed);
+            }
+        }
+    }
+    sorted
+}
+
+fn groups_of(messages: &[Handed]) -> HashSet<String> {
+    messages.iter().map(|handed| handed.group.clone()).collect()
+}
+
+fn origin_of(queue: &Queue, handed: &Handed) -> Origin {
+    Origin { mark: queue.mark.0, sequence: handed.receipt.sequence }
 }
 
 /// The send of a copy. Clients see the message as it was, but for the moment of its send and what it says of its
@@ -192,23 +187,54 @@ fn copy_of(store: &Store, queue: &Queue, handed: &Handed, kind: MoveKind) -> Res
     let is_dead_letter = kind == MoveKind::DeadLetter;
     metadata.source = is_dead_letter.then(|| queue.name.clone());
     metadata.id = is_dead_letter.then(|| metadata.id_at(queue.mark, handed.receipt.sequence));
+    let origin = origin_of(queue, handed);
+    metadata.of = Some(origin);
     let envelope = Envelope::new(&metadata, &Body::parse(body)?).map_err(|_| no_envelope())?;
     let group = GroupId::parse(&handed.group)?;
     let dedup = DedupId::parse(&hex(&rand::random::<[u8; 16]>()))?;
-    Ok(Ask::Send { group, dedup, envelope, cause: Cause::Move(origin_of(queue, handed)) })
+    Ok(Ask::Send { group, dedup, envelope, cause: Cause::Move(origin) })
+}
+
+/// Sends messages to the store whose delay is over, and gives the answers. The tables have each until its send is
+/// answered, and know it by the id in its envelope, also after a start. Where others send the same ones meanwhile, the
+/// store has each once.
+pub async fn move_due(store: &Store, queue: &Arc<Queue>, due: &[Arc<Delayed>]) -> Result<Vec<Answer>, SqsError> {
+    let asks = due.iter().map(|message| copy_of_due(message)).collect::<Result<_, _>>()?;
+    Ok(store.ask_all(queue, asks).await)
+}
+
+fn copy_of_due(message: &Delayed) -> Result<Ask, SqsError> {
+    let envelope = Envelope::of_whole(Some(message.id), message.envelope.clone());
+    let envelope =
+        envelope.map_err(|error| SqsError::InternalFailure(format!("The message can't be kept: {error}")))?;
+    let (group, dedup) = (GroupId::of_message(message.id), DedupId::of_message(message.id));
+    Ok(Ask::Send { group, dedup, envelope, cause: Cause::Due(message.id) })
+}
+
+fn change_back(receipt: Receipt) -> Ask {
+    Ask::ChangeVisibility { receipt, visibility: 0, by: Changer::Gateway }
+}
+
+/// The last receipts of messages: another receive may have set them aside as well, and hides them.
+fn last_receipts(queue: &Queue, messages: &[Handed]) -> Vec<Receipt> {
+    let state = queue.state();
+    let last = |handed: &Handed| state.own_receipt_of(handed.receipt.sequence).unwrap_or(handed.receipt);
+    messages.iter().map(last).collect()
 }
 
 /// Lets messages be handed out again at once, as far as they are still there and in flight.
 pub async fn give_back(store: &Store, queue: &Arc<Queue>, messages: &[Handed]) {
-    let receipts: Vec<_> = {
-        let state = queue.state();
-        // Another receive may have set it aside as well, and hides it.
-        let last = |handed: &Handed| state.own_receipt_of(handed.receipt.sequence).unwrap_or(handed.receipt);
-        messages.iter().map(last).collect()
-    };
-    let change = |receipt| Ask::ChangeVisibility { receipt, visibility: 0, by: Changer::Gateway };
+    let receipts = last_receipts(queue, messages);
     if !receipts.is_empty() {
-        let _ = store.ask_all(queue, receipts.into_iter().map(change).collect()).await;
+        let _ = store.ask_all(queue, receipts.into_iter().map(change_back).collect()).await;
+    }
+}
+
+/// The same, by who has the queue.
+async fn give_back_by(held: &Held, queue: &Queue, messages: &[Handed]) {
+    let receipts = last_receipts(queue, messages);
+    if !receipts.is_empty() {
+        let _ = held.ask_all(receipts.into_iter().map(change_back).collect()).await;
     }
 }
 
@@ -267,9 +293,8 @@ async fn keep_giving_back(store: Store, queue: Arc<Queue>, mut left: Vec<Receipt
 /// Gives messages back, and tells which have to wait.
 async fn give_back_all(store: &Store, queue: &Arc<Queue>, receipts: Vec<Receipt>) -> Vec<Receipt> {
     let mut left = Vec::new();
-    let change = |receipt: &Receipt| Ask::ChangeVisibility { receipt: *receipt, visibility: 0, by: Changer::Gateway };
     for some in receipts.chunks(GIVEN_BACK_AT_ONCE) {
-        let answers = store.ask_all(queue, some.iter().map(change).collect()).await;
+        let answers = store.ask_all(queue, some.iter().copied().map(change_back).collect()).await;
         let waiting = some.iter().zip(answers).filter(|(_, answer)| {
             // With any other refusal there is nothing to give back any more.
             matches!(answer, Err(SqsError::ServiceUnavailable(_) | SqsError::InternalFailure(_)))

@@ -5,6 +5,7 @@ from __future__ import annotations
 import json
 import sys
 from pathlib import Path
+from typing import Any
 
 from started import program
 
@@ -18,8 +19,18 @@ def told():
     except (OSError, ValueError): return {{}}
 
 cq = subprocess.Popen([{program!r}, 'session'], stdin=subprocess.PIPE)
+found, counted = None, 0
 for number, line in enumerate(sys.stdin.buffer):
     text = line.decode()
+    if found != told().get('each'): found, counted = told().get('each'), 0
+    if found and any(word in text for word in found):
+        counted += 1
+        if counted > told().get('pass', 1 << 30):
+            with open({ends!r}, 'a') as file: file.write('.')
+            if told().get('kill'):
+                os.unlink({orders!r})
+                sys.exit(cq.kill())
+            while told().get('each'): time.sleep(0.005)
     while (word := told().get('hold')) is not None and word in text: time.sleep(0.005)
     if (word := told().get('end')) is not None and word in text and number >= told().get('behind', 0):
         with open({ends!r}, 'a') as file: file.write('.')
@@ -43,9 +54,10 @@ class SteeredCq:
         """How often it ended since it was told to."""
         return self.told_ends.stat().st_size if self.told_ends.exists() else 0
 
-    def tell(self, **orders: str | int) -> None:
-        """`hold`, `end` and `slow`: what happens to lines that have this text; `behind` so many lines, it ends. What was
-        told before counts no more."""
+    def tell(self, **orders: Any) -> None:
+        """`hold`, `end` and `slow`: what happens to lines that have this text; `behind` so many lines, it ends. Of the
+        lines that have one of the texts `each` so many `pass`, and at the next one it waits, or ends once if `kill` is true.
+        What was told before counts no more."""
         new = self.orders.with_suffix(".new")
         new.write_text(json.dumps(orders))
         new.replace(self.orders)

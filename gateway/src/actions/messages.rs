@@ -100,6 +100,7 @@ impl Actions {
     fn metadata(&self, message: &NewMessage, caller: &Caller) -> Metadata {
         Metadata {
             id: None,
+            of: None,
             sent: self.store.clock().now(),
             dedup: None,
             group: None,

@@ -10,7 +10,7 @@ use uuid::Uuid;
 
 use crate::clock::Moment;
 use crate::lines::{read_receipt, AskFields, AskKind};
-use crate::messages::Envelope;
+use crate::messages::{origin_in, Envelope};
 use crate::moves::Origin;
 use crate::queues::ask::{Ask, Cause, Changer, Creation, StoreName, TableChange};
 use crate::texts::{hex, AttemptId, DedupId, GroupId, QueueName};
@@ -34,10 +34,10 @@ pub struct Record<'a> {
     /// Of a send whose envelope the store can't take.
     #[serde(borrow, rename = "form", default, skip_serializing_if = "Option::is_none")]
     pub envelope: Option<Cow<'a, str>>,
-    /// Of a send that moves a message.
+    /// Of a send that moves a message, in journals up to version 4. Since then the envelope says it.
     #[serde(default, skip_serializing_if = "Option::is_none")]
     pub copies: Option<Origin>,
-    /// Of a send of a message whose delay is over: its id.
+    /// Of a send of a message whose delay is over, in journals up to version 4: its id, which the envelope has as well.
     #[serde(default, skip_serializing_if = "Option::is_none")]
     pub due: Option<Uuid>,
     /// Of a receive.
@@ -91,9 +91,7 @@ impl<'a> Record<'a> {
         match ask {
             Ask::Create { creation, .. } => record.creation = Some(creation.clone()),
             Ask::Remove { name, .. } => record.removed = name.clone(),
-            Ask::Send { envelope, cause, .. } => {
-                record.copies = cause.origin();
-                record.due = cause.due();
+            Ask::Send { envelope, .. } => {
                 if let Envelope::Split { whole, .. } = envelope {
                     record.envelope = Some(whole.into());
                 }
@@ -160,8 +158,8 @@ impl<'a> Record<'a> {
             AskKind::Send => Ask::Send {
                 group: GroupId::parse(fields.group.as_deref()?).ok()?,
                 dedup: DedupId::parse(fields.dedup.as_deref()?).ok()?,
+                cause: self.cause(self.envelope.as_deref().or(fields.body.as_deref())?),
                 envelope: self.envelope_of(fields.body?.into_owned()),
-                cause: self.cause(),
             },
             AskKind::Receive => Ask::Receive {
                 size: fields.size?,
@@ -179,8 +177,8 @@ impl<'a> Record<'a> {
         })
     }
 
-    fn cause(&self) -> Cause {
-        let moved = self.copies.map(Cause::Move);
+    fn cause(&self, envelope: &str) -> Cause {
+        let moved = self.copies.or_else(|| origin_in(envelope)).map(Cause::Move);
         moved.or(self.due.map(Cause::Due)).unwrap_or(Cause::Client)
     }
 
@@ -220,6 +218,8 @@ mod tests {
 
     #[test]
     fn records_come_back() {
+        let whole = r#"{"of":{"mark":1,"sequence":2},"sent":3}"#;
+        let moved = Envelope::Split { stub: "s".into(), whole: format!("{whole}\nb") };
         let envelope = Envelope::Split { stub: "s".into(), whole: "a\nb".into() };
         let (group, dedup) = (GroupId::parse("g").unwrap(), DedupId::parse("d").unwrap());
         let receipt = Receipt { sequence: 15, ordinal: 1 };
@@ -227,10 +227,10 @@ mod tests {
             Ask::Send {
                 group: group.clone(),
                 dedup: dedup.clone(),
-                envelope: envelope.clone(),
+                envelope: moved,
                 cause: Cause::Move(Origin { mark: 1, sequence: 2 }),
             },
-            Ask::Send { group, dedup, envelope, cause: Cause::Due(Uuid::from_u128(7)) },
+            Ask::Send { group, dedup, envelope, cause: Cause::Client },
             Ask::Receive { size: 3, visibility: 9, attempt: AttemptId::parse("x").ok(), most: Some(2), own: false },
             Ask::Receive { size: 3, visibility: 0, attempt: None, most: None, own: true },
             Ask::ChangeVisibility { receipt, visibility: 5, by: Changer::Attempt },

@@ -270,6 +270,7 @@ impl Conversion {
                 };
                 let metadata = Metadata {
                     id: Some(old_message_id(&queue.mark, queue.sends)),
+                    of: None,
                     sent: clock,
                     dedup: Some(message.dedup),
                     group: None,

@@ -102,14 +102,6 @@ pub enum Cause {
 }
 
 impl Cause {
-    /// Which message is moved, if one is.
-    pub fn origin(self) -> Option<Origin> {
-        match self {
-            Cause::Move(origin) => Some(origin),
-            Cause::Client | Cause::Due(_) => None,
-        }
-    }
-
     /// Which message is due, if one is.
     pub fn due(self) -> Option<Uuid> {
         match self {

@@ -14,7 +14,7 @@ use crate::clock::Clock;
 use crate::errors::SqsError;
 use crate::handles::Mark;
 use crate::journal::Journal;
-use crate::queues::ask::{Ask, Outcome, TableChange};
+use crate::queues::ask::{Ask, Cause, Outcome, TableChange};
 use crate::queues::shards::Shards;
 use crate::queues::{Queue, Queues};
 use crate::texts::QueueName;
@@ -65,7 +65,27 @@ pub enum Operation {
     Moment,
     /// Keeps all other jobs of the queue waiting until it is released.
     Hold,
+    /// The same, so that messages of the queue can be moved. Copies that come into it don't wait: two queues may move
+    /// messages to each other.
+    HoldForMove,
+    /// Sends copies to another queue of the same program, and behind them deletes the originals of those that are there.
+    /// Nothing else is asked between the two.
+    Move {
+        target: Arc<Queue>,
+        copies: Vec<Copy>,
+    },
     Release,
+}
+
+impl Operation {
+    fn holds(&self) -> bool {
+        matches!(self, Operation::Hold | Operation::HoldForMove)
+    }
+
+    /// Whether it sends a copy of a message that another program has.
+    fn is_copy(&self) -> bool {
+        matches!(self, Operation::Ask(Ask::Send { cause: Cause::Move(_), .. }))
+    }
 }
 
 impl From<Ask> for Operation {
@@ -78,6 +98,12 @@ impl From<TableChange> for Operation {
     fn from(change: TableChange) -> Operation {
         Operation::Change(change)
     }
+}
+
+/// The send of a copy, and the number of the message that it is of.
+pub struct Copy {
+    pub sequence: u64,
+    pub ask: Ask,
 }
 
 pub type Answer = Result<Outcome, SqsError>;
@@ -200,7 +226,16 @@ impl Store {
     /// Keeps all others from the queue until what this gives is dropped. Whoever begins this brings it to its end, or
     /// the queue is kept for good.
     pub async fn hold(&self, queue: &Arc<Queue>) -> Result<Held, SqsError> {
-        self.submit_one(queue, Operation::Hold).await?;
+        self.hold_by(queue, Operation::Hold).await
+    }
+
+    /// The same, to move messages of the queue.
+    pub async fn hold_for_move(&self, queue: &Arc<Queue>) -> Result<Held, SqsError> {
+        self.hold_by(queue, Operation::HoldForMove).await
+    }
+
+    async fn hold_by(&self, queue: &Arc<Queue>, operation: Operation) -> Result<Held, SqsError> {
+        self.submit_one(queue, operation).await?;
         Ok(Held { store: self.clone(), queue: queue.clone() })
     }
 }
@@ -228,6 +263,40 @@ impl Held {
         self.ask_all(vec![ask]).await.pop().unwrap_or_else(|| Err(gone()))
     }
 
+    /// Sends copies to another queue and deletes their originals, and tells of each copy whether it is there. An
+    /// original that isn't deleted then is left to the caller.
+    pub async fn move_to(&self, target: &Arc<Queue>, copies: Vec<Copy>) -> Vec<Answer> {
+        let count = copies.len();
+        let shards = self.store.shards;
+        if shards.place_of(&self.queue.name) != shards.place_of(&target.name) {
+            return self.move_to_another_program(target, copies).await;
+        }
+        let job = vec![Operation::Move { target: target.clone(), copies }];
+        let mut answers = self.store.submit(&self.queue, job, true, None).await;
+        if answers.len() < count {
+            let error = answers.pop().and_then(Result::err).unwrap_or_else(gone);
+            return vec![Err(error); count];
+        }
+        answers.truncate(count);
+        answers
+    }
+
+    /// Copies that are on disk stay, so each original is deleted behind that.
+    async fn move_to_another_program(&self, target: &Arc<Queue>, copies: Vec<Copy>) -> Vec<Answer> {
+        let (sequences, asks): (Vec<_>, Vec<_>) = copies.into_iter().map(|copy| (copy.sequence, copy.ask)).unzip();
+        let answers = self.store.ask_all(target, asks).await;
+        let there = sequences.iter().zip(&answers).filter(|(_, answer)| answer.is_ok());
+        let receipts: Vec<_> = {
+            let state = self.queue.state();
+            there.filter_map(|(sequence, _)| state.last_receipt_of(*sequence)).collect()
+        };
+        let deletion = |receipt| Ask::Delete { receipt, by_client: false };
+        if !receipts.is_empty() {
+            self.ask_all(receipts.into_iter().map(deletion).collect()).await;
+        }
+        answers
+    }
+
     pub async fn change(&self, change: TableChange) -> Answer {
         let answers = self.store.submit(&self.queue, vec![change.into()], true, None);
         answers.await.pop().unwrap_or_else(|| Err(gone()))
@@ -245,5 +314,11 @@ impl Drop for Held {
     }
 }
 
-/// Jobs of held queues, in order.
-type HeldJobs = std::collections::HashMap<Mark, std::collections::VecDeque<Job>>;
+/// What waits until a queue is released, in order.
+#[derive(Default)]
+struct Hold {
+    is_for_move: bool,
+    waiting: std::collections::VecDeque<Job>,
+}
+
+type Holds = std::collections::HashMap<Mark, Hold>;

@@ -53,10 +53,12 @@ impl DelayedMessages {
         None
     }
 
-    /// The store has the message of this id.
-    pub(super) fn remove(&mut self, id: Uuid) {
+    /// The store has the message of this id. Tells whether it was one of these.
+    pub(super) fn remove(&mut self, id: Uuid) -> bool {
         self.tries.remove(&id);
-        self.envelope_bytes -= self.take(id).map_or(0, |message| message.envelope.len() as u64);
+        let message = self.take(id);
+        self.envelope_bytes -= message.as_ref().map_or(0, |message| message.envelope.len() as u64);
+        message.is_some()
     }
 
     fn take(&mut self, id: Uuid) -> Option<Arc<Delayed>> {
@@ -224,8 +226,8 @@ mod tests {
         assert_eq!(ids(&delayed.due(50, 9)), [2, 1, 3]);
         assert_eq!(ids(&delayed.due(u64::MAX, 2)), [2, 1]);
         let bytes = delayed.bytes();
-        delayed.remove(Uuid::from_u128(1));
-        delayed.remove(Uuid::from_u128(9));
+        let removed = [1, 9].map(|id| delayed.remove(Uuid::from_u128(id)));
+        assert_eq!(removed, [true, false]);
         assert!(delayed.has(Uuid::from_u128(3)) && !delayed.has(Uuid::from_u128(1)));
         assert_eq!((ids(&delayed.due(50, 9)), delayed.bytes()), (vec![2, 3], bytes / 4 * 3));
         delayed.clear();

@@ -196,7 +196,9 @@ impl State {
             (Ask::Send { group, dedup, envelope, cause }, StoreReply::Sent(place)) => {
                 let applied = self.sent(group, envelope, *cause, place, moment)?;
                 match (cause, &applied.outcome) {
-                    (Cause::Due(id), _) => self.delayed.remove(*id),
+                    (Cause::Due(id), _) => {
+                        self.delayed.remove(*id);
+                    }
                     (Cause::Client, Outcome::Sent { sequence, .. }) if self.kind == QueueKind::Standard => {
                         self.delayed.remember_call(dedup, *sequence, moment);
                     }
@@ -245,8 +247,12 @@ impl State {
                 head.sent.map_or(moment, |sent| sent.min(moment))
             }
         };
-        // No client can repeat the gateway's own sends.
-        let id = if cause == Cause::Client { own_id(envelope.whole()) } else { None };
+        let id = match cause {
+            // No client can repeat the gateway's own sends.
+            Cause::Move(_) | Cause::Due(_) => None,
+            // A replay knows by its id which message's delay was over.
+            Cause::Client => own_id(envelope.whole()).filter(|id| !self.delayed.remove(*id)),
+        };
         self.remember(moment, sequence, id);
         self.last_sequence = sequence;
         self.last_send = moment;

@@ -44,7 +44,7 @@ impl Task {
         // A client may have said what stands in it.
         tracing::warn!("cq refused a line ({code}): {start:?}");
         self.finish(Err(SqsError::of_refusal(code)), sender);
-        Ok(())
+        self.go_on_with(&asked, false)
     }
 
     fn answered(&mut self, client: u32, number: u64, reply: StoreReply, text: &str) -> Result<(), Ended> {
@@ -62,8 +62,9 @@ impl Task {
                 self.close(&asked);
                 self.ends = 0;
                 let answer = self.apply_and_record(&asked, reply, text)?;
+                let is_done = answer.is_ok();
                 self.finish(answer, sender);
-                Ok(())
+                self.go_on_with(&asked, is_done)
             }
             Entry::Moment => {
                 if sender.is_some() {
@@ -87,6 +88,11 @@ impl Task {
             }
             Entry::Change(_) | Entry::Ready(_) => Ok(()),
         }
+    }
+
+    /// Goes on with the move of which this was a copy, if it was one.
+    fn go_on_with(&mut self, asked: &OpenAsk, is_done: bool) -> Result<(), Ended> {
+        asked.original.map_or(Ok(()), |original| self.copy_answered(original, is_done))
     }
 
     /// Applies the reply to the tables, and appends its record where something changed.
@@ -184,7 +190,7 @@ impl Task {
         }
     }
 
-    fn finish_job(&mut self, sender: Option<AnswerSender>) {
+    pub(super) fn finish_job(&mut self, sender: Option<AnswerSender>) {
         if let Some(sender) = sender {
             self.batch.finished.push((sender, std::mem::take(&mut self.answers)));
         }

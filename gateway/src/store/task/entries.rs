@@ -4,6 +4,7 @@ use std::sync::Arc;
 
 use serde_json::value::RawValue;
 
+use super::moving::Original;
 use crate::clock::Moment;
 use crate::queues::ask::{Ask, TableChange};
 use crate::queues::Queue;
@@ -56,6 +57,8 @@ pub(super) struct OpenAsk {
     /// Bytes of memory that it was counted with.
     pub(super) weight: u64,
     pub(super) ends: u32,
+    /// Of a copy: what it is one of.
+    pub(super) original: Option<Original>,
 }
 
 /// What came of trying to start an operation.
@@ -66,6 +69,8 @@ pub(super) enum StartOutcome {
     LacksRoom(Arc<Queue>, Operation),
     /// Another operation, whose answer is still due, decides what is to be answered.
     WaitsForAnswer(Arc<Queue>, Operation),
+    /// Several answers are due.
+    Begun,
 }
 
 impl StartOutcome {

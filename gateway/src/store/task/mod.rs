@@ -3,6 +3,7 @@
 
 mod answering;
 mod entries;
+mod moving;
 mod outgoing;
 mod room;
 mod starting;
@@ -20,7 +21,7 @@ use uuid::Uuid;
 use super::admission::Admission;
 use super::figures::Counters;
 use super::replay::{replay, ReplayError};
-use super::{Answers, HeldJobs, Job, Operation, Store};
+use super::{Answers, Hold, Holds, Job, Operation, Store};
 use crate::clock::Clock;
 use crate::cq::{Cq, CqError};
 use crate::errors::SqsError;
@@ -31,6 +32,7 @@ use crate::queues::shards::{Shard, Shards};
 use crate::queues::{Queue, Queues};
 use crate::texts::STORE_LIMIT;
 use entries::{Entry, Open, Pending};
+use moving::{Moving, Original};
 use outgoing::Outgoing;
 
 /// Why the store doesn't go on.
@@ -79,7 +81,9 @@ struct Task {
     /// How many open requests the counters know of.
     open_counted: usize,
     pending: VecDeque<Pending>,
-    held: HeldJobs,
+    held: Holds,
+    /// Copies that are with the program, and whose originals go before anything else is asked.
+    moving: Option<Moving>,
     open: VecDeque<Open>,
     free: Vec<u32>,
     last_number: u64,
@@ -138,7 +142,8 @@ pub fn start(start: Start) -> (Store, oneshot::Receiver<Ended>) {
             counters: counters.clone(),
             open_counted: 0,
             pending: VecDeque::new(),
-            held: HeldJobs::new(),
+            held: Holds::new(),
+            moving: None,
             open: VecDeque::new(),
             free: (1..=CLIENTS).rev().collect(),
             // Numbers in use begin above all that any earlier run can have used.
@@ -248,13 +253,16 @@ impl Task {
             self.pending.push_back(Pending { queue: None, operation, sender: Some(job.sender) });
             return;
         };
-        if !job.ignores_hold {
-            if let Some(waiting) = self.held.get_mut(&queue.mark) {
-                waiting.push_back(job);
-                return;
-            }
+        let hold = match job.operations.first() {
+            Some(Operation::Move { target, .. }) => self.held.get_mut(&target.mark).filter(|hold| !hold.is_for_move),
+            Some(first) if first.is_copy() => self.held.get_mut(&queue.mark).filter(|hold| !hold.is_for_move),
+            _ if job.ignores_hold => None,
+            _ => self.held.get_mut(&queue.mark),
+        };
+        match hold {
+            Some(hold) => hold.waiting.push_back(job),
+            None => self.append(job),
         }
-        self.append(job);
     }
 
     fn append(&mut self, job: Job) {
@@ -263,8 +271,9 @@ impl Task {
         let count = job.operations.len();
         for (place, operation) in job.operations.into_iter().enumerate() {
             match operation {
-                Operation::Hold => {
-                    self.held.entry(queue.mark).or_default();
+                Operation::Hold | Operation::HoldForMove => {
+                    let is_for_move = matches!(operation, Operation::HoldForMove);
+                    self.held.insert(queue.mark, Hold { is_for_move, ..Hold::default() });
                 }
                 Operation::Release => {
                     self.release(&queue);
@@ -279,12 +288,12 @@ impl Task {
 
     /// Takes the jobs that waited for a held queue, up to one that holds it again.
     fn release(&mut self, queue: &Queue) {
-        let mut waiting = self.held.remove(&queue.mark).unwrap_or_default();
+        let mut waiting = self.held.remove(&queue.mark).unwrap_or_default().waiting;
         while let Some(job) = waiting.pop_front() {
-            let holds = job.operations.iter().any(|operation| matches!(operation, Operation::Hold));
+            let holds = job.operations.iter().any(Operation::holds);
             self.append(job);
-            if holds {
-                self.held.insert(queue.mark, waiting);
+            if let (true, Some(hold)) = (holds, self.held.get_mut(&queue.mark)) {
+                hold.waiting = waiting;
                 return;
             }
         }
@@ -308,16 +317,21 @@ impl Task {
         // One whose answer couldn't be read isn't among those that are open.
         self.open_due.clear();
         let mut given_up = None;
+        let mut copies_given_up = Vec::new();
         for open in std::mem::take(&mut self.open) {
             let entry = match self.ask_again(open.entry)? {
                 Again::Open(entry) => entry,
-                Again::GivenUp(queue) => {
+                Again::GivenUp(queue, original) => {
                     given_up = Some(queue);
+                    copies_given_up.extend(original);
                     let message = "The store ended twice at this request.";
                     Entry::Ready(Some(Err(SqsError::InternalFailure(message.into()))))
                 }
             };
             self.open.push_back(Open { entry, sender: open.sender });
+        }
+        for original in copies_given_up {
+            self.copy_answered(original, false)?;
         }
         if let Some(queue) = given_up {
             let entry = self.probe(queue)?;
@@ -334,7 +348,7 @@ impl Task {
                 if asked.ends >= MOST_ENDS {
                     self.forget_open(&asked.ask);
                     self.give_room_back(&asked);
-                    return Ok(Again::GivenUp(asked.queue));
+                    return Ok(Again::GivenUp(asked.queue, asked.original));
                 }
                 self.last_number += 1;
                 asked.number = self.last_number;
@@ -360,8 +374,8 @@ impl Task {
 /// What comes of an entry that was open when the program ended.
 enum Again {
     Open(Entry),
-    /// It was open at an end before, too. It was asked of this queue.
-    GivenUp(Arc<Queue>),
+    /// It was open at an end before, too. It was asked of this queue, and may be a copy.
+    GivenUp(Arc<Queue>, Option<Original>),
 }
 
 async fn grown(grown: Option<&mut watch::Receiver<()>>) {

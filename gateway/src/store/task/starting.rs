@@ -20,18 +20,24 @@ use crate::texts::QueueKind;
 impl Task {
     /// Starts the operations that wait, as long as there are free clients.
     pub(super) fn start_pending(&mut self) -> Result<(), Ended> {
-        while !self.lacks_room && !self.waits_for_answer && !self.free.is_empty() && self.out.bytes.len() < PIECE {
-            let Some(Pending { queue, operation, sender }) = self.pending.pop_front() else { break };
+        while self.may_start() {
+            let Some(Pending { queue, operation, mut sender }) = self.pending.pop_front() else { break };
             let started = match (queue, operation) {
                 (Some(queue), Some(Operation::Ask(ask))) => self.start_ask(queue, ask)?,
                 (Some(queue), Some(Operation::Change(change))) => self.start_change(queue, change),
                 (Some(queue), Some(Operation::Count)) => StartOutcome::Open(self.count(queue)?),
-                (Some(_), Some(Operation::Hold | Operation::Release)) => StartOutcome::ready(Ok(Outcome::Done)),
+                (Some(queue), Some(Operation::Move { target, copies })) => {
+                    self.start_move(queue, target, copies, &mut sender)?
+                }
+                (Some(_), Some(Operation::Hold | Operation::HoldForMove | Operation::Release)) => {
+                    StartOutcome::ready(Ok(Outcome::Done))
+                }
                 (_, Some(Operation::Moment)) => StartOutcome::Open(self.moment()?),
                 _ => StartOutcome::Open(Entry::Ready(None)),
             };
             match started {
                 StartOutcome::Open(entry) => self.open.push_back(Open { entry, sender }),
+                StartOutcome::Begun => {}
                 StartOutcome::LacksRoom(queue, operation) => {
                     self.put_back(queue, operation, sender);
                     self.lacks_room = true;
@@ -43,6 +49,11 @@ impl Task {
             }
         }
         Ok(())
+    }
+
+    fn may_start(&self) -> bool {
+        let is_kept = self.lacks_room || self.waits_for_answer || self.moving.is_some();
+        !is_kept && !self.free.is_empty() && self.out.bytes.len() < PIECE
     }
 
     fn put_back(&mut self, queue: Arc<Queue>, operation: Operation, sender: Option<AnswerSender>) {
@@ -113,7 +124,18 @@ impl Task {
         self.last_number += 1;
         self.open_visibility_changes += usize::from(matches!(ask, Ask::ChangeVisibility { .. }));
         self.open_due.extend(ask.due());
-        let asked = OpenAsk { queue, ask, raw, moment, client, number: self.last_number, room, weight, ends: 0 };
+        let asked = OpenAsk {
+            queue,
+            ask,
+            raw,
+            moment,
+            client,
+            number: self.last_number,
+            room,
+            weight,
+            ends: 0,
+            original: None,
+        };
         self.write(&asked)?;
         Ok(StartOutcome::Open(Entry::Ask(Box::new(asked))))
     }

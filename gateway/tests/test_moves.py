@@ -1,0 +1,273 @@
+"""Moves that are cut off between any two asks: each message is in one place, whatever ends."""
+
+from __future__ import annotations
+
+import json
+import sys
+import threading
+import time
+import zlib
+from collections.abc import Callable
+from pathlib import Path
+
+import pytest
+
+from started import ByJson, Refused, Started, program
+from steered import SteeredCq
+
+COUNT = 3
+ASKS = ['"kind":"send"', '"kind":"delete"']
+
+
+def arn(name: str) -> str:
+    return f"arn:aws:sqs:us-east-1:000000000000:{name}"
+
+
+class Cut:
+    """A gateway whose moves are cut off behind so many asks, by its own end or by that of its program."""
+
+    def __init__(self, room: Path, end: str, by: str) -> None:
+        self.cq, self.kind, self.by = SteeredCq(room), {"FifoQueue": "true"} if end else {}, by
+        self.queue, self.dead = f"q{end}", f"dead{end}"
+        self.gateway = Started("--journal", str(room / "journal"), "--no-pauses", *self.cq.words(), room=room)
+
+    def call(self, action: str, **members):
+        return ByJson(self.gateway.url)(action, **members)
+
+    def create(self) -> None:
+        self.call("CreateQueue", QueueName=self.dead, Attributes={**self.kind, "VisibilityTimeout": "0"})
+        policy = json.dumps({"deadLetterTargetArn": arn(self.dead), "maxReceiveCount": 1})
+        self.call("CreateQueue", QueueName=self.queue, Attributes={
+            **self.kind, "VisibilityTimeout": "0", "RedrivePolicy": policy})
+
+    def remove(self) -> None:
+        for name in (self.queue, self.dead):
+            self.call("DeleteQueue", QueueUrl=name)
+
+    def send(self, queue: str, **more) -> dict[str, str]:
+        ids = {}
+        for number in range(COUNT):
+            if self.kind:
+                more = {"MessageGroupId": "g", "MessageDeduplicationId": str(number)}
+            ids[str(number)] = self.call("SendMessage", QueueUrl=queue, MessageBody=str(number), **more)["MessageId"]
+        return ids
+
+    def receive(self, queue: str) -> list[dict]:
+        return self.call("ReceiveMessage", QueueUrl=queue, MaxNumberOfMessages=10).get("Messages", [])
+
+    def cut(self, act: Callable[[], None], passing: int, asks: int) -> None:
+        """Acts, and ends what is to be ended behind so many asks of the move."""
+        ends = self.cq.ends()
+        self.cq.tell(each=ASKS, kill=self.by == "cq", **{"pass": passing})
+        acting = threading.Thread(target=self.try_to, args=(act,))
+        acting.start()
+        latest = time.monotonic() + 20
+        while self.cq.ends() == ends and passing < asks:
+            assert time.monotonic() < latest, "it isn't cut off"
+            time.sleep(0.005)
+        if passing == asks:
+            acting.join()
+        if self.by == "gateway":
+            # What was answered by then is on disk.
+            time.sleep(0.1)
+            self.gateway.kill()
+        self.cq.tell()
+        acting.join()
+        if self.by == "gateway":
+            self.gateway.start()
+
+    def try_to(self, act: Callable[[], None]) -> None:
+        try:
+            act()
+        except (OSError, Refused):
+            assert self.by == "gateway"
+
+    def found(self, wanted: int) -> dict[str, list[str]]:
+        """The ids of all messages by their bodies, which end in the dead-letter queue."""
+        latest = time.monotonic() + 20
+        while True:
+            assert self.receive(self.queue) == []
+            messages = self.receive(self.dead)
+            if len(messages) >= wanted:
+                break
+            assert time.monotonic() < latest, messages
+        found: dict[str, list[str]] = {}
+        for message in messages:
+            found.setdefault(message["Body"], []).append(message["MessageId"])
+        return found
+
+
+@pytest.fixture(params=["", ".fifo"])
+def kind(request) -> str:
+    return request.param
+
+
+@pytest.mark.parametrize("by", ["gateway", "cq"])
+def test_dead_letters_that_are_cut_off_are_moved_once(tmp_path, kind, by):
+    cut = Cut(tmp_path, kind, by)
+    for passing in range(2 * COUNT + 1):
+        cut.create()
+        ids = cut.send(cut.queue)
+        assert len(cut.receive(cut.queue)) == COUNT
+        cut.cut(lambda: cut.receive(cut.queue), passing, 2 * COUNT)
+        assert cut.found(COUNT) == {body: [one] for body, one in ids.items()}, passing
+        cut.remove()
+    assert cut.gateway.stop() == 0
+
+
+@pytest.mark.parametrize("by", ["gateway", "cq"])
+def test_messages_of_a_task_that_is_cut_off_are_moved_once(tmp_path, kind, by):
+    cut = Cut(tmp_path, kind, by)
+    for passing in range(2 * COUNT + 1):
+        cut.create()
+        cut.send(cut.dead)
+        target = f"target{kind}"
+        cut.call("CreateQueue", QueueName=target, Attributes={**cut.kind, "VisibilityTimeout": "0"})
+
+        def move() -> None:
+            cut.call("StartMessageMoveTask", SourceArn=arn(cut.dead), DestinationArn=arn(target))
+
+        def is_running() -> bool:
+            (task,) = cut.call("ListMessageMoveTasks", SourceArn=arn(cut.dead))["Results"]
+            return task["Status"] == "RUNNING"
+
+        cut.cut(move, passing, 2 * COUNT)
+        latest = time.monotonic() + 20
+        while is_running():
+            assert time.monotonic() < latest
+            time.sleep(0.01)
+        assert [message["Body"] for message in cut.receive(target)] == [str(number) for number in range(COUNT)], passing
+        assert cut.receive(cut.dead) == []
+        cut.call("DeleteQueue", QueueUrl=target)
+        cut.remove()
+    assert cut.gateway.stop() == 0
+
+
+@pytest.mark.parametrize("by", ["gateway", "cq"])
+def test_due_messages_that_are_cut_off_come_once(tmp_path, by):
+    cut = Cut(tmp_path, "", by)
+    for passing in range(COUNT + 1):
+        cut.create()
+        ids = cut.send(cut.queue, DelaySeconds=5)
+        cut.cut(lambda: cut.gateway.set_clock(cut.gateway.moment + 5000), passing, COUNT)
+        latest = time.monotonic() + 20
+        found: dict[str, list[str]] = {}
+        while len(found) < COUNT:
+            assert time.monotonic() < latest
+            for message in cut.call("ReceiveMessage", QueueUrl=cut.queue, MaxNumberOfMessages=10, VisibilityTimeout=600).get(
+                    "Messages", []):
+                found.setdefault(message["Body"], []).append(message["MessageId"])
+        assert found == {body: [one] for body, one in ids.items()}, passing
+        cut.remove()
+    assert cut.gateway.stop() == 0
+
+
+def test_copies_that_end_the_program_each_time_lose_nothing(tmp_path, kind):
+    cut = Cut(tmp_path, kind, "cq")
+    cut.create()
+    ids = cut.send(cut.queue)
+    assert len(cut.receive(cut.queue)) == COUNT
+    # Only copies say from which queue they come.
+    cut.cq.tell(end='\\"source\\"')
+    with pytest.raises(Refused, match="InternalFailure"):
+        cut.receive(cut.queue)
+    assert cut.cq.ends() == 2
+    cut.cq.tell()
+    assert cut.found(COUNT) == {body: [one] for body, one in ids.items()}
+    assert cut.gateway.stop() == 0
+
+
+@pytest.mark.parametrize("shards", [1, 2])
+def test_two_queues_that_are_each_others_dead_letter_queue_wait_for_nobody(tmp_path, kind, shards):
+    """Of two programs each has one of the queues."""
+    gateway = Started("--journal", str(tmp_path / "journal"), "--shards", str(shards), room=tmp_path)
+    place = lambda name: zlib.crc32(name.encode()) % 2  # noqa: E731
+    one = f"one{kind}"
+    other = next(name for name in (f"two{number}{kind}" for number in range(99)) if place(name) != place(one))
+    call, names = ByJson(gateway.url), (one, other)
+    fifo = {"FifoQueue": "true"} if kind else {}
+    for name in names:
+        call("CreateQueue", QueueName=name, Attributes={**fifo, "VisibilityTimeout": "0"})
+    for name, other in zip(names, reversed(names)):
+        policy = json.dumps({"deadLetterTargetArn": arn(other), "maxReceiveCount": 1})
+        call("SetQueueAttributes", QueueUrl=name, Attributes={"RedrivePolicy": policy})
+        for number in range(20):
+            more = {"MessageGroupId": str(number), "MessageDeduplicationId": str(number)} if kind else {}
+            call("SendMessage", QueueUrl=name, MessageBody=f"{name}/{number}", **more)
+    failures: list[BaseException] = []
+
+    def receive(name: str) -> None:
+        try:
+            own, until = ByJson(gateway.url), time.monotonic() + 3
+            while time.monotonic() < until:
+                own("ReceiveMessage", QueueUrl=name, MaxNumberOfMessages=10)
+        except BaseException as error:
+            failures.append(error)
+
+    receiving = [threading.Thread(target=receive, args=(name,)) for name in names * 3]
+    for thread in receiving:
+        thread.start()
+    for thread in receiving:
+        thread.join(30)
+        assert not thread.is_alive()
+    assert failures == []
+    for name in names:
+        call("SetQueueAttributes", QueueUrl=name, Attributes={"RedrivePolicy": ""})
+    bodies: list[str] = []
+    for name in names:
+        while messages := call("ReceiveMessage", QueueUrl=name, MaxNumberOfMessages=10, VisibilityTimeout=600).get("Messages"):
+            bodies += [message["Body"] for message in messages]
+    assert sorted(bodies) == sorted(f"{name}/{number}" for name in names for number in range(20))
+    assert gateway.stop() == 0
+
+
+MISNUMBERING = """#!{python}
+import os, subprocess, sys, threading
+if sys.argv[1] != 'session': sys.exit(subprocess.run([{program!r}, *sys.argv[1:]]).returncode)
+cq = subprocess.Popen([{program!r}, 'session'], stdin=subprocess.PIPE, stdout=subprocess.PIPE)
+next_is_wrong = threading.Event()
+
+def pass_back():
+    for line in cq.stdout:
+        if next_is_wrong.is_set():
+            next_is_wrong.clear()
+            line = line.replace(b'"number":', b'"number":1')
+        sys.stdout.buffer.write(line); sys.stdout.buffer.flush()
+    os._exit(0)
+
+threading.Thread(target=pass_back, daemon=True).start()
+for line in sys.stdin.buffer:
+    if os.path.exists({told!r}):
+        with open({told!r}, 'rb') as file: text = file.read()
+        if text and text in line:
+            os.unlink({told!r})
+            next_is_wrong.set()
+    cq.stdin.write(line); cq.stdin.flush()
+"""
+
+
+@pytest.mark.parametrize("ask", ASKS)
+def test_an_answer_out_of_turn_neither_loses_nor_doubles_nor_stops(tmp_path, ask):
+    """One answer in a move has another request's number."""
+    cq, told = tmp_path / "cq", tmp_path / "told"
+    cq.write_text(MISNUMBERING.format(python=sys.executable, program=program(), told=str(told)))
+    cq.chmod(0o755)
+    gateway = Started("--journal", str(tmp_path / "journal"), "--no-pauses", "--cq", str(cq))
+    try:
+        call = ByJson(gateway.url)
+        policy = json.dumps({"deadLetterTargetArn": arn("dead"), "maxReceiveCount": 1})
+        call("CreateQueue", QueueName="dead")
+        call("CreateQueue", QueueName="q", Attributes={"VisibilityTimeout": "0", "RedrivePolicy": policy})
+        call("CreateQueue", QueueName="other")
+        ids = {str(number): call("SendMessage", QueueUrl="q", MessageBody=str(number))["MessageId"] for number in range(COUNT)}
+        assert len(call("ReceiveMessage", QueueUrl="q", MaxNumberOfMessages=10)["Messages"]) == COUNT
+        told.write_text(ask)
+        assert "Messages" not in call("ReceiveMessage", QueueUrl="q", MaxNumberOfMessages=10)
+        call("SendMessage", QueueUrl="other", MessageBody="served")
+        call("SetQueueAttributes", QueueUrl="q", Attributes={"RedrivePolicy": ""})
+        assert "Messages" not in call("ReceiveMessage", QueueUrl="q", MaxNumberOfMessages=10)
+        dead = call("ReceiveMessage", QueueUrl="dead", MaxNumberOfMessages=10)["Messages"]
+        assert {message["Body"]: message["MessageId"] for message in dead} == ids and len(dead) == COUNT
+        assert not told.exists()
+    finally:
+        assert gateway.stop() == 0
