@@ -1,3 +1,4 @@
 mod Halves
 mod Moves
+mod Refreshed
 mod Regions

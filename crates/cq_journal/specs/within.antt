@@ -1,3 +1,4 @@
 -- What only the private functions cite.
 pub mod Turns
 pub mod Bounds
+pub mod Refreshed

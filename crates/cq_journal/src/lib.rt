@@ -14,6 +14,7 @@ mod opening;
 mod places;
 mod reads;
 mod recovery;
+mod refresh;
 mod root;
 
 pub use fault::OpenFault;

@@ -1,11 +1,14 @@
 //! How a root is read.
-ghost use Rattle.std.specs.Prelude.{◌≡◌, ◌⊎◌, ◌+◌, ◌<◌, ◌≤◌, length, Some, None, IsTrue, IfOk, IfSome, MatchOption, IsErrOf};
-ghost use Rattle.cq_disk.specs.Device.{Only};
+ghost use Rattle.std.specs.Prelude.{◌≡◌, ◌⊎◌, ◌+◌, ◌<◌, ◌≤◌, length, Some, None, IsTrue, IfOk, OnOk, IfSome, MatchOption, IsErrOf};
+ghost use Rattle.cq_disk.specs.Device.{Only, LeavesOnly, HasCause};
+ghost use Rattle.cq_disk.specs.Region.{part};
 ghost use Rattle.cq_journal.specs.Roots.{number_in, half_of};
 ghost use Rattle.cq_journal.specs.Found.{items_of, IsChosen, IsFound};
+ghost use Rattle.cq_journal.specs.within.Refreshed.{IsRefreshed};
 
 use crate::number::read_number;
-use cq_disk::{Device, Region};
+use crate::refresh::refresh;
+use cq_disk::{Device, DeviceFault, Region, TornWrites};
 use cq_records::{ReadFault, read_record};
 use std::alloc::Global;
 
@@ -18,8 +21,10 @@ pub struct Found {
     pub bytes: Vec<u8>,
 }
 
-/// Reads the root that two halves have, of which the region is the first. `None`: neither has a record whose number
-/// is above 0. `Damaged`: both have the same number, or a record is damaged.
+/// Reads the root that two halves have, of which the region is the first, and puts its half on the medium: a system may take
+/// it for written though the medium hasn't got it. With two syncs a batch the half isn't written again, since a torn write could
+/// leave any bytes of it. `None`: neither has a record whose number is above 0. `Damaged`: both have the same number, or a
+/// record is damaged. It takes memory for a half.
 pub fn read_root<D: Device>(
     alloc: Global,
     region: &mut Region<D>,
@@ -30,9 +35,30 @@ pub fn read_root<D: Device>(
     ensures found { IfOk result (λ found. IsTrue (D.is_honest region.new.device) → IsFound region.old.len (D.seen region.old.device) found) }
     ensures start { IfOk result (λ found. IfSome found (λ it. (it.start ≡ 0) ⊎ (it.start ≡ region.old.len))) }
     ensures place { IfOk result (λ _. (region.new.start ≡ 0) × (region.new.len ≡ region.old.len)) }
+    ensures seen { IsTrue (D.is_honest region.new.device) → D.seen region.new.device ≡ D.seen region.old.device }
+    ensures length { length (D.seen region.new.device) ≡ length (D.seen region.old.device) }
+    ensures durable { IfOk result (λ _. Only (D.seen region.new.device) (D.may_leave region.new.device)) }
+    ensures honest { IsTrue (D.is_honest region.new.device) → IsTrue (D.is_honest region.old.device) }
+    ensures failed { IsErrOf result ReadFault.Failed → D.faults region.old.device < D.faults region.new.device }
+{
+    let found = find_root(alloc, region)?;
+    let half = region.len;
+    refresh_found(alloc, &mut region.device, half, &found)?;
+    Ok(found)
+}
+
+/// The root that two halves have, of which the region is the first.
+fn find_root<D: Device>(alloc: Global, region: &mut Region<D>) -> Result<Option<Found>, ReadFault>
+    requires start { region.old.start ≡ 0 }
+    requires room { region.old.len + region.old.len ≤ length (D.seen region.old.device) }
+
+    ensures found { IfOk result (λ found. IsTrue (D.is_honest region.new.device) → IsFound region.old.len (D.seen region.old.device) found) }
+    ensures start { IfOk result (λ found. IfSome found (λ it. (it.start ≡ 0) ⊎ (it.start ≡ region.old.len))) }
+    ensures place { IfOk result (λ _. (region.new.start ≡ 0) × (region.new.len ≡ region.old.len)) }
     ensures seen { D.seen region.new.device ≡ D.seen region.old.device }
     ensures durable { IfOk result (λ _. Only (D.seen region.new.device) (D.may_leave region.new.device)) }
     ensures honest { IsTrue (D.is_honest region.new.device) → IsTrue (D.is_honest region.old.device) }
+    ensures later { D.faults region.old.device ≤ D.faults region.new.device }
     ensures failed { IsErrOf result ReadFault.Failed → D.faults region.old.device < D.faults region.new.device }
 {
     let _len = region.device.len();
@@ -42,6 +68,34 @@ pub fn read_root<D: Device>(
     let second = read_half(alloc, region)?;
     region.start = 0;
     choose(region.len, first, second)
+}
+
+/// Writes the half that was found over itself, where a torn write leaves old or written bytes, and syncs the device.
+fn refresh_found<D: Device>(
+    alloc: Global,
+    device: &mut D,
+    half: usize,
+    found: &Option<Found>,
+) -> Result<(), DeviceFault>
+    requires start { IfSome found.now (λ it. (it.start ≡ 0) ⊎ (it.start ≡ half)) }
+    requires room { half + half ≤ length (D.seen device.old) }
+
+    ensures seen { IsTrue (D.is_honest device.new) → D.seen device.new ≡ D.seen device.old }
+    ensures length { length (D.seen device.new) ≡ length (D.seen device.old) }
+    ensures durable { OnOk result (Only (D.seen device.new) (D.may_leave device.new)) }
+    // A crash at any moment leaves what it might have left before, or that with bytes of the half as they are read.
+    ensures any_moment { IsTrue (D.is_honest device.new) → LeavesOnly D.moment D.left_since device.old device.new
+        (λ c. MatchOption found.now (D.may_leave device.old c) (λ it. IsRefreshed (D.may_leave device.old) it.start (part it.start half (D.seen device.old)) c)) }
+    ensures honest { IsTrue (D.is_honest device.new) → IsTrue (D.is_honest device.old) }
+    ensures cause { HasCause (D.faults device.old) (D.faults device.new) result }
+{
+    let Some(it) = found else {
+        return device.sync();
+    };
+    match device.torn_writes() {
+        TornWrites::OldOrNew => refresh(alloc, device, it.start, half),
+        TornWrites::Any => device.sync(),
+    }
 }
 
 /// The record of a half.

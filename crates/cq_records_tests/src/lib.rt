@@ -11,11 +11,13 @@ mod writing;
 pub use changes::{Changed, change, count_changes};
 pub use filling::{Filled, count_records, fill, text_of};
 pub use lives::{Life, live};
-pub use simulated::Simulated;
+pub use simulated::{Left, Simulated};
 pub use writing::{Written, count_journal, write};
 
 #[cfg(test)]
 mod crashes;
+#[cfg(test)]
+mod failures;
 #[cfg(test)]
 mod files;
 #[cfg(test)]

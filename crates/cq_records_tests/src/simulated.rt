@@ -1,4 +1,5 @@
-//! A file in memory, whose writes reach its medium at a sync, and of which a crash leaves what a seed says.
+//! A file in memory, whose writes reach its medium at a sync, and of which a crash leaves what a seed says. What was not
+//! written since it was opened reaches it by no sync, as pages that the system takes for written.
 ghost use Rattle.std.specs.Prelude.{◌≡◌, [], IfOk};
 
 use cq_disk::{Call, Calls, Record, TornWrites};
@@ -24,6 +25,14 @@ struct Disk {
 }
 
 /// A file that may lose its power, with the record of the calls on it.
+/// What is left of a file whose program has ended.
+#[derive(Drop)]
+pub struct Left {
+    /// What reads give, as long as the power isn't lost.
+    pub seen: Vec<u8>,
+    pub medium: Vec<u8>,
+}
+
 #[derive(Drop)]
 pub struct Simulated {
     disk: Disk,
@@ -86,21 +95,21 @@ impl Disk {
 
     fn sync(&mut self) -> bool {
         let (_, ends) = self.spend();
-        let Ok(medium) = self.seen.to_vec(self.alloc) else {
-            return false;
-        };
         if !ends {
             return false;
         }
-        self.medium = medium;
+        for write in &self.pending {
+            overlay(&mut self.medium, write.at, &write.bytes);
+        }
         self.pending.clear();
         true
     }
 }
 
 impl Disk {
-    fn into_medium(self, random: &mut Xoshiro256PlusPlus, torn: TornWrites) -> Vec<u8> {
+    fn into_left(self, random: &mut Xoshiro256PlusPlus, torn: TornWrites) -> Left {
         let Disk {
+            seen,
             medium,
             pending,
             ..
@@ -109,7 +118,7 @@ impl Disk {
         for write in &pending {
             scatter(&mut medium, write, random, torn);
         }
-        medium
+        Left { seen, medium }
     }
 }
 
@@ -120,10 +129,22 @@ impl Simulated {
     pub fn new(alloc: Global, bytes: &[u8], calls_left: u64) -> Result<Simulated, AllocError>
         ensures { IfOk result (λ file. calls_on file ≡ []) }
     {
+        Simulated::over(alloc, bytes, bytes, calls_left)
+    }
+
+    /// A file of which reads give these bytes, and whose medium has others.
+    pub fn over(
+        alloc: Global,
+        seen: &[u8],
+        medium: &[u8],
+        calls_left: u64,
+    ) -> Result<Simulated, AllocError>
+        ensures { IfOk result (λ file. calls_on file ≡ []) }
+    {
         let disk = Disk {
             alloc,
-            seen: bytes.to_vec(alloc)?,
-            medium: bytes.to_vec(alloc)?,
+            seen: seen.to_vec(alloc)?,
+            medium: medium.to_vec(alloc)?,
             pending: Vec::new(alloc),
             calls_left,
         };
@@ -135,7 +156,12 @@ impl Simulated {
 
     /// What its medium has after a crash.
     pub fn into_medium(self, random: &mut Xoshiro256PlusPlus, torn: TornWrites) -> Vec<u8> {
-        self.disk.into_medium(random, torn)
+        self.disk.into_left(random, torn).medium
+    }
+
+    /// What its system and its medium have after its program has ended. What wasn't synced is taken for written.
+    pub fn into_left(self, random: &mut Xoshiro256PlusPlus, torn: TornWrites) -> Left {
+        self.disk.into_left(random, torn)
     }
 }
 

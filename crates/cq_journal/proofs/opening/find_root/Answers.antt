@@ -1,7 +1,7 @@
 use Rattle.std.proofs.Common.{◌∙◌, sym}
 use Rattle.std.specs.Prelude.{Result, Ok, Err, OnOk}
 use Rattle.cq_disk.specs.Device.{Only}
-use Rattle.cq_journal.proofs.opening.read_root.Goals as goal
+use Rattle.cq_journal.proofs.opening.find_root.Goals as goal
 
 always : {T E P : Type 0} (r : Result T E) → P → OnOk r P
 always (Ok x) p = p
