@@ -1,4 +1,6 @@
+mod Bases
 mod Halves
 mod Moves
+mod OtherRegions
 mod Refreshed
 mod Regions

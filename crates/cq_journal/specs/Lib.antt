@@ -5,4 +5,5 @@ pub mod Roots
 pub mod within
 pub mod Regions
 pub mod Journal
+pub mod Base
 pub mod Faults

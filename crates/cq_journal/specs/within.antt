@@ -2,3 +2,5 @@
 pub mod Turns
 pub mod Bounds
 pub mod Refreshed
+pub mod Outside
+pub mod FreeBeside

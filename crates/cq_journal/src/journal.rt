@@ -4,6 +4,7 @@ ghost use Rattle.cq_disk.specs.Device.{LeavesOnly};
 ghost use Rattle.cq_records.specs.Batch.{batch_bytes};
 ghost use Rattle.cq_records.specs.Frames.{records};
 ghost use Rattle.cq_journal.specs.Regions.{kept, HasPrefixOf, HasRecords};
+ghost use Rattle.cq_journal.specs.declared.base.Base.{Base};
 
 use crate::number::push_number;
 use crate::places::{are_apart, is_apart, with_next};
@@ -31,6 +32,7 @@ pub struct Journal<D: Device> {
 }
 
 impl<D: Device> Journal<D> {
+    ghost use Rattle.cq_journal.specs.Base.{IsBase, base_records};
     ghost use Rattle.cq_journal.specs.Journal.{HasRegions, IsJournal, journal_device, IsFree, journal_half, journal_records, region_len};
 
     /// Makes a journal on a device: a root of two halves of this length, and behind it one region of this length. Whatever
@@ -79,6 +81,9 @@ impl<D: Device> Journal<D> {
         ensures honest { D.is_honest (journal_device self.new) ≡ D.is_honest (journal_device self.old) }
         ensures full { IsErrOf result LogFault.Full → IsJournal self.new × (journal_records self.new ≡ journal_records self.old) }
         ensures failed { IsErrOf result LogFault.Failed → D.faults (journal_device self.old) < D.faults (journal_device self.new) }
+
+        // A base under way stays as it is.
+        ensures bases { (base : Base) → IsBase self.old base → IsBase self.new base × (base_records self.new base ≡ base_records self.old base) }
     {
         let done = self.root.commit_at(self.growing, self.len, self.end, batch);
         self.end = self.root.log.end;

@@ -3,6 +3,7 @@
 //! `specs/` holds the rules.
 #![tactic(auto)]
 
+mod base;
 mod blanks;
 mod commits;
 mod fault;
@@ -11,12 +12,15 @@ mod laws;
 mod making;
 mod number;
 mod opening;
+mod outside;
 mod places;
 mod reads;
 mod recovery;
 mod refresh;
+mod rewriting;
 mod root;
 
+pub use base::Base;
 pub use fault::OpenFault;
 pub use journal::{Journal, REGION_LIMIT};
 pub use laws::a_journal_keeps_its_records;

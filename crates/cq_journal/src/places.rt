@@ -50,6 +50,19 @@ pub(crate) fn text_of(alloc: Global, closed: &[u64], growing: u64) -> Result<Vec
     Ok(text)
 }
 
+/// The places with one more behind them: O(places).
+pub(crate) fn with_growing(
+    alloc: Global,
+    closed: &[u64],
+    growing: u64,
+) -> Result<Vec<u64>, AllocError>
+    ensures { IfOk result (λ places. places.items ≡ closed.now ++ growing ∷ []) }
+{
+    let mut places = closed.to_vec(alloc)?;
+    places.push(growing)?;
+    Ok(places)
+}
+
 /// The places with one more behind them, and the text that names these and the next one: O(places).
 pub(crate) fn with_next(
     alloc: Global,
@@ -63,8 +76,7 @@ pub(crate) fn with_next(
     ensures closed { IfOk result (λ made. made.0.items ≡ closed.now ++ growing ∷ []) }
     ensures text { IfOk result (λ made. made.1.items ≡ places_text ((closed.now ++ growing ∷ []) ++ next ∷ [])) }
 {
-    let mut places = closed.to_vec(alloc)?;
-    places.push(growing)?;
+    let places = with_growing(alloc, closed, growing)?;
     let text = text_of(alloc, &places, next)?;
     Ok((places, text))
 }

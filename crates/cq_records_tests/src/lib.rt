@@ -5,12 +5,14 @@
 mod changes;
 mod filling;
 mod lives;
+mod rewriting;
 mod simulated;
 mod writing;
 
 pub use changes::{Changed, change, count_changes};
 pub use filling::{Filled, count_records, fill, text_of};
 pub use lives::{Life, live};
+pub use rewriting::{LEFT, Rewritten, write_and_rewrite};
 pub use simulated::{Left, Simulated};
 pub use writing::{Written, count_journal, write};
 
@@ -24,5 +26,7 @@ mod files;
 mod journals;
 #[cfg(test)]
 mod recoveries;
+#[cfg(test)]
+mod rewrites;
 #[cfg(test)]
 mod roots;

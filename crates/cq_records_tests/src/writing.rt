@@ -24,7 +24,7 @@ pub struct Written<D: Device> {
 }
 
 /// Goes on in a free region. An error: there is none, or a call failed.
-fn go_on<D: Device>(alloc: Global, journal: &mut Journal<D>) -> Result<(), ()>
+pub(crate) fn go_on<D: Device>(alloc: Global, journal: &mut Journal<D>) -> Result<(), ()>
     requires { IsJournal journal.old }
     ensures { OnOk result (IsJournal journal.new) }
 {

@@ -1,5 +1,5 @@
 -- A commit in the region that grows.
-use Rattle.std.proofs.Common.{◌≡◌, ℕ, ◌+◌, ◌≤◌, List, [], ◌∷◌, ◌++◌, length, sym, ◌∙◌, ap, subst, append_assoc}
+use Rattle.std.proofs.Common.{◌≡◌, ℕ, ◌+◌, ◌≤◌, List, [], ◌∷◌, ◌++◌, length, refl, sym, ◌∙◌, ap, subst, append_assoc}
 use Rattle.std.specs.Prelude.{Some, map, Result, Ok, Err, OnOk}
 use Rattle.cq_disk.specs.Region.{part}
 use Rattle.cq_disk.proofs.Moments.{weakened}
@@ -8,6 +8,7 @@ use Rattle.cq_records.specs.Frames.{text_of, frames, records}
 use Rattle.cq_records.specs.Layout.{IsLog}
 use Rattle.cq_journal.specs.Regions.{Each, places_text, records_at}
 use Rattle.cq_journal.specs.Roots.{root_of, numbered}
+use Rattle.cq_journal.proofs.Bases.{apart_last, base_still, base_records_still}
 use Rattle.cq_journal.proofs.Regions.{grows, kept_of, records_apart, records_more, root_apart, text_append, last_of, each_so}
 use Rattle.cq_journal.proofs.journal.Journal.commit.Goals as goal
 
@@ -110,4 +111,13 @@ returns-clause-full g c err =
         log = subst (λ (m : ℕ). IsLog (part j.growing j.len (g.D.Device.seen new.log.device.device)) m) (sym full.2) (subst (λ (bytes : List ℕ). IsLog (part j.growing j.len bytes) j.end) (sym seen_is) q.log);
       },
       ap (λ (bytes : List ℕ). records_at j.len places bytes) seen_is,
+    )
+
+pub returns-clause-bases : goal.returns-clause-bases
+returns-clause-bases g c base is =
+    let j = c.args.self.now in
+    let done = c.commit_at-done.ensures in
+    let apart = apart_last j base is in (
+      base_still j.growing j (record { root = c.commit_at-done.new.self; len = j.len; closed = j.closed; growing = j.growing; end = c.commit_at-done.new.self.log.end }) refl refl done.half done.length done.beside base is apart,
+      base_records_still j.growing j (record { root = c.commit_at-done.new.self; len = j.len; closed = j.closed; growing = j.growing; end = c.commit_at-done.new.self.log.end }) refl refl done.half done.length done.beside base is apart,
     )

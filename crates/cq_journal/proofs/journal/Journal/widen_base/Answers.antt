@@ -1,0 +1,69 @@
+-- A base goes on in a blank region.
+use Rattle.std.proofs.Common.{◌≡◌, ℕ, ◌+◌, ◌<◌, ◌≤◌, List, [], ◌∷◌, ◌++◌, length, refl, sym, ◌∙◌, ap, subst, arith, length-append}
+use Rattle.cq_disk.proofs.Moments.{started}
+use Rattle.cq_journal.specs.Base.{base_places}
+use Rattle.cq_journal.specs.declared.number.TheConstants.{NUMBER_LIMIT}
+use Rattle.cq_journal.specs.Regions.{Each, AreApart, HasRecords, records_at}
+use Rattle.cq_journal.specs.Journal.{journal_places}
+use Rattle.cq_journal.proofs.Bases.{free_outside, base_made, records_widened}
+use Rattle.cq_journal.proofs.Moves.{blank_log}
+use Rattle.cq_journal.proofs.Regions.{each_more, kept_of}
+use Rattle.cq_journal.proofs.journal.Journal.widen_base.Goals as goal
+
+pub blank_outside-requires-clause-outside : goal.blank_outside-requires-clause-outside
+blank_outside-requires-clause-outside g c = free_outside c.args.self.now c.in-Some.place c.in-Some.ensures.free
+
+pub returns-in_default-clause-any_moment : goal.returns-in_default-clause-any_moment
+returns-in_default-clause-any_moment g c = λ honest.
+    let j = c.args.self.now in
+    let q = c.requires.journal in
+    let d = g.D.Device in
+    let device = j.root.log.device.device in
+    let places : List ℕ = j.closed.items ++ j.growing ∷ [] in
+    let P : List ℕ → Type 0 = HasRecords j.root.log.device.len j.len (records_at j.len places (d.seen device)) in
+    started d.moment d.left_since device P (λ f left.
+    subst P (sym (q.regions.root.durable f (g.met.D.Device.only_now device f left))) (kept_of j.root.log.device.len j.len j.root.number places (d.seen device) q.regions.small (q.regions.names honest)))
+
+pub returns-in_err-closed-clause-any_moment : goal.returns-in_err-closed-clause-any_moment
+returns-in_err-closed-clause-any_moment g c = λ honest.
+    let j = c.args.self.now in
+    let q = c.requires.journal in
+    let d = g.D.Device in
+    let device = j.root.log.device.device in
+    let places : List ℕ = j.closed.items ++ j.growing ∷ [] in
+    let P : List ℕ → Type 0 = HasRecords j.root.log.device.len j.len (records_at j.len places (d.seen device)) in
+    started d.moment d.left_since device P (λ f left.
+    subst P (sym (q.regions.root.durable f (g.met.D.Device.only_now device f left))) (kept_of j.root.log.device.len j.len j.root.number places (d.seen device) q.regions.small (q.regions.names honest)))
+
+pub returns-clause-base : goal.returns-clause-base
+returns-clause-base g c =
+    let j = c.args.self.now in
+    let b = c.args.base.now in
+    let q = c.requires.base in
+    let p = c.in-Some.place in
+    let found = c.in-Some.ensures in
+    let free = found.free in
+    let done = c.in_ok-blank_outside.ensures in
+    let ns : List ℕ = base_places b in
+    let h = j.root.log.device.len in
+    let closed_is : c.in_ok-closed.closed.items ≡ ns = c.in_ok-closed.ensures ∙ ap (λ (xs : List ℕ). xs ++ b.growing ∷ []) c.deref.ensures.value in
+    base_made p j c.blank_outside.new.self done.changes (record { closed = c.in_ok-closed.closed; growing = p; end = 0 }) ns closed_is refl
+    (each_more (λ n. h + h ≤ n) ns p q.behind free.behind)
+    (each_more (λ n. n + j.len ≤ length (g.D.Device.seen j.root.log.device.device)) ns p q.within free.within)
+    (each_more (λ n. n < NUMBER_LIMIT) ns p q.small free.small)
+    (each_more (λ n. Each (λ m. AreApart j.len m n) (journal_places j)) ns p q.apart free.apart)
+    (each_more (λ n. AreApart j.len n p) b.closed.items b.growing found.apart found.apart_growing)
+    (omega (arith, length-append ns (p ∷ []), length-append b.closed.items (b.growing ∷ []), found.few))
+    (blank_log j.len _ done.zeros)
+
+pub returns-clause-same : goal.returns-clause-same
+returns-clause-same g c =
+    let j = c.args.self.now in
+    let b = c.args.base.now in
+    let p = c.in-Some.place in
+    let found = c.in-Some.ensures in
+    let done = c.in_ok-blank_outside.ensures in
+    let ns : List ℕ = base_places b in
+    let closed_is : c.in_ok-closed.closed.items ≡ ns = c.in_ok-closed.ensures ∙ ap (λ (xs : List ℕ). xs ++ b.growing ∷ []) c.deref.ensures.value in
+    records_widened p j c.blank_outside.new.self done.changes (record { closed = c.in_ok-closed.closed; growing = p; end = 0 }) ns closed_is refl
+    c.requires.base.behind found.free.behind (each_more (λ n. AreApart j.len n p) b.closed.items b.growing found.apart found.apart_growing) done.zeros
