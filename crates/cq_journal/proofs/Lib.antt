@@ -1,4 +1,5 @@
 mod Bases
+mod Copies
 mod Halves
 mod Moves
 mod OtherRegions

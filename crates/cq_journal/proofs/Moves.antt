@@ -1,31 +1,20 @@
 -- The records of the region that grows are written into a free one, and the root names that in its place.
-use Rattle.std.proofs.Common.{◌≡◌, ⊎_elim, ℕ, zero, suc, ◌+◌, ◌<◌, ◌≤◌, List, [], ◌∷◌, ◌++◌, length, take, drop, sym, ◌∙◌, ap}
-use Rattle.std.specs.Prelude.{map, replicate, Some}
+use Rattle.std.proofs.Common.{◌≡◌, ⊎_elim, ℕ, ◌+◌, ◌<◌, ◌≤◌, List, [], ◌∷◌, ◌++◌, length, drop, sym, ◌∙◌, ap}
+use Rattle.std.specs.Prelude.{replicate, Some}
 use Rattle.cq_disk.specs.Region.{part, Beside}
-use Rattle.cq_records.specs.Frames.{text_of, frames, records, joined, all_sound}
+use Rattle.cq_records.specs.Frames.{frames, records, joined, all_sound}
 use Rattle.cq_records.specs.Layout.{IsLog}
-use Rattle.cq_records.specs.Outcomes.{HasPrefixInPart}
 use Rattle.cq_records.proofs.Frames.{of_zeros}
 use Rattle.cq_journal.specs.declared.number.TheConstants.{NUMBER_LIMIT}
 use Rattle.cq_journal.specs.Roots.{root_of, numbered, IsOldOrNew}
 use Rattle.cq_journal.specs.Regions.{places_text, records_at, Each, AreApart, HasRecords}
-use Rattle.cq_journal.proofs.Regions.{append-none, each_left, each_more, grows, kept_blanked, kept_of, last_of, part_same, records_apart, records_more, records_same, root_apart}
-
-take_none : (n : ℕ) (rs : List (List ℕ)) → rs ++ take n (map text_of []) ≡ rs
-take_none zero rs = append-none rs
-take_none (suc n) rs = append-none rs
+use Rattle.cq_journal.proofs.Regions.{each_left, each_more, kept_blanked, kept_of, part_same, records_apart, records_more, records_same, root_apart}
 
 -- The region at g grows and is read, and the one at p is free.
 module _ (h len number g p : ℕ) (ns old : List ℕ) (small : Each (λ n. n < NUMBER_LIMIT) (ns ++ g ∷ [])) (low : Each (λ n. h + h ≤ n) (ns ++ g ∷ [])) (apart : Each (λ n. AreApart len n g) ns)
     (root : root_of h old ≡ Some (numbered number (places_text (ns ++ g ∷ [])))) where
   abbrev pub rs : List (List ℕ)
   rs = records_at len (ns ++ g ∷ []) old
-
-  -- while it is read
-  pub while_read : (c : List ℕ) → HasPrefixInPart g len (frames (part g len old)) [] old c → HasRecords h len rs c
-  while_read c both =
-      let prefix = grows h len number g ns old c [] small apart (last_of (λ n. h + h ≤ n) ns g low) root both.1 both.0 in
-      prefix.1 ∙ ap (λ (xs : List (List ℕ)). Some xs) (take_none prefix.0 rs)
 
   module _ (low_p : h + h ≤ p) (small_p : p < NUMBER_LIMIT) (free : Each (λ n. AreApart len n p) (ns ++ g ∷ [])) where
     -- while the free region is written

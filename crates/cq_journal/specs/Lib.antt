@@ -6,4 +6,5 @@ pub mod within
 pub mod Regions
 pub mod Journal
 pub mod Base
+pub mod Rests
 pub mod Faults

@@ -4,3 +4,4 @@ pub mod Bounds
 pub mod Refreshed
 pub mod Outside
 pub mod FreeBeside
+pub mod Reads

@@ -8,7 +8,7 @@ use cq_records::{LogFault, ReadFault};
 use std::alloc::{AllocError, AllocFailed};
 use thiserror::Error;
 
-/// Why a journal wasn't opened, or not made ready for records.
+/// Why a journal wasn't opened, not made ready for records, or not copied.
 #[derive(Clone, Copy, Debug, PartialEq, Eq, Error)]
 pub enum OpenFault {
     /// There is no root: the device is no journal, or it is blank.

@@ -6,6 +6,7 @@
 mod base;
 mod blanks;
 mod commits;
+mod copying;
 mod fault;
 mod journal;
 mod laws;

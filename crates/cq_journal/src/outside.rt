@@ -53,6 +53,7 @@ impl<D: Device> Journal<D> {
             (HasRecords (journal_half self.old) (region_len self.old) (journal_records self.old)) }
         ensures full { IsErrOf result LogFault.Full → IsJournal self.new × (journal_device self.new ≡ journal_device self.old) × (log_end self.new.root ≡ end) × (region_len self.old < end + length (batch_bytes batch.now)) }
         ensures failed { IsErrOf result LogFault.Failed → D.faults (journal_device self.old) < D.faults (journal_device self.new) }
+        ensures later { D.faults (journal_device self.old) ≤ D.faults (journal_device self.new) }
     {
         self.root.commit_at(place, self.len, end, batch)
     }

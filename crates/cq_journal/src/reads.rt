@@ -1,10 +1,9 @@
 //! How the records of a region behind a root are read.
-ghost use Rattle.std.specs.Prelude.{◌≡◌, ◌++◌, ◌+◌, ◌<◌, ◌≤◌, [], false, length, IsTrue, OnOk, IsErrOf};
+ghost use Rattle.std.specs.Prelude.{◌≡◌, ◌++◌, ◌+◌, ◌<◌, ◌≤◌, false, length, IsTrue, OnOk, IsErrOf};
 ghost use Rattle.cq_disk.specs.Device.{LeavesOnly};
 ghost use Rattle.cq_disk.specs.Region.{part};
 ghost use Rattle.cq_records.specs.Batch.{batch_bytes};
 ghost use Rattle.cq_records.specs.Frames.{frames, records, all_sound};
-ghost use Rattle.cq_records.specs.Outcomes.{HasPrefixInPart};
 ghost use Rattle.cq_journal.specs.Root.{root_half, root_device, root_number, IsRoot};
 
 use crate::Root;
@@ -14,7 +13,7 @@ use std::alloc::Global;
 
 impl<D: Device> Root<D> {
     /// Adds the records of the region of this length at this place to a batch. The root is the same, and so is all that
-    /// is seen; a crash at any moment leaves these records, and what is beside them.
+    /// is seen; a crash at any moment leaves just this.
     pub(crate) fn read_at(
         &mut self,
         alloc: Global,
@@ -33,7 +32,7 @@ impl<D: Device> Root<D> {
         ensures damaged { IsErrOf result ReadFault.Damaged → IsTrue (D.is_honest (root_device self.new)) → all_sound (frames (part place len (D.seen (root_device self.old)))) ≡ false }
         ensures seen { D.seen (root_device self.new) ≡ D.seen (root_device self.old) }
         ensures any_moment { LeavesOnly D.moment D.left_since (root_device self.old) (root_device self.new)
-            (HasPrefixInPart place len (frames (part place len (D.seen (root_device self.old)))) [] (D.seen (root_device self.old))) }
+            (λ c. c ≡ D.seen (root_device self.old)) }
         ensures keeps { D.keeps (root_device self.old) (root_device self.new) }
         ensures honest { IsTrue (D.is_honest (root_device self.new)) → IsTrue (D.is_honest (root_device self.old)) }
         ensures failed { IsErrOf result ReadFault.Failed → D.faults (root_device self.old) < D.faults (root_device self.new) }

@@ -33,6 +33,7 @@ impl<D: Device> Journal<D> {
         ensures honest { IsTrue (D.is_honest (journal_device self.new)) → IsTrue (D.is_honest (journal_device self.old)) }
         ensures full { IsErrOf result LogFault.Full → self.new ≡ self.old }
         ensures failed { IsErrOf result LogFault.Failed → D.faults (journal_device self.old) < D.faults (journal_device self.new) }
+        ensures later { D.faults (journal_device self.old) ≤ D.faults (journal_device self.new) }
     {
         let Some(place) = self.free_region() else {
             return Err(LogFault::Full);
@@ -62,6 +63,7 @@ impl<D: Device> Journal<D> {
         ensures honest { IsTrue (D.is_honest (journal_device self.new)) → IsTrue (D.is_honest (journal_device self.old)) }
         ensures full { IsErrOf result LogFault.Full → IsJournal self.new × IsBase self.new base.new × (base_records self.new base.new ≡ base_records self.old base.old) }
         ensures failed { IsErrOf result LogFault.Failed → D.faults (journal_device self.old) < D.faults (journal_device self.new) }
+        ensures later { D.faults (journal_device self.old) ≤ D.faults (journal_device self.new) }
     {
         let done = self.commit_outside(base.growing, base.end, batch);
         base.end = self.root.log.end;
@@ -117,6 +119,7 @@ impl<D: Device> Journal<D> {
         ensures honest { IsTrue (D.is_honest (journal_device self.new)) → IsTrue (D.is_honest (journal_device self.old)) }
         ensures full { IsErrOf result LogFault.Full → (self.new ≡ self.old) × (base.new ≡ base.old) }
         ensures failed { IsErrOf result LogFault.Failed → D.faults (journal_device self.old) < D.faults (journal_device self.new) }
+        ensures later { D.faults (journal_device self.old) ≤ D.faults (journal_device self.new) }
     {
         let Some(place) = self.free_beside(base) else {
             return Err(LogFault::Full);
@@ -146,6 +149,7 @@ impl<D: Device> Journal<D> {
         ensures honest { IsTrue (D.is_honest (journal_device self.new)) → IsTrue (D.is_honest (journal_device self.old)) }
         ensures full { IsErrOf result LogFault.Full → self.new ≡ self.old }
         ensures failed { IsErrOf result LogFault.Failed → D.faults (journal_device self.old) < D.faults (journal_device self.new) }
+        ensures later { D.faults (journal_device self.old) ≤ D.faults (journal_device self.new) }
     {
         let Base {
             closed,

@@ -99,6 +99,7 @@ impl<D: Device> Root<D> {
         ensures honest { IsTrue (D.is_honest (root_device self.new)) → IsTrue (D.is_honest (root_device self.old)) }
         ensures full { IsErrOf result LogFault.Full → (self.new ≡ self.old) × (HasRoom self.old (length text.now) → ⊥) }
         ensures failed { IsErrOf result LogFault.Failed → D.faults (root_device self.old) < D.faults (root_device self.new) }
+        ensures later { D.faults (root_device self.old) ≤ D.faults (root_device self.new) }
     {
         if !self.has_room(text) {
             return Err(LogFault::Full);

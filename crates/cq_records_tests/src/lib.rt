@@ -17,6 +17,8 @@ pub use simulated::{Left, Simulated};
 pub use writing::{Written, count_journal, write};
 
 #[cfg(test)]
+mod copies;
+#[cfg(test)]
 mod crashes;
 #[cfg(test)]
 mod failures;

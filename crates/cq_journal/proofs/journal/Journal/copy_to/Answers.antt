@@ -8,8 +8,8 @@ use Rattle.cq_records.specs.Batch.{batch_bytes}
 use Rattle.cq_records.specs.Frames.{text_of, frames, records}
 use Rattle.cq_journal.specs.Regions.{places_text, HasRecords, records_at}
 use Rattle.cq_journal.specs.Roots.{root_of, numbered}
-use Rattle.cq_journal.proofs.Moves.{while_read, while_copied, blank_frames, blank_log}
-use Rattle.cq_journal.proofs.Regions.{each_so, root_apart, text_append}
+use Rattle.cq_journal.proofs.Moves.{while_copied, blank_frames, blank_log}
+use Rattle.cq_journal.proofs.Regions.{each_so, kept_of, root_apart, text_append}
 use Rattle.cq_journal.proofs.journal.Journal.copy_to.Goals as goal
 
 pub commit_at-requires-clause-log : goal.commit_at-requires-clause-log
@@ -22,7 +22,8 @@ returns-in_err-read_at-clause-any_moment g c = λ honest.
     let d = g.D.Device in
     let device = j.root.log.device.device in
     weakened d.moment d.left_since device c.read_at.new.self.log.device.device _ _ c.read_at.ensures.any_moment
-    (while_read j.root.log.device.len j.len j.root.number j.growing c.args.place j.closed.items (d.seen device) q.small q.behind q.apart (q.names (c.read_at.ensures.honest honest)))
+    (λ f is. subst (HasRecords j.root.log.device.len j.len (records_at j.len (j.closed.items ++ j.growing ∷ []) (d.seen device))) (sym is)
+    (kept_of j.root.log.device.len j.len j.root.number (j.closed.items ++ j.growing ∷ []) (d.seen device) q.small (q.names (c.read_at.ensures.honest honest))))
 
 pub returns-in_err-blank_at-clause-any_moment : goal.returns-in_err-blank_at-clause-any_moment
 returns-in_err-blank_at-clause-any_moment g c = λ honest.
@@ -40,7 +41,7 @@ returns-in_err-blank_at-clause-any_moment g c = λ honest.
     let root = q.names (c.read_at.ensures.honest (c.blank_at.ensures.honest honest)) in
     let P : List ℕ → Type 0 = HasRecords h j.len (records_at j.len (ns ++ j.growing ∷ []) old) in
     let first : LeavesOnly d.moment d.left_since device one P = weakened d.moment d.left_since device one _ P c.read_at.ensures.any_moment
-    (while_read h j.len j.root.number j.growing p ns old q.small q.behind q.apart root) in
+    (λ f is. subst P (sym is) (kept_of h j.len j.root.number (ns ++ j.growing ∷ []) old q.small root)) in
     let second : LeavesOnly d.moment d.left_since one two P = weakened d.moment d.left_since one two _ P c.blank_at.ensures.any_moment (λ f near.
     while_copied h j.len j.root.number j.growing p ns old q.small q.behind q.apart root free.behind free.small free.apart f (subst (λ (o : List ℕ). Beside p j.len o f) c.read_at.ensures.seen near)) in
     runs_on d.moment d.left_since device one two P first second
@@ -63,7 +64,7 @@ returns-in_err-commit_at-clause-any_moment g c = λ honest.
     let P : List ℕ → Type 0 = HasRecords h j.len (records_at j.len (ns ++ j.growing ∷ []) old) in
     let blanked : Beside p j.len old (d.seen two) = subst (λ (o : List ℕ). Beside p j.len o (d.seen two)) c.read_at.ensures.seen c.blank_at.ensures.beside in
     let first : LeavesOnly d.moment d.left_since device one P = weakened d.moment d.left_since device one _ P c.read_at.ensures.any_moment
-    (while_read h j.len j.root.number j.growing p ns old q.small q.behind q.apart root) in
+    (λ f is. subst P (sym is) (kept_of h j.len j.root.number (ns ++ j.growing ∷ []) old q.small root)) in
     let second : LeavesOnly d.moment d.left_since one two P = weakened d.moment d.left_since one two _ P c.blank_at.ensures.any_moment (λ f near.
     while_copied h j.len j.root.number j.growing p ns old q.small q.behind q.apart root free.behind free.small free.apart f (subst (λ (o : List ℕ). Beside p j.len o f) c.read_at.ensures.seen near)) in
     let third : LeavesOnly d.moment d.left_since two three P = weakened d.moment d.left_since two three _ P c.commit_at.ensures.any_moment (λ f both.
@@ -88,7 +89,7 @@ returns-clause-any_moment g c = λ honest.
     let P : List ℕ → Type 0 = HasRecords h j.len (records_at j.len (ns ++ j.growing ∷ []) old) in
     let blanked : Beside p j.len old (d.seen two) = subst (λ (o : List ℕ). Beside p j.len o (d.seen two)) c.read_at.ensures.seen c.blank_at.ensures.beside in
     let first : LeavesOnly d.moment d.left_since device one P = weakened d.moment d.left_since device one _ P c.read_at.ensures.any_moment
-    (while_read h j.len j.root.number j.growing p ns old q.small q.behind q.apart root) in
+    (λ f is. subst P (sym is) (kept_of h j.len j.root.number (ns ++ j.growing ∷ []) old q.small root)) in
     let second : LeavesOnly d.moment d.left_since one two P = weakened d.moment d.left_since one two _ P c.blank_at.ensures.any_moment (λ f near.
     while_copied h j.len j.root.number j.growing p ns old q.small q.behind q.apart root free.behind free.small free.apart f (subst (λ (o : List ℕ). Beside p j.len o f) c.read_at.ensures.seen near)) in
     let third : LeavesOnly d.moment d.left_since two three P = weakened d.moment d.left_since two three _ P c.commit_at.ensures.any_moment (λ f both.

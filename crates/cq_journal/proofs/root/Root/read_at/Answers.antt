@@ -1,14 +1,12 @@
 -- A region behind a root is read.
-use Rattle.std.proofs.Common.{◌≡◌, ℕ, ◌+◌, ◌-◌, ◌<◌, ◌≤◌, List, [], length, sym, ◌∙◌, ap, subst, arith}
+use Rattle.std.proofs.Common.{◌≡◌, ℕ, ◌+◌, ◌-◌, ◌<◌, ◌≤◌, List, length, sym, ◌∙◌, ap, subst, arith}
 use Rattle.std.specs.Prelude.{Result, Ok, Err, OnOk}
 use Rattle.cq_disk.specs.Device.{Only}
-use Rattle.cq_disk.specs.Region.{part, Leaves}
+use Rattle.cq_disk.specs.Region.{part, Leaves, Beside}
+use Rattle.cq_disk.proofs.Moments.{weakened}
 use Rattle.cq_disk.proofs.Parts.{alone, whole_again}
-use Rattle.cq_records.specs.Frames.{frames}
-use Rattle.cq_records.specs.Layout.{IsPrefixOf}
 use Rattle.cq_journal.specs.Roots.{number_in, half_of}
 use Rattle.cq_journal.proofs.Halves.{only_on}
-use Rattle.cq_journal.proofs.Regions.{append-none}
 use Rattle.cq_journal.proofs.root.Root.read_at.Goals as goal
 
 on_any : {T E Q : Type 0} (r : Result T E) → Q → OnOk r Q
@@ -60,12 +58,12 @@ returns-clause-any_moment g c =
     let e = c.read_into-done.ensures in
     let p = c.args.place in
     let l = c.args.len in
-    let before = frames (part p l (d.seen device)) in
-    let prefix : (x : List ℕ) → Leaves p l (d.left_since n.device (d.moment device)) x → IsPrefixOf before [] x = λ x left.
+    let P : List ℕ → Type 0 = λ x. x ≡ part p l (d.seen device) in
+    let same : (x : List ℕ) → Leaves p l (d.left_since n.device (d.moment device)) x → P x = λ x left.
     let was = e.any_moment.each x (left.0, left.1, left.2 ∙ sym (λ i. part (e.keeps.same_start i) (e.keeps.same_len i) left.0)) in
-    let same : x ≡ part p l (d.seen device) = was.2 ∙ ap (λ (f : List ℕ). part p l f) (c.requires.root.durable was.0 was.1) in
-    record { many = 0; frames = ap frames same ∙ sym (append-none before) } in
-    alone d.moment d.left_since d.may_leave d.keeps d.seen g.met.D.Device.splits p l _ _ device n.device (IsPrefixOf before []) e.keeps c.requires.root.durable prefix
+    was.2 ∙ ap (λ (f : List ℕ). part p l f) (c.requires.root.durable was.0 was.1) in
+    let run = alone d.moment d.left_since d.may_leave d.keeps d.seen g.met.D.Device.splits p l _ _ device n.device P e.keeps c.requires.root.durable same in
+    weakened d.moment d.left_since device n.device (λ f. P (part p l f) × Beside p l (d.seen device) f) (λ f. f ≡ d.seen device) run (λ f both. whole_again p l (d.seen device) f both.1 both.0)
 
 pub invariant_of-self-5 : goal.invariant_of-self-5
 invariant_of-self-5 g c =
