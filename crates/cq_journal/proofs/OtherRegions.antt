@@ -56,3 +56,18 @@ pub still_kept : {D : Type 0} {g : Ghosts D} (p : ℕ) (old : Journal D g) → I
 still_kept {g = g} p old outside journal honest c near =
     let q = journal.regions in
     kept_blanked (journal_half old) old.len (root_number old.root) p (journal_places old) (g.seen (journal_device old)) c q.small outside.behind outside.apart (q.names honest) near
+
+-- the same bytes once more
+pub changes_on : {D : Type 0} {g : Ghosts D} (p : ℕ) (a b c : Journal D g) → ChangesOutside p a b → c.closed ≡ b.closed → c.growing ≡ b.growing → c.end ≡ b.end → c.len ≡ b.len → journal_half c ≡ journal_half b → root_number c.root ≡ root_number b.root
+    → g.seen (journal_device c) ≡ g.seen (journal_device b) → (IsTrue (g.is_honest (journal_device c)) → IsTrue (g.is_honest (journal_device b))) → ChangesOutside p a c
+changes_on {g = g} p a b c first closed growing end len half number seen honest = record {
+  closed = closed ∙ first.closed;
+  growing = growing ∙ first.growing;
+  end = end ∙ first.end;
+  len = len ∙ first.len;
+  half = half ∙ first.half;
+  number = number ∙ first.number;
+  length = ap length seen ∙ first.length;
+  beside = subst (λ (bytes : List ℕ). Beside p a.len (g.seen (journal_device a)) bytes) (sym seen) first.beside;
+  honest = λ now. first.honest (honest now);
+}

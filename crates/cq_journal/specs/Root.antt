@@ -37,3 +37,10 @@ module _ {D : Type 0} {g : Ghosts D} where
     pub current : IsTrue (g.is_honest (root_device root)) → number_in (half_of (root_start root) (root_half root) (g.seen (root_device root))) ≡ root.number
     pub other : IsTrue (g.is_honest (root_device root)) → number_in (half_of (root_half root - root_start root) (root_half root) (g.seen (root_device root))) < root.number
     pub durable : Only (g.seen (root_device root)) (g.may_leave (root_device root))
+
+  -- The same but for what is on the medium, as a call that failed leaves it.
+  pub record HasHalves (root : Root D g) : Type 0 where
+    pub place : (root_start root ≡ 0) ⊎ (root_start root ≡ root_half root)
+    pub room : root_half root + root_half root ≤ length (g.seen (root_device root))
+    pub current : IsTrue (g.is_honest (root_device root)) → number_in (half_of (root_start root) (root_half root) (g.seen (root_device root))) ≡ root.number
+    pub other : IsTrue (g.is_honest (root_device root)) → number_in (half_of (root_half root - root_start root) (root_half root) (g.seen (root_device root))) < root.number

@@ -115,8 +115,8 @@ impl<D: Device> Journal<D> {
     }
 
     /// Goes on in another region, which loses what it has: records are added there from then on. The records are the same,
-    /// also after a crash at any moment of the call. `Full`: there is no free region at this place, or the
-    /// root has no room for one more; nothing was changed. After any other fault the journal is to be opened anew. It takes time in
+    /// also after a crash at any moment of the call. `Full`: there is no free region at this place, the root
+    /// has no room for one more, or the device no space for one; the journal goes on. After any other fault it is to be opened anew. It takes time in
     /// proportion to the length of a region.
     pub fn next_region(&mut self, alloc: Global, place: usize) -> Result<(), LogFault>
         requires { IsJournal self.old }
@@ -127,7 +127,7 @@ impl<D: Device> Journal<D> {
         ensures any_moment { IsTrue (D.is_honest (journal_device self.new)) → LeavesOnly D.moment D.left_since (journal_device self.old) (journal_device self.new)
             (HasRecords (journal_half self.old) (region_len self.old) (journal_records self.old)) }
         ensures honest { IsTrue (D.is_honest (journal_device self.new)) → IsTrue (D.is_honest (journal_device self.old)) }
-        ensures full { IsErrOf result LogFault.Full → self.new ≡ self.old }
+        ensures full { IsErrOf result LogFault.Full → IsJournal self.new × (journal_records self.new ≡ journal_records self.old) }
         ensures failed { IsErrOf result LogFault.Failed → D.faults (journal_device self.old) < D.faults (journal_device self.new) }
     {
         if !self.is_free(place) {
@@ -147,14 +147,14 @@ impl<D: Device> Journal<D> {
         ensures any_moment { IsTrue (D.is_honest (journal_device self.new)) → LeavesOnly D.moment D.left_since (journal_device self.old) (journal_device self.new)
             (HasRecords (journal_half self.old) (region_len self.old) (journal_records self.old)) }
         ensures honest { IsTrue (D.is_honest (journal_device self.new)) → IsTrue (D.is_honest (journal_device self.old)) }
-        ensures full { IsErrOf result LogFault.Full → self.new ≡ self.old }
+        ensures full { IsErrOf result LogFault.Full → IsJournal self.new × (journal_records self.new ≡ journal_records self.old) }
         ensures failed { IsErrOf result LogFault.Failed → D.faults (journal_device self.old) < D.faults (journal_device self.new) }
     {
         let (closed, text) = with_next(alloc, &self.closed, self.growing as u64, place as u64)?;
         if !self.root.has_room(&text) {
             return Err(LogFault::Full);
         }
-        self.root.blank_at(place, self.len)?;
+        self.clear_outside(place)?;
         self.root.put(alloc, &text)?;
         self.closed = closed;
         self.growing = place;

@@ -6,7 +6,7 @@ ghost use Rattle.cq_records.specs.Batch.{batch_bytes};
 ghost use Rattle.cq_records.specs.Frames.{records};
 ghost use Rattle.cq_records.specs.Layout.{IsLog};
 ghost use Rattle.cq_journal.specs.Regions.{HasRecords};
-ghost use Rattle.cq_journal.specs.Root.{log_end};
+ghost use Rattle.cq_journal.specs.Root.{log_end, HasHalves};
 
 use crate::Journal;
 use cq_disk::{Device, DeviceFault};
@@ -22,6 +22,7 @@ impl<D: Device> Journal<D> {
         requires outside { IsOutside self.old place }
 
         ensures journal { OnOk result (IsJournal self.new) }
+        ensures halves { HasHalves self.new.root }
         ensures changes { ChangesOutside place self.old self.new }
         ensures records { journal_records self.new ≡ journal_records self.old }
         ensures zeros { OnOk result (part place (region_len self.old) (D.seen (journal_device self.new)) ≡ replicate (region_len self.old) 0) }
@@ -30,6 +31,33 @@ impl<D: Device> Journal<D> {
         ensures cause { HasCause (D.faults (journal_device self.old)) (D.faults (journal_device self.new)) result }
     {
         self.root.blank_at(place, self.len)
+    }
+
+    /// Writes zeros over a region that doesn't count. The journal is the same, at each moment. `Full`: a call failed, as a write
+    /// for which there is no space does, and a sync has ended well since. The region may have any bytes then.
+    pub(crate) fn clear_outside(&mut self, place: usize) -> Result<(), LogFault>
+        requires journal { IsJournal self.old }
+        requires outside { IsOutside self.old place }
+
+        ensures journal { OnOk result (IsJournal self.new) }
+        ensures changes { ChangesOutside place self.old self.new }
+        ensures records { journal_records self.new ≡ journal_records self.old }
+        ensures zeros { OnOk result (part place (region_len self.old) (D.seen (journal_device self.new)) ≡ replicate (region_len self.old) 0) }
+        ensures any_moment { IsTrue (D.is_honest (journal_device self.new)) → LeavesOnly D.moment D.left_since (journal_device self.old) (journal_device self.new)
+            (HasRecords (journal_half self.old) (region_len self.old) (journal_records self.old)) }
+        ensures full { IsErrOf result LogFault.Full → IsJournal self.new }
+        ensures failed { IsErrOf result LogFault.Failed → D.faults (journal_device self.old) < D.faults (journal_device self.new) }
+        ensures cause { IsErrOf result LogFault.Full → D.faults (journal_device self.old) < D.faults (journal_device self.new) }
+        ensures later { D.faults (journal_device self.old) ≤ D.faults (journal_device self.new) }
+    {
+        match self.blank_outside(place) {
+            Ok(()) => Ok(()),
+            Err(DeviceFault::NoMemory) => Err(LogFault::NoMemory),
+            Err(DeviceFault::Failed) => {
+                self.root.settle()?;
+                Err(LogFault::Full)
+            }
+        }
     }
 
     /// Adds the records of a batch to the log in a region that doesn't count, which ends there. The journal is the same, at

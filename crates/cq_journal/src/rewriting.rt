@@ -17,9 +17,9 @@ impl<D: Device> Journal<D> {
     ghost use Rattle.cq_journal.specs.Journal.{HasRegions, IsJournal, IsFree, journal_device, journal_half, journal_places, journal_records, region_len};
     ghost use Rattle.cq_journal.specs.within.FreeBeside.{IsFreeBeside};
 
-    /// Begins a base without records, in a free region. The journal is the same, at each moment. `Full`: no region is free, and
-    /// nothing was changed. After another fault the journal is to be opened anew. It takes time in proportion to the length of a
-    /// region.
+    /// Begins a base without records, in a free region. The journal is the same, at each moment. `Full`: no region is free,
+    /// or the device has no space for one; the journal goes on. After another fault it is to be opened anew. It takes time in
+    /// proportion to the length of a region.
     pub fn begin_base(&mut self, alloc: Global) -> Result<Base, LogFault>
         requires { IsJournal self.old }
 
@@ -31,14 +31,14 @@ impl<D: Device> Journal<D> {
         ensures any_moment { IsTrue (D.is_honest (journal_device self.new)) → LeavesOnly D.moment D.left_since (journal_device self.old) (journal_device self.new)
             (HasRecords (journal_half self.old) (region_len self.old) (journal_records self.old)) }
         ensures honest { IsTrue (D.is_honest (journal_device self.new)) → IsTrue (D.is_honest (journal_device self.old)) }
-        ensures full { IsErrOf result LogFault.Full → self.new ≡ self.old }
+        ensures full { IsErrOf result LogFault.Full → IsJournal self.new }
         ensures failed { IsErrOf result LogFault.Failed → D.faults (journal_device self.old) < D.faults (journal_device self.new) }
         ensures later { D.faults (journal_device self.old) ≤ D.faults (journal_device self.new) }
     {
         let Some(place) = self.free_region() else {
             return Err(LogFault::Full);
         };
-        self.blank_outside(place)?;
+        self.clear_outside(place)?;
         Ok(Base {
             closed: Vec::new(alloc),
             growing: place,
@@ -103,8 +103,8 @@ impl<D: Device> Journal<D> {
     }
 
     /// Has a base go on in one more region, which is free: records are added there from then on. The journal is the same, at each
-    /// moment, and the base has the same records. `Full`: no region is free, and nothing was changed. After another fault the
-    /// journal is to be opened anew. It takes time in proportion to the length of a region.
+    /// moment, and the base has the same records. `Full`: no region is free, or the device has no space for one; the journal
+    /// and the base go on as they are. After another fault the journal is to be opened anew. It takes time in proportion to the length of a region.
     pub fn widen_base(&mut self, alloc: Global, base: &mut Base) -> Result<(), LogFault>
         requires journal { IsJournal self.old }
         requires base { IsBase self.old base.old }
@@ -117,7 +117,7 @@ impl<D: Device> Journal<D> {
         ensures any_moment { IsTrue (D.is_honest (journal_device self.new)) → LeavesOnly D.moment D.left_since (journal_device self.old) (journal_device self.new)
             (HasRecords (journal_half self.old) (region_len self.old) (journal_records self.old)) }
         ensures honest { IsTrue (D.is_honest (journal_device self.new)) → IsTrue (D.is_honest (journal_device self.old)) }
-        ensures full { IsErrOf result LogFault.Full → (self.new ≡ self.old) × (base.new ≡ base.old) }
+        ensures full { IsErrOf result LogFault.Full → IsJournal self.new × IsBase self.new base.new × (base_records self.new base.new ≡ base_records self.old base.old) }
         ensures failed { IsErrOf result LogFault.Failed → D.faults (journal_device self.old) < D.faults (journal_device self.new) }
         ensures later { D.faults (journal_device self.old) ≤ D.faults (journal_device self.new) }
     {
@@ -125,7 +125,7 @@ impl<D: Device> Journal<D> {
             return Err(LogFault::Full);
         };
         let closed = with_growing(alloc, &base.closed, base.growing as u64)?;
-        self.blank_outside(place)?;
+        self.clear_outside(place)?;
         base.closed = closed;
         base.growing = place;
         base.end = 0;

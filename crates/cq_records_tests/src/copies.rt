@@ -66,9 +66,9 @@ fn copy(alloc: Global, seed: u64, calls: u64) -> Result<Option<Copied>, OpenFaul
     let mut there = there;
     let mut batch = Batch::new(alloc);
     batch.add(b"")?;
-    if there.commit(&batch).is_err() {
+    let Ok(()) = there.commit(&batch) else {
         return Ok(None);
-    }
+    };
     let is_done = journal.copy_into(alloc, &mut there).is_ok();
     let here = journal.into_device();
     let same = count_journal(alloc, here.bytes(), HALF, LEN, TORN)?;

@@ -7,6 +7,7 @@ mod filling;
 mod lives;
 mod rewriting;
 mod simulated;
+mod sparse;
 mod writing;
 
 pub use changes::{Changed, change, count_changes};
@@ -14,6 +15,7 @@ pub use filling::{Filled, count_records, fill, text_of};
 pub use lives::{Life, live};
 pub use rewriting::{LEFT, Rewritten, write_and_rewrite};
 pub use simulated::{Left, Simulated};
+pub use sparse::Sparse;
 pub use writing::{Written, count_journal, write};
 
 #[cfg(test)]
@@ -32,3 +34,5 @@ mod recoveries;
 mod rewrites;
 #[cfg(test)]
 mod roots;
+#[cfg(test)]
+mod space;

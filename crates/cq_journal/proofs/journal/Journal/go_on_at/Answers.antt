@@ -4,12 +4,12 @@ use Rattle.std.specs.Prelude.{Some}
 use Rattle.cq_disk.specs.Device.{LeavesOnly}
 use Rattle.cq_disk.specs.Region.{part}
 use Rattle.cq_disk.proofs.Moments.{weakened, runs_on, started}
-use Rattle.cq_records.specs.Frames.{frames, has_no_zero, joined, all_sound}
-use Rattle.cq_records.proofs.Frames.{of_zeros}
+use Rattle.cq_records.specs.Frames.{has_no_zero}
+use Rattle.cq_journal.proofs.Moves.{blank_log}
 use Rattle.cq_journal.specs.declared.number.TheConstants.{NUMBER_LIMIT}
 use Rattle.cq_journal.specs.Regions.{Each, AreApart, places_text, HasRecords, records_at}
 use Rattle.cq_journal.specs.Roots.{numbered, IsOldOrNew}
-use Rattle.cq_journal.proofs.Regions.{kept_of, last_of, each_so, each_more, each_left, places_long, no_zero_places, part_same, kept_blanked, while_named, records_kept}
+use Rattle.cq_journal.proofs.Regions.{kept_of, last_of, each_so, each_more, each_left, places_long, no_zero_places, part_same, while_named, records_kept}
 use Rattle.cq_journal.proofs.journal.Journal.go_on_at.Goals as goal
 
 pub with_next-requires-clause-closed : goal.with_next-requires-clause-closed
@@ -56,40 +56,27 @@ returns-then-not-has_room-clause-any_moment g c = λ honest.
     started d.moment d.left_since device P (λ f left.
     subst P (sym (q.regions.root.durable f (g.met.D.Device.only_now device f left))) (kept_of j.root.log.device.len j.len j.root.number places (d.seen device) q.regions.small (q.regions.names honest)))
 
-pub returns-in_err-blank_at-clause-any_moment : goal.returns-in_err-blank_at-clause-any_moment
-returns-in_err-blank_at-clause-any_moment g c = λ honest.
-    let j = c.args.self.now in
-    let q = c.requires.journal in
-    let d = g.D.Device in
-    let device = j.root.log.device.device in
-    let mid = c.blank_at.new.self.log.device.device in
-    let places : List ℕ = j.closed.items ++ j.growing ∷ [] in
-    let h = j.root.log.device.len in
-    weakened d.moment d.left_since device mid _ _ c.blank_at.ensures.any_moment (λ f near.
-    kept_blanked h j.len j.root.number c.args.place places (d.seen device) f q.regions.small c.requires.free.behind c.requires.free.apart (q.regions.names (c.blank_at.ensures.honest honest)) near)
-
 pub returns-in_err-put-clause-any_moment : goal.returns-in_err-put-clause-any_moment
 returns-in_err-put-clause-any_moment g c = λ honest.
     let j = c.args.self.now in
     let q = c.requires.journal in
     let d = g.D.Device in
     let device = j.root.log.device.device in
-    let blanked = c.blank_at.new.self in
+    let blanked = c.clear_outside.new.self.root in
     let mid = blanked.log.device.device in
     let fin = c.put.new.self.log.device.device in
     let places : List ℕ = j.closed.items ++ j.growing ∷ [] in
     let h = j.root.log.device.len in
     let p = c.args.place in
-    let b = c.in_ok-blank_at.ensures in
+    let b = c.in_ok-clear_outside.ensures in
     let honest_mid = c.put.ensures.honest honest in
-    let names = q.regions.names (c.blank_at.ensures.honest honest_mid) in
+    let names = q.regions.names (c.clear_outside.ensures.changes.honest honest_mid) in
     let P : List ℕ → Type 0 = HasRecords h j.len (records_at j.len places (d.seen device)) in
     let text_is : c.deref-3.result.now ≡ places_text (places ++ p ∷ []) = c.deref-3.ensures.value ∙ c.in_ok-closed.ensures.text ∙ ap (λ (xs : List ℕ). places_text ((xs ++ j.growing ∷ []) ++ p ∷ [])) c.deref.ensures.value in
-    let first : LeavesOnly d.moment d.left_since device mid P = weakened d.moment d.left_since device mid _ P c.blank_at.ensures.any_moment (λ f near.
-    kept_blanked h j.len j.root.number p places (d.seen device) f q.regions.small c.requires.free.behind c.requires.free.apart names near) in
+    let first : LeavesOnly d.moment d.left_since device mid P = c.clear_outside.ensures.any_moment honest_mid in
     let second : LeavesOnly d.moment d.left_since mid fin P = weakened d.moment d.left_since mid fin _ P (c.put.ensures.any_moment honest) (λ f either.
-    while_named h j.len j.root.number p places (d.seen device) (d.seen mid) q.regions.small c.requires.free.small q.regions.behind c.requires.free.behind c.requires.free.apart names b.beside b.zeros (blanked.number + 1) f
-    (subst (λ (k : ℕ). IsOldOrNew k (d.seen mid) (numbered (blanked.number + 1) (places_text (places ++ p ∷ []))) f) b.half
+    while_named h j.len j.root.number p places (d.seen device) (d.seen mid) q.regions.small c.requires.free.small q.regions.behind c.requires.free.behind c.requires.free.apart names b.changes.beside b.zeros (blanked.number + 1) f
+    (subst (λ (k : ℕ). IsOldOrNew k (d.seen mid) (numbered (blanked.number + 1) (places_text (places ++ p ∷ []))) f) b.changes.half
     (subst (λ (text : List ℕ). IsOldOrNew blanked.log.device.len (d.seen mid) (numbered (blanked.number + 1) text) f) text_is either))) in
     runs_on d.moment d.left_since device mid fin P first second
 
@@ -99,22 +86,21 @@ returns-clause-any_moment g c = λ honest.
     let q = c.requires.journal in
     let d = g.D.Device in
     let device = j.root.log.device.device in
-    let blanked = c.blank_at.new.self in
+    let blanked = c.clear_outside.new.self.root in
     let mid = blanked.log.device.device in
     let fin = c.put.new.self.log.device.device in
     let places : List ℕ = j.closed.items ++ j.growing ∷ [] in
     let h = j.root.log.device.len in
     let p = c.args.place in
-    let b = c.in_ok-blank_at.ensures in
+    let b = c.in_ok-clear_outside.ensures in
     let honest_mid = c.put.ensures.honest honest in
-    let names = q.regions.names (c.blank_at.ensures.honest honest_mid) in
+    let names = q.regions.names (c.clear_outside.ensures.changes.honest honest_mid) in
     let P : List ℕ → Type 0 = HasRecords h j.len (records_at j.len places (d.seen device)) in
     let text_is : c.deref-3.result.now ≡ places_text (places ++ p ∷ []) = c.deref-3.ensures.value ∙ c.in_ok-closed.ensures.text ∙ ap (λ (xs : List ℕ). places_text ((xs ++ j.growing ∷ []) ++ p ∷ [])) c.deref.ensures.value in
-    let first : LeavesOnly d.moment d.left_since device mid P = weakened d.moment d.left_since device mid _ P c.blank_at.ensures.any_moment (λ f near.
-    kept_blanked h j.len j.root.number p places (d.seen device) f q.regions.small c.requires.free.behind c.requires.free.apart names near) in
+    let first : LeavesOnly d.moment d.left_since device mid P = c.clear_outside.ensures.any_moment honest_mid in
     let second : LeavesOnly d.moment d.left_since mid fin P = weakened d.moment d.left_since mid fin _ P (c.put.ensures.any_moment honest) (λ f either.
-    while_named h j.len j.root.number p places (d.seen device) (d.seen mid) q.regions.small c.requires.free.small q.regions.behind c.requires.free.behind c.requires.free.apart names b.beside b.zeros (blanked.number + 1) f
-    (subst (λ (k : ℕ). IsOldOrNew k (d.seen mid) (numbered (blanked.number + 1) (places_text (places ++ p ∷ []))) f) b.half
+    while_named h j.len j.root.number p places (d.seen device) (d.seen mid) q.regions.small c.requires.free.small q.regions.behind c.requires.free.behind c.requires.free.apart names b.changes.beside b.zeros (blanked.number + 1) f
+    (subst (λ (k : ℕ). IsOldOrNew k (d.seen mid) (numbered (blanked.number + 1) (places_text (places ++ p ∷ []))) f) b.changes.half
     (subst (λ (text : List ℕ). IsOldOrNew blanked.log.device.len (d.seen mid) (numbered (blanked.number + 1) text) f) text_is either))) in
     runs_on d.moment d.left_since device mid fin P first second
 
@@ -123,59 +109,54 @@ returns-clause-records g c =
     let j = c.args.self.now in
     let q = c.requires.journal in
     let d = g.D.Device in
-    let b = c.in_ok-blank_at.ensures in
+    let b = c.in_ok-clear_outside.ensures in
     let h = j.root.log.device.len in
     let p = c.args.place in
     let places : List ℕ = j.closed.items ++ j.growing ∷ [] in
     let old = d.seen j.root.log.device.device in
-    let mid = d.seen c.blank_at.new.self.log.device.device in
+    let mid = d.seen c.clear_outside.new.self.root.log.device.device in
     let fin = d.seen c.put.new.self.log.device.device in
     let closed_is : c.in_ok-closed.closed.items ≡ places = c.in_ok-closed.ensures.closed ∙ ap (λ (xs : List ℕ). xs ++ j.growing ∷ []) c.deref.ensures.value in
-    let behind : drop (h + h) fin ≡ drop (h + h) mid = subst (λ (k : ℕ). drop (k + k) fin ≡ drop (k + k) mid) b.half c.in_ok-put.ensures.behind in
-    ap (λ (xs : List ℕ). records_at j.len (xs ++ p ∷ []) fin) closed_is
-    ∙ records_kept h j.len p places old mid fin q.regions.behind c.requires.free.behind c.requires.free.apart b.beside b.zeros behind
+    let behind : drop (h + h) fin ≡ drop (h + h) mid = subst (λ (k : ℕ). drop (k + k) fin ≡ drop (k + k) mid) b.changes.half c.in_ok-put.ensures.behind in
+    (λ i. records_at (b.changes.len i) (closed_is i ++ p ∷ []) fin)
+    ∙ records_kept h j.len p places old mid fin q.regions.behind c.requires.free.behind c.requires.free.apart b.changes.beside b.zeros behind
 
 pub returns-clause-journal : goal.returns-clause-journal
 returns-clause-journal g c =
     let j = c.args.self.now in
     let q = c.requires.journal in
     let d = g.D.Device in
-    let b = c.in_ok-blank_at.ensures in
+    let b = c.in_ok-clear_outside.ensures in
     let put = c.in_ok-put.ensures in
     let h = j.root.log.device.len in
     let p = c.args.place in
     let n = j.len in
     let places : List ℕ = j.closed.items ++ j.growing ∷ [] in
     let all : List ℕ = places ++ p ∷ [] in
-    let blanked = c.blank_at.new.self in
+    let blanked = c.clear_outside.new.self.root in
     let new = c.put.new.self in
     let old = d.seen j.root.log.device.device in
     let mid = d.seen blanked.log.device.device in
     let fin = d.seen new.log.device.device in
     let closed_is : c.in_ok-closed.closed.items ≡ places = c.in_ok-closed.ensures.closed ∙ ap (λ (xs : List ℕ). xs ++ j.growing ∷ []) c.deref.ensures.value in
     let text_is : c.deref-3.result.now ≡ places_text all = c.deref-3.ensures.value ∙ c.in_ok-closed.ensures.text ∙ ap (λ (xs : List ℕ). places_text ((xs ++ j.growing ∷ []) ++ p ∷ [])) c.deref.ensures.value in
-    let half_is : new.log.device.len ≡ h = put.half ∙ b.half in
-    let behind : drop (h + h) fin ≡ drop (h + h) mid = subst (λ (k : ℕ). drop (k + k) fin ≡ drop (k + k) mid) b.half put.behind in
-    let long : length fin ≡ length old = omega (arith, ap length behind, length-drop (h + h) fin, length-drop (h + h) mid, b.length, q.regions.root.room, put.root.room, half_is) in
+    let half_is : new.log.device.len ≡ h = put.half ∙ b.changes.half in
+    let behind : drop (h + h) fin ≡ drop (h + h) mid = subst (λ (k : ℕ). drop (k + k) fin ≡ drop (k + k) mid) b.changes.half put.behind in
+    let long : length fin ≡ length old = omega (arith, ap length behind, length-drop (h + h) fin, length-drop (h + h) mid, b.changes.length, q.regions.root.room, put.root.room, half_is) in
     let zeros : part p n fin ≡ replicate n 0 = part_same h n mid fin behind p c.requires.free.behind ∙ b.zeros in
-    let none : frames (part p n fin) ≡ [] = ap frames zeros ∙ of_zeros n in
+    let len_is : c.clear_outside.new.self.len ≡ n = b.changes.len in
     record {
       regions = record {
         root = put.root;
         behind = subst (λ (xs : List ℕ). Each (λ a. new.log.device.len + new.log.device.len ≤ a) (xs ++ p ∷ [])) (sym closed_is)
             (each_so (λ a. h + h ≤ a) (λ a. new.log.device.len + new.log.device.len ≤ a) (λ a low. subst (λ (m : ℕ). m + m ≤ a) (sym half_is) low) all (each_more (λ a. h + h ≤ a) places p q.regions.behind c.requires.free.behind));
-        within = subst (λ (xs : List ℕ). Each (λ a. a + n ≤ length fin) (xs ++ p ∷ [])) (sym closed_is)
-            (each_so (λ a. a + n ≤ length old) (λ a. a + n ≤ length fin) (λ a low. subst (λ (m : ℕ). a + n ≤ m) (sym long) low) all (each_more (λ a. a + n ≤ length old) places p q.regions.within c.requires.free.within));
-        apart = subst (λ (xs : List ℕ). Each (λ a. AreApart n a p) xs) (sym closed_is) c.requires.free.apart;
+        within = subst (λ (k : ℕ). Each (λ a. a + k ≤ length fin) (c.in_ok-closed.closed.items ++ p ∷ [])) (sym len_is) (subst (λ (xs : List ℕ). Each (λ a. a + n ≤ length fin) (xs ++ p ∷ [])) (sym closed_is)
+            (each_so (λ a. a + n ≤ length old) (λ a. a + n ≤ length fin) (λ a low. subst (λ (m : ℕ). a + n ≤ m) (sym long) low) all (each_more (λ a. a + n ≤ length old) places p q.regions.within c.requires.free.within)));
+        apart = subst (λ (k : ℕ). Each (λ a. AreApart k a p) c.in_ok-closed.closed.items) (sym len_is) (subst (λ (xs : List ℕ). Each (λ a. AreApart n a p) xs) (sym closed_is) c.requires.free.apart);
         small = subst (λ (xs : List ℕ). Each (λ a. a < NUMBER_LIMIT) (xs ++ p ∷ [])) (sym closed_is) (each_more (λ a. a < NUMBER_LIMIT) places p q.regions.small c.requires.free.small);
         names = λ honest.
             put.text honest ∙ ap (λ (text : List ℕ). Some (numbered (blanked.number + 1) text)) text_is
             ∙ (λ i. Some (numbered (sym put.number i) (places_text (sym closed_is i ++ p ∷ []))));
       };
-      log = record {
-        room = n;
-        is = zeros ∙ ap (λ (fs : List (List ℕ)). joined fs ++ replicate n 0) (sym none);
-        ends = sym (ap (λ (fs : List (List ℕ)). length (joined fs)) none);
-        sound = ap all_sound none;
-      };
+      log = blank_log c.clear_outside.new.self.len (part p c.clear_outside.new.self.len fin) (subst (λ (k : ℕ). part p k fin ≡ replicate k 0) (sym len_is) zeros);
     }

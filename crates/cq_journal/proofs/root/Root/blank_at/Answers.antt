@@ -70,3 +70,25 @@ returns-clause-any_moment g c =
     let old_bytes = g.D.Device.seen r.log.device.device in
     weakened g.D.Device.moment g.D.Device.left_since r.log.device.device new.device _ _ k.moments (λ f was.
     subst (λ (d : List ℕ). Beside c.args.place c.args.len d f) (c.requires.root.durable was.0 was.1) was.2)
+
+pub returns-clause-halves : goal.returns-clause-halves
+returns-clause-halves g c =
+    let r = c.args.self.now in
+    let q = c.requires.root in
+    let k = c.blank-done.ensures.keeps in
+    let p = c.args.place in
+    let n = c.args.len in
+    let h = r.log.device.len in
+    let s = r.log.device.start in
+    let old_bytes = g.D.Device.seen r.log.device.device in
+    let new_bytes = g.D.Device.seen c.blank-done.new.device.device in
+    let low : s + h ≤ p = ⊎_elim (λ (is : s ≡ 0). omega (arith, is, c.requires.behind)) (λ (is : s ≡ h). omega (arith, is, c.requires.behind)) q.place in
+    let other_low : h - s + h ≤ p = omega (arith, c.requires.behind) in
+    let same : half_of s h new_bytes ≡ half_of s h old_bytes = ap (λ (xs : List ℕ). first_of (records xs)) (part_before s h p n old_bytes new_bytes low k.shown) in
+    let other_same : half_of (h - s) h new_bytes ≡ half_of (h - s) h old_bytes = ap (λ (xs : List ℕ). first_of (records xs)) (part_before (h - s) h p n old_bytes new_bytes other_low k.shown) in
+    record {
+      place = q.place;
+      room = still_long (h + h) p old_bytes new_bytes k.shown.before c.requires.behind (omega (arith, c.requires.within));
+      current = λ honest. ap number_in same ∙ q.current (c.blank-done.ensures.honest honest);
+      other = λ honest. subst (λ (o : _). number_in o < r.number) (sym other_same) (q.other (c.blank-done.ensures.honest honest));
+    }
