@@ -6,7 +6,7 @@ use std::sync::Arc;
 use crate::delays::bring_up_to_date;
 use crate::errors::SqsError;
 use crate::moves::{give_back, move_to_target};
-use crate::queues::ask::{Ask, Fate, Handed, Outcome};
+use crate::queues::ask::{Ask, Fate, Handed, Outcome, Reach};
 use crate::queues::Queue;
 use crate::store::{Answer, Store};
 
@@ -74,7 +74,6 @@ pub async fn ask_all(store: &Store, queue: &Arc<Queue>, asks: Vec<Ask>) -> Vec<A
         let nothing = || Ok(Outcome::Received { handed: Vec::new(), set_aside: Vec::new(), openings });
         return asks.iter().map(|_| nothing()).collect();
     }
-    let asks: Vec<_> = asks.iter().map(|ask| of_now(store, queue, ask)).collect();
     if !queue.state().has_delay() {
         return store.ask_all(queue, asks).await;
     }
@@ -96,38 +95,39 @@ pub fn has_most_in_flight(store: &Store, queue: &Queue) -> bool {
     queue.state().has_most_in_flight(store.clock().now())
 }
 
-/// Asks for so many messages that none of them is delayed still: as many of the next group as are due, and then of the
-/// one behind it. Nobody else has the queue meanwhile, since a send or a deletion changes which messages are next.
+/// Asks for messages that are due: as many of the next group as are, and then of the one behind it. Nobody else has the
+/// queue meanwhile, since a send or a deletion changes which messages are next.
 async fn ask_for_due(store: &Store, queue: &Arc<Queue>, ask: Ask) -> Answer {
-    let Ask::Receive { size, visibility, attempt, most, own } = ask else { return Err(no_messages()) };
+    let Ask::Receive { size, visibility, attempt, .. } = ask else { return Err(no_messages()) };
     let wanted = usize::from(size);
-    let count_due = |already: usize| {
+    let next_due = |already: usize| {
         let mut state = queue.state();
         if state.removed {
             return Err(SqsError::QueueDoesNotExist);
         }
-        Ok((state.count_due(wanted - already, store.clock().now()), state.openings))
+        Ok((state.next_due(wanted - already, store.clock().now()), state.openings))
     };
     let (mut all_handed, mut all_set_aside) = (Vec::new(), Vec::new());
-    let (due, mut seen) = count_due(0)?;
-    let held = if due > 0 { Some(store.hold(queue).await?) } else { None };
+    let (due, mut seen) = next_due(0)?;
+    let held = if due.is_empty() { None } else { Some(store.hold(queue).await?) };
     while let Some(held) = &held {
         let already = all_handed.len() + all_set_aside.len();
-        let (due, openings) = count_due(already)?;
+        let (due, openings) = next_due(already)?;
         seen = openings;
-        if due == 0 {
+        if due.is_empty() {
             break;
         }
-        let ask = Ask::Receive { size: due as u8, visibility, attempt: attempt.clone(), most, own };
-        let (handed, set_aside) = match held.ask(ask).await {
-            Ok(Outcome::Received { handed, set_aside, openings }) => {
-                seen = openings;
-                (handed, set_aside)
-            }
-            Ok(_) => break,
-            Err(error) if already == 0 => return Err(error),
-            Err(_) => break,
-        };
+        let (size, reach) = (due.len() as u8, Reach::Due(due));
+        let (handed, set_aside) =
+            match held.ask(Ask::Receive { size, visibility, attempt: attempt.clone(), most: None, reach }).await {
+                Ok(Outcome::Received { handed, set_aside, openings }) => {
+                    seen = openings;
+                    (handed, set_aside)
+                }
+                Ok(_) => break,
+                Err(error) if already == 0 => return Err(error),
+                Err(_) => break,
+            };
         // What isn't hidden would be handed out again, and an attempt is one receive of the store.
         let is_last = handed.is_empty() || visibility == 0 || attempt.is_some();
         all_handed.extend(handed);
@@ -137,17 +137,6 @@ async fn ask_for_due(store: &Store, queue: &Arc<Queue>, ask: Ask) -> Answer {
         }
     }
     Ok(Outcome::Received { handed: all_handed, set_aside: all_set_aside, openings: seen })
-}
-
-/// The receive with what its queue says of dead letters at this moment. A target that isn't there is none.
-fn of_now(store: &Store, queue: &Queue, ask: &Ask) -> Ask {
-    let mut ask = ask.clone();
-    if let Ask::Receive { most, own: false, .. } = &mut ask {
-        let policy = queue.state().redrive().cloned();
-        let living = policy.filter(|policy| store.queues().find(&policy.target.name).is_some());
-        *most = living.map(|policy| policy.most);
-    }
-    ask
 }
 
 /// Sees to what a receive set aside; what it handed out is the client's after that. Where it fails, all are given back.

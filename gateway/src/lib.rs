@@ -34,6 +34,7 @@ pub mod pipes;
 pub mod policy;
 pub mod polling;
 pub mod presence;
+pub mod purges;
 pub mod queues;
 pub mod redrive;
 pub mod repeats;

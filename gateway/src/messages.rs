@@ -305,11 +305,13 @@ pub fn read_envelope(whole: &str) -> Option<(Metadata, &str)> {
 }
 
 /// The metadata that the tables need.
-#[derive(Clone, Copy, Debug, PartialEq, Eq, Deserialize)]
+#[derive(Clone, Debug, PartialEq, Eq, Deserialize)]
 pub struct EnvelopeHead {
     pub of: Option<Origin>,
     /// In a whole envelope.
     pub sent: Option<Moment>,
+    /// Of a dead letter.
+    pub source: Option<QueueName>,
 }
 
 impl EnvelopeHead {
@@ -440,7 +442,10 @@ mod tests {
             let metadata = Metadata { id, ..metadata.clone() };
             let envelope = Envelope::new(&metadata, &Body::parse("one\ntwo").unwrap()).unwrap();
             assert_eq!(read_envelope(envelope.stored()), Some((metadata.clone(), "one\ntwo")));
-            assert_eq!(EnvelopeHead::of(envelope.stored()), Some(EnvelopeHead { of: None, sent: Some(metadata.sent) }));
+            assert_eq!(
+                EnvelopeHead::of(envelope.stored()),
+                Some(EnvelopeHead { of: None, sent: Some(metadata.sent), source: None })
+            );
             assert_eq!(own_id(envelope.stored()), id);
         }
         assert_eq!(read_envelope("hello"), None);
@@ -454,7 +459,7 @@ mod tests {
             let Envelope::Split { stub, whole } = &envelope else { panic!("{} bytes", envelope.bytes()) };
             assert_eq!((read_envelope(whole).unwrap().1, read_envelope(stub)), (body.as_str(), None));
             assert_eq!((own_id(stub), own_id(whole)), (id, id));
-            assert_eq!(EnvelopeHead::of(stub), Some(EnvelopeHead { of: None, sent: None }));
+            assert_eq!(EnvelopeHead::of(stub), Some(EnvelopeHead { of: None, sent: None, source: None }));
         }
     }
 

@@ -10,9 +10,8 @@ use uuid::Uuid;
 use crate::access::Keys;
 use crate::clock::Moment;
 use crate::errors::SqsError;
-use crate::messages::read_envelope;
-use crate::moves::{give_back, move_all, MoveKind};
-use crate::queues::ask::{Ask, Handed, Outcome, TableChange};
+use crate::moves::move_each;
+use crate::queues::ask::{Handed, TableChange};
 use crate::queues::Queue;
 use crate::store::Store;
 use crate::texts::QueueName;
@@ -84,9 +83,8 @@ pub fn merge(tasks: &mut Vec<MoveTask>, task: &MoveTask) {
     tasks.drain(..excess);
 }
 
-/// So many messages are moved at once, and so long they are hidden from others meanwhile, in seconds.
+/// So many messages are moved at once.
 const AT_ONCE: u32 = 10;
-const HIDDEN: u32 = 60;
 
 /// A task that could not go on for now tries again after this.
 const PAUSE: Duration = Duration::from_secs(1);
@@ -114,8 +112,12 @@ pub async fn run(store: Store, rights: Rights, queue: Arc<Queue>, id: Uuid) {
         let task = queue.state().running_task().filter(|task| task.id == id).cloned();
         let Some(mut task) = task else { return };
         let size = task.rate.unwrap_or(AT_ONCE).min(AT_ONCE);
-        let moved = match move_some(&store, &rights, &queue, &task, size as u8).await {
-            Ok(moved) => moved,
+        let moved = match move_some(&store, &rights, &queue, &task, size as usize).await {
+            Ok(Some(moved)) => moved,
+            Ok(None) => {
+                task.status = Status::Completed;
+                0
+            }
             Err(Failure::Ends(reason)) => {
                 (task.status, task.failure) = (Status::Failed, Some(reason.into()));
                 0
@@ -128,9 +130,6 @@ pub async fn run(store: Store, rights: Rights, queue: Arc<Queue>, id: Uuid) {
             }
         };
         task.moved += moved;
-        if moved == 0 && task.status == Status::Running {
-            task.status = Status::Completed;
-        }
         while let Err(error) = store.change(&queue, TableChange::Task(task.clone())).await {
             if error == SqsError::QueueDoesNotExist {
                 return;
@@ -143,60 +142,70 @@ pub async fn run(store: Store, rights: Rights, queue: Arc<Queue>, id: Uuid) {
     }
 }
 
-/// Moves some messages, and tells how many. What isn't to be moved is given back.
+/// Moves some of the messages that are next, and tells how many; none where there are none. The task is handed those alone
+/// that it moves, and hides none: nobody else has the queue meanwhile.
 async fn move_some(
     store: &Store,
     rights: &Rights,
     queue: &Arc<Queue>,
     task: &MoveTask,
-    size: u8,
-) -> Result<u64, Failure> {
-    let ask = Ask::Receive { size, visibility: HIDDEN, attempt: None, most: None, own: true };
-    let outcome = store.ask(queue, ask).await.map_err(Failure::ForNow)?;
-    let Outcome::Received { handed, .. } = outcome else { return Ok(0) };
-    let (due, later): (Vec<_>, Vec<_>) = handed.into_iter().partition(|handed| handed.receipt.sequence <= task.up_to);
-    give_back(store, queue, &later).await;
-    let by_target = match by_target(store, rights, task, &due) {
-        Ok(by_target) => by_target,
-        Err(failure) => {
-            give_back(store, queue, &due).await;
-            return Err(failure);
-        }
-    };
-    let count = due.len() as u64;
-    let mut result = Ok(());
-    for (target, messages) in by_target {
-        match store.queues().find(&target) {
-            Some(target) if result.is_ok() => {
-                result = move_all(store, queue, &target, messages, MoveKind::Redrive).await.map(drop);
-            }
-            _ => give_back(store, queue, &messages).await,
+    size: usize,
+) -> Result<Option<u64>, Failure> {
+    let held = store.hold_for_move(queue).await.map_err(Failure::ForNow)?;
+    let next = queue.state().next_up_to(task.up_to, size, store.clock().now());
+    let targets = targets_of(store, rights, task, queue, &next)?;
+    if targets.is_empty() {
+        return Ok(None);
+    }
+    let bytes = next.iter().map(|sequence| queue.state().bytes_of(*sequence)).sum();
+    store.test_room_to_move(bytes).map_err(Failure::ForNow)?;
+    let named = next.iter().copied().take(targets.len()).collect();
+    let handed = held.take(named).await.map_err(Failure::ForNow)?;
+    let count = handed.len() as u64;
+    let mut by_target: BTreeMap<QueueName, (Arc<Queue>, Vec<Handed>)> = BTreeMap::new();
+    for handed in handed {
+        let place = next.iter().position(|sequence| *sequence == handed.receipt.sequence);
+        if let Some(target) = place.and_then(|place| targets.get(place)) {
+            by_target.entry(target.name.clone()).or_insert_with(|| (target.clone(), Vec::new())).1.push(handed);
         }
     }
-    result.map(|()| count).map_err(Failure::ForNow)
+    let moved = move_each(store, queue, held, by_target.into_values().collect()).await;
+    moved.map(|()| Some(count)).map_err(Failure::ForNow)
 }
 
-/// The messages by the queues to which they go, in their order.
-fn by_target(
+/// The queues to which messages go, up to the first that goes nowhere. With that one the task ends.
+fn targets_of(
     store: &Store,
     rights: &Rights,
     task: &MoveTask,
-    due: &[Handed],
-) -> Result<BTreeMap<QueueName, Vec<Handed>>, Failure> {
-    let mut by_target: BTreeMap<QueueName, Vec<Handed>> = BTreeMap::new();
-    for handed in due {
-        let source = || read_envelope(&handed.envelope).and_then(|(metadata, _)| metadata.source);
-        let target = task.destination.clone().or_else(source);
-        let target = target.ok_or(Failure::Ends("CouldNotDetermineMessageSource"))?;
-        if !may_move_to(rights, task, &target) {
-            return Err(Failure::Ends("AccessDenied"));
+    queue: &Queue,
+    messages: &[u64],
+) -> Result<Vec<Arc<Queue>>, Failure> {
+    let mut targets = Vec::new();
+    for sequence in messages {
+        match target_of(store, rights, task, queue, *sequence) {
+            Ok(target) => targets.push(target),
+            Err(failure) if targets.is_empty() => return Err(failure),
+            Err(_) => break,
         }
-        if store.queues().find(&target).is_none() {
-            return Err(Failure::Ends("AWS.SimpleQueueService.NonExistentQueue"));
-        }
-        by_target.entry(target).or_default().push(handed.clone());
     }
-    Ok(by_target)
+    Ok(targets)
+}
+
+fn target_of(
+    store: &Store,
+    rights: &Rights,
+    task: &MoveTask,
+    queue: &Queue,
+    sequence: u64,
+) -> Result<Arc<Queue>, Failure> {
+    let source = || queue.state().source_of(sequence).map(|source| QueueName::clone(&source));
+    let target = task.destination.clone().or_else(source);
+    let target = target.ok_or(Failure::Ends("CouldNotDetermineMessageSource"))?;
+    if !may_move_to(rights, task, &target) {
+        return Err(Failure::Ends("AccessDenied"));
+    }
+    store.queues().find(&target).ok_or(Failure::Ends("AWS.SimpleQueueService.NonExistentQueue"))
 }
 
 /// Whether the key that started a task allows this target, as its file says now.

@@ -16,7 +16,7 @@ use serde::{Deserialize, Serialize};
 use crate::errors::SqsError;
 use crate::handles::Receipt;
 use crate::messages::{read_envelope, Envelope};
-use crate::queues::ask::{Ask, Cause, Changer, Delayed, Handed};
+use crate::queues::ask::{Ask, Cause, Changer, Delayed, Fate, Handed};
 use crate::queues::Queue;
 use crate::store::{Answer, Copy, Held, Store};
 use crate::texts::{hex, Body, DedupId, GroupId, QueueKind};
@@ -69,102 +69,120 @@ pub enum MoveKind {
 }
 
 /// Moves messages that a receive set aside to the target of their queue. Where there is none any more they are given
-/// back. Tells the groups of those that are in the queue still.
+/// back. Tells the groups of those that are in the queue still; with an error those that couldn't be moved are given back.
 pub async fn move_to_target(store: &Store, queue: &Arc<Queue>, dead: Vec<Handed>) -> Result<HashSet<String>, SqsError> {
-    let policy = queue.state().redrive().cloned();
-    let Some(target) = policy.and_then(|policy| store.queues().find(&policy.target.name)) else {
+    let Some((target, _)) = store.queues().target_of(queue) else {
         give_back(store, queue, &dead).await;
         return Ok(groups_of(&dead));
     };
-    move_all(store, queue, &target, dead, MoveKind::DeadLetter).await
-}
-
-/// Moves messages that the gateway was handed, and tells the groups of those that are in the queue still. With an error
-/// those that couldn't be moved are given back.
-pub async fn move_all(
-    store: &Store,
-    queue: &Arc<Queue>,
-    target: &Arc<Queue>,
-    messages: Vec<Handed>,
-    kind: MoveKind,
-) -> Result<HashSet<String>, SqsError> {
     let held = match store.hold_for_move(queue).await {
         Ok(held) => held,
         Err(error) => {
-            give_back(store, queue, &messages).await;
+            give_back(store, queue, &dead).await;
             return Err(error);
         }
     };
-    let sorted = sort(store, queue, messages, kind);
-    let mut result = sorted.result;
-    let (mut copied, mut failed) = (sorted.copied, sorted.failed);
-    let (handed, copies): (Vec<_>, Vec<_>) = sorted.to_copy.into_iter().unzip();
+    let created = target.state().created;
+    let (own, others): (Vec<_>, Vec<_>) = dead.into_iter().partition(|handed| {
+        let (state, receipt) = (queue.state(), handed.receipt);
+        // Other receives may have set it aside as well.
+        state.last_receipt_of(receipt.sequence) == Some(receipt) || state.is_set_aside(receipt.sequence, created)
+    });
+    let moved = move_held(store, queue, &held, &target, own, MoveKind::DeadLetter).await;
+    give_back_by(&held, &moved.failed).await;
+    drop(held);
+    delete_all(store, queue, &moved.copied).await;
+    moved.result?;
+    // Those that are gone were moved by others.
+    let staying = others.into_iter().filter(|handed| queue.state().last_receipt_of(handed.receipt.sequence).is_some());
+    Ok(staying.map(|handed| handed.group).chain(groups_of(&moved.failed)).collect())
+}
+
+/// Moves messages that a task was handed and nobody else has, each to its target.
+pub async fn move_each(
+    store: &Store,
+    queue: &Arc<Queue>,
+    held: Held,
+    messages: Vec<(Arc<Queue>, Vec<Handed>)>,
+) -> Result<(), SqsError> {
+    let (mut copied, mut result) = (Vec::new(), Ok(()));
+    for (target, handed) in messages {
+        if result.is_ok() {
+            let moved = move_held(store, queue, &held, &target, handed, MoveKind::Redrive).await;
+            copied.extend(moved.copied);
+            result = moved.result;
+        }
+    }
+    drop(held);
+    delete_all(store, queue, &copied).await;
+    result
+}
+
+/// What came of messages.
+struct Moved {
+    /// Those that have a copy.
+    copied: Vec<u64>,
+    /// Those that have none, and why.
+    failed: Vec<Handed>,
+    result: Result<(), SqsError>,
+}
+
+/// Moves messages whose queue nobody else has.
+async fn move_held(
+    store: &Store,
+    queue: &Arc<Queue>,
+    held: &Held,
+    target: &Arc<Queue>,
+    messages: Vec<Handed>,
+    kind: MoveKind,
+) -> Moved {
+    let mut moved = Moved { copied: Vec::new(), failed: Vec::new(), result: Ok(()) };
+    let copies = copies_of(store, queue, messages, kind, &mut moved);
+    let (handed, copies): (Vec<_>, Vec<_>) = copies.into_iter().unzip();
     let answers = if copies.is_empty() { Vec::new() } else { held.move_to(target, copies).await };
     for (handed, answer) in handed.into_iter().zip(answers) {
         match answer {
-            Ok(_) => copied.push(handed.receipt.sequence),
+            Ok(_) => moved.copied.push(handed.receipt.sequence),
             // The tables know of the copy, whatever was told.
-            Err(_) if store.queues().copies().has(origin_of(queue, &handed)) => copied.push(handed.receipt.sequence),
+            Err(_) if store.queues().copies().has(origin_of(queue, &handed)) => {
+                moved.copied.push(handed.receipt.sequence);
+            }
             Err(error) => {
                 // A target that has gone meanwhile is none, and the next receive knows it.
                 if error != SqsError::QueueDoesNotExist {
-                    result = Err(error);
+                    moved.result = Err(error);
                 }
-                failed.push(handed);
+                moved.failed.push(handed);
             }
         }
     }
-    give_back_by(&held, queue, &failed).await;
-    drop(held);
-    for sequence in copied {
-        delete(store, queue, sequence).await;
-    }
-    result?;
-    Ok(sorted.staying.into_iter().chain(groups_of(&failed)).collect())
+    moved
 }
 
-/// What is to be done with messages whose queue nobody else has.
-struct Sorted {
-    to_copy: Vec<(Handed, Copy)>,
-    /// Those that have a copy.
-    copied: Vec<u64>,
-    /// Those of which no copy can be made, and why.
-    failed: Vec<Handed>,
-    result: Result<(), SqsError>,
-    /// The groups of those that others have by now.
-    staying: HashSet<String>,
-}
-
-fn sort(store: &Store, queue: &Arc<Queue>, messages: Vec<Handed>, kind: MoveKind) -> Sorted {
-    let mut sorted =
-        Sorted { to_copy: Vec::new(), copied: Vec::new(), failed: Vec::new(), result: Ok(()), staying: HashSet::new() };
+/// The copies of those messages that have none yet.
+fn copies_of(
+    store: &Store,
+    queue: &Queue,
+    messages: Vec<Handed>,
+    kind: MoveKind,
+    moved: &mut Moved,
+) -> Vec<(Handed, Copy)> {
+    let mut copies = Vec::new();
     for handed in messages {
         let sequence = handed.receipt.sequence;
-        let (is_there, is_own) = {
-            let state = queue.state();
-            (state.last_receipt_of(sequence).is_some(), state.own_receipt_of(sequence).is_some())
-        };
-        if !is_there {
-            // Others that were handed it as well have moved it.
-            continue;
-        }
         if store.queues().copies().has(origin_of(queue, &handed)) {
-            sorted.copied.push(sequence);
-            continue;
-        }
-        if !is_own {
-            sorted.staying.insert(handed.group);
+            moved.copied.push(sequence);
             continue;
         }
         match copy_of(store, queue, &handed, kind) {
-            Ok(ask) => sorted.to_copy.push((handed, Copy { sequence, ask })),
+            Ok(ask) => copies.push((handed, Copy { sequence, ask })),
             Err(error) => {
-                sorted.result = Err(error);
-                sorted.failed.push(handed);
+                moved.result = Err(error);
+                moved.failed.push(handed);
             }
         }
     }
-    sorted
+    copies
 }
 
 fn groups_of(messages: &[Handed]) -> HashSet<String> {
@@ -215,26 +233,27 @@ fn change_back(receipt: Receipt) -> Ask {
     Ask::ChangeVisibility { receipt, visibility: 0, by: Changer::Gateway }
 }
 
-/// The last receipts of messages: another receive may have set them aside as well, and hides them.
-fn last_receipts(queue: &Queue, messages: &[Handed]) -> Vec<Receipt> {
-    let state = queue.state();
-    let last = |handed: &Handed| state.own_receipt_of(handed.receipt.sequence).unwrap_or(handed.receipt);
-    messages.iter().map(last).collect()
+fn changes_back(messages: &[Handed]) -> Vec<Ask> {
+    messages.iter().map(|handed| change_back(handed.receipt)).collect()
 }
 
-/// Lets messages be handed out again at once, as far as they are still there and in flight.
+/// Lets messages be handed out again at once, as far as they are still there and in flight by these handings.
 pub async fn give_back(store: &Store, queue: &Arc<Queue>, messages: &[Handed]) {
-    let receipts = last_receipts(queue, messages);
-    if !receipts.is_empty() {
-        let _ = store.ask_all(queue, receipts.into_iter().map(change_back).collect()).await;
+    if !messages.is_empty() {
+        let _ = store.ask_all(queue, changes_back(messages)).await;
     }
 }
 
 /// The same, by who has the queue.
-async fn give_back_by(held: &Held, queue: &Queue, messages: &[Handed]) {
-    let receipts = last_receipts(queue, messages);
-    if !receipts.is_empty() {
-        let _ = held.ask_all(receipts.into_iter().map(change_back).collect()).await;
+async fn give_back_by(held: &Held, messages: &[Handed]) {
+    if !messages.is_empty() {
+        let _ = held.ask_all(changes_back(messages)).await;
+    }
+}
+
+async fn delete_all(store: &Store, queue: &Arc<Queue>, copied: &[u64]) {
+    for sequence in copied {
+        delete(store, queue, *sequence).await;
     }
 }
 
@@ -266,40 +285,46 @@ async fn try_to_delete(store: &Store, queue: &Arc<Queue>, sequence: u64) -> Resu
     }
 }
 
-/// So many messages are given back at once.
-const GIVEN_BACK_AT_ONCE: usize = 32;
+/// So many messages are seen to at once.
+const SEEN_TO_AT_ONCE: usize = 32;
 
-/// Brings to their end what was cut off, before anybody is served: messages that have a copy are deleted, and others
-/// that the gateway had handed to itself are given back. What a full disk doesn't take is tried again until it is done.
+/// Brings to their end what was cut off, before anybody is served: messages that have a copy are deleted, those that were
+/// set aside since they were too old are deleted, too, and those that were about to be moved are given back. What a full
+/// disk doesn't take is tried again until it is done.
 pub async fn finish(store: &Store) {
     delete_copied(store).await;
     for queue in store.queues().all() {
-        let hidden = queue.state().hidden_for_the_gateway(store.clock().now());
-        let left = give_back_all(store, &queue, hidden).await;
+        let created = store.queues().target_of(&queue).map(|(target, _)| target.state().created);
+        let cut_off = queue.state().cut_off(created, store.queues().jumps(), store.clock().now());
+        let asks = cut_off.into_iter().map(|(receipt, fate)| match fate {
+            Fate::Old => Ask::Delete { receipt, by_client: false },
+            Fate::Dead | Fate::Early => change_back(receipt),
+        });
+        let left = ask_each(store, &queue, asks.collect()).await;
         if !left.is_empty() {
-            tracing::warn!("{} messages of {} are given back later", left.len(), queue.name);
-            tokio::spawn(keep_giving_back(store.clone(), queue, left));
+            tracing::warn!("{} messages of {} are seen to later", left.len(), queue.name);
+            tokio::spawn(keep_asking(store.clone(), queue, left));
         }
     }
 }
 
-async fn keep_giving_back(store: Store, queue: Arc<Queue>, mut left: Vec<Receipt>) {
+async fn keep_asking(store: Store, queue: Arc<Queue>, mut left: Vec<Ask>) {
     while !left.is_empty() {
         tokio::time::sleep(PAUSE).await;
-        left = give_back_all(&store, &queue, left).await;
+        left = ask_each(&store, &queue, left).await;
     }
 }
 
-/// Gives messages back, and tells which have to wait.
-async fn give_back_all(store: &Store, queue: &Arc<Queue>, receipts: Vec<Receipt>) -> Vec<Receipt> {
+/// Asks for deletions and changes, and tells which have to wait.
+async fn ask_each(store: &Store, queue: &Arc<Queue>, asks: Vec<Ask>) -> Vec<Ask> {
     let mut left = Vec::new();
-    for some in receipts.chunks(GIVEN_BACK_AT_ONCE) {
-        let answers = store.ask_all(queue, some.iter().copied().map(change_back).collect()).await;
+    for some in asks.chunks(SEEN_TO_AT_ONCE) {
+        let answers = store.ask_all(queue, some.to_vec()).await;
         let waiting = some.iter().zip(answers).filter(|(_, answer)| {
-            // With any other refusal there is nothing to give back any more.
+            // With any other refusal there is nothing to see to any more.
             matches!(answer, Err(SqsError::ServiceUnavailable(_) | SqsError::InternalFailure(_)))
         });
-        left.extend(waiting.map(|(receipt, _)| *receipt));
+        left.extend(waiting.map(|(ask, _)| ask.clone()));
     }
     left
 }

@@ -166,7 +166,7 @@ async fn wait_for_opening(store: &Store, queue: &Queue) {
     let clock = store.clock();
     let next = {
         let (mut state, now) = (queue.state(), clock.now());
-        let (end, due) = (state.next_end(now), state.next_due(now));
+        let (end, due) = (state.next_end(now), state.next_due_moment(now));
         end.into_iter().chain(due).min()
     };
     let end = async {

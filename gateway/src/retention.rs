@@ -5,7 +5,6 @@ use std::time::Duration;
 
 use crate::clock::Moment;
 use crate::errors::SqsError;
-use crate::queues::ask::{Ask, Outcome};
 use crate::queues::Queue;
 use crate::store::{Held, Store};
 
@@ -18,7 +17,7 @@ const PAUSE: Duration = Duration::from_secs(1);
 
 /// So many messages are looked at in one turn at a queue, and in one receive.
 const TURN: usize = 100;
-const AT_ONCE: u8 = 10;
+const AT_ONCE: usize = 10;
 
 /// A start that found the clock far ahead of the last record.
 #[derive(Clone, Copy, Debug, PartialEq, Eq)]
@@ -68,6 +67,7 @@ pub async fn keep_sweeping(store: Store) {
     loop {
         tokio::time::sleep(PAUSE).await;
         for queue in store.queues().all() {
+            queue.state().forget_groups(store.clock().now());
             while is_due(&store, &queue) {
                 if let Err(error) = sweep(&store, &queue).await {
                     tracing::warn!("old messages of {} stay for now: {error}", queue.name);
@@ -85,7 +85,7 @@ fn is_due(store: &Store, queue: &Queue) -> bool {
 /// Deletes some messages that are too old, while nobody else has the queue. Groups in flight are left alone.
 async fn sweep(store: &Store, queue: &Arc<Queue>) -> Result<(), SqsError> {
     let held = store.hold(queue).await?;
-    for _ in 0..TURN / usize::from(AT_ONCE) {
+    for _ in 0..TURN / AT_ONCE {
         if !is_due(store, queue) {
             break;
         }
@@ -97,22 +97,18 @@ async fn sweep(store: &Store, queue: &Arc<Queue>) -> Result<(), SqsError> {
     Ok(())
 }
 
-/// Hands some messages to itself, without hiding them, and deletes those that are too old. Tells whether there were any.
+/// Hands the next messages to itself that are too old, and deletes them. Tells whether there were any.
 async fn sweep_some(store: &Store, queue: &Arc<Queue>, held: &Held) -> Result<bool, SqsError> {
-    let ask = Ask::Receive { size: AT_ONCE, visibility: 0, attempt: None, most: None, own: true };
-    let Outcome::Received { handed, .. } = held.ask(ask).await? else { return Ok(false) };
-    let now = store.clock().now();
-    let receipts = handed.into_iter().map(|handed| handed.receipt);
-    let deletes: Vec<_> = {
-        let state = queue.state();
-        let old = receipts.filter(|receipt| state.is_old(receipt.sequence, store.queues().jumps(), now));
-        old.map(|receipt| Ask::Delete { receipt, by_client: false }).collect()
-    };
-    let has_old = !deletes.is_empty();
-    for answer in held.ask_all(deletes).await {
-        answer?;
-    }
+    let old = queue.state().next_old(AT_ONCE, store.queues().jumps(), store.clock().now());
+    let has_old = !old.is_empty();
+    delete_next(held, old).await?;
     Ok(has_old)
+}
+
+/// Hands messages to itself, as far as they are the next ones, and deletes them. Whoever has the queue may do so.
+pub async fn delete_next(held: &Held, next: Vec<u64>) -> Result<(), SqsError> {
+    let handed = held.take(next).await?;
+    held.delete(handed.into_iter().map(|handed| handed.receipt)).await
 }
 
 #[cfg(test)]

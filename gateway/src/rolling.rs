@@ -71,7 +71,7 @@ fn is_due(state: &State, least: u64, now: u64) -> bool {
 }
 
 fn is_worth_rolling(state: &State, least: u64, now: u64) -> bool {
-    state.is_at_rest(now) && state.records() >= least
+    state.is_at_rest(now) && state.purging().is_none() && state.records() >= least
 }
 
 /// Gives a queue a fresh name, while nobody else has it, and removes the old one. If this ends half way, the old one is

@@ -28,6 +28,7 @@ use crate::metrics::Metrics;
 use crate::move_tasks;
 use crate::moves;
 use crate::peek::Peeks;
+use crate::purges;
 use crate::queues::ask::Ask;
 use crate::queues::shards::Shards;
 use crate::queues::Queues;
@@ -258,6 +259,7 @@ async fn begin(settings: &Settings, health: &Health, mut cqs: Vec<Cq>) -> Result
         store::start(Start { program, patience, shards, cqs, queues, clock, journal: journals, bounds });
     remove_left_over(&store, &replayed).await;
     moves::finish(&store).await;
+    purges::finish(&store).await;
     Ok(RunningStore { store, ended, journal })
 }
 

@@ -270,3 +270,9 @@ class ByQuery:
             else:
                 found[child.tag] = {"true": True, "false": False}.get(child.text, child.text or "")
         return found
+
+
+def handing(message: dict[str, Any]) -> int:
+    """Which handing of a message the store says this is, by its receipt handle."""
+    text = message["ReceiptHandle"]
+    return int.from_bytes(base64.urlsafe_b64decode(text + "=" * (-len(text) % 4))[24:32], "big")

@@ -16,7 +16,7 @@ from botocore.awsrequest import AWSRequest
 from botocore.credentials import Credentials
 
 from conftest import Rules
-from started import ByJson, ByQuery, Refused, Started, post
+from started import ByJson, ByQuery, Refused, Started, handing, post
 from steered import SteeredCq
 
 
@@ -164,6 +164,23 @@ def test_a_task_against_the_stream_ends(tasks):
     tasks.call("StartMessageMoveTask", SourceArn=arn(one), DestinationArn=arn(other))
     assert ended(tasks, one)["Status"] == ended(tasks, other)["Status"] == "COMPLETED"
     assert sorted(tasks.bodies(one) + tasks.bodies(other)) == list("01234")
+
+
+def test_a_task_is_handed_only_what_it_moves(tasks):
+    """Messages that come later, and some that go nowhere, stay as they are."""
+    queue, dead = dead_pair(tasks)
+    fill(tasks, queue, 12, groups=3)
+    tasks.call("StartMessageMoveTask", SourceArn=arn(dead), MaxNumberOfMessagesPerSecond=5)
+    for number in range(6):
+        tasks.send(dead, f"later{number}", group=f"g{number % 4}", body=f"later{number}")
+    task = ended(tasks, dead)
+    assert (task["Status"], int(task["ApproximateNumberOfMessagesMoved"])) == ("COMPLETED", 12)
+    tasks.call("StartMessageMoveTask", SourceArn=arn(dead))
+    assert ended(tasks, dead)["FailureReason"] == "CouldNotDetermineMessageSource"
+    found = tasks.receive(dead, VisibilityTimeout=0, AttributeNames=["All"])
+    assert sorted(message["Body"] for message in found) == [f"later{number}" for number in range(6)]
+    assert {(handing(message), message["Attributes"]["ApproximateReceiveCount"]) for message in found} == {(1, "1")}
+    tasks.call("PurgeQueue", QueueUrl=dead)
 
 
 @pytest.mark.parametrize("kills", [5, 0])

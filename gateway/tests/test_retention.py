@@ -9,7 +9,7 @@ from collections.abc import Callable
 import pytest
 
 from conftest import Rules, new_name
-from started import ByBoto3, Started, command, environment
+from started import ByBoto3, Started, command, environment, handing
 
 MINUTE = 60_000
 DAY = 24 * 3_600_000
@@ -80,26 +80,27 @@ def test_what_is_in_flight_is_left_to_who_has_it(kept):
     wait_for(lambda: counts(kept, queue) == (0, 0))
 
 
-def test_a_sweep_takes_no_handing_from_anybody(tmp_path):
-    journal = tmp_path / "journal"
-    gateway = Started("--journal", str(journal), room=tmp_path)
+def test_a_sweep_is_handed_only_what_it_deletes(tmp_path):
+    gateway = Started("--journal", str(tmp_path / "journal"), room=tmp_path)
     rules = Rules(ByBoto3(gateway.client()), lambda step: gateway.set_clock(gateway.moment + step))
     queue = rules.queue(MessageRetentionPeriod="60", VisibilityTimeout="600")
     rules.send(queue, "1", group="held")
     rules.send(queue, "2", group="held")
     assert len(rules.receive(queue, 1)) == 1
+    rules.send(queue, "0", group="gone")
     rules.move(MINUTE - 1)
     for number in "abc":
         rules.send(queue, number, group=number, body=number)
-    first = rules.receive(queue, 2, VisibilityTimeout=0)
-    assert [message["Body"] for message in first] == ["a", "b"]
+    first = rules.receive(queue, 3, VisibilityTimeout=0)
+    assert [message["Body"] for message in first[1:]] == ["a", "b"]
     rules.move(1)
-    # The second message of the group is too old, and waits behind what is in flight: the sweep is handed the others.
-    wait_for(lambda: b'"own":true' in (tmp_path / "journal.1").read_bytes())
-    rules.refused("InvalidParameterValue", lambda: rules.delete(queue, first[0]))
+    # The second message of the group is too old, and waits behind what is in flight. Young ones are behind the third.
+    wait_for(lambda: counts(rules, queue) == (4, 1))
+    time.sleep(1.5)
+    rules.refused("InvalidParameterValue", lambda: rules.delete(queue, first[1]))
     again = rules.receive(queue, AttributeNames=["All"])
-    assert [(message["Body"], message["Attributes"]["ApproximateReceiveCount"]) for message in again] == [
-        ("a", "2"), ("b", "2"), ("c", "1")]
+    assert [(message["Body"], message["Attributes"]["ApproximateReceiveCount"], handing(message)) for message in again] == [
+        ("a", "2", 2), ("b", "2", 2), ("c", "1", 1)]
     rules.delete(queue, again.pop(0))
     gateway.kill()
     gateway.start()
@@ -108,8 +109,31 @@ def test_a_sweep_takes_no_handing_from_anybody(tmp_path):
     rules.delete(queue, b)
     rules.change(queue, c, 0)
     (c,) = rules.receive(queue, AttributeNames=["All"])
-    assert (c["Body"], c["Attributes"]["ApproximateReceiveCount"]) == ("c", "2")
+    assert (c["Body"], c["Attributes"]["ApproximateReceiveCount"], handing(c)) == ("c", "2", 2)
     assert gateway.stop() == 0
+
+
+def test_a_sweep_follows_the_order_of_groups(kept):
+    """Groups of which some messages are too old, and some in flight."""
+    queue = kept.queue(MessageRetentionPeriod="60", VisibilityTimeout="600")
+    for number in range(60):
+        kept.send(queue, f"old{number}", group=f"g{number % 7}")
+    held = kept.receive(queue, 1)
+    kept.move(MINUTE - 1)
+    for number in range(30):
+        kept.send(queue, f"young{number}", group=f"g{number % 10}", body=str(number))
+    kept.move(1)
+    # Nine old messages of the first group and five young ones wait behind the one in flight.
+    wait_for(lambda: counts(kept, queue) == (8 + 30, 1))
+    kept.delete(queue, held[0])
+    wait_for(lambda: counts(kept, queue) == (30, 0))
+    found = []
+    while some := kept.receive(queue):
+        found += some
+        for message in some:
+            kept.delete(queue, message)
+    assert sorted(int(message["Body"]) for message in found) == list(range(30))
+    assert {handing(message) for message in found} == {1}
 
 
 def test_a_long_poll_goes_on_behind_old_messages(kept):

@@ -6,21 +6,17 @@ use super::{Actions, Caller, Pauses, Performed, LONGEST_PAGE};
 use crate::attributes::{GivenAttributes, QueueAttributes, WantedAttributes, COUNTS};
 use crate::delays::bring_up_to_date;
 use crate::errors::SqsError;
-use crate::handles::Receipt;
+use crate::purges::purge;
 use crate::queues::ask::{Ask, Creation, Outcome, TableChange};
 use crate::queues::Queue;
 use crate::rolling::remove_earlier;
-use crate::store::{Answer, Held};
+use crate::store::Answer;
 use crate::texts::QueueName;
 use crate::wire::requests::{test_count_of_tags, Tags};
 use crate::wire::Response;
 
 /// So long a queue can't be purged again, in milliseconds (API Reference, PurgeQueue, `PurgeQueueInProgress`).
 const PURGE_PAUSE: u64 = 60_000;
-
-/// How many deletes of a purge are asked for at once, and how many messages it looks at while others wait.
-const PURGED_AT_ONCE: usize = 32;
-const LOOKED_AT_AT_ONCE: usize = 1024;
 
 impl Actions {
     pub(super) async fn create(
@@ -148,9 +144,9 @@ impl Actions {
         let queue = self.queue(name)?;
         let held = self.store.hold(&queue).await?;
         let now = self.store.clock().now();
-        let (purged, removed) = {
+        let (purged, removed, last) = {
             let state = queue.state();
-            (state.purged, state.removed)
+            (state.purged, state.removed, state.last_sequence)
         };
         if removed {
             return Err(SqsError::QueueDoesNotExist);
@@ -159,38 +155,7 @@ impl Actions {
         if is_early && self.pauses == Pauses::AsSqs {
             return Err(SqsError::PurgeQueueInProgress { queue: name.to_string() });
         }
-        delete_all(&queue, &held).await?;
-        held.change(TableChange::Purged).await?;
+        purge(self.store.clone(), queue, held, last).await?;
         Ok(Response::Nothing.into())
     }
-}
-
-/// Deletes what was handed out before, and then hands all else to itself and deletes it.
-async fn delete_all(queue: &Queue, held: &Held) -> Result<(), SqsError> {
-    let mut next = 0;
-    loop {
-        let found = queue.state().receipts_from(next, LOOKED_AT_AT_ONCE);
-        let Some((receipts, behind)) = found else { break };
-        next = behind;
-        for some in receipts.chunks(PURGED_AT_ONCE) {
-            delete_each(held, some.iter().copied()).await?;
-        }
-    }
-    while queue.state().count() > 0 {
-        let ask = Ask::Receive { size: 10, visibility: 0, attempt: None, most: None, own: true };
-        let Outcome::Received { handed, .. } = held.ask(ask).await? else { return Ok(()) };
-        if handed.is_empty() {
-            return Ok(());
-        }
-        delete_each(held, handed.iter().map(|handed| handed.receipt)).await?;
-    }
-    Ok(())
-}
-
-async fn delete_each(held: &Held, receipts: impl Iterator<Item = Receipt>) -> Result<(), SqsError> {
-    let asks = receipts.map(|receipt| Ask::Delete { receipt, by_client: false }).collect();
-    for answer in held.ask_all(asks).await {
-        answer?;
-    }
-    Ok(())
 }

@@ -11,7 +11,7 @@ use crate::errors::SqsError;
 use crate::handles::Handle;
 use crate::messages::{read_envelope, MessageAttributes, Metadata};
 use crate::polling::{self, Waiter};
-use crate::queues::ask::{Ask, Changer, Handed};
+use crate::queues::ask::{Ask, Changer, Handed, Reach};
 use crate::queues::Queue;
 use crate::texts::{QueueKind, QueueName};
 use crate::wire::requests::{Receive, Shown, SystemAttribute};
@@ -42,7 +42,8 @@ impl Actions {
         if let Some(handed) = self.receive_again(&queue, &receive, visibility).await? {
             return self.received(&queue, handed, &receive.shown);
         }
-        let ask = Ask::Receive { size: receive.size, visibility, attempt: receive.attempt, most: None, own: false };
+        let ask =
+            Ask::Receive { size: receive.size, visibility, attempt: receive.attempt, most: None, reach: Reach::All };
         let Delivered { mut handed, openings } = deliveries::receive(&self.store, &queue, ask.clone()).await?;
         if handed.is_empty() && wait == 0 && has_most_in_flight(&self.store, &queue) {
             let message = "Too many messages of the queue are in flight.";

@@ -12,7 +12,7 @@ use crate::clock::Moment;
 use crate::lines::{read_receipt, AskFields, AskKind};
 use crate::messages::{origin_in, Envelope};
 use crate::moves::Origin;
-use crate::queues::ask::{Ask, Cause, Changer, Creation, StoreName, TableChange};
+use crate::queues::ask::{Ask, Cause, Changer, Creation, Reach, StoreName, TableChange};
 use crate::texts::{hex, AttemptId, DedupId, GroupId, QueueName};
 
 /// A record as it stands in the journal.
@@ -46,8 +46,8 @@ pub struct Record<'a> {
     /// Of a receive: what was handed out so often wasn't for the client.
     #[serde(default, skip_serializing_if = "Option::is_none")]
     pub most: Option<u32>,
-    /// Of a receive for which no client asked.
-    #[serde(default, skip_serializing_if = "std::ops::Not::not")]
+    /// Of a receive for which no client asked, in journals up to version 5: it counts as no handing.
+    #[serde(default, skip_serializing)]
     pub own: bool,
     /// Of a change for which no client asked.
     #[serde(default, skip_serializing_if = "std::ops::Not::not")]
@@ -96,10 +96,9 @@ impl<'a> Record<'a> {
                     record.envelope = Some(whole.into());
                 }
             }
-            Ask::Receive { attempt, most, own, .. } => {
+            Ask::Receive { attempt, most, .. } => {
                 record.attempt = attempt.clone();
                 record.most = *most;
-                record.own = *own;
             }
             Ask::ChangeVisibility { by, .. } => record.by_attempt = *by == Changer::Attempt,
             Ask::Delete { .. } => {}
@@ -166,7 +165,7 @@ impl<'a> Record<'a> {
                 visibility: fields.visibility?,
                 attempt: self.attempt.clone(),
                 most: self.most,
-                own: self.own,
+                reach: if self.own { Reach::Uncounted } else { Reach::All },
             },
             AskKind::Delete => Ask::Delete { receipt: receipt()?, by_client: false },
             AskKind::Change => {
@@ -231,8 +230,13 @@ mod tests {
                 cause: Cause::Move(Origin { mark: 1, sequence: 2 }),
             },
             Ask::Send { group, dedup, envelope, cause: Cause::Client },
-            Ask::Receive { size: 3, visibility: 9, attempt: AttemptId::parse("x").ok(), most: Some(2), own: false },
-            Ask::Receive { size: 3, visibility: 0, attempt: None, most: None, own: true },
+            Ask::Receive {
+                size: 3,
+                visibility: 9,
+                attempt: AttemptId::parse("x").ok(),
+                most: Some(2),
+                reach: Reach::All,
+            },
             Ask::ChangeVisibility { receipt, visibility: 5, by: Changer::Attempt },
             Ask::Remove { store: StoreName(7), name: QueueName::parse("q.fifo") },
         ] {

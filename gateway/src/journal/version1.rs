@@ -23,7 +23,7 @@ use crate::attributes::{GivenAttributes, QueueAttributes};
 use crate::cq::{Cq, CqError};
 use crate::lines::{self, read_receipt, AskFields, AskKind, OutputLine, StoreReply};
 use crate::messages::{read_envelope, AttributeValue, Envelope, MessageAttributes, Metadata};
-use crate::queues::ask::{Ask, Cause, Changer, Creation, StoreName, TableChange};
+use crate::queues::ask::{Ask, Cause, Changer, Creation, Reach, StoreName, TableChange};
 use crate::queues::shards::Shards;
 use crate::store::ReplayError;
 use crate::texts::{hex, AttemptId, Body, DedupId, GroupId, QueueName};
@@ -292,7 +292,7 @@ impl Conversion {
             }
             AskKind::Receive => {
                 let (size, visibility) = (fields.size.unwrap_or(1), fields.visibility?);
-                Ask::Receive { size, visibility, attempt: beside.attempt, most: None, own: false }
+                Ask::Receive { size, visibility, attempt: beside.attempt, most: None, reach: Reach::All }
             }
             AskKind::Delete => Ask::Delete { receipt: receipt()?, by_client: false },
             AskKind::Change => {

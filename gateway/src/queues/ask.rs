@@ -53,10 +53,10 @@ pub enum Ask {
         size: u8,
         visibility: u32,
         attempt: Option<AttemptId>,
-        /// What was handed out so often is for the dead-letter queue.
+        /// What was handed out so often is for the dead-letter queue. Who asks leaves it out: it counts as it is when the
+        /// answer comes.
         most: Option<u32>,
-        /// The gateway asks for itself: nobody sees that the messages were handed out.
-        own: bool,
+        reach: Reach,
     },
     /// `by_client`: in a FIFO queue it is refused when the timeout is over. A purge deletes what is there.
     Delete {
@@ -77,6 +77,34 @@ impl Ask {
             Ask::Send { cause, .. } => cause.due(),
             _ => None,
         }
+    }
+}
+
+/// Which messages a receive may be handed. Whoever names some has the queue to itself, and asks for no more than the
+/// next ones of the store that are among them.
+#[derive(Clone, Debug)]
+pub enum Reach {
+    /// A client is handed whatever comes next.
+    All,
+    /// A client is handed these, which are due.
+    Due(Vec<u64>),
+    /// The gateway is handed these, and deletes or moves them.
+    Own(Vec<u64>),
+    /// The gateway was handed what it perhaps left, in a journal up to version 5. That counts as no handing.
+    Uncounted,
+}
+
+impl Reach {
+    /// The messages that are named, where some are.
+    pub fn named(&self) -> Option<&[u64]> {
+        match self {
+            Reach::Due(named) | Reach::Own(named) => Some(named),
+            Reach::All | Reach::Uncounted => None,
+        }
+    }
+
+    pub fn is_for_client(&self) -> bool {
+        matches!(self, Reach::All | Reach::Due(_))
     }
 }
 
@@ -155,7 +183,9 @@ pub enum TableChange {
     Attributes(GivenAttributes),
     Tag(BTreeMap<String, String>),
     Untag(Vec<String>),
-    /// Delayed messages of a standard queue go with this.
+    /// All messages up to this one are being deleted. Delayed messages of a standard queue go with this.
+    Purging(u64),
+    /// They are deleted. In journals up to version 5 nothing stands before this, and delayed messages go with it.
     Purged,
     /// How a task stands that moves messages.
     Task(MoveTask),
@@ -167,7 +197,7 @@ pub enum TableChange {
 #[derive(Clone, Debug)]
 pub struct Handed {
     pub receipt: Receipt,
-    /// How often it was handed out to clients, this time among them.
+    /// How often it was handed out, this time among them.
     pub count: u64,
     /// When it was handed out, and when for the first time.
     pub moment: Moment,

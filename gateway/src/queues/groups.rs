@@ -1,4 +1,5 @@
-//! The groups of a queue that delays its messages, in the order in which the store hands them out.
+//! The groups of a FIFO queue, in the order in which the store hands them out. They are kept where it has to be known which
+//! messages are next.
 
 use std::collections::hash_map::DefaultHasher;
 use std::collections::{BTreeMap, BTreeSet, HashMap};
@@ -93,26 +94,10 @@ impl Groups {
         }
     }
 
-    /// How many messages, up to `most`, the store would hand out at `now` before it comes to one that was sent after
-    /// `horizon`.
-    pub fn count_next(
-        &mut self,
-        most: usize,
-        horizon: Moment,
-        now: Moment,
-        sent: impl Fn(u64) -> Option<Moment>,
-    ) -> usize {
+    /// The messages that the store would hand out at `now`, in its order.
+    pub fn next(&mut self, now: Moment) -> impl Iterator<Item = u64> + '_ {
         self.look(now);
-        let is_due = |sequence: &u64| sent(*sequence).is_some_and(|sent| sent <= horizon);
-        let mut count = 0;
-        for group in self.open.values() {
-            let Some(members) = self.members.get(group) else { break };
-            let due = members.sequences.iter().take(most - count).take_while(|sequence| is_due(sequence)).count();
-            count += due;
-            if count == most || due < members.sequences.len() {
-                break;
-            }
-        }
-        count
+        let open = self.open.values().filter_map(|group| self.members.get(group));
+        open.flat_map(|members| members.sequences.iter().copied())
     }
 }

@@ -96,6 +96,12 @@ impl Queues {
         self.find(name).ok_or(SqsError::QueueDoesNotExist)
     }
 
+    /// Where the queue's dead letters go, if that is there, and how often a message is handed out before it is one.
+    pub fn target_of(&self, queue: &Queue) -> Option<(Arc<Queue>, u32)> {
+        let policy = queue.state().redrive().cloned()?;
+        Some((self.find(&policy.target.name)?, policy.most))
+    }
+
     /// The jumps of the clock.
     pub fn jumps(&self) -> &Jumps {
         &self.jumps

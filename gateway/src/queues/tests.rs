@@ -6,9 +6,8 @@ use std::collections::BTreeSet;
 use proptest::prelude::*;
 use proptest::sample::Index;
 use proptest::test_runner::TestCaseResult;
-use uuid::Uuid;
 
-use super::ask::{Ask, Cause, Changer, Creation, Outcome, StoreName, TableChange};
+use super::ask::{Ask, Cause, Changer, Creation, Outcome, Reach, StoreName, TableChange};
 use super::State;
 use crate::attributes::{GivenAttributes, QueueAttributes};
 use crate::clock::Moment;
@@ -74,10 +73,17 @@ impl List {
 enum Step {
     Wait(u64),
     Send(&'static str),
-    Receive { size: u8, visibility: u32 },
+    Receive {
+        size: u8,
+        visibility: u32,
+    },
     Delete(Index),
     Change(Index, u32),
     Delay(u32),
+    /// The gateway takes messages that are too old, or those up to one of them, and deletes them.
+    Sweep(usize),
+    TakeUpTo(Index, usize),
+    ForgetGroups,
 }
 
 fn steps() -> impl Strategy<Value = Vec<Step>> {
@@ -90,6 +96,9 @@ fn steps() -> impl Strategy<Value = Vec<Step>> {
         2 => any::<Index>().prop_map(Step::Delete),
         1 => (any::<Index>(), select(vec![0u32, 30])).prop_map(|(place, visibility)| Step::Change(place, visibility)),
         1 => select(vec![0u32, 10, 100, 900]).prop_map(Step::Delay),
+        1 => select(vec![1usize, 3, 10]).prop_map(Step::Sweep),
+        1 => (any::<Index>(), select(vec![1usize, 3, 10])).prop_map(|(place, most)| Step::TakeUpTo(place, most)),
+        1 => Just(Step::ForgetGroups),
     ];
     proptest::collection::vec(step, 1..80)
 }
@@ -98,17 +107,23 @@ struct Both {
     list: List,
     state: State,
     now: Moment,
+    kind: QueueKind,
 }
 
+/// In the store each message of a standard queue has a group of its own.
+const GROUPS: [&str; 9] = ["1", "2", "3", "4", "5", "6", "7", "8", "9"];
+
+/// Messages are kept so long.
+const PERIOD: u64 = 100_000;
+
 impl Both {
-    fn new() -> Both {
-        let attributes =
-            QueueAttributes::for_creation(QueueKind::Fifo, &GivenAttributes::read(QueueKind::Fifo, &[]).unwrap())
-                .unwrap();
-        let name = QueueName::parse("q.fifo").unwrap();
+    fn new(kind: QueueKind) -> Both {
+        let given = [("MessageRetentionPeriod".to_string(), (PERIOD / 1000).to_string())];
+        let attributes = QueueAttributes::for_creation(kind, &GivenAttributes::read(kind, &given).unwrap()).unwrap();
+        let name = QueueName::parse(if kind == QueueKind::Fifo { "q.fifo" } else { "q" }).unwrap();
         let creation = Creation { name, mark: 1, attributes, tags: BTreeMap::new(), before: None };
         let now = 1_700_000_000_000;
-        Both { list: List::default(), state: State::new(StoreName(1), &creation, now), now }
+        Both { list: List::default(), state: State::new(StoreName(1), &creation, now), now, kind }
     }
 
     fn apply_reply(&mut self, ask: &Ask, reply: StoreReply) -> Outcome {
@@ -118,8 +133,17 @@ impl Both {
     fn send(&mut self, group: &'static str) {
         self.list.sent += 1;
         let sequence = self.list.sent;
+        let own_groups = || GROUPS.iter().find(|group| self.list.messages.values().all(|other| other.group != **group));
+        let group = match self.kind {
+            QueueKind::Fifo => group,
+            QueueKind::Standard => own_groups().copied().unwrap_or("many"),
+        };
+        if group == "many" {
+            self.list.sent -= 1;
+            return;
+        }
         self.list.messages.insert(sequence, Message { group, sent: self.now, until: 0, count: 0 });
-        let envelope = Envelope::Whole(format!("{{\"id\":\"{}\"}}\nb", Uuid::from_u128(7)));
+        let envelope = Envelope::Whole("{}\nb".into());
         let (group, dedup) = (GroupId::parse(group).unwrap(), DedupId::parse("d").unwrap());
         self.apply_reply(&Ask::Send { group, dedup, envelope, cause: Cause::Client }, StoreReply::Sent(sequence));
     }
@@ -129,17 +153,19 @@ impl Both {
         let (closed, in_turn) = (self.list.closed(self.now), self.list.in_turn(self.now));
         let mut got = Vec::new();
         loop {
-            let due = self.state.count_due(usize::from(size) - got.len(), self.now);
-            if due == 0 {
+            let due = self.state.next_due(usize::from(size) - got.len(), self.now);
+            if due.is_empty() {
                 break;
             }
-            let given = self.list.hand(due, visibility, self.now);
-            let asked = Ask::Receive { size: due as u8, visibility, attempt: None, most: None, own: false };
+            let given = self.list.hand(due.len(), visibility, self.now);
+            let (size, reach) = (due.len() as u8, Reach::Due(due));
+            let asked = Ask::Receive { size, visibility, attempt: None, most: None, reach };
             let Outcome::Received { handed, set_aside, .. } = self.apply_reply(&asked, StoreReply::Received(given))
             else {
                 panic!()
             };
-            prop_assert!(set_aside.is_empty(), "{set_aside:?}");
+            let mut handed: Vec<_> = handed.into_iter().chain(set_aside.into_iter().map(|(one, _)| one)).collect();
+            handed.sort_unstable_by_key(|one| one.receipt.sequence);
             let is_last = handed.is_empty() || visibility == 0;
             got.extend(handed);
             if is_last {
@@ -152,7 +178,7 @@ impl Both {
             prop_assert!(!closed.contains(message.group), "{sequence} is of a closed group");
             prop_assert_eq!(handed.count, message.count);
         }
-        for group in ["a", "b", "c"] {
+        for group in GROUPS.into_iter().chain(["a", "b", "c"]) {
             let of_group = |sequence: &u64| self.list.messages[sequence].group == group;
             let mine: Vec<_> = got.iter().map(|handed| handed.receipt.sequence).filter(of_group).collect();
             let front: Vec<_> = in_turn.iter().copied().filter(of_group).take(mine.len()).collect();
@@ -160,6 +186,33 @@ impl Both {
         }
         let is_any_due = in_turn.iter().any(|sequence| self.list.is_due(*sequence, self.now));
         prop_assert_eq!(got.is_empty(), !is_any_due);
+        Ok(())
+    }
+
+    /// Hands messages to the gateway that were found to be next ones, and deletes them. What the store hands out is those,
+    /// and nothing is next then that is wanted and wasn't found.
+    fn take(&mut self, found: Vec<u64>, most: usize, is_wanted: impl Fn(&List, u64) -> bool) -> TestCaseResult {
+        let in_turn = self.list.in_turn(self.now).into_iter();
+        let wanted: Vec<_> = in_turn.take_while(|sequence| is_wanted(&self.list, *sequence)).take(most).collect();
+        prop_assert_eq!(&found, &wanted);
+        prop_assert_eq!(self.state.count_next_among(&found, self.now), found.len());
+        if found.is_empty() {
+            return Ok(());
+        }
+        let given = self.list.hand(found.len(), 0, self.now);
+        let (size, reach) = (found.len() as u8, Reach::Own(found.clone()));
+        let asked = Ask::Receive { size, visibility: 0, attempt: None, most: None, reach };
+        let Outcome::Received { handed, set_aside, .. } = self.apply_reply(&asked, StoreReply::Received(given)) else {
+            panic!()
+        };
+        prop_assert!(set_aside.is_empty(), "{set_aside:?}");
+        let taken: Vec<_> = handed.iter().map(|handed| handed.receipt.sequence).collect();
+        prop_assert_eq!(taken, found);
+        for handed in handed {
+            self.list.messages.remove(&handed.receipt.sequence);
+            let ask = Ask::Delete { receipt: handed.receipt, by_client: false };
+            self.apply_reply(&ask, StoreReply::Deleted(true));
+        }
         Ok(())
     }
 
@@ -191,6 +244,18 @@ impl Both {
                     );
                 }
             }
+            Step::Sweep(most) => {
+                let old = self.state.next_old(*most, &Jumps::default(), self.now);
+                let horizon = self.now - PERIOD;
+                self.take(old, *most, |list, sequence| list.messages[&sequence].sent <= horizon)?;
+            }
+            Step::TakeUpTo(place, most) => {
+                let last = place.index(self.list.sent as usize + 1) as u64;
+                let next = self.state.next_up_to(last, *most, self.now);
+                self.take(next, *most, |_, sequence| sequence <= last)?;
+            }
+            Step::ForgetGroups => self.state.forget_groups(self.now + 60_000),
+            Step::Delay(_) if self.kind == QueueKind::Standard => {}
             Step::Delay(seconds) => {
                 self.list.delay = 1000 * u64::from(*seconds);
                 let given =
@@ -205,7 +270,7 @@ impl Both {
         let now = self.now;
         let delayed: Vec<_> = self.list.messages.values().filter(|one| one.sent + self.list.delay > now).collect();
         let first = delayed.first().map(|message| message.sent + self.list.delay);
-        prop_assert_eq!(self.state.next_due(now), first);
+        prop_assert_eq!(self.state.next_due_moment(now), first);
         let visible = delayed.iter().filter(|message| message.until <= now).count();
         prop_assert_eq!(self.state.count_delayed(now), visible as u64);
         Ok(())
@@ -213,12 +278,14 @@ impl Both {
 }
 
 #[test]
-fn receives_are_those_of_a_list_with_delays() {
+fn what_is_handed_out_is_that_of_a_list_with_delays() {
     check(3000, steps(), |steps| {
-        let mut both = Both::new();
-        for step in &steps {
-            both.step(step)?;
-            both.compare()?;
+        for kind in [QueueKind::Fifo, QueueKind::Standard] {
+            let mut both = Both::new(kind);
+            for step in &steps {
+                both.step(step)?;
+                both.compare()?;
+            }
         }
         Ok(())
     });

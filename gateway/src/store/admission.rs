@@ -101,6 +101,7 @@ impl Admission {
 mod tests {
     use super::*;
     use crate::messages::Envelope;
+    use crate::queues::ask::Reach;
     use crate::texts::{DedupId, GroupId};
 
     #[test]
@@ -115,7 +116,7 @@ mod tests {
         let admission = Admission::new(Arc::default(), Some(4 * one));
         let admitted: Vec<_> = (0..5).map_while(|_| admission.admit(&send, 0).ok()).collect();
         assert_eq!(admitted, [one; 3], "a fourth is above 95 %");
-        let receive = Ask::Receive { size: 1, visibility: 0, attempt: None, most: None, own: false };
+        let receive = Ask::Receive { size: 1, visibility: 0, attempt: None, most: None, reach: Reach::All };
         assert_eq!(admission.admit(&receive, 0), Ok(0));
         admission.answered(one);
         assert_eq!(admission.bytes_in_use(), 2 * one);

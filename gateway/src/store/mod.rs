@@ -12,9 +12,9 @@ use tokio::sync::{mpsc, oneshot};
 use crate::budget::Share;
 use crate::clock::Clock;
 use crate::errors::SqsError;
-use crate::handles::Mark;
-use crate::journal::Journal;
-use crate::queues::ask::{Ask, Cause, Outcome, TableChange};
+use crate::handles::{Mark, Receipt};
+use crate::journal::{Journal, Need};
+use crate::queues::ask::{Ask, Cause, Handed, Outcome, Reach, TableChange};
 use crate::queues::shards::Shards;
 use crate::queues::{Queue, Queues};
 use crate::texts::QueueName;
@@ -122,6 +122,9 @@ pub struct Store {
     counters: Arc<Counters>,
 }
 
+/// What the records of a move take at most beside its messages.
+const ROOM_TO_MOVE: u64 = 32 << 10;
+
 fn gone() -> SqsError {
     SqsError::ServiceUnavailable("The store is gone.".into())
 }
@@ -138,6 +141,16 @@ impl Store {
     /// Whether space of the journal is wanted back: its bound or its disk is full.
     pub fn wants_space(&self) -> bool {
         self.journal.as_ref().is_some_and(Journal::wants_space)
+    }
+
+    /// Refuses to move messages of so many bytes where their copies would be refused, since the journal's disk is full.
+    pub fn test_room_to_move(&self, bytes: u64) -> Result<(), SqsError> {
+        let Some(journal) = &self.journal else { return Ok(()) };
+        match journal.set_aside(Need::Same, ROOM_TO_MOVE + 2 * bytes)? {
+            Some(room) => journal.give_back(room),
+            None => return Err(SqsError::ServiceUnavailable("The journal's disk is being asked for space.".into())),
+        }
+        Ok(())
     }
 
     fn jobs_of(&self, name: &QueueName) -> &mpsc::UnboundedSender<Job> {
@@ -263,6 +276,28 @@ impl Held {
         self.ask_all(vec![ask]).await.pop().unwrap_or_else(|| Err(gone()))
     }
 
+    /// Hands messages to the gateway, as far as they are the next ones of the queue, and hides none of them.
+    pub async fn take(&self, next: Vec<u64>) -> Result<Vec<Handed>, SqsError> {
+        if next.is_empty() {
+            return Ok(Vec::new());
+        }
+        let (size, named) = (next.len() as u8, next.clone());
+        let ask = Ask::Receive { size, visibility: 0, attempt: None, most: None, reach: Reach::Own(next) };
+        let Outcome::Received { mut handed, .. } = self.ask(ask).await? else { return Ok(Vec::new()) };
+        // Nothing else is handed out, and whatever it were, it isn't the gateway's.
+        handed.retain(|handed| named.contains(&handed.receipt.sequence));
+        Ok(handed)
+    }
+
+    /// Deletes messages by their last receipts.
+    pub async fn delete(&self, receipts: impl Iterator<Item = Receipt>) -> Result<(), SqsError> {
+        let asks: Vec<_> = receipts.map(|receipt| Ask::Delete { receipt, by_client: false }).collect();
+        if asks.is_empty() {
+            return Ok(());
+        }
+        self.ask_all(asks).await.into_iter().try_for_each(|answer| answer.map(drop))
+    }
+
     /// Sends copies to another queue and deletes their originals, and tells of each copy whether it is there. An
     /// original that isn't deleted then is left to the caller.
     pub async fn move_to(&self, target: &Arc<Queue>, copies: Vec<Copy>) -> Vec<Answer> {
@@ -290,10 +325,8 @@ impl Held {
             let state = self.queue.state();
             there.filter_map(|(sequence, _)| state.last_receipt_of(*sequence)).collect()
         };
-        let deletion = |receipt| Ask::Delete { receipt, by_client: false };
-        if !receipts.is_empty() {
-            self.ask_all(receipts.into_iter().map(deletion).collect()).await;
-        }
+        // What isn't deleted now is left to the caller.
+        let _ = self.delete(receipts.into_iter()).await;
         answers
     }
 

@@ -9,12 +9,6 @@ impl State {
         jumps.horizon(now, self.attributes.retention())
     }
 
-    /// Whether the message is there and older than the queue keeps messages.
-    pub fn is_old(&self, sequence: u64, jumps: &Jumps, now: Moment) -> bool {
-        let Some(horizon) = self.horizon(jumps, now) else { return false };
-        self.messages.get(sequence).is_some_and(|message| message.sent <= horizon)
-    }
-
     /// Whether the first message is older than the queue keeps messages.
     pub fn has_old(&self, jumps: &Jumps, now: Moment) -> bool {
         let Some(horizon) = self.horizon(jumps, now) else { return false };
@@ -29,7 +23,8 @@ impl State {
             return false;
         }
         let Some(horizon) = self.horizon(jumps, now) else { return false };
-        self.messages.first_visible(now).is_some_and(|first| first.sent <= horizon)
+        let first = self.messages.visible(now).next();
+        first.is_some_and(|(_, first)| first.sent <= horizon)
     }
 
     /// A sweep found nothing to delete: what is too old waits behind what is in flight.

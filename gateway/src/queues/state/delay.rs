@@ -8,7 +8,6 @@ use super::message::Message;
 use super::State;
 use crate::clock::Moment;
 use crate::queues::ask::Delayed;
-use crate::queues::groups::Groups;
 use crate::texts::{DedupId, QueueKind};
 
 impl State {
@@ -18,12 +17,7 @@ impl State {
         }
         self.delay = delay;
         self.messages.forget_due();
-        self.groups = (delay > 0).then(Groups::default);
-        if let Some(groups) = &mut self.groups {
-            for (sequence, message) in self.messages.from(0) {
-                groups.add(message.group, sequence, message.until());
-            }
-        }
+        self.groups = self.groups_of_delayed();
         // What was delayed may be due now.
         self.open();
     }
@@ -31,13 +25,6 @@ impl State {
     /// Whether all messages of the queue are delayed, as in a FIFO queue.
     pub fn has_delay(&self) -> bool {
         self.delay > 0
-    }
-
-    /// How many messages, up to `most`, a receive can ask for without being handed one that isn't due.
-    pub fn count_due(&mut self, most: usize, now: Moment) -> usize {
-        let (Some(groups), messages) = (&mut self.groups, &self.messages) else { return most };
-        let Some(horizon) = now.checked_sub(self.delay) else { return 0 };
-        groups.count_next(most, horizon, now, |sequence| messages.get(sequence).map(|message| message.sent))
     }
 
     /// The first message that isn't due, of a queue that delays all. Messages are due in their order.
@@ -107,7 +94,7 @@ impl State {
     }
 
     /// When the next message is due, if one is delayed.
-    pub fn next_due(&mut self, now: Moment) -> Option<Moment> {
+    pub fn next_due_moment(&mut self, now: Moment) -> Option<Moment> {
         let sent = self.first_delayed(now)?.sent;
         Some(sent + self.delay)
     }

@@ -7,20 +7,18 @@ use std::sync::Arc;
 
 use super::numbers::Numbers;
 use crate::clock::Moment;
-use crate::queues::groups::Group;
+use crate::queues::groups::{Group, Groups};
+use crate::texts::QueueName;
 
 /// A message that isn't deleted.
 #[derive(Debug)]
 pub(super) struct Message {
     pub(super) sent: Moment,
     pub(super) group: Group,
-    /// The last handing to a client.
+    /// How often the store has handed it out.
+    pub(super) ordinal: u64,
+    /// The last handing that counts.
     pub(super) last: Option<Handing>,
-    /// How often the gateway has handed it to itself, and how often since the last handing to a client.
-    pub(super) own: u32,
-    pub(super) own_since: u32,
-    /// The gateway has it by the last handing, and no client.
-    pub(super) is_own: bool,
     /// It is hidden until then.
     until: Moment,
     /// Its whole envelope, where the store has a stub in its place, or where operators look at messages.
@@ -29,44 +27,30 @@ pub(super) struct Message {
     pub(super) group_id: Option<Box<str>>,
     /// What its envelope takes, here and in the store.
     pub(super) bytes: u64,
+    /// Of a dead letter: the queue from which it was moved here.
+    pub(super) source: Option<Arc<QueueName>>,
 }
 
 impl Message {
     /// A message that nobody was handed yet.
-    pub(super) fn new(sent: Moment, group: Group, envelope: Option<Arc<str>>, bytes: u64) -> Message {
-        Message {
-            sent,
-            group,
-            last: None,
-            own: 0,
-            own_since: 0,
-            is_own: false,
-            until: 0,
-            envelope,
-            group_id: None,
-            bytes,
-        }
+    pub(super) fn new(
+        sent: Moment,
+        group: Group,
+        source: Option<Arc<QueueName>>,
+        envelope: Option<Arc<str>>,
+        bytes: u64,
+    ) -> Message {
+        Message { sent, group, ordinal: 0, last: None, until: VISIBLE, envelope, group_id: None, bytes, source }
     }
 
     pub(super) fn until(&self) -> Moment {
         self.until
     }
-
-    /// Which of the store's handings was the last one, from 1; 0 if there was none.
-    pub(super) fn last_ordinal(&self) -> u64 {
-        self.last.map_or(0, |last| last.ordinal) + u64::from(self.own_since)
-    }
-
-    /// Whether a client has it by this handing.
-    pub(super) fn is_with(&self, ordinal: u64) -> bool {
-        self.own_since == 0 && self.last.is_some_and(|last| last.ordinal == ordinal)
-    }
 }
 
-/// The last handing of a message to a client. Handings to the gateway itself have ordinals, too.
+/// The last handing of a message.
 #[derive(Clone, Copy, Debug)]
 pub(super) struct Handing {
-    pub(super) ordinal: u64,
     pub(super) moment: Moment,
     pub(super) first: Moment,
     /// A client has changed the timeout since.
@@ -110,6 +94,15 @@ impl Messages {
 
     pub(super) fn get_mut(&mut self, sequence: u64) -> Option<&mut Message> {
         self.by_sequence.get_mut(&sequence)
+    }
+
+    /// Their groups.
+    pub(super) fn groups(&self) -> Groups {
+        let mut groups = Groups::default();
+        for (sequence, message) in self.from(0) {
+            groups.add(message.group, sequence, message.until);
+        }
+        groups
     }
 
     pub(super) fn first(&self) -> Option<&Message> {
@@ -190,11 +183,11 @@ impl Messages {
         self.by_end.first_key_from(VISIBLE + 1)
     }
 
-    /// The first message that isn't in flight.
-    pub(super) fn first_visible(&mut self, now: Moment) -> Option<&Message> {
+    /// Those that aren't in flight, in order.
+    pub(super) fn visible(&mut self, now: Moment) -> impl Iterator<Item = (u64, &Message)> {
         self.look(now);
-        let (_, sequence) = self.by_end.first().filter(|(end, _)| *end == VISIBLE)?;
-        self.get(sequence)
+        let visible = self.by_end.from(VISIBLE, 0).take_while(|(end, _)| *end == VISIBLE);
+        visible.filter_map(|(_, sequence)| Some((sequence, self.get(sequence)?)))
     }
 
     /// None counts as due any more.

@@ -5,18 +5,22 @@ mod attempts;
 mod delay;
 mod delayed;
 mod message;
+mod next;
 mod numbers;
 mod peek;
 mod receipts;
 #[cfg(test)]
 mod tests;
+mod uncounted;
 
 use std::collections::{BTreeMap, BTreeSet, VecDeque};
 use std::sync::Arc;
 
 use uuid::Uuid;
 
-use super::ask::{Ask, Before, Cause, Changer, Creation, Delayed, Fate, Handed, Outcome, StoreName, TableChange};
+use super::ask::{
+    Ask, Before, Cause, Changer, Creation, Delayed, Fate, Handed, Outcome, Reach, StoreName, TableChange,
+};
 use super::groups::{Group, Groups};
 use crate::attributes::QueueAttributes;
 use crate::clock::Moment;
@@ -33,6 +37,7 @@ use attempts::{Attempt, Attempts};
 use delayed::{DelayedMessages, First};
 use message::{Handing, Message, Messages};
 pub use peek::{Chunk, Cursor, Peeked, Visibility};
+use uncounted::UncountedHandings;
 
 /// So long a deduplication id counts, in milliseconds. A repeated attempt id is given the same messages as long.
 pub const WINDOW: u64 = 300_000;
@@ -41,8 +46,8 @@ pub const WINDOW: u64 = 300_000;
 const MOST_IN_FLIGHT: usize = 120_000;
 
 /// What all messages of a receive have in common.
-struct Receiving {
-    own: bool,
+struct Receiving<'a> {
+    reach: &'a Reach,
     most: Option<u32>,
     moment: Moment,
     until: Moment,
@@ -94,8 +99,13 @@ pub struct State {
     redrive: Option<RedrivePolicy>,
     /// So long all messages of a FIFO queue are delayed, in milliseconds.
     delay: u64,
-    /// Of a FIFO queue that delays its messages.
+    /// Of a FIFO queue that delays its messages, or where somebody asks for some of the next messages alone.
     groups: Option<Groups>,
+    /// When somebody did so the last time.
+    groups_needed: Moment,
+    uncounted: UncountedHandings,
+    /// All messages up to this one are being deleted.
+    purging: Option<u64>,
     /// Of a standard queue.
     delayed: DelayedMessages,
     /// How many openings there were at a sweep that found nothing to delete, and when the next timeout ended.
@@ -163,6 +173,9 @@ impl State {
             redrive: creation.attributes.redrive(),
             delay,
             groups: (delay > 0).then(Groups::default),
+            groups_needed: 0,
+            uncounted: UncountedHandings::default(),
+            purging: None,
             delayed: DelayedMessages::default(),
             vain_sweep: None,
         }
@@ -183,9 +196,12 @@ impl State {
                 Err(SqsError::of_no_message())
             }
             (_, StoreReply::Refused(code)) => Err(SqsError::of_refusal(code)),
-            (Ask::Create { store, .. }, StoreReply::Created) => {
+            (Ask::Create { store, creation, .. }, StoreReply::Created) => {
                 if *store != self.store {
                     self.go_over(*store);
+                }
+                if creation.before.is_none() {
+                    (self.created, self.modified) = (moment, moment);
                 }
                 Ok(Applied::done(false))
             }
@@ -206,10 +222,10 @@ impl State {
                 }
                 Ok(applied)
             }
-            (Ask::Receive { visibility, attempt, most, own, .. }, StoreReply::Received(given)) => {
+            (Ask::Receive { visibility, attempt, most, reach, .. }, StoreReply::Received(given)) => {
                 let until = moment + 1000 * u64::from(*visibility);
                 let (horizon, due) = (self.horizon(jumps, moment), moment.checked_sub(self.delay));
-                let receiving = Receiving { own: *own, most: *most, moment, until, horizon, due };
+                let receiving = Receiving { reach, most: *most, moment, until, horizon, due };
                 self.received(given, attempt.as_ref(), &receiving)
             }
             (Ask::Delete { receipt, .. }, StoreReply::Deleted(removed)) => Ok(self.deleted(*receipt, removed)),
@@ -239,14 +255,18 @@ impl State {
         if sequence != self.last_sequence + 1 {
             return Err(misfit());
         }
-        let sent = match self.kind {
-            QueueKind::Fifo => moment,
-            // It may have been delayed, or be moved with the age that it has.
-            QueueKind::Standard => {
-                let head = EnvelopeHead::of(envelope.whole()).ok_or_else(misfit)?;
-                head.sent.map_or(moment, |sent| sent.min(moment))
+        let head = match (self.kind, cause) {
+            (QueueKind::Fifo, Cause::Client | Cause::Due(_)) => None,
+            (QueueKind::Standard, _) | (_, Cause::Move(_)) => {
+                Some(EnvelopeHead::of(envelope.whole()).ok_or_else(misfit)?)
             }
         };
+        let sent = match (self.kind, &head) {
+            // It may have been delayed, or be moved with the age that it has.
+            (QueueKind::Standard, Some(head)) => head.sent.map_or(moment, |sent| sent.min(moment)),
+            _ => moment,
+        };
+        let source = head.and_then(|head| head.source).map(Arc::new);
         let id = match cause {
             // No client can repeat the gateway's own sends.
             Cause::Move(_) | Cause::Due(_) => None,
@@ -267,7 +287,7 @@ impl State {
         if let Some(groups) = &mut self.groups {
             groups.add(group, sequence, 0);
         }
-        self.messages.add(sequence, Message::new(sent, group, envelope, bytes));
+        self.messages.add(sequence, Message::new(sent, group, source, envelope, bytes));
         self.open();
         Ok(Applied { outcome: Outcome::Sent { sequence, id }, changed: true, opened: true })
     }
@@ -313,7 +333,7 @@ impl State {
         &mut self,
         given: Vec<StoreMessage>,
         attempt: Option<&AttemptId>,
-        receiving: &Receiving,
+        receiving: &Receiving<'_>,
     ) -> Result<Applied, SqsError> {
         let (moment, until) = (receiving.moment, receiving.until);
         let (changed, opened) = (!given.is_empty(), !given.is_empty() && until <= moment);
@@ -338,28 +358,26 @@ impl State {
         Ok(Applied { outcome, changed, opened })
     }
 
-    fn hand(&mut self, given: StoreMessage, receiving: &Receiving) -> Result<(Handed, Option<Fate>), SqsError> {
+    fn hand(&mut self, given: StoreMessage, receiving: &Receiving<'_>) -> Result<(Handed, Option<Fate>), SqsError> {
         let moment = receiving.moment;
         let receipt = read_receipt(&given.receipt, self.base).ok_or_else(misfit)?;
         self.hide(receipt.sequence, receiving.until);
         let message = self.messages.get_mut(receipt.sequence).ok_or_else(misfit)?;
         let first = message.last.map_or(moment, |last| last.first);
-        let count = receipt.ordinal.saturating_sub(u64::from(message.own));
+        let count = receipt.ordinal.saturating_sub(self.uncounted.count(receipt.sequence));
         let is_old = receiving.horizon.is_some_and(|horizon| message.sent <= horizon);
         let is_dead = receiving.most.is_some_and(|most| count > u64::from(most));
         let is_due = receiving.due.is_some_and(|due| message.sent <= due);
         let fates = [(Fate::Old, is_old), (Fate::Early, !is_due), (Fate::Dead, is_dead)];
-        let fate = fates.into_iter().find(|(_, applies)| *applies && !receiving.own).map(|(fate, _)| fate);
-        let is_own = receiving.own || fate.is_some();
+        let is_for_client = receiving.reach.is_for_client();
+        let fate = fates.into_iter().find(|(_, applies)| *applies && is_for_client).map(|(fate, _)| fate);
         self.attempts.forget_with(receipt.sequence);
-        message.own += u32::from(is_own);
-        message.is_own = is_own;
-        if is_own && fate != Some(Fate::Dead) {
-            message.own_since += 1;
+        message.ordinal = receipt.ordinal;
+        if matches!(receiving.reach, Reach::Uncounted) {
+            self.uncounted.add(receipt.sequence);
         } else {
-            // What is to be moved isn't with anybody any more who had it before.
-            message.last = Some(Handing { ordinal: receipt.ordinal, moment, first, touched: is_own });
-            message.own_since = 0;
+            self.uncounted.end(receipt.sequence, false);
+            message.last = Some(Handing { moment, first, touched: false });
         }
         let envelope = message.envelope.clone().unwrap_or_else(|| given.body.into());
         Ok((Handed { receipt, count, moment, first, group: given.group, envelope }, fate))
@@ -374,6 +392,7 @@ impl State {
                 groups.remove(message.group, receipt.sequence, message.until());
             }
             self.attempts.forget_with(receipt.sequence);
+            self.uncounted.end(receipt.sequence, true);
             self.envelope_bytes -= message.bytes;
             if self.messages.is_empty() {
                 self.longest_envelope = 0;
@@ -444,9 +463,16 @@ impl State {
                 let count = keys.iter().filter(|key| self.tags.remove(*key).is_some()).count();
                 Applied { changed: count > 0, ..Applied::done(false) }
             }
+            TableChange::Purging(last) => {
+                (self.purging, self.purged) = (Some(*last), Some(moment));
+                self.delayed.clear();
+                Applied::done(false)
+            }
             TableChange::Purged => {
                 self.purged = Some(moment);
-                self.delayed.clear();
+                if self.purging.take().is_none() {
+                    self.delayed.clear();
+                }
                 Applied::done(false)
             }
             TableChange::Task(task) => {
@@ -545,8 +571,8 @@ impl State {
         let found = self.attempts.find(id, now)?;
         let is_held = |handed: &Handed| {
             let message = self.messages.get(handed.receipt.sequence);
-            let is_with = message.is_some_and(|message| message.is_with(handed.receipt.ordinal));
-            is_with && message.and_then(|message| message.last).is_some_and(|last| !last.touched)
+            let is_touched = message.and_then(|message| message.last).map_or(true, |last| last.touched);
+            self.is_last(handed.receipt) && !is_touched
         };
         found.handed.iter().all(is_held).then(|| found.handed.clone())
     }
@@ -558,6 +584,11 @@ impl State {
 
     pub fn running_task(&self) -> Option<&MoveTask> {
         self.tasks.iter().find(|task| task.status == Status::Running)
+    }
+
+    /// The last of the messages that are being deleted, if a purge has begun.
+    pub fn purging(&self) -> Option<u64> {
+        self.purging
     }
 
     /// How many messages there are.
@@ -590,7 +621,8 @@ impl State {
         self.left_ids = 0;
         self.own_ids = VecDeque::new();
         self.messages = Messages::default();
-        self.groups = (self.delay > 0).then(Groups::default);
+        self.groups = self.groups_of_delayed();
+        self.uncounted.clear();
         self.envelope_bytes = 0;
         self.longest_envelope = 0;
         self.attempts.clear();

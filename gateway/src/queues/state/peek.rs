@@ -115,7 +115,7 @@ impl State {
             visibility,
             sequence,
             group: message.group_id.as_deref()?.into(),
-            count: message.last_ordinal().saturating_sub(u64::from(message.own)),
+            count: message.ordinal.saturating_sub(self.uncounted.count(sequence)),
             first: message.last.map(|last| last.first),
             envelope: PeekedEnvelope::Stored(message.envelope.clone()?),
         })

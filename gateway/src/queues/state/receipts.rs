@@ -1,9 +1,12 @@
 //! Which receipts a queue gave out, and what they are good for.
 
+use super::message::Message;
 use super::State;
 use crate::clock::Moment;
 use crate::errors::SqsError;
 use crate::handles::{Handle, Receipt};
+use crate::queues::ask::Fate;
+use crate::retention::Jumps;
 
 impl State {
     /// The receipt of a handle, if the handle is of a handing that there was. The mark is tested before.
@@ -16,8 +19,9 @@ impl State {
         }
         if let Some(message) = self.messages.get(receipt.sequence) {
             let last = message.last.ok_or(SqsError::ReceiptHandleIsInvalid)?;
-            let is_last = receipt.ordinal == last.ordinal;
-            if receipt.ordinal > last.ordinal || (is_last && handle.moment != last.moment) {
+            let told = message.ordinal - self.uncounted.count_since(receipt.sequence);
+            let is_last = receipt.ordinal == told;
+            if receipt.ordinal > told || (is_last && handle.moment != last.moment) {
                 return Err(SqsError::ReceiptHandleIsInvalid);
             }
         }
@@ -34,57 +38,85 @@ impl State {
     /// An ask that isn't answered yet may still change that.
     pub fn has_expired(&self, receipt: Receipt, now: Moment) -> bool {
         let Some(message) = self.messages.get(receipt.sequence) else { return false };
-        let is_last = message.last.is_some() && receipt.ordinal == message.last_ordinal();
-        // The gateway hands a message to itself only where no client has it any more.
-        is_last && (message.own_since > 0 || message.until() <= now)
+        let is_last = message.last.is_some() && receipt.ordinal == message.ordinal;
+        is_last && (self.uncounted.count_since(receipt.sequence) > 0 || message.until() <= now)
+    }
+
+    /// Whether this is the receipt of the last handing of a message that is there.
+    pub fn is_last(&self, receipt: Receipt) -> bool {
+        let is_by_it = |message: &Message| message.last.is_some() && message.ordinal == receipt.ordinal;
+        self.messages.get(receipt.sequence).is_some_and(is_by_it) && self.uncounted.count_since(receipt.sequence) == 0
     }
 
     /// Whether each of these receipts is its message's last one, and none of them has ended.
     pub fn are_in_flight(&self, receipts: &[Receipt], now: Moment) -> bool {
-        receipts.iter().all(|receipt| {
-            let message = self.messages.get(receipt.sequence);
-            message.is_some_and(|message| message.is_with(receipt.ordinal) && message.until() > now)
-        })
+        let is_hidden = |sequence| self.messages.get(sequence).is_some_and(|message| message.until() > now);
+        receipts.iter().all(|receipt| self.is_last(*receipt) && is_hidden(receipt.sequence))
     }
 
-    /// The last receipts of messages from `sequence` on, in order, of those that were handed out, and where to go on; none
-    /// where there are no messages from there on. So many messages are looked at.
-    pub fn receipts_from(&self, sequence: u64, most: usize) -> Option<(Vec<Receipt>, u64)> {
+    /// The last receipts of messages from `first` to `last`, in order, of those that were handed out, and where to go on;
+    /// none where there are no messages from there on. So many messages are looked at.
+    pub fn receipts_between(&self, first: u64, last: u64, most: usize) -> Option<(Vec<Receipt>, u64)> {
         let mut next = None;
         let mut receipts = Vec::new();
-        for (sequence, message) in self.messages.from(sequence).take(most) {
+        for (sequence, message) in self.messages.from(first).take_while(|(sequence, _)| *sequence <= last).take(most) {
             next = Some(sequence + 1);
-            let receipt = Receipt { sequence, ordinal: message.last_ordinal() };
+            let receipt = Receipt { sequence, ordinal: message.ordinal };
             receipts.extend(Some(receipt).filter(|receipt| receipt.ordinal > 0));
         }
         Some((receipts, next?))
     }
 
-    /// The receipt by which the store knows the handing that `receipt` stands for. Where only handings to the gateway
-    /// itself came after the last one to a client, that is the last of these.
+    /// The receipt by which the store knows the handing that `receipt` stands for: another one where only handings that
+    /// don't count came behind it.
     pub fn last_receipt(&self, receipt: Receipt) -> Receipt {
-        let Some(message) = self.messages.get(receipt.sequence) else { return receipt };
-        let (first, last) = (message.last.map_or(1, |last| last.ordinal), message.last_ordinal());
-        let is_current = (first..=last).contains(&receipt.ordinal);
-        Receipt { ordinal: if is_current { last } else { receipt.ordinal }, ..receipt }
+        let since = self.uncounted.count_since(receipt.sequence);
+        let Some(message) = self.messages.get(receipt.sequence).filter(|_| since > 0) else { return receipt };
+        let is_current = (message.ordinal - since..=message.ordinal).contains(&receipt.ordinal);
+        Receipt { ordinal: if is_current { message.ordinal } else { receipt.ordinal }, ..receipt }
     }
 
     /// The receipt of the message's last handing, to whomever; none if there is none, or the message or the queue isn't
     /// there any more.
     pub fn last_receipt_of(&self, sequence: u64) -> Option<Receipt> {
         let message = self.messages.get(sequence).filter(|_| !self.removed)?;
-        Some(Receipt { sequence, ordinal: message.last_ordinal() }).filter(|receipt| receipt.ordinal > 0)
+        Some(Receipt { sequence, ordinal: message.ordinal }).filter(|receipt| receipt.ordinal > 0)
     }
 
-    /// The receipt of the message's last handing, if that was to the gateway itself.
-    pub fn own_receipt_of(&self, sequence: u64) -> Option<Receipt> {
-        let is_own = self.messages.get(sequence).is_some_and(|message| message.is_own);
-        self.last_receipt_of(sequence).filter(|_| is_own)
+    /// Whether the last handing set the message aside, to be moved to a target that is there since `created`. Only what
+    /// was handed out after that and after the last change of the queue's attributes surely wasn't a client's.
+    pub fn is_set_aside(&self, sequence: u64, created: Moment) -> bool {
+        let Some(message) = self.messages.get(sequence) else { return false };
+        let count = message.ordinal.saturating_sub(self.uncounted.count(sequence));
+        let is_dead = self.redrive().is_some_and(|policy| count > u64::from(policy.most));
+        is_dead && message.last.is_some_and(|last| last.moment > self.modified.max(created))
     }
 
-    /// The last receipts of messages that the gateway has handed to itself and that are hidden still.
-    pub fn hidden_for_the_gateway(&self, now: Moment) -> Vec<Receipt> {
-        let hidden = self.messages.in_flight().filter(|(_, message)| message.is_own && message.until() > now);
-        hidden.map(|(sequence, message)| Receipt { sequence, ordinal: message.last_ordinal() }).collect()
+    /// The receipts of those messages in flight that no client has, with what was to become of them. `created` is since
+    /// when the target of the queue's policy is there.
+    pub fn cut_off(&self, created: Option<Moment>, jumps: &Jumps, now: Moment) -> Vec<(Receipt, Fate)> {
+        let in_flight = self.messages.in_flight().filter(|(_, message)| message.until() > now);
+        let with_fates = in_flight.filter_map(|(sequence, message)| {
+            let receipt = Receipt { sequence, ordinal: message.ordinal };
+            Some((receipt, self.fate_of_cut_off(sequence, message, created, jumps)?))
+        });
+        with_fates.collect()
+    }
+
+    fn fate_of_cut_off(
+        &self,
+        sequence: u64,
+        message: &Message,
+        created: Option<Moment>,
+        jumps: &Jumps,
+    ) -> Option<Fate> {
+        if self.uncounted.count_since(sequence) > 0 {
+            return Some(Fate::Early);
+        }
+        let handed = message.last.map(|last| last.moment).filter(|handed| *handed > self.modified)?;
+        let is_old = self.horizon(jumps, handed).is_some_and(|horizon| message.sent <= horizon);
+        let is_dead = created.is_some_and(|created| self.is_set_aside(sequence, created));
+        let fates = [(Fate::Old, is_old), (Fate::Dead, is_dead)];
+        fates.into_iter().find(|(_, applies)| *applies).map(|(fate, _)| fate)
     }
 }

@@ -63,8 +63,8 @@ fn what_is_deleted_counts_by_its_id_until_that_is_too_old() {
     assert_eq!(state.bytes_in_use(), 0);
 }
 
-fn receive(state: &mut State, ordinal: u64, own: bool, moment: Moment) -> (Vec<Handed>, Vec<(Handed, Fate)>) {
-    let ask = Ask::Receive { size: 1, visibility: 5, attempt: None, most: Some(2), own };
+fn receive_by(state: &mut State, ordinal: u64, reach: Reach, moment: Moment) -> (Vec<Handed>, Vec<(Handed, Fate)>) {
+    let ask = Ask::Receive { size: 1, visibility: 5, attempt: None, most: Some(2), reach };
     let (group, receipt) = ("g".into(), format!("1-1-{ordinal}"));
     let given = crate::lines::StoreMessage { group, receipt, body: "b".into() };
     let applied = state.apply_reply(&ask, StoreReply::Received(vec![given]), moment, &Jumps::default()).unwrap();
@@ -74,36 +74,66 @@ fn receive(state: &mut State, ordinal: u64, own: bool, moment: Moment) -> (Vec<H
     }
 }
 
+fn receive(state: &mut State, ordinal: u64, moment: Moment) -> (Vec<Handed>, Vec<(Handed, Fate)>) {
+    receive_by(state, ordinal, Reach::All, moment)
+}
+
 #[test]
-fn own_handings_are_not_counted_and_take_nothing_from_a_client() {
+fn what_an_earlier_gateway_was_handed_counts_as_no_handing_and_takes_nothing_from_a_client() {
     let mut state = state();
     send(&mut state, 1, 0);
-    receive(&mut state, 1, true, 0);
+    receive_by(&mut state, 1, Reach::Uncounted, 0);
+    assert_eq!(state.cut_off(None, &Jumps::default(), 4999), [(Receipt { sequence: 1, ordinal: 1 }, Fate::Early)]);
     let handle = |ordinal, moment| {
         let receipt = Receipt { sequence: 1, ordinal };
         Handle { mark: crate::handles::Mark(1), receipt, moment }
     };
     assert!(state.receipt_of(&handle(1, 0)).is_err(), "no client had it");
-    let given = &receive(&mut state, 2, false, 10_000).0[0];
+    let given = &receive(&mut state, 2, 10_000).0[0];
     assert_eq!((given.count, given.first), (1, 10_000));
-    receive(&mut state, 3, true, 20_000);
+    assert!(state.cut_off(None, &Jumps::default(), 10_000).is_empty());
+    receive_by(&mut state, 3, Reach::Uncounted, 20_000);
     let receipt = state.receipt_of(&handle(2, 10_000)).unwrap();
     assert_eq!(state.last_receipt(receipt).ordinal, 3);
     assert!(state.receipt_of(&handle(3, 20_000)).is_err());
     assert!(!state.are_in_flight(&[receipt], 20_000));
-    let again = &receive(&mut state, 4, false, 30_000).0[0];
+    assert!(state.has_expired(Receipt { sequence: 1, ordinal: 3 }, 20_000));
+    let again = &receive(&mut state, 4, 30_000).0[0];
     assert_eq!((again.count, again.first), (2, 10_000));
     // The handing before is none that anything can be done with.
     assert_eq!(state.last_receipt(receipt), receipt);
     assert!(state.are_in_flight(&[again.receipt], 34_999));
-    // Two handings are as many as there may be, and this one is none.
-    for moment in [40_000, 50_000] {
-        let ordinal = moment / 10_000 + 1;
-        let (handed, set_aside) = receive(&mut state, ordinal, false, moment);
-        assert_eq!((handed.len(), set_aside[0].1, set_aside[0].0.count), (0, Fate::Dead, 3));
-    }
-    assert_eq!(state.last_receipt_of(1), Some(Receipt { sequence: 1, ordinal: 6 }));
+    // Two handings are as many as there may be.
+    let (handed, set_aside) = receive(&mut state, 5, 40_000);
+    assert_eq!((handed.len(), set_aside[0].1, set_aside[0].0.count), (0, Fate::Dead, 3));
+    assert_eq!(state.last_receipt_of(1), Some(Receipt { sequence: 1, ordinal: 5 }));
     assert_eq!(state.last_receipt(again.receipt), again.receipt, "who had it can do nothing any more");
+}
+
+#[test]
+fn what_no_client_has_is_told_by_its_last_handing_alone() {
+    let mut state = state();
+    let policy = r#"{"deadLetterTargetArn":"arn:aws:sqs:x:000000000000:dead.fifo","maxReceiveCount":2}"#;
+    send(&mut state, 1, 0);
+    let receipt = |ordinal| Receipt { sequence: 1, ordinal };
+    let jumps = Jumps::default();
+    let change =
+        TableChange::Attributes(GivenAttributes::read(state.kind, &[("RedrivePolicy".into(), policy.into())]).unwrap());
+    state.apply_change(&change, 25_000);
+    receive(&mut state, 1, 10_000);
+    receive(&mut state, 2, 20_000);
+    assert!(state.cut_off(Some(0), &jumps, 20_000).is_empty(), "two handings are as many as there may be");
+    receive(&mut state, 3, 25_000);
+    assert!(state.cut_off(Some(0), &jumps, 25_000).is_empty(), "it may have been handed out by the policy before");
+    receive(&mut state, 4, 30_001);
+    assert!(state.cut_off(Some(30_001), &jumps, 30_001).is_empty(), "the target may have come after it");
+    assert!(state.cut_off(None, &jumps, 30_001).is_empty(), "there is no target");
+    assert_eq!(state.cut_off(Some(30_000), &jumps, 30_001), [(receipt(4), Fate::Dead)]);
+    assert!(state.is_set_aside(1, 30_000) && !state.is_set_aside(1, 30_001) && !state.is_set_aside(2, 0));
+    assert!(state.cut_off(Some(30_000), &jumps, 35_001).is_empty(), "it isn't in flight any more");
+    let four_days = 345_600_000;
+    receive(&mut state, 5, four_days);
+    assert_eq!(state.cut_off(None, &jumps, four_days), [(receipt(5), Fate::Old)]);
 }
 
 #[test]
@@ -111,10 +141,10 @@ fn what_is_too_old_is_set_aside() {
     let mut state = state();
     send(&mut state, 1, 1000);
     let four_days = 345_600_000;
-    assert_eq!(receive(&mut state, 1, false, 999 + four_days).1.len(), 0);
+    assert_eq!(receive(&mut state, 1, 999 + four_days).1.len(), 0);
     assert!(!state.has_old(&Jumps::default(), 999 + four_days));
     assert!(state.has_old(&Jumps::default(), 1000 + four_days));
-    let (handed, set_aside) = receive(&mut state, 2, false, 1000 + four_days);
+    let (handed, set_aside) = receive(&mut state, 2, 1000 + four_days);
     assert_eq!((handed.len(), set_aside[0].1), (0, Fate::Old));
 }
 
@@ -162,7 +192,7 @@ fn given(places: std::ops::RangeInclusive<u64>) -> StoreReply {
 #[test]
 fn a_standard_queue_has_120_000_messages_in_flight_and_a_fifo_queue_more() {
     let most = MOST_IN_FLIGHT as u64;
-    let ask = Ask::Receive { size: 1, visibility: 5, attempt: None, most: None, own: false };
+    let ask = Ask::Receive { size: 1, visibility: 5, attempt: None, most: None, reach: Reach::All };
     for (name, is_bounded) in [("standard", true), ("q.fifo", false)] {
         let mut state = state_of(name);
         (1..=most).for_each(|place| drop(send_standard(&mut state, place, 0, Cause::Client, 0)));
@@ -188,7 +218,7 @@ fn in_flight(name: &str, count: u64, end: Moment) -> State {
         state.apply_reply(&ask, StoreReply::Sent(place), 0, &Jumps::default()).unwrap();
     }
     let visibility = (end / 1000) as u32;
-    let ask = Ask::Receive { size: 10, visibility, attempt: None, most: None, own: false };
+    let ask = Ask::Receive { size: 10, visibility, attempt: None, most: None, reach: Reach::All };
     state.apply_reply(&ask, given(1..=count - 1), 0, &Jumps::default()).unwrap();
     state
 }
@@ -219,7 +249,7 @@ fn what_is_in_flight_is_counted_without_a_walk() {
 fn what_is_due_next_is_found_without_a_walk_of_what_is_in_flight() {
     let mut state = in_flight("q.fifo", 20_001, 1_000_000);
     assert!(set(&mut state, "DelaySeconds", "10"));
-    let took = time_of_many(|| assert_eq!(state.count_due(10, 20_000), 1));
+    let took = time_of_many(|| assert_eq!(state.next_due(10, 20_000).len(), 1));
     assert!(took < SHORT, "{took:?}");
 }
 
@@ -284,7 +314,7 @@ fn looks_come_to_each_message_once_and_change_nothing() {
     let refused = [70, 80, 90].map(|next| state.refused_delayed(Uuid::from_u128(8), next));
     assert_eq!(refused, [false, false, true]);
     delete(&mut state, 2, 20);
-    receive(&mut state, 1, false, 30);
+    receive(&mut state, 1, 30);
     let bytes = state.bytes_in_use();
     for at_once in 1..9 {
         let seen = peek_at_all(&state, at_once, 55);
@@ -315,7 +345,7 @@ fn what_is_kept_for_looks_counts_and_goes_with_its_message() {
 }
 
 #[test]
-fn own_handings_and_delays_are_told_by_a_look() {
+fn handings_and_delays_are_told_by_a_look() {
     let mut state = state();
     send_and_keep(&mut state, 1, 10_000);
     assert!(set(&mut state, "DelaySeconds", "5"));
@@ -326,9 +356,9 @@ fn own_handings_and_delays_are_told_by_a_look() {
     };
     assert_eq!(look(&state, 14_999), (Visibility::Delayed, 0, "g".into()));
     assert_eq!(look(&state, 15_000), (Visibility::Visible, 0, "g".into()));
-    receive(&mut state, 1, true, 20_000);
+    receive_by(&mut state, 1, Reach::Uncounted, 20_000);
     assert_eq!(look(&state, 20_000), (Visibility::InFlight, 0, "g".into()));
-    receive(&mut state, 2, false, 30_000);
+    receive(&mut state, 2, 30_000);
     assert_eq!(look(&state, 35_000), (Visibility::Visible, 1, "g".into()));
 }
 

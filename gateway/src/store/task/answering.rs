@@ -58,9 +58,10 @@ impl Task {
             return Err(Ended::NotNext { client, number });
         };
         match entry {
-            Entry::Ask(asked) => {
+            Entry::Ask(mut asked) => {
                 self.close(&asked);
                 self.ends = 0;
+                self.complete(&mut asked);
                 let answer = self.apply_and_record(&asked, reply, text)?;
                 let is_done = answer.is_ok();
                 self.finish(answer, sender);
@@ -93,6 +94,15 @@ impl Task {
     /// Goes on with the move of which this was a copy, if it was one.
     fn go_on_with(&mut self, asked: &OpenAsk, is_done: bool) -> Result<(), Ended> {
         asked.original.map_or(Ok(()), |original| self.copy_answered(original, is_done))
+    }
+
+    /// Puts what counts at its answer into a receive: which messages are dead letters. So policies and targets change
+    /// between two answers, and never between an ask and its answer.
+    fn complete(&self, asked: &mut OpenAsk) {
+        if let Ask::Receive { most, reach, .. } = &mut asked.ask {
+            let target = reach.is_for_client().then(|| self.queues.target_of(&asked.queue)).flatten();
+            *most = target.map(|(_, most)| most);
+        }
     }
 
     /// Applies the reply to the tables, and appends its record where something changed.

@@ -4,7 +4,7 @@ use serde_json::value::RawValue;
 
 use crate::journal::Need;
 use crate::messages::Envelope;
-use crate::queues::ask::{Ask, Cause, Changer, TableChange};
+use crate::queues::ask::{Ask, Cause, Changer, Reach, TableChange};
 
 pub(super) fn need_of(ask: &Ask) -> Need {
     match ask {
@@ -13,7 +13,7 @@ pub(super) fn need_of(ask: &Ask) -> Need {
         Ask::Create { .. } | Ask::Send { cause: Cause::Client, .. } => Need::More,
         // What the gateway is handed itself it deletes or gives back, and for that there has to be space.
         Ask::ChangeVisibility { by: Changer::Gateway, .. } => Need::Less,
-        Ask::Receive { own: true, visibility: 0, .. } | Ask::Delete { .. } | Ask::Remove { .. } => Need::Less,
+        Ask::Receive { reach: Reach::Own(_), .. } | Ask::Delete { .. } | Ask::Remove { .. } => Need::Less,
         Ask::Send { .. } | Ask::Receive { .. } | Ask::ChangeVisibility { .. } => Need::Same,
     }
 }
@@ -22,7 +22,7 @@ pub(super) fn need_of_change(change: &TableChange) -> Need {
     match change {
         TableChange::Delayed(_) => Need::More,
         TableChange::Attributes(_) | TableChange::Tag(_) | TableChange::Task(_) => Need::Same,
-        TableChange::Untag(_) | TableChange::Purged => Need::Less,
+        TableChange::Untag(_) | TableChange::Purging(_) | TableChange::Purged => Need::Less,
     }
 }
 

@@ -73,6 +73,10 @@ impl Task {
             return ready(Ok(Outcome::Done));
         }
         let moment = self.clock.now();
+        let ask = match within_reach(ask, &queue, moment) {
+            Ok(ask) => ask,
+            Err(nothing) => return ready(Ok(nothing)),
+        };
         if let Some(id) = repeats_delayed(&ask, &queue, moment) {
             return ready(Ok(Outcome::Delayed { id }));
         }
@@ -231,6 +235,24 @@ fn repeats_delayed(ask: &Ask, queue: &Queue, now: Moment) -> Option<Uuid> {
         }
         _ => None,
     }
+}
+
+/// The receive of as many messages as it may be handed at this moment, or its answer where there are none.
+fn within_reach(mut ask: Ask, queue: &Queue, now: Moment) -> Result<Ask, Outcome> {
+    if let Ask::Receive { size, reach, .. } = &mut ask {
+        let count = reach.named().map(|named| {
+            let mut state = queue.state();
+            (state.count_next_among(named, now), state.openings)
+        });
+        match count {
+            Some((0, openings)) => {
+                return Err(Outcome::Received { handed: Vec::new(), set_aside: Vec::new(), openings })
+            }
+            Some((count, _)) => *size = (*size).min(count as u8),
+            None => {}
+        }
+    }
+    Ok(ask)
 }
 
 /// What is answered about a message that the queue had before it went over to its name in the store. It is deleted.
