@@ -108,6 +108,13 @@ struct Both {
     state: State,
     now: Moment,
     kind: QueueKind,
+    records: Vec<(Moment, Record)>,
+}
+
+/// What a journal keeps of what changed something.
+enum Record {
+    Ask(Ask, StoreReply),
+    Change(TableChange),
 }
 
 /// In the store each message of a standard queue has a group of its own.
@@ -116,18 +123,56 @@ const GROUPS: [&str; 9] = ["1", "2", "3", "4", "5", "6", "7", "8", "9"];
 /// Messages are kept so long.
 const PERIOD: u64 = 100_000;
 
+const START: Moment = 1_700_000_000_000;
+
+fn state_at_start(kind: QueueKind) -> State {
+    let given = [("MessageRetentionPeriod".to_string(), (PERIOD / 1000).to_string())];
+    let attributes = QueueAttributes::for_creation(kind, &GivenAttributes::read(kind, &given).unwrap()).unwrap();
+    let name = QueueName::parse(if kind == QueueKind::Fifo { "q.fifo" } else { "q" }).unwrap();
+    let creation = Creation { name, mark: 1, attributes, tags: BTreeMap::new(), before: None };
+    State::new(StoreName(1), &creation, START)
+}
+
+/// The ask as its record tells it: who was handed messages isn't in it.
+fn recorded(ask: &Ask) -> Ask {
+    match ask.clone() {
+        Ask::Receive { size, visibility, attempt, most, .. } => {
+            Ask::Receive { size, visibility, attempt, most, reach: Reach::All }
+        }
+        other => other,
+    }
+}
+
 impl Both {
     fn new(kind: QueueKind) -> Both {
-        let given = [("MessageRetentionPeriod".to_string(), (PERIOD / 1000).to_string())];
-        let attributes = QueueAttributes::for_creation(kind, &GivenAttributes::read(kind, &given).unwrap()).unwrap();
-        let name = QueueName::parse(if kind == QueueKind::Fifo { "q.fifo" } else { "q" }).unwrap();
-        let creation = Creation { name, mark: 1, attributes, tags: BTreeMap::new(), before: None };
-        let now = 1_700_000_000_000;
-        Both { list: List::default(), state: State::new(StoreName(1), &creation, now), now, kind }
+        Both { list: List::default(), state: state_at_start(kind), now: START, kind, records: Vec::new() }
     }
 
     fn apply_reply(&mut self, ask: &Ask, reply: StoreReply) -> Outcome {
-        self.state.apply_reply(ask, reply, self.now, &Jumps::default()).unwrap().outcome
+        let applied = self.state.apply_reply(ask, reply.clone(), self.now, &Jumps::default()).unwrap();
+        if applied.changed {
+            self.records.push((self.now, Record::Ask(recorded(ask), reply)));
+        }
+        applied.outcome
+    }
+
+    /// The tables made of the records alone are those that are there.
+    fn compare_with_records(&mut self) -> TestCaseResult {
+        let mut again = state_at_start(self.kind);
+        for (moment, record) in &self.records {
+            match record {
+                Record::Ask(ask, reply) => {
+                    drop(again.apply_reply(ask, reply.clone(), *moment, &Jumps::default()).unwrap());
+                }
+                Record::Change(change) => drop(again.apply_change(change, *moment)),
+            }
+        }
+        prop_assert_eq!(again.messages_told(), self.state.messages_told());
+        prop_assert_eq!(again.next_up_to(u64::MAX, 100, self.now), self.state.next_up_to(u64::MAX, 100, self.now));
+        let cut_off = |state: &State| state.cut_off(None, &Jumps::default(), self.now);
+        prop_assert_eq!(cut_off(&again), cut_off(&self.state));
+        prop_assert_eq!(again.bytes_in_use(), self.state.bytes_in_use());
+        Ok(())
     }
 
     fn send(&mut self, group: &'static str) {
@@ -260,7 +305,9 @@ impl Both {
                 self.list.delay = 1000 * u64::from(*seconds);
                 let given =
                     GivenAttributes::read(QueueKind::Fifo, &[("DelaySeconds".into(), seconds.to_string())]).unwrap();
-                self.state.apply_change(&TableChange::Attributes(given), self.now);
+                let change = TableChange::Attributes(given);
+                self.state.apply_change(&change, self.now);
+                self.records.push((self.now, Record::Change(change)));
             }
         }
         Ok(())
@@ -286,6 +333,7 @@ fn what_is_handed_out_is_that_of_a_list_with_delays() {
                 both.step(step)?;
                 both.compare()?;
             }
+            both.compare_with_records()?;
         }
         Ok(())
     });

@@ -93,6 +93,12 @@ impl State {
         }
     }
 
+    /// What the tables have of each message, in order.
+    #[cfg(test)]
+    pub fn messages_told(&self) -> Vec<String> {
+        self.messages.from(0).map(|(sequence, message)| format!("{sequence}: {message:?}")).collect()
+    }
+
     fn peek_at_stored(&self, after: u64, most: usize, now: Moment) -> Chunk {
         let found: Vec<_> = self.messages.from(after.saturating_add(1)).take(most).collect();
         let next = match found.last() {
