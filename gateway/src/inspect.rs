@@ -71,7 +71,7 @@ pub fn verify(path: &Path, out: &mut impl Write) -> Result<()> {
             };
             last_clock = record.clock.max(last_clock);
             let name = record.store_name().filter(|name| !removed.contains(name));
-            if record.creation.is_some() {
+            if record.creates() {
                 created.extend(name);
             }
             strangers += u64::from(name.is_some_and(|name| !created.contains(&name)));

@@ -29,6 +29,7 @@ pub mod messages;
 pub mod metrics;
 pub mod move_tasks;
 pub mod moves;
+pub mod parts;
 pub mod peek;
 pub mod pipes;
 pub mod policy;

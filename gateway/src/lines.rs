@@ -7,7 +7,7 @@ use serde_json::value::RawValue;
 use thiserror::Error;
 
 use crate::handles::Receipt;
-use crate::queues::ask::{Ask, StoreName};
+use crate::queues::ask::{Ask, PartsAsk, StoreName};
 
 /// The kinds of asks.
 #[derive(Clone, Copy, Debug, PartialEq, Eq, Serialize, Deserialize)]
@@ -72,6 +72,7 @@ impl<'a> AskFields<'a> {
                 let kind = AskKind::Receive;
                 AskFields { size: Some(*size), visibility: Some(*visibility), ..AskFields::new(kind, queue) }
             }
+            Ask::Parts { number, ask } => AskFields::of_parts(StoreName::of_parts(*number), ask),
             Ask::Delete { receipt, .. } => {
                 AskFields { receipt: Some(receipt_text(*receipt, base)), ..AskFields::new(AskKind::Delete, queue) }
             }
@@ -80,6 +81,31 @@ impl<'a> AskFields<'a> {
                 visibility: Some(*visibility),
                 ..AskFields::new(AskKind::Change, queue)
             },
+        }
+    }
+}
+
+/// The group of all parts.
+const PARTS_GROUP: &str = "parts";
+
+/// The most messages that a receive is handed.
+const MOST_HANDED: u8 = 10;
+
+impl<'a> AskFields<'a> {
+    fn of_parts(queue: StoreName, ask: &'a PartsAsk) -> AskFields<'a> {
+        match ask {
+            PartsAsk::Create(_) => AskFields { visibility: Some(0), ..AskFields::new(AskKind::Create, queue) },
+            PartsAsk::Add(_, place, text) => AskFields {
+                group: Some(PARTS_GROUP.into()),
+                dedup: Some(place.to_string().into()),
+                body: Some(text.into()),
+                ..AskFields::new(AskKind::Send, queue)
+            },
+            PartsAsk::Read => {
+                let kind = AskKind::Receive;
+                AskFields { size: Some(MOST_HANDED), visibility: Some(0), ..AskFields::new(kind, queue) }
+            }
+            PartsAsk::Remove => AskFields::new(AskKind::Remove, queue),
         }
     }
 }

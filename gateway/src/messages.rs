@@ -245,7 +245,8 @@ struct Elsewhere {
 pub enum Envelope {
     /// The metadata as one line of JSON, and behind it the body.
     Whole(String),
-    /// The store takes no text so long: it has `stub`, and the gateway and its journal have `whole`.
+    /// The store takes no text so long. Before it is sent, `whole` is put in parts. In a journal up to version 5 the store has
+    /// `stub`, and the gateway and its journal have `whole`.
     Split { stub: String, whole: String },
 }
 
@@ -304,13 +305,24 @@ pub fn read_envelope(whole: &str) -> Option<(Metadata, &str)> {
     Some((serde_json::from_str(metadata).ok()?, body))
 }
 
-/// The metadata that the tables need.
-#[derive(Clone, Debug, PartialEq, Eq, Deserialize)]
+/// The metadata that the tables need, and that a move changes. Of a message whose envelope is too long for the store this
+/// is all that the store has in its place, and the envelope stands in parts.
+#[derive(Clone, Debug, PartialEq, Eq, Serialize, Deserialize)]
 pub struct EnvelopeHead {
+    /// The number of the queue that has the parts. It stands first, where `has_parts` looks.
+    #[serde(default, skip_serializing_if = "Option::is_none")]
+    pub parts: Option<u64>,
+    /// How many bytes the parts have.
+    #[serde(default, skip_serializing_if = "Option::is_none")]
+    pub bytes: Option<u64>,
+    #[serde(default, skip_serializing_if = "Option::is_none")]
+    pub id: Option<Uuid>,
+    #[serde(default, skip_serializing_if = "Option::is_none")]
     pub of: Option<Origin>,
-    /// In a whole envelope.
+    #[serde(default, skip_serializing_if = "Option::is_none")]
     pub sent: Option<Moment>,
     /// Of a dead letter.
+    #[serde(default, skip_serializing_if = "Option::is_none")]
     pub source: Option<QueueName>,
 }
 
@@ -319,18 +331,62 @@ impl EnvelopeHead {
     pub fn of(envelope: &str) -> Option<EnvelopeHead> {
         serde_json::from_str(envelope.split('\n').next()?).ok()
     }
+
+    /// The head of an envelope that stands in parts, if it does.
+    pub fn of_parts(envelope: &str) -> Option<EnvelopeHead> {
+        has_parts(envelope).then(|| EnvelopeHead::of(envelope)).flatten()
+    }
+
+    /// What the store has in the place of a message whose envelope of so many bytes stands in these parts.
+    pub fn in_place(self, number: u64, bytes: usize) -> Result<Envelope, serde_json::Error> {
+        EnvelopeHead { parts: Some(number), bytes: Some(bytes as u64), ..self }.as_line()
+    }
+
+    /// The same where the parts are there already.
+    pub fn as_line(&self) -> Result<Envelope, serde_json::Error> {
+        Ok(Envelope::Whole(serde_json::to_string(self)?))
+    }
+
+    /// The envelope that stands in parts, with what this head says. None if it is none.
+    pub fn over(&self, whole: &str) -> Option<String> {
+        let (metadata, body) = read_envelope(whole)?;
+        let EnvelopeHead { id, of, source, .. } = self.clone();
+        let metadata = Metadata { id, of, sent: self.sent?, source, ..metadata };
+        Some(serde_json::to_string(&metadata).ok()? + "\n" + body)
+    }
+}
+
+/// Whether an envelope stands in parts.
+pub fn has_parts(envelope: &str) -> bool {
+    envelope.starts_with("{\"parts\":")
+}
+
+/// The parts of a text, none of them longer than the store takes.
+pub fn parts_of(text: &str) -> Vec<&str> {
+    let (mut parts, mut rest) = (Vec::new(), text);
+    while rest.len() > STORE_LIMIT {
+        let end = (0..=STORE_LIMIT).rev().find(|end| rest.is_char_boundary(*end)).unwrap_or(0);
+        let (part, behind) = rest.split_at(end);
+        parts.push(part);
+        rest = behind;
+    }
+    parts.push(rest);
+    parts
 }
 
 /// The id that stands in an envelope, whole or not, if one does: then it stands first. Takes the same time for each.
 pub fn own_id(envelope: &str) -> Option<Uuid> {
     const LENGTH: usize = uuid::fmt::Hyphenated::LENGTH;
+    if let Some(head) = EnvelopeHead::of_parts(envelope) {
+        return head.id;
+    }
     envelope.strip_prefix("{\"id\":\"")?.get(..LENGTH)?.parse().ok()
 }
 
 /// Which message an envelope is a copy of, if it is one. Takes the same time for all others.
 pub fn origin_in(envelope: &str) -> Option<Origin> {
     // The id, if there is one, and the origin stand before all else.
-    let may_have = envelope.starts_with("{\"id\"") || envelope.starts_with("{\"of\"");
+    let may_have = envelope.starts_with("{\"id\"") || envelope.starts_with("{\"of\"") || has_parts(envelope);
     may_have.then(|| EnvelopeHead::of(envelope)?.of).flatten()
 }
 
@@ -444,7 +500,7 @@ mod tests {
             assert_eq!(read_envelope(envelope.stored()), Some((metadata.clone(), "one\ntwo")));
             assert_eq!(
                 EnvelopeHead::of(envelope.stored()),
-                Some(EnvelopeHead { of: None, sent: Some(metadata.sent), source: None })
+                Some(EnvelopeHead { id, sent: Some(metadata.sent), ..no_head() })
             );
             assert_eq!(own_id(envelope.stored()), id);
         }
@@ -459,7 +515,48 @@ mod tests {
             let Envelope::Split { stub, whole } = &envelope else { panic!("{} bytes", envelope.bytes()) };
             assert_eq!((read_envelope(whole).unwrap().1, read_envelope(stub)), (body.as_str(), None));
             assert_eq!((own_id(stub), own_id(whole)), (id, id));
-            assert_eq!(EnvelopeHead::of(stub), Some(EnvelopeHead { of: None, sent: None, source: None }));
+            assert_eq!(EnvelopeHead::of(stub), Some(EnvelopeHead { id, ..no_head() }));
+        }
+    }
+
+    fn no_head() -> EnvelopeHead {
+        EnvelopeHead { parts: None, bytes: None, id: None, of: None, sent: None, source: None }
+    }
+
+    #[test]
+    fn a_line_stands_for_an_envelope_in_parts_and_says_what_a_move_changes() {
+        let body = Body::parse(&"ü\n".repeat(STORE_LIMIT)).unwrap();
+        let own = Metadata { id: Some(Uuid::from_u128(7)), ..metadata() };
+        let whole = Envelope::new(&own, &body).unwrap().into_whole();
+        let head = EnvelopeHead::of(&whole).unwrap();
+        let line = head.in_place(12, whole.len()).unwrap();
+        assert_eq!((line.whole().len() < 200, read_envelope(line.stored())), (true, None));
+        assert!(has_parts(line.stored()) && !has_parts(&whole) && EnvelopeHead::of_parts(&whole).is_none());
+        let read = EnvelopeHead::of_parts(line.stored()).unwrap();
+        assert_eq!((read.parts, read.bytes), (Some(12), Some(whole.len() as u64)));
+        assert_eq!(read.over(&whole).unwrap(), whole);
+        assert_eq!((own_id(line.stored()), origin_in(line.stored())), (own.id, None));
+        // A copy of it names the same parts.
+        let (of, source) = (Some(Origin { mark: 1, sequence: 2 }), QueueName::parse("q.fifo"));
+        let copy = EnvelopeHead { id: None, of, sent: Some(9), source: source.clone(), ..read };
+        let line = copy.as_line().unwrap();
+        assert_eq!((own_id(line.stored()), origin_in(line.stored())), (None, of));
+        let moved = EnvelopeHead::of_parts(line.stored()).unwrap().over(&whole).unwrap();
+        let (metadata, text) = read_envelope(&moved).unwrap();
+        assert_eq!((metadata, text), (Metadata { id: None, of, sent: 9, source, ..own }, body.as_str()));
+        assert_eq!(read.over("no envelope"), None);
+    }
+
+    #[test]
+    fn parts_are_no_longer_than_the_store_takes_and_break_no_character() {
+        for (unit, count) in
+            [("x", STORE_LIMIT), ("x", STORE_LIMIT + 1), ("ü", STORE_LIMIT), ("aü", STORE_LIMIT), ("😀", 300_000)]
+        {
+            let text = unit.repeat(count);
+            let parts = parts_of(&text);
+            assert_eq!(parts.concat(), text);
+            assert!(parts.iter().all(|part| (1..=STORE_LIMIT).contains(&part.len())));
+            assert!(parts.len() <= 1 + text.len() / (STORE_LIMIT - 3));
         }
     }
 

@@ -15,11 +15,12 @@ use serde::{Deserialize, Serialize};
 
 use crate::errors::SqsError;
 use crate::handles::Receipt;
-use crate::messages::{read_envelope, Envelope};
-use crate::queues::ask::{Ask, Cause, Changer, Delayed, Fate, Handed};
+use crate::messages::{message_id, Envelope, EnvelopeHead};
+use crate::parts;
+use crate::queues::ask::{Ask, Cause, Changer, Delayed, Fate, Handed, PartsCause};
 use crate::queues::Queue;
 use crate::store::{Answer, Copy, Held, Store};
-use crate::texts::{hex, Body, DedupId, GroupId, QueueKind};
+use crate::texts::{hex, DedupId, GroupId, QueueKind, STORE_LIMIT};
 
 /// Which message a copy is of: the mark of its queue, and its sequence number there.
 #[derive(Clone, Copy, Debug, PartialEq, Eq, Hash, Serialize, Deserialize)]
@@ -138,8 +139,22 @@ async fn move_held(
 ) -> Moved {
     let mut moved = Moved { copied: Vec::new(), failed: Vec::new(), result: Ok(()) };
     let copies = copies_of(store, queue, messages, kind, &mut moved);
-    let (handed, copies): (Vec<_>, Vec<_>) = copies.into_iter().unzip();
-    let answers = if copies.is_empty() { Vec::new() } else { held.move_to(target, copies).await };
+    let (mut handed, mut in_parts, mut numbers) = (Vec::new(), Vec::new(), Vec::new());
+    for (one, Copy { sequence, ask }) in copies {
+        match parts::put(store, target, ask, PartsCause::Move).await {
+            Ok((ask, number)) => {
+                in_parts.push(Copy { sequence, ask });
+                numbers.extend(number);
+                handed.push(one);
+            }
+            Err(error) => {
+                moved.result = Err(error);
+                moved.failed.push(one);
+            }
+        }
+    }
+    let answers = if in_parts.is_empty() { Vec::new() } else { held.move_to(target, in_parts).await };
+    parts::settle(store, &numbers);
     for (handed, answer) in handed.into_iter().zip(answers) {
         match answer {
             Ok(_) => moved.copied.push(handed.receipt.sequence),
@@ -197,17 +212,24 @@ fn origin_of(queue: &Queue, handed: &Handed) -> Origin {
 /// queue, and of one that leaves a dead-letter queue its id.
 fn copy_of(store: &Store, queue: &Queue, handed: &Handed, kind: MoveKind) -> Result<Ask, SqsError> {
     let no_envelope = || SqsError::InternalFailure("The store has a message in no form.".into());
-    let (mut metadata, body) = read_envelope(&handed.envelope).ok_or_else(no_envelope)?;
-    // Only in a standard queue a dead letter is as old as it was (Developer Guide, "Amazon SQS dead-letter queues").
-    if kind == MoveKind::Redrive || queue.name.kind() == QueueKind::Fifo {
-        metadata.sent = store.clock().now();
-    }
+    let head = EnvelopeHead::of(&handed.envelope).ok_or_else(no_envelope)?;
     let is_dead_letter = kind == MoveKind::DeadLetter;
-    metadata.source = is_dead_letter.then(|| queue.name.clone());
-    metadata.id = is_dead_letter.then(|| metadata.id_at(queue.mark, handed.receipt.sequence));
+    let id = || head.id.unwrap_or_else(|| message_id(queue.mark, handed.receipt.sequence));
+    // Only in a standard queue a dead letter is as old as it was (Developer Guide, "Amazon SQS dead-letter queues").
+    let keeps_age = is_dead_letter && queue.name.kind() == QueueKind::Standard;
     let origin = origin_of(queue, handed);
-    metadata.of = Some(origin);
-    let envelope = Envelope::new(&metadata, &Body::parse(body)?).map_err(|_| no_envelope())?;
+    let head = EnvelopeHead {
+        id: is_dead_letter.then(id),
+        of: Some(origin),
+        sent: if keeps_age { head.sent } else { Some(store.clock().now()) },
+        source: is_dead_letter.then(|| queue.name.clone()),
+        ..head
+    };
+    let envelope = match head.parts {
+        Some(_) => head.as_line(),
+        None => Envelope::of_whole(head.id, head.over(&handed.envelope).ok_or_else(no_envelope)?),
+    };
+    let envelope = envelope.map_err(|_| no_envelope())?;
     let group = GroupId::parse(&handed.group)?;
     let dedup = DedupId::parse(&hex(&rand::random::<[u8; 16]>()))?;
     Ok(Ask::Send { group, dedup, envelope, cause: Cause::Move(origin) })
@@ -217,8 +239,30 @@ fn copy_of(store: &Store, queue: &Queue, handed: &Handed, kind: MoveKind) -> Res
 /// answered, and know it by the id in its envelope, also after a start. Where others send the same ones meanwhile, the
 /// store has each once.
 pub async fn move_due(store: &Store, queue: &Arc<Queue>, due: &[Arc<Delayed>]) -> Result<Vec<Answer>, SqsError> {
-    let asks = due.iter().map(|message| copy_of_due(message)).collect::<Result<_, _>>()?;
-    Ok(store.ask_all(queue, asks).await)
+    let is_too_long = due.iter().any(|message| message.envelope.len() > STORE_LIMIT);
+    let _alone = if is_too_long { Some(store.queues().parts().alone().await) } else { None };
+    let (mut asks, mut numbers) = (Vec::new(), Vec::new());
+    for message in due {
+        let ask = copy_of_due(message)?;
+        if !queue.state().is_delayed(message.id) {
+            // The store isn't asked for it, so it needs no parts.
+            asks.push(ask);
+            continue;
+        }
+        match parts::put(store, queue, ask, PartsCause::Move).await {
+            Ok((ask, number)) => {
+                asks.push(ask);
+                numbers.extend(number);
+            }
+            Err(error) => {
+                parts::settle(store, &numbers);
+                return Err(error);
+            }
+        }
+    }
+    let answers = store.ask_all(queue, asks).await;
+    parts::settle(store, &numbers);
+    Ok(answers)
 }
 
 fn copy_of_due(message: &Delayed) -> Result<Ask, SqsError> {

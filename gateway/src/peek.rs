@@ -8,12 +8,14 @@ use bytes::Bytes;
 use hyper::header::{HeaderMap, HeaderValue, ACCEPT, CONTENT_TYPE};
 use hyper::{Response, StatusCode, Uri};
 use serde_json::{json, Map, Value};
+use tokio::runtime::Handle;
 use uuid::Uuid;
 
 use crate::actions::{show, Owner};
 use crate::budget::{Budget, Share};
 use crate::errors::SqsError;
 use crate::handles::Receipt;
+use crate::parts::{self, Read};
 use crate::queues::ask::Handed;
 use crate::queues::{Chunk, Cursor, Peeked, Queue, Visibility};
 use crate::store::Store;
@@ -187,7 +189,7 @@ impl Page {
                 }
                 state.peek(after, CHUNK, store.clock().now())
             };
-            cursor = page.take(chunk, wanted, queue, owner)?;
+            cursor = page.take(store, chunk, wanted, queue, owner)?;
         }
         page.next = cursor.map(|cursor| cursor.to_string());
         Ok(page)
@@ -208,6 +210,7 @@ impl Page {
     /// Takes up messages until it is full, and tells where to go on.
     fn take(
         &mut self,
+        store: &Store,
         chunk: Chunk,
         wanted: &PeekRequest,
         queue: &Queue,
@@ -216,8 +219,8 @@ impl Page {
         for peeked in chunk.peeked {
             let cursor = peeked.cursor;
             self.looked_at += 1;
-            if wanted.has(peeked.visibility) {
-                self.add(peeked, wanted, queue, owner)?;
+            if let (true, Some(envelope)) = (wanted.has(peeked.visibility), whole_of(store, &peeked)?) {
+                self.add(peeked, envelope, wanted, queue, owner)?;
             }
             if self.is_full() {
                 return Ok(Some(cursor));
@@ -226,9 +229,16 @@ impl Page {
         Ok(chunk.next)
     }
 
-    fn add(&mut self, peeked: Peeked, wanted: &PeekRequest, queue: &Queue, owner: &Owner) -> Result<(), SqsError> {
-        let Peeked { visibility, sequence, group, count, first, envelope, .. } = peeked;
-        let (first, envelope) = (first.unwrap_or(0), Arc::<str>::from(envelope));
+    fn add(
+        &mut self,
+        peeked: Peeked,
+        envelope: Arc<str>,
+        wanted: &PeekRequest,
+        queue: &Queue,
+        owner: &Owner,
+    ) -> Result<(), SqsError> {
+        let Peeked { visibility, sequence, group, count, first, .. } = peeked;
+        let first = first.unwrap_or(0);
         self.bytes += envelope.len();
         let receipt = Receipt { sequence, ordinal: 0 };
         let handed = Handed { receipt, count, moment: 0, first, group, envelope };
@@ -242,6 +252,16 @@ impl Page {
         }
         self.messages.push(message);
         Ok(())
+    }
+}
+
+/// The whole envelope of a message; none where it is gone by now. Waits for the store where it stands in parts.
+fn whole_of(store: &Store, peeked: &Peeked) -> Result<Option<Arc<str>>, SqsError> {
+    let envelope = Arc::<str>::from(peeked.envelope.clone());
+    match Handle::current().block_on(parts::read(store, &envelope))? {
+        Read::Whole => Ok(Some(envelope)),
+        Read::InParts(whole) => Ok(Some(whole.into())),
+        Read::Gone => Ok(None),
     }
 }
 

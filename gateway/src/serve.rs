@@ -27,6 +27,7 @@ use crate::limits::Bounds;
 use crate::metrics::Metrics;
 use crate::move_tasks;
 use crate::moves;
+use crate::parts;
 use crate::peek::Peeks;
 use crate::purges;
 use crate::queues::ask::Ask;
@@ -160,6 +161,7 @@ async fn start(settings: Arc<Settings>, prepared: Prepared, cqs: Vec<Cq>) -> Res
     // Only one store is ever set.
     let _ = admin.store.set(running.store.clone());
     tokio::spawn(retention::keep_sweeping(running.store.clone()));
+    tokio::spawn(parts::keep_removing(running.store.clone()));
     tokio::spawn(delays::keep_sending(running.store.clone()));
     if running.journal.is_some() {
         tokio::spawn(crate::rolling::keep_rolling(running.store.clone()));
@@ -258,6 +260,7 @@ async fn begin(settings: &Settings, health: &Health, mut cqs: Vec<Cq>) -> Result
     let (store, ended) =
         store::start(Start { program, patience, shards, cqs, queues, clock, journal: journals, bounds });
     remove_left_over(&store, &replayed).await;
+    store.queues().parts().settle_all();
     moves::finish(&store).await;
     purges::finish(&store).await;
     Ok(RunningStore { store, ended, journal })

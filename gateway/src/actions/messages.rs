@@ -9,6 +9,7 @@ use crate::attributes::LONGEST_MESSAGE;
 use crate::digests::{md5_of_attributes, md5_of_text};
 use crate::errors::SqsError;
 use crate::messages::{message_id, Envelope, MessageAttributes, Metadata, TRACE_HEADER};
+use crate::parts;
 use crate::queues::ask::{Ask, Cause, Changer, Delayed, Outcome, TableChange};
 use crate::queues::Queue;
 use crate::store::{Answer, Operation};
@@ -26,7 +27,8 @@ impl Actions {
     ) -> Result<Performed, SqsError> {
         let queue = self.queue(name)?;
         let send = self.sending(&queue, None, &message, caller)?;
-        let outcome = self.store.perform(&queue, send, &caller.share).await?;
+        let mut answers = parts::perform_all(&self.store, &queue, vec![send], &caller.share).await;
+        let outcome = answers.pop().unwrap_or_else(|| Err(no_answer()))?;
         Ok(Response::Sent(sent(&queue, &message, &outcome)?).into())
     }
 
@@ -177,7 +179,7 @@ impl Actions {
         }
         let is_asked = !operations.is_empty();
         let answers =
-            if is_asked { self.store.perform_all(queue, operations, &caller.share).await } else { Vec::new() };
+            if is_asked { parts::perform_all(&self.store, queue, operations, &caller.share).await } else { Vec::new() };
         let mut answers = answers.into_iter();
         let (mut successful, mut failed) = (Vec::new(), Vec::new());
         for (id, entry) in entries {

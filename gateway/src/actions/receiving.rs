@@ -10,6 +10,7 @@ use crate::digests::{md5_of_attributes, md5_of_text};
 use crate::errors::SqsError;
 use crate::handles::Handle;
 use crate::messages::{read_envelope, MessageAttributes, Metadata};
+use crate::parts;
 use crate::polling::{self, Waiter};
 use crate::queues::ask::{Ask, Changer, Handed, Reach};
 use crate::queues::Queue;
@@ -40,7 +41,7 @@ impl Actions {
             return Err(SqsError::ServiceUnavailable("Too many requests are being served.".into()));
         }
         if let Some(handed) = self.receive_again(&queue, &receive, visibility).await? {
-            return self.received(&queue, handed, &receive.shown);
+            return self.received(&queue, handed, &receive.shown).await;
         }
         let ask =
             Ask::Receive { size: receive.size, visibility, attempt: receive.attempt, most: None, reach: Reach::All };
@@ -58,7 +59,7 @@ impl Actions {
             // Receives that wait for nothing don't pay for its size.
             handed = Box::pin(polling::wait(&self.store, &queue, ask, waiter, openings)).await?;
         }
-        self.received(&queue, handed, &receive.shown)
+        self.received(&queue, handed, &receive.shown).await
     }
 
     /// What the attempt was given before, with the timeout begun anew, if that is still to be had.
@@ -76,7 +77,8 @@ impl Actions {
         Ok(answers.iter().all(Result::is_ok).then_some(found))
     }
 
-    fn received(&self, queue: &Arc<Queue>, handed: Vec<Handed>, shown: &Shown) -> Result<Performed, SqsError> {
+    async fn received(&self, queue: &Arc<Queue>, handed: Vec<Handed>, shown: &Shown) -> Result<Performed, SqsError> {
+        let handed = parts::complete(&self.store, handed).await?;
         let shown = handed.iter().map(|one| show(queue, one, shown, &self.owner));
         let messages = shown.collect::<Result<_, _>>()?;
         let receipts = handed.iter().map(|one| one.receipt).collect();

@@ -12,7 +12,7 @@ use crate::clock::Moment;
 use crate::lines::{read_receipt, AskFields, AskKind};
 use crate::messages::{origin_in, Envelope};
 use crate::moves::Origin;
-use crate::queues::ask::{Ask, Cause, Changer, Creation, Reach, StoreName, TableChange};
+use crate::queues::ask::{Ask, Cause, Changer, Creation, PartsAsk, PartsCause, Reach, StoreName, TableChange};
 use crate::texts::{hex, AttemptId, DedupId, GroupId, QueueName};
 
 /// A record as it stands in the journal.
@@ -31,7 +31,7 @@ pub struct Record<'a> {
     /// Of a removal that a client asked for.
     #[serde(default, skip_serializing_if = "Option::is_none")]
     pub removed: Option<QueueName>,
-    /// Of a send whose envelope the store can't take.
+    /// Of a send whose envelope the store can't take, in journals up to version 5.
     #[serde(borrow, rename = "form", default, skip_serializing_if = "Option::is_none")]
     pub envelope: Option<Cow<'a, str>>,
     /// Of a send that moves a message, in journals up to version 4. Since then the envelope says it.
@@ -101,7 +101,7 @@ impl<'a> Record<'a> {
                 record.most = *most;
             }
             Ask::ChangeVisibility { by, .. } => record.by_attempt = *by == Changer::Attempt,
-            Ask::Delete { .. } => {}
+            Ask::Delete { .. } | Ask::Parts { .. } => {}
         }
         record
     }
@@ -141,6 +141,11 @@ impl<'a> Record<'a> {
         }
     }
 
+    /// Whether it asks for a creation.
+    pub fn creates(&self) -> bool {
+        self.ask.and_then(Subject::of).is_some_and(|(kind, _)| kind == AskKind::Create)
+    }
+
     /// The name that goes from the store with this record, if it asks for a removal.
     pub fn removes(&self) -> Option<StoreName> {
         let (kind, name) = Subject::of(self.ask?)?;
@@ -174,6 +179,17 @@ impl<'a> Record<'a> {
                 Ask::ChangeVisibility { receipt: receipt()?, visibility: fields.visibility?, by }
             }
         })
+    }
+
+    /// The ask of this record, of the parts of this number. Their texts are nowhere needed.
+    pub fn to_parts_ask(&self, fields: &AskFields<'_>, number: u64) -> Option<Ask> {
+        let ask = match fields.kind {
+            AskKind::Create => PartsAsk::Create(PartsCause::Move),
+            AskKind::Send => PartsAsk::Add(PartsCause::Move, 0, String::new()),
+            AskKind::Remove => PartsAsk::Remove,
+            AskKind::Receive | AskKind::Delete | AskKind::Change => return None,
+        };
+        Some(Ask::Parts { number, ask })
     }
 
     fn cause(&self, envelope: &str) -> Cause {

@@ -14,19 +14,40 @@ use crate::move_tasks::MoveTask;
 use crate::moves::Origin;
 use crate::texts::{AttemptId, DedupId, GroupId, QueueName};
 
-/// The name under which a queue stands in the store: a number, and another one each time.
+/// The name under which a queue stands in the store: a number, and another one each time. Queues that have the parts of
+/// large messages have numbers of their own.
 #[derive(Clone, Copy, Debug, PartialEq, Eq, Hash, PartialOrd, Ord)]
 pub struct StoreName(pub u64);
 
+/// Of the numbers of names that are for parts.
+const PARTS: u64 = 1 << 63;
+
 impl StoreName {
+    /// The name of a queue that has the parts of one message, by its number.
+    pub fn of_parts(number: u64) -> StoreName {
+        StoreName(PARTS | number)
+    }
+
+    /// Its number, if it has the parts of a message.
+    pub fn parts(self) -> Option<u64> {
+        (self.0 & PARTS > 0).then_some(self.0 & !PARTS)
+    }
+
     /// The name as the store's rules want it.
     pub fn text(self) -> String {
-        format!("{}.fifo", self.0)
+        match self.parts() {
+            Some(number) => format!("b{number}.fifo"),
+            None => format!("{}.fifo", self.0),
+        }
     }
 
     pub fn parse(text: &str) -> Option<StoreName> {
-        let number = text.strip_suffix(".fifo")?.parse().ok()?;
-        Some(StoreName(number)).filter(|name| name.text() == text)
+        let number = text.strip_suffix(".fifo")?;
+        let name = match number.strip_prefix('b') {
+            Some(number) => StoreName::of_parts(number.parse().ok()?),
+            None => StoreName(number.parse().ok()?),
+        };
+        Some(name).filter(|name| name.text() == text)
     }
 }
 
@@ -68,9 +89,53 @@ pub enum Ask {
         visibility: u32,
         by: Changer,
     },
+    /// Of the queue that has the parts of a message, by its number.
+    Parts {
+        number: u64,
+        ask: PartsAsk,
+    },
+}
+
+/// What is asked of a queue that has the parts of a message.
+#[derive(Clone, Debug, PartialEq, Eq)]
+pub enum PartsAsk {
+    Create(PartsCause),
+    /// Which part it is, from 0, and its text.
+    Add(PartsCause, usize, String),
+    /// All parts at once. Nobody sees that they were handed out.
+    Read,
+    Remove,
+}
+
+/// Why parts are sent to the store.
+#[derive(Clone, Copy, Debug, PartialEq, Eq)]
+pub enum PartsCause {
+    Client,
+    /// The gateway has the message already.
+    Move,
 }
 
 impl Ask {
+    /// Whether this sends an envelope that has to be put in parts before.
+    pub fn is_too_long(&self) -> bool {
+        matches!(self, Ask::Send { envelope: Envelope::Split { .. }, .. })
+    }
+
+    /// Whether this reads the parts of a message.
+    pub fn reads_parts(&self) -> bool {
+        matches!(self, Ask::Parts { ask: PartsAsk::Read, .. })
+    }
+
+    /// The ask without a text that is nowhere needed once the ask is written.
+    pub fn without_text(self) -> Ask {
+        match self {
+            Ask::Parts { number, ask: PartsAsk::Add(cause, place, _) } => {
+                Ask::Parts { number, ask: PartsAsk::Add(cause, place, String::new()) }
+            }
+            other => other,
+        }
+    }
+
     /// Which message is due, if this sends one that is.
     pub fn due(&self) -> Option<Uuid> {
         match self {
@@ -244,4 +309,6 @@ pub enum Outcome {
         visible: u64,
         in_flight: u64,
     },
+    /// The text that stands in parts.
+    Parts(String),
 }

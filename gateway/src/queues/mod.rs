@@ -2,6 +2,7 @@
 
 pub mod ask;
 mod groups;
+mod parts;
 pub mod shards;
 mod state;
 #[cfg(test)]
@@ -9,10 +10,11 @@ mod tests;
 
 use std::collections::{BTreeMap, HashMap};
 use std::sync::atomic::{AtomicU64, Ordering};
-use std::sync::{Arc, Mutex, MutexGuard, PoisonError, RwLock};
+use std::sync::{Arc, Mutex, MutexGuard, OnceLock, PoisonError, RwLock};
 
 use tokio::sync::Notify;
 
+use crate::attributes::{GivenAttributes, QueueAttributes};
 use crate::clock::Moment;
 use crate::delays::Alarms;
 use crate::errors::SqsError;
@@ -23,6 +25,7 @@ use crate::polling::Polls;
 use crate::retention::Jumps;
 use crate::texts::QueueName;
 use ask::{Ask, Cause, Creation, Outcome, StoreName, TableChange};
+pub use parts::Parts;
 pub use state::{bytes_of_queue, Chunk, Cursor, Peeked, State, Visibility, WINDOW};
 
 /// So long a name isn't free after its queue was removed, in milliseconds
@@ -77,15 +80,30 @@ pub struct Queues {
     bytes_in_use: AtomicU64,
     jumps: Jumps,
     copies: Copies,
+    parts: Parts,
     alarms: Alarms,
     /// Operators look at messages, so these are kept here as well.
     keeps_copies: bool,
+    /// Stands for all queues that have parts. It isn't among those that have names.
+    of_parts: OnceLock<Arc<Queue>>,
 }
 
 impl Queues {
     /// No queues. `keeps_copies`: messages are to be looked at.
     pub fn new(keeps_copies: bool) -> Queues {
         Queues { keeps_copies, ..Queues::default() }
+    }
+
+    /// The queue of which parts are asked.
+    pub fn of_parts(&self) -> Option<Arc<Queue>> {
+        if let Some(queue) = self.of_parts.get() {
+            return Some(queue.clone());
+        }
+        let name = QueueName::parse("parts.fifo")?;
+        let attributes =
+            QueueAttributes::for_creation(name.kind(), &GivenAttributes::read(name.kind(), &[]).ok()?).ok()?;
+        let creation = Creation { name, mark: 0, attributes, tags: BTreeMap::new(), before: None };
+        Some(self.of_parts.get_or_init(|| Arc::new(Queue::new(StoreName(0), &creation, 0))).clone())
     }
 
     pub fn find(&self, name: &QueueName) -> Option<Arc<Queue>> {
@@ -110,6 +128,11 @@ impl Queues {
     /// Messages that are on their way to dead-letter queues.
     pub fn copies(&self) -> &Copies {
         &self.copies
+    }
+
+    /// The parts of messages that are too long for the store.
+    pub fn parts(&self) -> &Parts {
+        &self.parts
     }
 
     /// When delayed messages are due.
@@ -155,7 +178,10 @@ impl Queues {
 
     /// From now on this name of the store counts as used.
     pub fn saw_store_name(&self, name: StoreName) {
-        self.last_store_name.fetch_max(name.0, Ordering::Relaxed);
+        match name.parts() {
+            Some(number) => self.parts.saw_number(number),
+            None => drop(self.last_store_name.fetch_max(name.0, Ordering::Relaxed)),
+        }
     }
 
     /// Applies the store's reply to an ask of this queue. The second value says whether the journal has to know.
@@ -166,6 +192,9 @@ impl Queues {
         reply: StoreReply,
         moment: Moment,
     ) -> Result<(Outcome, bool), SqsError> {
+        if let Ask::Parts { number, ask } = ask {
+            return self.parts.apply_reply(*number, ask, reply);
+        }
         let applied = self.counted(queue, |state| {
             let applied = state.apply_reply(ask, reply, moment, &self.jumps)?;
             if self.keeps_copies {
@@ -178,6 +207,11 @@ impl Queues {
             Ask::Remove { name: Some(name), .. } => self.remove(queue, name, moment),
             Ask::Send { cause: Cause::Move(origin), .. } => self.copies.mark_copied(*origin),
             _ => {}
+        }
+        match (ask, applied.parts) {
+            (Ask::Send { .. }, Some(number)) => self.parts.name(number),
+            (_, Some(number)) => self.parts.unname(number),
+            (_, None) => {}
         }
         if applied.opened {
             queue.opened.notify_one();
@@ -235,6 +269,8 @@ impl Queues {
 
     fn remove(&self, queue: &Arc<Queue>, name: &QueueName, moment: Moment) {
         self.counted(queue, |state| state.removed = true);
+        let parts = queue.state().take_parts();
+        parts.into_iter().for_each(|number| self.parts.unname(number));
         let mut queues = self.by_name.write().unwrap_or_else(PoisonError::into_inner);
         queues.remove(name);
         drop(queues);
@@ -244,6 +280,8 @@ impl Queues {
     /// This queue isn't there, whatever has the name by now.
     pub fn forget(&self, queue: &Arc<Queue>) {
         self.counted(queue, |state| state.removed = true);
+        let parts = queue.state().take_parts();
+        parts.into_iter().for_each(|number| self.parts.unname(number));
         let mut queues = self.by_name.write().unwrap_or_else(PoisonError::into_inner);
         if queues.get(&queue.name).is_some_and(|found| Arc::ptr_eq(found, queue)) {
             queues.remove(&queue.name);

@@ -31,6 +31,11 @@ impl Shards {
         (0..self.0).map(move |place| Shard { shards: self, place })
     }
 
+    /// The place of the program that has the parts of this number.
+    pub fn place_of_parts(self, number: u64) -> usize {
+        (number % u64::from(self.0)) as usize
+    }
+
     /// The place of the program that has the queue of this name.
     pub fn place_of(self, name: &QueueName) -> usize {
         (crc32fast::hash(name.as_str().as_bytes()) % self.0) as usize
@@ -50,6 +55,10 @@ impl Shard {
 
     pub fn has(self, name: &QueueName) -> bool {
         self.shards.place_of(name) == self.place as usize
+    }
+
+    pub fn has_parts(self, number: u64) -> bool {
+        self.shards.place_of_parts(number) == self.place as usize
     }
 }
 

@@ -338,3 +338,16 @@ fn what_is_handed_out_is_that_of_a_list_with_delays() {
         Ok(())
     });
 }
+
+#[test]
+fn names_of_the_store_come_back() {
+    for (name, text) in [(StoreName(7), "7.fifo"), (StoreName::of_parts(7), "b7.fifo")] {
+        assert_eq!((name.text().as_str(), StoreName::parse(text)), (text, Some(name)));
+    }
+    assert_eq!((StoreName(7).parts(), StoreName::of_parts(7).parts()), (None, Some(7)));
+    for bad in
+        ["b.fifo", "b07.fifo", "7", "bb7.fifo", "9223372036854775815.fifo", "b9223372036854775815.fifo", "-7.fifo"]
+    {
+        assert_eq!(StoreName::parse(bad), None, "{bad}");
+    }
+}

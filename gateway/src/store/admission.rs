@@ -6,7 +6,7 @@ use std::sync::Arc;
 use crate::clock::Moment;
 use crate::errors::SqsError;
 use crate::limits::{Bound, MESSAGE_BYTES, QUEUE_BYTES};
-use crate::queues::ask::{Ask, Cause, TableChange};
+use crate::queues::ask::{Ask, Cause, PartsAsk, PartsCause, TableChange};
 use crate::queues::{bytes_of_queue, Queue, Queues};
 
 /// A queue that takes no more without its messages gets attributes and tags also where the bound is full.
@@ -44,6 +44,7 @@ impl Admission {
             Ask::Send { envelope, cause: Cause::Client, .. } => envelope.bytes() + MESSAGE_BYTES,
             // What is moved goes from where it was, and what is due was counted before.
             Ask::Send { .. } => return Ok(0),
+            Ask::Parts { ask: PartsAsk::Add(PartsCause::Client, _, text), .. } => text.len() as u64,
             Ask::Create { creation, .. } if creation.before.is_none() => {
                 bytes_of_queue(&creation.attributes, &creation.tags)
             }
@@ -64,6 +65,11 @@ impl Admission {
             },
             _ => Ok(0),
         }
+    }
+
+    /// Refuses what would be refused as a message of so many bytes.
+    pub fn test(&self, bytes: u64, now: Moment) -> Result<(), SqsError> {
+        self.admit_bytes(bytes + MESSAGE_BYTES, now).map(|weight| self.answered(weight))
     }
 
     fn admit_bytes(&self, bytes: u64, now: Moment) -> Result<u64, SqsError> {

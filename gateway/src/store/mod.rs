@@ -5,6 +5,7 @@ mod figures;
 mod replay;
 mod task;
 
+use std::future::Future;
 use std::sync::Arc;
 
 use tokio::sync::{mpsc, oneshot};
@@ -14,7 +15,7 @@ use crate::clock::Clock;
 use crate::errors::SqsError;
 use crate::handles::{Mark, Receipt};
 use crate::journal::{Journal, Need};
-use crate::queues::ask::{Ask, Cause, Handed, Outcome, Reach, TableChange};
+use crate::queues::ask::{Ask, Cause, Handed, Outcome, PartsAsk, Reach, TableChange};
 use crate::queues::shards::Shards;
 use crate::queues::{Queue, Queues};
 use crate::texts::QueueName;
@@ -122,8 +123,8 @@ pub struct Store {
     counters: Arc<Counters>,
 }
 
-/// What the records of a move take at most beside its messages.
-const ROOM_TO_MOVE: u64 = 32 << 10;
+/// What the records of ten messages take at most beside these.
+const ROOM: u64 = 32 << 10;
 
 fn gone() -> SqsError {
     SqsError::ServiceUnavailable("The store is gone.".into())
@@ -145,12 +146,44 @@ impl Store {
 
     /// Refuses to move messages of so many bytes where their copies would be refused, since the journal's disk is full.
     pub fn test_room_to_move(&self, bytes: u64) -> Result<(), SqsError> {
-        let Some(journal) = &self.journal else { return Ok(()) };
-        match journal.set_aside(Need::Same, ROOM_TO_MOVE + 2 * bytes)? {
-            Some(room) => journal.give_back(room),
-            None => return Err(SqsError::ServiceUnavailable("The journal's disk is being asked for space.".into())),
+        if self.has_room(Need::Same, bytes)? {
+            return Ok(());
         }
-        Ok(())
+        Err(SqsError::ServiceUnavailable("The journal's disk is being asked for space.".into()))
+    }
+
+    /// Refuses to send so many bytes where that would be refused in the end.
+    pub fn test_room_to_send(&self, bytes: u64) -> Result<(), SqsError> {
+        self.admission.test(bytes, self.clock.now())?;
+        self.has_room(Need::More, bytes).map(drop)
+    }
+
+    /// Whether the journal has room for messages of so many bytes now. Where it never has, it refuses them.
+    fn has_room(&self, need: Need, bytes: u64) -> Result<bool, SqsError> {
+        let Some(journal) = &self.journal else { return Ok(true) };
+        let room = journal.set_aside(need, ROOM + 2 * bytes)?;
+        if let Some(room) = room {
+            journal.give_back(room);
+        }
+        Ok(room.is_some())
+    }
+
+    /// A number for the parts of a message of this queue.
+    pub fn next_parts(&self, queue: &Queue) -> u64 {
+        self.queues.parts().next_number(self.shards, self.shards.place_of(&queue.name))
+    }
+
+    /// The answers to asks of the queue that has the parts of this number.
+    ///
+    /// They are asked when this is called, whenever their answers are waited for.
+    pub fn ask_parts(&self, number: u64, asks: Vec<PartsAsk>) -> impl Future<Output = Vec<Answer>> + Send {
+        let count = asks.len();
+        let (sender, answers) = oneshot::channel();
+        let operations = asks.into_iter().map(|ask| Operation::Ask(Ask::Parts { number, ask })).collect();
+        let job = Job { queue: self.queues.of_parts(), operations, ignores_hold: true, sender: sender.into() };
+        // Where the task is gone, no answer comes.
+        let _ = self.jobs[self.shards.place_of_parts(number)].send(job);
+        async move { answers.await.unwrap_or_else(|_| (0..count).map(|_| Err(gone())).collect()) }
     }
 
     fn jobs_of(&self, name: &QueueName) -> &mpsc::UnboundedSender<Job> {

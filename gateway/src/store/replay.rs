@@ -276,6 +276,9 @@ impl Replay {
 
     /// Whether the record is of a queue of this shard. None if nobody can know, which is damage.
     fn is_own(&mut self, record: &Record<'_>, store: StoreName) -> Option<bool> {
+        if let Some(number) = store.parts() {
+            return Some(self.shard.has_parts(number));
+        }
         if let Some(creation) = &record.creation {
             self.own.insert(store, self.shard.has(&creation.name));
         }
@@ -288,6 +291,9 @@ impl Replay {
     }
 
     fn ask_of(&mut self, record: &Record<'_>, fields: AskFields<'_>, store: StoreName) -> Option<(Arc<Queue>, Ask)> {
+        if let (Some(number), Some(tables)) = (store.parts(), &self.tables) {
+            return Some((tables.queues.of_parts()?, record.to_parts_ask(&fields, number)?));
+        }
         if fields.kind == AskKind::Create {
             let creation = record.creation.as_ref()?;
             let base = creation.before.as_ref().map_or(0, |before| before.base);

@@ -29,6 +29,8 @@ pub(super) struct Message {
     pub(super) bytes: u64,
     /// Of a dead letter: the queue from which it was moved here.
     pub(super) source: Option<Arc<QueueName>>,
+    /// The number of the queue that has the parts of its envelope, where it is too long for the store.
+    pub(super) parts: Option<u64>,
 }
 
 impl Message {
@@ -40,7 +42,22 @@ impl Message {
         envelope: Option<Arc<str>>,
         bytes: u64,
     ) -> Message {
-        Message { sent, group, ordinal: 0, last: None, until: VISIBLE, envelope, group_id: None, bytes, source }
+        Message {
+            sent,
+            group,
+            ordinal: 0,
+            last: None,
+            until: VISIBLE,
+            envelope,
+            group_id: None,
+            bytes,
+            source,
+            parts: None,
+        }
+    }
+
+    pub(super) fn in_parts(self, parts: Option<u64>) -> Message {
+        Message { parts, ..self }
     }
 
     pub(super) fn until(&self) -> Moment {
@@ -94,6 +111,10 @@ impl Messages {
 
     pub(super) fn get_mut(&mut self, sequence: u64) -> Option<&mut Message> {
         self.by_sequence.get_mut(&sequence)
+    }
+
+    pub(super) fn take_parts(&mut self) -> Vec<u64> {
+        self.by_sequence.values_mut().filter_map(|message| message.parts.take()).collect()
     }
 
     /// Their groups.

@@ -28,7 +28,7 @@ use crate::errors::SqsError;
 use crate::handles::{Mark, Receipt};
 use crate::limits::{ID_BYTES, MESSAGE_BYTES, QUEUE_BYTES};
 use crate::lines::{read_receipt, StoreMessage, StoreReply};
-use crate::messages::{message_id, own_id, Envelope, EnvelopeHead};
+use crate::messages::{has_parts, message_id, own_id, Envelope, EnvelopeHead};
 use crate::move_tasks::{self, MoveTask, Status};
 use crate::redrive::RedrivePolicy;
 use crate::retention::Jumps;
@@ -119,15 +119,17 @@ pub struct Applied {
     pub changed: bool,
     /// Something happened that can open a group.
     pub opened: bool,
+    /// The parts of the message that was sent or deleted.
+    pub parts: Option<u64>,
 }
 
 impl Applied {
     fn unchanged(outcome: Outcome) -> Applied {
-        Applied { outcome, changed: false, opened: false }
+        Applied { outcome, changed: false, opened: false, parts: None }
     }
 
     fn done(opened: bool) -> Applied {
-        Applied { outcome: Outcome::Done, changed: true, opened }
+        Applied { outcome: Outcome::Done, changed: true, opened, parts: None }
     }
 }
 
@@ -255,17 +257,15 @@ impl State {
         if sequence != self.last_sequence + 1 {
             return Err(misfit());
         }
-        let head = match (self.kind, cause) {
-            (QueueKind::Fifo, Cause::Client | Cause::Due(_)) => None,
-            (QueueKind::Standard, _) | (_, Cause::Move(_)) => {
-                Some(EnvelopeHead::of(envelope.whole()).ok_or_else(misfit)?)
-            }
-        };
+        let needs_head =
+            self.kind == QueueKind::Standard || matches!(cause, Cause::Move(_)) || has_parts(envelope.stored());
+        let head = needs_head.then(|| EnvelopeHead::of(envelope.whole()).ok_or_else(misfit)).transpose()?;
         let sent = match (self.kind, &head) {
             // It may have been delayed, or be moved with the age that it has.
             (QueueKind::Standard, Some(head)) => head.sent.map_or(moment, |sent| sent.min(moment)),
             _ => moment,
         };
+        let (parts, bytes_of_parts) = head.as_ref().map_or((None, None), |head| (head.parts, head.bytes));
         let source = head.and_then(|head| head.source).map(Arc::new);
         let id = match cause {
             // No client can repeat the gateway's own sends.
@@ -276,7 +276,7 @@ impl State {
         self.remember(moment, sequence, id);
         self.last_sequence = sequence;
         self.last_send = moment;
-        let bytes = envelope.bytes();
+        let bytes = envelope.bytes() + bytes_of_parts.unwrap_or(0);
         let envelope = match envelope {
             Envelope::Whole(_) => None,
             Envelope::Split { whole, .. } => Some(whole.as_str().into()),
@@ -287,9 +287,9 @@ impl State {
         if let Some(groups) = &mut self.groups {
             groups.add(group, sequence, 0);
         }
-        self.messages.add(sequence, Message::new(sent, group, source, envelope, bytes));
+        self.messages.add(sequence, Message::new(sent, group, source, envelope, bytes).in_parts(parts));
         self.open();
-        Ok(Applied { outcome: Outcome::Sent { sequence, id }, changed: true, opened: true })
+        Ok(Applied { outcome: Outcome::Sent { sequence, id }, changed: true, opened: true, parts })
     }
 
     /// Takes up that the next message, of this number, was sent at this moment, with an id of its own or without.
@@ -355,7 +355,7 @@ impl State {
             self.open();
         }
         let outcome = Outcome::Received { handed, set_aside, openings: self.openings };
-        Ok(Applied { outcome, changed, opened })
+        Ok(Applied { outcome, changed, opened, parts: None })
     }
 
     fn hand(&mut self, given: StoreMessage, receiving: &Receiving<'_>) -> Result<(Handed, Option<Fate>), SqsError> {
@@ -387,7 +387,9 @@ impl State {
         if !removed {
             return Applied::unchanged(Outcome::Done);
         }
+        let mut parts = None;
         if let Some(message) = self.messages.remove(receipt.sequence) {
+            parts = message.parts;
             if let Some(groups) = &mut self.groups {
                 groups.remove(message.group, receipt.sequence, message.until());
             }
@@ -402,7 +404,12 @@ impl State {
             }
         }
         self.open();
-        Applied::done(true)
+        Applied { parts, ..Applied::done(true) }
+    }
+
+    /// The parts of all messages, which are named no more.
+    pub fn take_parts(&mut self) -> Vec<u64> {
+        self.messages.take_parts()
     }
 
     fn changed(&mut self, receipt: Receipt, visibility: u32, by: Changer, moment: Moment) -> Applied {
@@ -491,7 +498,7 @@ impl State {
             Some(First::Stored(sequence)) => Applied::unchanged(Outcome::Delayed { id: self.told_id(sequence) }),
             None => {
                 self.last_send = moment;
-                Applied { outcome: Outcome::Delayed { id: message.id }, changed: true, opened: false }
+                Applied { outcome: Outcome::Delayed { id: message.id }, ..Applied::done(false) }
             }
         }
     }

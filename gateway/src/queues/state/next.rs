@@ -55,9 +55,9 @@ impl State {
         self.messages.get(sequence)?.source.clone()
     }
 
-    /// What the envelope of a message takes, in bytes.
-    pub fn bytes_of(&self, sequence: u64) -> u64 {
-        self.messages.get(sequence).map_or(0, |message| message.bytes)
+    /// What a copy of a message takes, in bytes. Parts stay where they are.
+    pub fn bytes_of_copy(&self, sequence: u64) -> u64 {
+        self.messages.get(sequence).filter(|message| message.parts.is_none()).map_or(0, |message| message.bytes)
     }
 
     /// Forgets the groups, if nobody needed them for a while.

@@ -133,7 +133,7 @@ impl Task {
 
     /// The program has answered this one.
     fn close(&mut self, asked: &OpenAsk) {
-        self.free.push(asked.client);
+        self.clients.give_back(asked.client);
         self.forget_open(&asked.ask);
         self.waits_for_answer = false;
     }

@@ -2,6 +2,7 @@
 //! and hands each to who asked, when the journal has what it rests on.
 
 mod answering;
+mod clients;
 mod entries;
 mod moving;
 mod outgoing;
@@ -31,6 +32,7 @@ use crate::lines::BadOutput;
 use crate::queues::shards::{Shard, Shards};
 use crate::queues::{Queue, Queues};
 use crate::texts::STORE_LIMIT;
+use clients::{Clients, CLIENTS};
 use entries::{Entry, Open, Pending};
 use moving::{Moving, Original};
 use outgoing::Outgoing;
@@ -51,9 +53,6 @@ pub enum Ended {
     #[error("a line for cq can't be written: {0}")]
     Line(#[from] serde_json::Error),
 }
-
-/// Asks that are with the program at the same time have different clients, and there are so many.
-const CLIENTS: u32 = 256;
 
 /// No more is read from the pipe, or gathered for it, at once.
 const PIECE: usize = 256 * 1024;
@@ -85,7 +84,7 @@ struct Task {
     /// Copies that are with the program, and whose originals go before anything else is asked.
     moving: Option<Moving>,
     open: VecDeque<Open>,
-    free: Vec<u32>,
+    clients: Clients,
     last_number: u64,
     out: Outgoing,
     incoming: BytesMut,
@@ -145,7 +144,7 @@ pub fn start(start: Start) -> (Store, oneshot::Receiver<Ended>) {
             held: Holds::new(),
             moving: None,
             open: VecDeque::new(),
-            free: (1..=CLIENTS).rev().collect(),
+            clients: Clients::new(),
             // Numbers in use begin above all that any earlier run can have used.
             last_number: start.clock.now() << 20,
             out: Outgoing::default(),
@@ -312,7 +311,7 @@ impl Task {
         replay(&mut self.cq, journal.records()?, self.shard, None).await?;
         self.incoming.clear();
         self.out.clear();
-        self.free = (1..=CLIENTS).rev().collect();
+        self.clients = Clients::new();
         self.waits_for_answer = false;
         // One whose answer couldn't be read isn't among those that are open.
         self.open_due.clear();
@@ -352,7 +351,7 @@ impl Task {
                 }
                 self.last_number += 1;
                 asked.number = self.last_number;
-                asked.client = self.free.pop().unwrap_or(1);
+                asked.client = self.clients.take(asked.ask.reads_parts()).unwrap_or(CLIENTS);
                 self.open_due.extend(asked.ask.due());
                 self.write(&asked)?;
                 Entry::Ask(asked)

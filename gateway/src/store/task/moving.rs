@@ -7,6 +7,7 @@ use std::sync::Arc;
 
 use serde_json::value::RawValue;
 
+use super::clients::CLIENTS;
 use super::entries::{Entry, Open, OpenAsk, StartOutcome};
 use super::room::{bytes_of, need_of};
 use super::{Ended, Task};
@@ -48,7 +49,7 @@ impl Task {
         copies: Vec<Copy>,
         sender: &mut Option<AnswerSender>,
     ) -> Result<StartOutcome, Ended> {
-        if copies.len() > self.free.len() {
+        if copies.len() > self.clients.count() {
             return Ok(StartOutcome::WaitsForAnswer(source, Operation::Move { target, copies }));
         }
         let (store, base, removed) = {
@@ -112,7 +113,7 @@ impl Task {
         original: Option<Original>,
     ) -> Result<(), Ended> {
         // There are as many free clients as copies, and a copy that is answered frees its own.
-        let client = self.free.pop().unwrap_or(1);
+        let client = self.clients.take(false).unwrap_or(CLIENTS);
         self.last_number += 1;
         let number = self.last_number;
         let asked = OpenAsk { queue, ask, raw, moment, client, number, room, weight: 0, ends: 0, original };

@@ -3,8 +3,7 @@
 use serde_json::value::RawValue;
 
 use crate::journal::Need;
-use crate::messages::Envelope;
-use crate::queues::ask::{Ask, Cause, Changer, Reach, TableChange};
+use crate::queues::ask::{Ask, Cause, Changer, PartsAsk, PartsCause, Reach, TableChange};
 
 pub(super) fn need_of(ask: &Ask) -> Need {
     match ask {
@@ -13,6 +12,11 @@ pub(super) fn need_of(ask: &Ask) -> Need {
         Ask::Create { .. } | Ask::Send { cause: Cause::Client, .. } => Need::More,
         // What the gateway is handed itself it deletes or gives back, and for that there has to be space.
         Ask::ChangeVisibility { by: Changer::Gateway, .. } => Need::Less,
+        Ask::Parts { ask: PartsAsk::Create(cause) | PartsAsk::Add(cause, ..), .. } => match cause {
+            PartsCause::Client => Need::More,
+            PartsCause::Move => Need::Same,
+        },
+        Ask::Parts { .. } => Need::Less,
         Ask::Receive { reach: Reach::Own(_), .. } | Ask::Delete { .. } | Ask::Remove { .. } => Need::Less,
         Ask::Send { .. } | Ask::Receive { .. } | Ask::ChangeVisibility { .. } => Need::Same,
     }
@@ -30,7 +34,6 @@ pub(super) fn need_of_change(change: &TableChange) -> Need {
 pub(super) fn bytes_of(ask: &Ask, raw: &RawValue) -> u64 {
     let beside = match ask {
         Ask::Create { creation, .. } => serde_json::to_vec(creation.as_ref()).map_or(0, |bytes| bytes.len()),
-        Ask::Send { envelope: Envelope::Split { whole, .. }, .. } => length_in_json(whole),
         _ => 0,
     };
     (raw.get().len() + beside + 512) as u64

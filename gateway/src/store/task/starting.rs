@@ -53,7 +53,7 @@ impl Task {
 
     fn may_start(&self) -> bool {
         let is_kept = self.lacks_room || self.waits_for_answer || self.moving.is_some();
-        !is_kept && !self.free.is_empty() && self.out.bytes.len() < PIECE
+        !is_kept && self.clients.has(false) && self.out.bytes.len() < PIECE
     }
 
     fn put_back(&mut self, queue: Arc<Queue>, operation: Operation, sender: Option<AnswerSender>) {
@@ -114,15 +114,20 @@ impl Task {
         weight: u64,
     ) -> Result<StartOutcome, Ended> {
         let ready = |answer| Ok(StartOutcome::ready(answer));
+        if !self.clients.has(ask.reads_parts()) {
+            return Ok(StartOutcome::WaitsForAnswer(queue, ask.into()));
+        }
         let room = match &self.journal {
             None => 0,
+            // It has no record.
+            Some(_) if ask.reads_parts() => 0,
             Some(journal) => match journal.set_aside(need_of(&ask), bytes_of(&ask, &raw)) {
                 Ok(Some(room)) => room,
                 Ok(None) => return Ok(StartOutcome::LacksRoom(queue, ask.into())),
                 Err(error) => return ready(Err(error)),
             },
         };
-        let Some(client) = self.free.pop() else {
+        let Some(client) = self.clients.take(ask.reads_parts()) else {
             return ready(Err(SqsError::InternalFailure("No client is free.".into())));
         };
         self.last_number += 1;
@@ -130,7 +135,7 @@ impl Task {
         self.open_due.extend(ask.due());
         let asked = OpenAsk {
             queue,
-            ask,
+            ask: ask.without_text(),
             raw,
             moment,
             client,

@@ -1,0 +1,229 @@
+//! Which queues of the store have the parts of messages, and how many messages name each. A message that is moved and its
+//! copy name the same parts for a moment.
+
+use std::collections::{HashMap, HashSet};
+use std::sync::{Mutex, MutexGuard, PoisonError};
+
+use tokio::sync::Notify;
+
+use super::ask::{Outcome, PartsAsk};
+use super::shards::Shards;
+use crate::errors::SqsError;
+use crate::lines::StoreReply;
+
+/// A queue that has parts.
+#[derive(Debug, Default)]
+struct Entry {
+    is_there: bool,
+    /// How many messages name it.
+    named: u64,
+}
+
+#[derive(Debug, Default)]
+struct Entries {
+    by_number: HashMap<u64, Entry>,
+    /// Those that no message names any more.
+    freed: HashSet<u64>,
+    last_number: u64,
+}
+
+impl Entries {
+    fn free_unless_named(&mut self, number: u64) {
+        if self.by_number.get(&number).is_some_and(|entry| entry.is_there && entry.named == 0) {
+            self.freed.insert(number);
+        }
+    }
+}
+
+/// All of them.
+#[derive(Debug, Default)]
+pub struct Parts {
+    entries: Mutex<Entries>,
+    some_freed: Notify,
+    alone: tokio::sync::Mutex<()>,
+}
+
+impl Parts {
+    fn entries(&self) -> MutexGuard<'_, Entries> {
+        self.entries.lock().unwrap_or_else(PoisonError::into_inner)
+    }
+
+    /// A number that no parts have had, for the program at this place.
+    pub fn next_number(&self, shards: Shards, place: usize) -> u64 {
+        let (mut entries, count) = (self.entries(), u64::from(shards.count()));
+        entries.last_number = (entries.last_number / count + 1) * count + place as u64;
+        entries.last_number
+    }
+
+    /// Keeps others waiting that put parts of messages that are due, since these may be the same ones.
+    pub async fn alone(&self) -> tokio::sync::MutexGuard<'_, ()> {
+        self.alone.lock().await
+    }
+
+    /// From now on this number counts as used.
+    pub fn saw_number(&self, number: u64) {
+        let mut entries = self.entries();
+        entries.last_number = entries.last_number.max(number);
+    }
+
+    /// Applies the store's reply. The second value says whether the journal has to know.
+    pub fn apply_reply(&self, number: u64, ask: &PartsAsk, reply: StoreReply) -> Result<(Outcome, bool), SqsError> {
+        match (ask, reply) {
+            (_, StoreReply::Refused(code)) => Err(SqsError::of_refusal(code)),
+            (PartsAsk::Create(_), StoreReply::Created) => {
+                self.entries().by_number.entry(number).or_default().is_there = true;
+                Ok((Outcome::Done, true))
+            }
+            (PartsAsk::Add(..), StoreReply::Sent(_)) => Ok((Outcome::Done, true)),
+            (PartsAsk::Read, StoreReply::Received(parts)) => {
+                let texts: Vec<_> = parts.into_iter().map(|part| part.body).collect();
+                Ok((Outcome::Parts(texts.concat()), false))
+            }
+            (PartsAsk::Remove, StoreReply::Removed) => {
+                self.entries().by_number.remove(&number);
+                Ok((Outcome::Done, true))
+            }
+            _ => Err(SqsError::InternalFailure("The store's answer doesn't fit the request.".into())),
+        }
+    }
+
+    /// A message names them.
+    pub fn name(&self, number: u64) {
+        let mut entries = self.entries();
+        entries.by_number.entry(number).or_default().named += 1;
+        // In a replay what another program has of them may come late.
+        entries.freed.remove(&number);
+    }
+
+    /// A message that named them is gone.
+    pub fn unname(&self, number: u64) {
+        let mut entries = self.entries();
+        let Some(entry) = entries.by_number.get_mut(&number) else { return };
+        entry.named = entry.named.saturating_sub(1);
+        if entry.named == 0 && !entry.is_there {
+            entries.by_number.remove(&number);
+        }
+        entries.free_unless_named(number);
+        drop(entries);
+        self.some_freed.notify_one();
+    }
+
+    /// Nobody will send a message that names them: where none does by now, they can go.
+    pub fn settle(&self, number: u64) {
+        self.entries().free_unless_named(number);
+        self.some_freed.notify_one();
+    }
+
+    /// The same for all, before anybody sends.
+    pub fn settle_all(&self) {
+        let numbers: Vec<_> = self.entries().by_number.keys().copied().collect();
+        numbers.into_iter().for_each(|number| self.settle(number));
+    }
+
+    /// Waits for parts that no message names any more, and takes them.
+    pub async fn take_freed(&self) -> Vec<u64> {
+        loop {
+            let freed = std::mem::take(&mut self.entries().freed);
+            if !freed.is_empty() {
+                return freed.into_iter().collect();
+            }
+            self.some_freed.notified().await;
+        }
+    }
+
+    /// How many queues with parts there are.
+    pub fn count(&self) -> usize {
+        self.entries().by_number.len()
+    }
+}
+
+#[cfg(test)]
+mod tests {
+    use super::*;
+    use crate::queues::ask::PartsCause;
+
+    fn freed(parts: &Parts) -> Vec<u64> {
+        let mut freed: Vec<_> = std::mem::take(&mut parts.entries().freed).into_iter().collect();
+        freed.sort_unstable();
+        freed
+    }
+
+    fn create(parts: &Parts, number: u64) {
+        parts.apply_reply(number, &PartsAsk::Create(PartsCause::Client), StoreReply::Created).unwrap();
+    }
+
+    #[test]
+    fn parts_go_with_the_last_message_that_names_them() {
+        let parts = Parts::default();
+        create(&parts, 1);
+        parts.name(1);
+        parts.settle(1);
+        // A copy, and then its original goes.
+        parts.name(1);
+        parts.unname(1);
+        assert!(freed(&parts).is_empty());
+        parts.unname(1);
+        assert_eq!(freed(&parts), [1]);
+        parts.apply_reply(1, &PartsAsk::Remove, StoreReply::Removed).unwrap();
+        parts.settle(1);
+        assert_eq!((freed(&parts), parts.count()), (vec![], 0));
+    }
+
+    #[test]
+    fn parts_that_no_message_names_are_found() {
+        let parts = Parts::default();
+        [1, 2, 3].into_iter().for_each(|number| create(&parts, number));
+        parts.name(2);
+        // Of a journal from which the records of the parts have gone, since they were removed.
+        parts.name(4);
+        parts.settle_all();
+        assert_eq!(freed(&parts), [1, 3]);
+        parts.unname(4);
+        assert_eq!((freed(&parts), parts.count()), (vec![], 3));
+    }
+
+    #[test]
+    fn parts_stay_where_one_program_is_replayed_before_another() {
+        let parts = Parts::default();
+        create(&parts, 1);
+        parts.name(1);
+        parts.unname(1);
+        // The copy is with the other program.
+        parts.name(1);
+        parts.settle_all();
+        assert!(freed(&parts).is_empty());
+        // So is that of parts of which nothing is known yet.
+        parts.name(2);
+        create(&parts, 2);
+        parts.name(2);
+        parts.unname(2);
+        parts.settle_all();
+        assert!(freed(&parts).is_empty());
+    }
+
+    #[test]
+    fn numbers_are_of_their_programs_and_new() {
+        for count in 1..=16 {
+            let (parts, shards) = (Parts::default(), Shards::new(count).unwrap());
+            parts.saw_number(100);
+            let mut last = 100;
+            for place in (0..count as usize).chain(0..count as usize) {
+                let number = parts.next_number(shards, place);
+                assert!(number > last && shards.place_of_parts(number) == place, "{number} of {count}");
+                last = number;
+            }
+        }
+    }
+
+    #[test]
+    fn a_text_comes_back_from_its_parts() {
+        let parts = Parts::default();
+        let given = ["one", "two"].map(|body| crate::lines::StoreMessage {
+            body: body.into(),
+            group: "parts".into(),
+            receipt: "1-1-1".into(),
+        });
+        let read = parts.apply_reply(1, &PartsAsk::Read, StoreReply::Received(given.to_vec())).unwrap();
+        assert!(matches!(read, (Outcome::Parts(text), false) if text == "onetwo"));
+    }
+}

@@ -1,0 +1,250 @@
+"""Messages that are too long for the store stand in parts in it, and the gateway keeps nothing of them."""
+
+from __future__ import annotations
+
+import json
+import random
+import threading
+import time
+import zlib
+from collections.abc import Callable
+from pathlib import Path
+
+import pytest
+
+from started import ByJson, Refused, Started, run
+from steered import SteeredCq
+from test_standard import sent_by_call
+
+LONGEST = 1_048_576
+
+
+def wait_for(what: Callable[[], bool]) -> None:
+    latest = time.monotonic() + 20
+    while not what():
+        assert time.monotonic() < latest
+        time.sleep(0.02)
+
+
+class Kept:
+    """A gateway with a journal, and a queue in it."""
+
+    def __init__(self, room: Path, end: str, *words: str) -> None:
+        self.journal, self.fifo, self.name = room / "journal", bool(end), f"q{end}"
+        self.gateway = Started("--journal", str(self.journal), *words, room=room)
+        self.create(self.name)
+
+    def call(self, action: str, **members):
+        return ByJson(self.gateway.url)(action, **members)
+
+    def create(self, name: str, **attributes: str) -> None:
+        fifo = {"FifoQueue": "true"} if self.fifo else {}
+        self.call("CreateQueue", QueueName=name, Attributes={"VisibilityTimeout": "0", **fifo, **attributes})
+
+    def send(self, body: str, dedup: str = "d", queue: str | None = None) -> dict:
+        more = {"MessageGroupId": dedup, "MessageDeduplicationId": dedup} if self.fifo else {}
+        return self.call("SendMessage", QueueUrl=queue or self.name, MessageBody=body, **more)
+
+    def receive(self, queue: str | None = None, **more) -> list[dict]:
+        members = {"MaxNumberOfMessages": 10, "AttributeNames": ["All"], "MessageAttributeNames": ["All"], **more}
+        return self.call("ReceiveMessage", QueueUrl=queue or self.name, **members).get("Messages", [])
+
+    def delete(self, message: dict, queue: str | None = None) -> None:
+        self.call("DeleteMessage", QueueUrl=queue or self.name, ReceiptHandle=message["ReceiptHandle"])
+
+    def parts(self) -> int:
+        """How many queues with parts the journal has that aren't removed."""
+        lines = [json.loads(line) for line in run("dump", str(self.journal)).stdout.splitlines()]
+        names = [line["ask"]["queue"] for line in lines if line.get("ask", {}).get("kind") == "create"]
+        return sum(name.startswith("b") for name in names)
+
+    def restart(self) -> None:
+        self.gateway.kill()
+        self.gateway.start()
+
+
+@pytest.fixture(params=["", ".fifo"])
+def kind(request) -> str:
+    return request.param
+
+
+def resident(gateway: Started) -> int:
+    told = Path(f"/proc/{gateway.process.pid}/status").read_text()
+    return next(int(line.split()[1]) for line in told.splitlines() if line.startswith("VmRSS"))
+
+
+def test_the_gateway_keeps_nothing_of_a_body(tmp_path, kind):
+    kept = Kept(tmp_path, kind)
+    kept.send("x" * LONGEST, "0")
+    before = resident(kept.gateway)
+    for number in range(1, 60):
+        kept.send(str(number) + "x" * (LONGEST - 2), str(number))
+    assert resident(kept.gateway) - before < 24 << 10
+    records = b"".join(one.read_bytes() for one in tmp_path.glob("journal.[0-9]*"))
+    assert b'"form"' not in records and kept.parts() == 60
+    kept.restart()
+    assert resident(kept.gateway) - before < 24 << 10
+    (message,) = kept.receive(MaxNumberOfMessages=1)
+    assert message["Body"] == "x" * LONGEST
+    assert kept.gateway.stop() == 0
+
+
+def test_parts_go_with_their_message(tmp_path, kind):
+    kept = Kept(tmp_path, kind, "--no-pauses")
+    for number in range(6):
+        kept.send(f"{number}" * 600_000, str(number))
+    assert kept.parts() == 6
+    messages = kept.receive(VisibilityTimeout=30)
+    assert [message["Body"] for message in messages] == [f"{number}" * 600_000 for number in range(6)]
+    for message in messages[:2]:
+        kept.delete(message)
+    wait_for(lambda: kept.parts() == 4)
+    kept.restart()
+    kept.gateway.set_clock(kept.gateway.moment + 30_000)
+    assert len(kept.receive()) == 4 and kept.parts() == 4
+    kept.call("PurgeQueue", QueueUrl=kept.name)
+    wait_for(lambda: kept.parts() == 0)
+    kept.send("again" * 100_000, "again")
+    assert kept.parts() == 1
+    kept.call("DeleteQueue", QueueUrl=kept.name)
+    wait_for(lambda: kept.parts() == 0)
+    kept.restart()
+    assert kept.parts() == 0 and kept.gateway.stop() == 0
+
+
+def test_a_repeat_and_a_refused_send_leave_no_parts(tmp_path, kind):
+    kept = Kept(tmp_path, kind, "--memory", "8MiB")
+    body = "b" * 600_000
+    if kind:
+        told = {kept.send(body)["MessageId"] for _ in range(3)}
+    else:
+        told = {sent_by_call(kept.gateway.url, "q", "call", attempt, body=body)[0] for attempt in (1, 2, 3)}
+    assert len(told) == 1
+    wait_for(lambda: kept.parts() == 1)
+    with pytest.raises(Refused, match="OverLimit"):
+        for number in range(20):
+            kept.send(body, str(number))
+    there = kept.call("GetQueueAttributes", QueueUrl=kept.name, AttributeNames=["All"])["Attributes"]
+    wait_for(lambda: kept.parts() == int(there["ApproximateNumberOfMessages"]))
+    with pytest.raises(Refused):
+        kept.send(body, "none", queue=f"none{kind}")
+    assert kept.gateway.stop() == 0
+
+
+@pytest.mark.parametrize("passing", range(6))
+def test_a_send_that_is_cut_off_leaves_no_parts(tmp_path, kind, passing):
+    """The creation, four parts and the line."""
+    cq = SteeredCq(tmp_path)
+    kept = Kept(tmp_path, kind, *cq.words())
+    kept.send("x" * 600_000, "before")
+    cq.tell(each=['"kind":"send"', '"kind":"create"'], **{"pass": passing})
+
+    def send() -> None:
+        with pytest.raises(OSError):
+            kept.send("y" * 1_000_000, "cut-off")
+
+    sending = threading.Thread(target=send)
+    sending.start()
+    wait_for(lambda: cq.ends() > 0)
+    # What was answered by then is on disk.
+    time.sleep(0.1)
+    kept.gateway.kill()
+    cq.tell()
+    sending.join()
+    kept.gateway.start()
+    wait_for(lambda: kept.parts() == 1)
+    assert [message["Body"][0] for message in kept.receive()] == ["x"]
+    kept.send("y" * 1_000_000, "cut-off")
+    assert [len(message["Body"]) for message in kept.receive()] == [600_000, 1_000_000] and kept.parts() == 2
+    assert kept.gateway.stop() == 0
+
+
+@pytest.mark.parametrize("shards", [1, 2])
+def test_a_message_that_moves_takes_its_parts_along(tmp_path, kind, shards):
+    """Of two programs each has one of the queues."""
+    place = lambda name: zlib.crc32(name.encode()) % 2  # noqa: E731
+    dead = next(name for name in (f"dead{number}{kind}" for number in range(9)) if place(name) != place(f"q{kind}"))
+    kept = Kept(tmp_path, kind, "--shards", str(shards))
+    kept.create(dead)
+    policy = {"deadLetterTargetArn": f"arn:aws:sqs:us-east-1:000000000000:{dead}", "maxReceiveCount": 1}
+    kept.call("SetQueueAttributes", QueueUrl=kept.name, Attributes={"RedrivePolicy": json.dumps(policy)})
+    body = "ü\n" * 200_000
+    attribute = {"a": {"DataType": "String", "StringValue": "v"}}
+    more = {"MessageGroupId": "g", "MessageDeduplicationId": "d"} if kind else {}
+    sent = kept.call("SendMessage", QueueUrl=kept.name, MessageBody=body, MessageAttributes=attribute, **more)
+    assert [message["MessageId"] for message in kept.receive()] == [sent["MessageId"]]
+    assert kept.receive() == []
+    for _ in range(2):
+        (message,) = kept.receive(dead)
+        told = message["Attributes"]
+        assert (message["Body"], message["MessageId"], message["MessageAttributes"]) == (body, sent["MessageId"], attribute)
+        assert told["DeadLetterQueueSourceArn"].endswith(f":{kept.name}") and kept.parts() == 1
+        kept.restart()
+    kept.call("StartMessageMoveTask", SourceArn=f"arn:aws:sqs:us-east-1:000000000000:{dead}")
+    found: list[dict] = []
+    wait_for(lambda: bool(found.extend(kept.receive(VisibilityTimeout=30)) or found))
+    assert (found[0]["Body"], found[0]["MessageAttributes"]) == (body, attribute)
+    assert found[0]["MessageId"] != sent["MessageId"] and "DeadLetterQueueSourceArn" not in found[0]["Attributes"]
+    assert kept.parts() == 1
+    kept.delete(found[0])
+    wait_for(lambda: kept.parts() == 0)
+    assert kept.gateway.stop() == 0
+
+
+def test_what_is_left_after_kills_has_its_parts_and_nothing_else_does(tmp_path, kind):
+    """Random sends, deletes and moves of large and small messages, with kills between, by a seed."""
+    chance = random.Random(len(kind))
+    kept = Kept(tmp_path, kind)
+    kept.create(f"dead{kind}")
+    policy = {"deadLetterTargetArn": f"arn:aws:sqs:us-east-1:000000000000:dead{kind}", "maxReceiveCount": 2}
+    kept.call("SetQueueAttributes", QueueUrl=kept.name, Attributes={"RedrivePolicy": json.dumps(policy)})
+    sure: set[str] = set()
+    maybe: set[str] = set()
+
+    def body_of(name: str) -> str:
+        return name + "." * (zlib.crc32(name.encode()) % 3 * 250_000)
+
+    def work(worker: int, round: int) -> None:
+        own = random.Random(f"{kind}{worker}{round}")
+        for step in range(60):
+            name = f"{round}-{worker}-{step}"
+            try:
+                if own.random() < 0.6:
+                    maybe.add(name)
+                    kept.send(body_of(name), name)
+                    sure.add(name)
+                else:
+                    queue = own.choice([kept.name, f"dead{kind}"])
+                    timeout = own.choice([0, 30])
+                    for message in kept.receive(queue, MaxNumberOfMessages=3, VisibilityTimeout=timeout):
+                        name = message["Body"].rstrip(".")
+                        assert message["Body"] == body_of(name)
+                        if timeout and own.random() < 0.5:
+                            sure.discard(name)
+                            kept.delete(message, queue)
+                            maybe.discard(name)
+            except (OSError, Refused, json.JSONDecodeError):
+                return
+
+    for round in range(5):
+        working = [threading.Thread(target=work, args=(worker, round)) for worker in range(4)]
+        for thread in working:
+            thread.start()
+        time.sleep(chance.uniform(0.3, 1.2))
+        kept.gateway.kill()
+        for thread in working:
+            thread.join()
+        kept.gateway.set_clock(kept.gateway.moment + 31_000)
+        kept.gateway.start()
+    found: list[str] = []
+    for queue in (kept.name, f"dead{kind}"):
+        kept.call("SetQueueAttributes", QueueUrl=queue, Attributes={"RedrivePolicy": "", "VisibilityTimeout": "600"})
+        while messages := kept.receive(queue):
+            assert all(message["Body"] == body_of(message["Body"].rstrip(".")) for message in messages)
+            found += [message["Body"].rstrip(".") for message in messages]
+    assert sure <= set(found) and len(found) == len(set(found)) and set(found) <= maybe | sure
+    large = sum(len(body_of(name)) > 262_144 for name in found)
+    wait_for(lambda: kept.parts() == large)
+    kept.restart()
+    assert kept.parts() == large > 0
+    assert kept.gateway.stop() == 0
