@@ -139,21 +139,16 @@ async fn move_held(
 ) -> Moved {
     let mut moved = Moved { copied: Vec::new(), failed: Vec::new(), result: Ok(()) };
     let copies = copies_of(store, queue, messages, kind, &mut moved);
-    let (mut handed, mut in_parts, mut numbers) = (Vec::new(), Vec::new(), Vec::new());
-    for (one, Copy { sequence, ask }) in copies {
-        match parts::put(store, target, ask, PartsCause::Move).await {
-            Ok((ask, number)) => {
-                in_parts.push(Copy { sequence, ask });
-                numbers.extend(number);
-                handed.push(one);
-            }
-            Err(error) => {
-                moved.result = Err(error);
-                moved.failed.push(one);
-            }
+    let (handed, copies): (Vec<_>, Vec<_>) = copies.into_iter().unzip();
+    let (copies, numbers) = match put_all(store, target, copies).await {
+        Ok(put) => put,
+        Err(error) => {
+            moved.result = Err(error);
+            moved.failed.extend(handed);
+            return moved;
         }
-    }
-    let answers = if in_parts.is_empty() { Vec::new() } else { held.move_to(target, in_parts).await };
+    };
+    let answers = if copies.is_empty() { Vec::new() } else { held.move_to(target, copies).await };
     parts::settle(store, &numbers);
     for (handed, answer) in handed.into_iter().zip(answers) {
         match answer {
@@ -172,6 +167,25 @@ async fn move_held(
         }
     }
     moved
+}
+
+/// Puts copies that are too long in parts: all of them or none, so that messages of a group stay in their order. The
+/// numbers of the parts are told, too.
+async fn put_all(store: &Store, target: &Queue, copies: Vec<Copy>) -> Result<(Vec<Copy>, Vec<u64>), SqsError> {
+    let (mut put, mut numbers) = (Vec::with_capacity(copies.len()), Vec::new());
+    for Copy { sequence, ask } in copies {
+        match parts::put(store, target, ask, PartsCause::Move).await {
+            Ok((ask, number)) => {
+                put.push(Copy { sequence, ask });
+                numbers.extend(number);
+            }
+            Err(error) => {
+                parts::settle(store, &numbers);
+                return Err(error);
+            }
+        }
+    }
+    Ok((put, numbers))
 }
 
 /// The copies of those messages that have none yet.
