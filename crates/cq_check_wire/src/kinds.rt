@@ -1,0 +1,78 @@
+//! The kinds of values.
+use crate::stop;
+use cq_base::{Entry, NoMemory, Query, Reply, Request};
+use cq_wire::{
+    ReadFault, read_entry, read_query, read_reply, read_request, write_entry, write_query,
+    write_reply, write_request,
+};
+use std::alloc::Global;
+use std::io;
+
+/// What a value is.
+#[derive(Clone, Copy, PartialEq, Eq)]
+pub enum Kind {
+    Entry,
+    Request,
+    Query,
+    Reply,
+}
+
+pub const KINDS: [Kind; 4] = [Kind::Entry, Kind::Request, Kind::Query, Kind::Reply];
+
+/// A value of some kind.
+#[derive(Drop)]
+pub enum Value {
+    Entry(Entry),
+    Request(Request),
+    Query(Query),
+    Reply(Reply),
+}
+
+impl Value {
+    pub fn kind(&self) -> Kind {
+        match self {
+            Value::Entry(_) => Kind::Entry,
+            Value::Request(_) => Kind::Request,
+            Value::Query(_) => Kind::Query,
+            Value::Reply(_) => Kind::Reply,
+        }
+    }
+
+    fn write_into(&self, bytes: &mut Vec<u8>) -> Result<(), NoMemory> {
+        match self {
+            Value::Entry(entry) => write_entry(bytes, entry),
+            Value::Request(request) => write_request(bytes, request),
+            Value::Query(query) => write_query(bytes, query),
+            Value::Reply(reply) => write_reply(bytes, reply),
+        }
+    }
+
+    /// Its bytes.
+    pub fn bytes(&self, alloc: Global) -> io::Result<Vec<u8>> {
+        let mut bytes = Vec::new(alloc);
+        self.write_into(&mut bytes).map_err(|_| stop("no memory"))?;
+        Ok(bytes)
+    }
+}
+
+/// The value of that kind that the bytes are.
+pub fn read(alloc: Global, kind: Kind, bytes: &[u8]) -> Result<Value, ReadFault> {
+    match kind {
+        Kind::Entry => match read_entry(alloc, bytes) {
+            Ok(entry) => Ok(Value::Entry(entry)),
+            Err(fault) => Err(fault),
+        },
+        Kind::Request => match read_request(alloc, bytes) {
+            Ok(request) => Ok(Value::Request(request)),
+            Err(fault) => Err(fault),
+        },
+        Kind::Query => match read_query(alloc, bytes) {
+            Ok(query) => Ok(Value::Query(query)),
+            Err(fault) => Err(fault),
+        },
+        Kind::Reply => match read_reply(alloc, bytes) {
+            Ok(reply) => Ok(Value::Reply(reply)),
+            Err(fault) => Err(fault),
+        },
+    }
+}

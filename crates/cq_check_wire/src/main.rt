@@ -1,0 +1,65 @@
+//! Whether values that are written are read back, and bytes that were changed are refused, or read as the value that they are.
+//! Each line of standard input is a job:
+//!
+//! - `values SEED COUNT`: so many values, made by the seed, are written and read. Then of each all fronts are read, and it is
+//!   read with each of its bytes changed.
+//! - `bytes SEED COUNT`: so many texts of bytes are read as each kind of value.
+//! - `dump SEED COUNT`: so many values are written as hex digits, with words that say them, for a reader in another language.
+//!
+//! What is read has to be written as just the bytes that it was read from. Told is how many reads gave a value, and how many each
+//! fault. The status is 1 where a value is written otherwise.
+#![tactic(auto)]
+
+mod dump;
+mod kinds;
+mod made;
+mod reads;
+mod trials;
+
+use crate::made::Draws;
+use std::alloc::Global;
+use std::io;
+use std::io::{BufRead, BufReader};
+use std::process::ExitCode;
+
+/// The error of that text.
+fn stop(what: &'static str) -> io::Error {
+    io::Error::other(what)
+}
+
+/// A number that a word says.
+fn number(word: Option<&str>) -> io::Result<u64> {
+    word.and_then(|word| word.parse().ok())
+        .ok_or(stop("no number"))
+}
+
+/// The job of that line.
+fn run_line(rt: &impl Print, alloc: Global, line: &str) -> io::Result<()> {
+    let mut words = line.split_whitespace();
+    let kind = words.next().ok_or(stop("no job"))?;
+    let mut draws = Draws::new(number(words.next())?);
+    let count = number(words.next())?;
+    match kind {
+        "values" => trials::try_values(rt, alloc, &mut draws, count),
+        "bytes" => trials::try_bytes(rt, alloc, &mut draws, count),
+        "dump" => dump::dump(rt, alloc, &mut draws, count),
+        _ => Err(stop("no such job")),
+    }
+}
+
+fn run_lines(rt: &(impl Print + Input), alloc: Global) -> io::Result<()> {
+    for line in BufReader::new(alloc, rt.reader())?.lines(alloc) {
+        run_line(rt, alloc, line?.as_str())?;
+    }
+    Ok(())
+}
+
+fn main(rt: HostRuntime) -> ExitCode {
+    match run_lines(&rt, rt.alloc()) {
+        Ok(()) => ExitCode::SUCCESS,
+        Err(error) => {
+            let _ = eprintln!(rt; "cq_check_wire: {error}");
+            ExitCode::FAILURE
+        }
+    }
+}

@@ -1,0 +1,9 @@
+pub mod Utf8
+pub mod Fronts
+pub mod Sequences
+pub mod PartLaws
+pub mod AskLaws
+pub mod Loop
+pub mod ReplyLaws
+pub mod Wholes
+pub mod Examples

@@ -1,0 +1,6 @@
+pub mod Layout
+pub mod Limits
+pub mod Reading
+pub mod Faults
+pub mod Laws
+pub mod within
