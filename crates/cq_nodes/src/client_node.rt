@@ -8,8 +8,9 @@ ghost use Rattle.cq_nodes.specs.within.Paces.{due_of, place_behind, pace_after};
 
 use crate::client_moves::{ask_again, ask_next, closing, put_at, take_at};
 use crate::flags::Flags;
-use crate::turns::{Rest, Stop, Turn};
-use cq_base::{Ask, NoMemory, Request};
+use crate::turns::{Stop, Turn};
+use crate::waits::Waits;
+use cq_base::{Ask, NoMemory, Party, Request, ServerId};
 use cq_chain::{Answer, Client, ClientFault, Message};
 use cq_link::{PutEnd, TakeEnd};
 use std::alloc::Global;
@@ -128,6 +129,15 @@ impl Pace {
         self.waited = 0;
         self.target = place_behind(self.target, links);
         Due::Again
+    }
+}
+
+/// Rings the bell of the server at that place, where something was put for it.
+fn ring_at(flags: &Flags, place: usize, put: bool) {
+    let number = u32::try_from(place.saturating_add(1)).unwrap_or(u32::MAX);
+    match ServerId::new(number) {
+        Some(id) if put => flags.ring(Party::Server(id)),
+        _ => (),
     }
 }
 
@@ -266,7 +276,9 @@ impl<'a, P: PutEnd<Request> + Drop, T: TakeEnd<Message> + Drop> ClientNode<'a, P
         ensures starved { self.new.starved ≡ self.old.starved }
     {
         self.handed_back = put_at(rt, &mut self.outs, self.pace.target, request);
-        self.handed_back.is_none()
+        let put = self.handed_back.is_none();
+        ring_at(self.flags, self.pace.target, put);
+        put
     }
 
     /// Puts a request, if it is time to. It answers whether one was put.
@@ -313,6 +325,13 @@ impl<'a, P: PutEnd<Request> + Drop, T: TakeEnd<Message> + Drop> ClientNode<'a, P
         self.end();
     }
 
+    /// Waits behind that turn, if it is time to.
+    fn wait_behind<R: Wait>(&self, rt: &R, waits: &mut Waits, turn: Turn) {
+        if waits.are_due(turn) {
+            waits.wait(rt, self.handed_back.is_none());
+        }
+    }
+
     /// A turn: it takes at most one message from each link, and then puts at most one request. It ends once all its asks
     /// are closed, once all nodes are to stop or give up, and where memory is wanting.
     pub fn turn<R: Wait>(&mut self, rt: &R) -> Turn
@@ -332,16 +351,17 @@ impl<'a, P: PutEnd<Request> + Drop, T: TakeEnd<Message> + Drop> ClientNode<'a, P
         }
     }
 
-    /// So many turns, or fewer if it ends before. It tells the other nodes that it has ended in both cases. After many
-    /// turns without work it lets other threads run.
+    /// So many turns, or fewer if it ends before. It tells the other nodes that it has ended in both cases. After a turn
+    /// without work it waits for something to come, for a bounded time.
     pub fn run<R: Wait>(&mut self, rt: &R, turns: u64) -> Stop
         ensures { IsSameClient P.link T.link self.old self.new }
     {
-        let mut rest = Rest::new();
+        let mut waits = Waits::of_client(self.flags, self.id == 2);
         for _ in 0..turns {
+            waits.hear();
             match self.turn(rt) {
                 Turn::Ended => return Stop::Ended,
-                turn => rest.after(turn),
+                turn => self.wait_behind(rt, &mut waits, turn),
             }
         }
         self.end();

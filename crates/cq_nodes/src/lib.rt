@@ -3,6 +3,7 @@
 #![tactic(auto)]
 
 mod arrivals;
+mod bell;
 mod client_moves;
 mod client_node;
 mod crashes;
@@ -17,6 +18,7 @@ mod server_ends;
 mod server_node;
 mod to_clients;
 mod turns;
+mod waits;
 
 pub use client_node::{ClientLeft, ClientLinks, ClientNode};
 pub use ends::{In, Out, ToClients};

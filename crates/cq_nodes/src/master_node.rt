@@ -10,7 +10,8 @@ use crate::ends::{In, Out};
 use crate::flags::Flags;
 use crate::links::Links;
 use crate::master_moves::{detect_one, join_one, put_at, take_at};
-use crate::turns::{Gate, Rest, Stop, TURNS_LIMIT, Turn, counted};
+use crate::turns::{Gate, Stop, TURNS_LIMIT, Turn, counted};
+use crate::waits::Waits;
 use cq_base::{ChainSize, NoMemory, Party, ServerId};
 use cq_chain::{Master, Message};
 use cq_events::Event;
@@ -156,6 +157,7 @@ impl<'a, P: PutEnd<Message> + Drop, T: TakeEnd<Message> + Drop> MasterNode<'a, P
         self.trace.reserve(1)?;
         let put = put_at(rt, &mut self.core, &mut self.outs, to);
         if put {
+            self.flags.ring(Party::Server(to));
             self.trace.push_reserved(Event::Put {
                 from: Party::Master,
                 to: Party::Server(to),
@@ -347,6 +349,23 @@ impl<'a, P: PutEnd<Message> + Drop, T: TakeEnd<Message> + Drop> MasterNode<'a, P
         self.flags.give_up();
     }
 
+    /// Whether no full link has handed anything back. O(links).
+    fn holds_nothing(&self) -> bool {
+        for out in &self.outs {
+            if out.kept.is_some() {
+                return false;
+            }
+        }
+        true
+    }
+
+    /// Waits behind that turn, if it is time to.
+    fn wait_behind<R: Wait>(&self, rt: &R, waits: &mut Waits, turn: Turn) {
+        if waits.are_due(turn) {
+            waits.wait(rt, self.holds_nothing());
+        }
+    }
+
     /// One turn: a take from each server, the crashes and joins of which it is time, and a put to each server. It has
     /// ended once both clients have, or for want of memory; then all nodes give up. It takes O(links + joins).
     pub fn turn<R: Wait>(&mut self, rt: &R) -> Turn
@@ -368,19 +387,20 @@ impl<'a, P: PutEnd<Message> + Drop, T: TakeEnd<Message> + Drop> MasterNode<'a, P
         }
     }
 
-    /// So many turns, each once the gate lets it begin, unless it ends before. After many turns without work it lets other
-    /// threads run.
+    /// So many turns, each once the gate lets it begin, unless it ends before. After a turn without work it waits for
+    /// something to come, for a bounded time.
     pub fn run<R: Wait, G: Gate>(&mut self, rt: &R, turns: u64, gate: &G) -> Stop
         ensures { IsSameNode P.link T.link self.old self.new }
     {
-        let mut rest = Rest::new();
+        let mut waits = Waits::of(self.flags, Party::Master);
         for _ in 0..turns {
             if !gate.enter(Party::Master, self.turns.saturating_add(1)) {
                 return Stop::Shut;
             }
+            waits.hear();
             match self.turn(rt) {
                 Turn::Ended => return Stop::Ended,
-                turn => rest.after(turn),
+                turn => self.wait_behind(rt, &mut waits, turn),
             }
         }
         Stop::Limit

@@ -9,7 +9,8 @@ use crate::flags::Flags;
 use crate::moves::{put_at, take_at};
 use crate::server_ends::{ServerEnds, ServerParts};
 use crate::to_clients::put_to_one;
-use crate::turns::{Gate, Rest, Stop, TURNS_LIMIT, Turn, counted};
+use crate::turns::{Gate, Stop, TURNS_LIMIT, Turn, counted};
+use crate::waits::Waits;
 use cq_base::{ChainSize, NoMemory, Party, Request, ServerId};
 use cq_chain::{Message, Server, WorldFault};
 use cq_events::Event;
@@ -77,6 +78,11 @@ impl<'a, P: PutEnd<Message> + Drop, T: TakeEnd<Message> + Drop, I: TakeEnd<Reque
         × NotesCrash n.id n.trace.items n.starved n.ended };
 }
 
+/// Rings the bell of the party at that place.
+fn ring_at(flags: &Flags, place: u32) {
+    flags.ring(party_at(place));
+}
+
 impl<
     'a,
     P: PutEnd<Message> + Drop,
@@ -141,6 +147,7 @@ impl<
         self.trace.reserve(2)?;
         let put = put_at(rt, &mut self.core, &mut self.outs, place);
         if put {
+            ring_at(self.flags, place);
             self.trace.push_reserved(Event::Put {
                 from: Party::Server(self.id),
                 to: party_at(place),
@@ -179,7 +186,7 @@ impl<
         ensures noted { self.new.trace ≡ noting (is_done result) (events.Put (parties.Server self.old.id) parties.Clients) self.old.trace }
     {
         self.trace.reserve(2)?;
-        let put = put_to_one(rt, &mut self.core, &mut self.clients);
+        let put = put_to_one(rt, &mut self.core, &mut self.clients, self.flags);
         if put {
             self.trace.push_reserved(Event::Put {
                 from: Party::Server(self.id),
@@ -308,6 +315,30 @@ impl<
         self.ended || self.flags.have_ended()
     }
 
+    /// Tells the others that it did nothing in a turn that began after so many crashes, if the server isn't full.
+    fn tell_idle(&self, crashes: u64) {
+        if !self.core.is_full() {
+            self.flags.find_nothing(self.id, crashes);
+        }
+    }
+
+    /// Whether no full link has handed anything back. O(links).
+    fn holds_nothing(&self) -> bool {
+        for out in &self.outs {
+            if out.kept.is_some() {
+                return false;
+            }
+        }
+        self.clients.kept.is_none()
+    }
+
+    /// Waits behind that turn, if it is time to.
+    fn wait_behind<R: Wait>(&self, rt: &R, waits: &mut Waits, turn: Turn) {
+        if waits.are_due(turn) {
+            waits.wait(rt, self.holds_nothing());
+        }
+    }
+
     /// One turn: the server crashes if it is to, or else takes at most one message from each link and one request from its
     /// inbox, and then puts at most one message on each link. Where it finds no memory it crashes, and has ended. It has
     /// ended, too, once both clients have. It takes what the core takes for each step.
@@ -323,9 +354,13 @@ impl<
         if self.crash_if_due() {
             return Turn::Ended;
         }
+        let crashes = self.flags.crashes();
         match self.work(rt) {
             Ok(true) => Turn::Worked,
-            Ok(false) => Turn::Idle,
+            Ok(false) => {
+                self.tell_idle(crashes);
+                Turn::Idle
+            }
             Err(_fault) => {
                 self.starve();
                 Turn::Ended
@@ -333,19 +368,20 @@ impl<
         }
     }
 
-    /// So many turns, each once the gate lets it begin, until the node has ended. After many turns without work it lets
-    /// other threads run.
+    /// So many turns, each once the gate lets it begin, until the node has ended. After a turn without work it waits for
+    /// something to come, for a bounded time.
     pub fn run<R: Wait, G: Gate>(&mut self, rt: &R, turns: u64, gate: &G) -> Stop
         ensures { IsSameServer P.link T.link I.link self.old self.new }
     {
-        let mut rest = Rest::new();
+        let mut waits = Waits::of(self.flags, Party::Server(self.id));
         for _ in 0..turns {
             if !gate.enter(Party::Server(self.id), self.turns.saturating_add(1)) {
                 return Stop::Shut;
             }
+            waits.hear();
             match self.turn(rt) {
                 Turn::Ended => return Stop::Ended,
-                turn => rest.after(turn),
+                turn => self.wait_behind(rt, &mut waits, turn),
             }
         }
         Stop::Limit

@@ -7,6 +7,7 @@ ghost use Rattle.cq_nodes.specs.Moves.{PutsToOne};
 ghost use Rattle.cq_events.specs.Actions.{StandsAs, Keeps as RemainingKept};
 
 use crate::ends::ToClients;
+use crate::flags::Flags;
 use crate::moves::first_message;
 use cq_base::Party;
 use cq_chain::{Message, Server};
@@ -42,12 +43,13 @@ fn put_for_one<R: Wait, P: PutEnd<Message> + Drop>(
     }
 }
 
-/// Puts the first message for the clients on the link to the one that it is for: false where there is none or the link
-/// is full.
+/// Puts the first message for the clients on the link to the one that it is for, and rings that one's bell: false where
+/// there is none or the link is full.
 pub fn put_to_one<R: Wait, P: PutEnd<Message> + Drop>(
     rt: &R,
     core: &mut Server,
     clients: &mut ToClients<P>,
+    flags: &Flags,
 ) -> bool
     ensures links { (P.link clients.new.first ≡ P.link clients.old.first) × (P.link clients.new.second ≡ P.link clients.old.second) }
     ensures put { (outs : List (Out P)) → result ≡ true → PutsToOne P.list core.old core.new outs clients.old clients.new }
@@ -56,13 +58,19 @@ pub fn put_to_one<R: Wait, P: PutEnd<Message> + Drop>(
     ensures lists { result ≡ false → (P.list clients.new.first ≡ P.list clients.old.first) × (P.list clients.new.second ≡ P.list clients.old.second) }
 {
     match first_message(core, Party::Clients, &mut clients.kept) {
-        Some(message) => match put_for_one(rt, clients, message) {
-            Ok(()) => true,
-            Err(full) => {
-                clients.kept = Some(full.0);
-                false
+        Some(message) => {
+            let second = is_for_second(&message);
+            match put_for_one(rt, clients, message) {
+                Ok(()) => {
+                    flags.ring_client(second);
+                    true
+                }
+                Err(full) => {
+                    clients.kept = Some(full.0);
+                    false
+                }
             }
-        },
+        }
         None => false,
     }
 }

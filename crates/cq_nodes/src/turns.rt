@@ -3,10 +3,6 @@ ghost use Rattle.std.specs.Prelude.{◌≡◌, ℕ, ◌+◌, min, Bool, true};
 ghost use Rattle.cq_base.specs.declared.party.Party as rust_party;
 
 use cq_base::Party;
-use std::thread::yield_now;
-
-/// After so many turns in a row without work a node lets other threads run, each time.
-const IDLE_LIMIT: u32 = 64;
 
 /// Turns are counted up to 2^62, and no further.
 pub const TURNS_LIMIT: u64 = 1 << 62;
@@ -41,30 +37,6 @@ pub(crate) fn counted(turns: u64) -> u64
         turns + 1
     } else {
         TURNS_LIMIT
-    }
-}
-
-/// How long a node has found nothing to do.
-#[derive(Clone, Copy, Debug)]
-pub(crate) struct Rest {
-    idle: u32,
-}
-
-impl Rest {
-    /// Before the first turn.
-    pub(crate) fn new() -> Rest {
-        Rest { idle: 0 }
-    }
-
-    /// After a turn. Where the last turns found no work, another thread may run.
-    pub(crate) fn after(&mut self, turn: Turn) {
-        if turn == Turn::Worked {
-            self.idle = 0;
-        } else if self.idle < IDLE_LIMIT {
-            self.idle += 1;
-        } else {
-            yield_now();
-        }
     }
 }
 

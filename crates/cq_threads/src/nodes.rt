@@ -38,8 +38,9 @@ impl<
 > Nodes<'a, P, T, I, Q> {
     /// Runs each node on a thread of its own, for so many turns or until it has ended, and comes back once all threads have
     /// ended. Each turn of a server and of the master begins once the gate lets it. A gate that answers false stops all
-    /// nodes, as does a thread that can't be started: `flags`, which must be those of the nodes, tells so from then on. It
-    /// waits for the threads, and takes memory for a handle for each server, before any thread is started.
+    /// nodes, as does a thread that can't be started: `flags`, which must be those of the nodes, tells so from then on, and
+    /// lets the nodes sleep between their turns. So nobody else may put anything for them. It waits for the threads, and
+    /// takes memory for a handle for each server as its thread is started.
     pub fn run<R: Threads + Wait + Sync, G: Gate + Sync>(
         self,
         rt: &R,
@@ -53,6 +54,7 @@ impl<
         ensures first { IfOk result (λ ran. IsSameClient Q.link T.link self.entry.first ran.first) }
         ensures second { IfOk result (λ ran. IsSameClient Q.link T.link self.entry.second ran.second) }
     {
+        flags.let_sleep();
         let (servers, (master, (first, second))) = run_all(
             rt,
             alloc,
