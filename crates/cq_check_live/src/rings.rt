@@ -1,13 +1,14 @@
 //! Ends of rings between the parties of a chain.
 ghost use Rattle.std.specs.Prelude.{◌≡◌};
 
+use crate::stop;
 use cq_chain::Message;
 use cq_link::{Full, Link, PutEnd, Putter, Taker};
 use cq_nodes::Links;
 use std::alloc::Global;
+use std::io;
 use std::marker::Model;
 use std::sync::Wait;
-use std::test::Fail;
 
 /// The end of a ring that hands each message back once before it takes it.
 #[derive(Drop)]
@@ -80,8 +81,8 @@ impl Model for FreshTaker {
 }
 
 /// The two ends of a new ring.
-fn ring(alloc: Global, capacity: usize) -> Result<(FreshPutter, FreshTaker), Fail> {
-    let (putter, taker) = Link::make(alloc, capacity)?;
+fn ring(alloc: Global, capacity: usize) -> io::Result<(FreshPutter, FreshTaker)> {
+    let (putter, taker) = Link::make(alloc, capacity).map_err(|_| stop("no link"))?;
     Ok((
         FreshPutter {
             end: Reluctant::of(putter),
@@ -100,25 +101,37 @@ struct Ends {
 }
 
 /// Room for the ends of so many parties.
-fn no_ends(alloc: Global, parties: usize) -> Result<Ends, Fail> {
+fn no_ends(alloc: Global, parties: usize) -> io::Result<Ends> {
     let mut ends = Ends {
         puts: Vec::new(alloc),
         takes: Vec::new(alloc),
     };
     for _ in 0..parties {
-        ends.puts.push(Vec::new(alloc))?;
-        ends.takes.push(Vec::new(alloc))?;
+        ends.puts
+            .push(Vec::new(alloc))
+            .map_err(|_| stop("no memory"))?;
+        ends.takes
+            .push(Vec::new(alloc))
+            .map_err(|_| stop("no memory"))?;
     }
     Ok(ends)
 }
 
 /// Adds a ring from each party to each.
-fn add_rings(alloc: Global, ends: &mut Ends, parties: usize, capacity: usize) -> Result<(), Fail> {
+fn add_rings(alloc: Global, ends: &mut Ends, parties: usize, capacity: usize) -> io::Result<()> {
     for from in 0..parties {
         for to in 0..parties {
             let (put, take) = ring(alloc, capacity)?;
-            ends.puts.get_mut(from).ok_or("no row")?.push(put)?;
-            ends.takes.get_mut(to).ok_or("no column")?.push(take)?;
+            ends.puts
+                .get_mut(from)
+                .ok_or(stop("no row"))?
+                .push(put)
+                .map_err(|_| stop("no memory"))?;
+            ends.takes
+                .get_mut(to)
+                .ok_or(stop("no column"))?
+                .push(take)
+                .map_err(|_| stop("no memory"))?;
         }
     }
     Ok(())
@@ -130,14 +143,15 @@ pub fn between(
     alloc: Global,
     servers: usize,
     capacity: usize,
-) -> Result<Vec<Links<Reluctant, Taker<Message>>>, Fail> {
+) -> io::Result<Vec<Links<Reluctant, Taker<Message>>>> {
     let parties = servers.saturating_add(1);
     let mut ends = no_ends(alloc, parties)?;
     add_rings(alloc, &mut ends, parties, capacity)?;
     let mut all = Vec::new(alloc);
     for (row, column) in ends.puts.into_iter().zip(ends.takes) {
         let skipped = usize::from(all.is_empty());
-        all.push(joined(alloc, row, column, skipped)?)?;
+        all.push(joined(alloc, row, column, skipped)?)
+            .map_err(|_| stop("no memory"))?;
     }
     Ok(all)
 }
@@ -148,10 +162,10 @@ fn joined(
     row: Vec<FreshPutter>,
     column: Vec<FreshTaker>,
     skipped: usize,
-) -> Result<Links<Reluctant, Taker<Message>>, Fail> {
+) -> io::Result<Links<Reluctant, Taker<Message>>> {
     let mut links = Links::new(alloc);
     for (put, take) in row.into_iter().zip(column).skip(skipped) {
-        links.add(put.end, take.end)?;
+        links.add(put.end, take.end).map_err(|_| stop("no memory"))?;
     }
     Ok(links)
 }
