@@ -255,28 +255,33 @@ fn copy_of(store: &Store, queue: &Queue, handed: &Handed, kind: MoveKind) -> Res
 pub async fn move_due(store: &Store, queue: &Arc<Queue>, due: &[Arc<Delayed>]) -> Result<Vec<Answer>, SqsError> {
     let is_too_long = due.iter().any(|message| message.envelope.len() > STORE_LIMIT);
     let _alone = if is_too_long { Some(store.queues().parts().alone().await) } else { None };
-    let (mut asks, mut numbers) = (Vec::new(), Vec::new());
+    let (mut refused, mut asks, mut numbers) = (Vec::new(), Vec::new(), Vec::new());
     for message in due {
         let ask = copy_of_due(message)?;
         if !queue.state().is_delayed(message.id) {
             // The store isn't asked for it, so it needs no parts.
             asks.push(ask);
+            refused.push(None);
             continue;
         }
         match parts::put(store, queue, ask, PartsCause::Move).await {
             Ok((ask, number)) => {
                 asks.push(ask);
                 numbers.extend(number);
+                refused.push(None);
             }
-            Err(error) => {
+            // These concern the others as well.
+            Err(error @ (SqsError::QueueDoesNotExist | SqsError::ServiceUnavailable(_) | SqsError::OverLimit(_))) => {
                 parts::settle(store, &numbers);
                 return Err(error);
             }
+            // A message whose parts the store refuses holds no other up.
+            Err(error) => refused.push(Some(error)),
         }
     }
     let answers = store.ask_all(queue, asks).await;
     parts::settle(store, &numbers);
-    Ok(answers)
+    Ok(parts::in_place(refused, answers))
 }
 
 fn copy_of_due(message: &Delayed) -> Result<Ask, SqsError> {

@@ -67,6 +67,11 @@ async fn put_and_perform(
     }
     let answers = if ready.is_empty() { Vec::new() } else { store.perform_all(queue, ready, share).await };
     settle(store, &put);
+    in_place(refused, answers)
+}
+
+/// The answers in their places: of what was refused before it was asked, and of what was asked, in its order.
+pub fn in_place(refused: Vec<Option<SqsError>>, answers: Vec<Answer>) -> Vec<Answer> {
     let mut answers = answers.into_iter();
     let answer_of =
         |refused: Option<SqsError>| refused.map_or_else(|| answers.next().unwrap_or_else(|| Err(gone())), Err);

@@ -39,6 +39,28 @@ def test_a_type_with_characters_that_no_message_has_is_refused(gateway, way, del
                  MessageAttributes=attribute(data_type))
 
 
+def test_large_message_whose_parts_the_store_does_not_take_holds_no_other_up(tmp_path):
+    cq = SteeredCq(tmp_path)
+    gateway = Started("--journal", str(tmp_path / "journal"), *cq.words(), room=tmp_path)
+    call = ByJson(gateway.url)
+    call("CreateQueue", QueueName="q", Attributes={"VisibilityTimeout": "0"})
+    cq.tell(end="POISON")
+    call("SendMessage", QueueUrl="q", MessageBody="POISON" + "x" * 400_000, DelaySeconds=5)
+    behind = [f"behind {number}" for number in range(3)]
+    for body in behind:
+        call("SendMessage", QueueUrl="q", MessageBody=body, DelaySeconds=5)
+    gateway.set_clock(gateway.moment + 5000)
+    found, latest = set(), time.monotonic() + 30
+    while found != set(behind):
+        assert time.monotonic() < latest, f"only {found} after {cq.ends()} ends of the program"
+        time.sleep(0.3)
+        try:
+            found.update(bodies(call, "q"))
+        except Refused:
+            pass  # the program is being started again
+    assert gateway.stop() == 0
+
+
 def test_what_the_store_refuses_holds_no_other_message_up(tmp_path):
     """An older gateway took such messages. They are put into its journal here."""
     journal = tmp_path / "journal"

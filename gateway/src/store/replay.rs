@@ -136,6 +136,11 @@ pub async fn replay(
     shard: Shard,
     tables: Option<Tables>,
 ) -> Result<Replayed, ReplayError> {
+    if let Some(tables) = &tables {
+        // A name that counts as removed is never used again: the records that gave it may be gone, and its removal stand in
+        // a segment that another one took the place of.
+        records.removed().iter().for_each(|name| tables.queues.saw_store_name(*name));
+    }
     let mut replay = Replay {
         shard,
         tables,
