@@ -28,6 +28,10 @@ module _ {T : Type 0} where
   abbrev pub taken_from : Taker T → List T
   taken_from t = received t.consumer
 
+  -- what it knows to be there, in order
+  abbrev pub known_to : Taker T → List T
+  known_to t = known_items t.consumer
+
   -- what was put and isn't taken, in order
   abbrev pub left_on : Left T → List T
   left_on l = known_items l.consumer

@@ -42,6 +42,15 @@ pub trait TakeEnd<T: Drop> {
     fn take<R: Wait>(&mut self, rt: &R) -> Option<T>
         ensures link { link self.new ≡ link self.old }
         ensures taken { MatchOption result (list self.new ≡ list self.old) (λ item. list self.new ≡ list self.old ++ item ∷ []) };
+
+    /// Whether it knows that nothing is there: a look before a take, which moves nothing. An end that can't look answers
+    /// false. What another thread puts meanwhile is seen by a later look.
+    fn is_empty(&mut self) -> bool
+        ensures link { link self.new ≡ link self.old }
+        ensures list { list self.new ≡ list self.old }
+    {
+        false
+    }
 }
 
 impl<T: Drop> PutEnd<T> for Putter<T> {
@@ -69,5 +78,9 @@ impl<T: Drop> TakeEnd<T> for Taker<T> {
 
     fn take<R: Wait>(&mut self, _rt: &R) -> Option<T> {
         Taker::take(self)
+    }
+
+    fn is_empty(&mut self) -> bool {
+        Taker::is_empty(self)
     }
 }

@@ -1,7 +1,7 @@
 //! A link: a ring between two threads, of which one puts messages and the other takes them.
-ghost use Rattle.std.specs.Prelude.{◌≡◌, ◌↔◌, List, [], ◌∷◌, ◌++◌, IfOk, OnOk, IfErr, MatchOption, Err};
+ghost use Rattle.std.specs.Prelude.{◌≡◌, ◌↔◌, List, [], ◌∷◌, ◌++◌, IfOk, OnOk, IfErr, MatchOption, Err, IsTrue, IsSome};
 ghost use Rattle.cq_link.specs.Faults.{IsBadCapacity};
-ghost use Rattle.cq_link.specs.Links.{putter_link, taker_link, put_on, taken_from, left_on};
+ghost use Rattle.cq_link.specs.Links.{putter_link, taker_link, put_on, taken_from, known_to, left_on};
 ghost use Rattle.cq_link.specs.declared.fault.LinkFault.TheVariants as faults;
 
 use crate::ends::Full;
@@ -65,10 +65,21 @@ impl<T: Drop> Putter<T> {
 }
 
 impl<T: Drop> Taker<T> {
+    /// Whether nothing is there: false says that a take gives a message. The other thread may put one at any time. O(1),
+    /// and nothing is moved.
+    pub fn is_empty(&mut self) -> bool
+        ensures link { taker_link self.new ≡ taker_link self.old }
+        ensures list { taken_from self.new ≡ taken_from self.old }
+        ensures known { IsTrue result ↔ (known_to self.new ≡ []) }
+    {
+        self.consumer.is_empty()
+    }
+
     /// Takes the first message that is there. It never waits and takes no memory: O(1).
     pub fn take(&mut self) -> Option<T>
         ensures link { taker_link self.new ≡ taker_link self.old }
         ensures taken { MatchOption result (taken_from self.new ≡ taken_from self.old) (λ item. taken_from self.new ≡ taken_from self.old ++ item ∷ []) }
+        ensures known { (known_to self.old ≡ [] → ⊥) → IsSome result }
     {
         if self.consumer.is_empty() {
             return None;

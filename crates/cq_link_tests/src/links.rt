@@ -154,10 +154,12 @@ fn a_full_inbox_hands_back_what_is_put(rt: HostRuntime) -> Result<(), Fail> {
     Ok(())
 }
 
-/// Puts x and y on an end with two places, is handed z back, takes x, and puts z.
+/// Puts x and y on an end with two places, is handed z back, takes x, and puts z. A look says where nothing is there.
 fn fill<P: PutEnd<u64>, T: TakeEnd<u64>>(rt: &(impl Abort + Wait), put: &mut P, take: &mut T) {
+    assert!(rt; take.is_empty());
     assert!(rt; take.take(rt).is_none());
     assert!(rt; put.put(rt, 1).is_ok());
+    assert!(rt; !take.is_empty());
     assert!(rt; put.put(rt, 2).is_ok());
     match put.put(rt, 3) {
         Ok(()) => assert!(rt; false),
@@ -167,6 +169,7 @@ fn fill<P: PutEnd<u64>, T: TakeEnd<u64>>(rt: &(impl Abort + Wait), put: &mut P, 
     assert!(rt; put.put(rt, 3).is_ok());
     assert_eq!(rt; take.take(rt), Some(2));
     assert_eq!(rt; take.take(rt), Some(3));
+    assert!(rt; take.is_empty());
     assert_eq!(rt; take.take(rt), None);
 }
 
@@ -175,7 +178,7 @@ fn links_and_memory_meet_the_same_traits(rt: HostRuntime) -> Result<(), Fail> {
     let alloc = rt.alloc();
     let (mut putter, mut taker) = Link::make::<u64>(alloc, 2)?;
     fill(&rt, &mut putter, &mut taker);
-    let (mut put, mut take) = Memory::make::<u64>(alloc, 2)?;
+    let (mut put, mut take) = Memory::make::<u64>(alloc, 1, 2)?;
     fill(&rt, &mut put, &mut take);
     Ok(())
 }

@@ -118,26 +118,54 @@ module _ (id : ℕ) (trace longer : List Event) (starved ended : Bool) (h : Note
   pub crash_kept : longer ≡ trace → NotesCrash id longer starved ended
   crash_kept is = subst (λ us. NotesCrash id us starved ended) (sym is) h
 
-  -- something else was
-  pub crash_more : (event : Event) → longer ≡ trace ++ event ∷ [] → (events.Crash id ≡ event → ⊥) → NotesCrash id longer starved ended
-  crash_more event is apart = record {
-    noted = λ over. subst (Among (events.Crash id)) (sym is) (among-left (events.Crash id) trace (event ∷ []) (h.noted over));
-    none = λ up there. either up (among-append (events.Crash id) trace (event ∷ []) (subst (Among (events.Crash id)) is there));
+  -- something else was, by a server that hasn't crashed
+  pub crash_more : ended ≡ false → (event : Event) → longer ≡ trace ++ event ∷ [] → (events.Crash id ≡ event → ⊥) → NotesCrash id longer starved ended
+  crash_more up event is apart = record {
+    noted = λ over. absurd (both_no ended over up);
+    none = λ still. none_more;
+    last = λ before rest there. absurd (none_more (subst (Among (events.Crash id)) (sym there) (among-right (events.Crash id) before (events.Crash id ∷ rest) (inl refl))));
     by_memory = h.by_memory;
   } where
-    either : ended ≡ false → Among (events.Crash id) trace ⊎ Among (events.Crash id) (event ∷ []) → ⊥
-    either up (inl before) = h.none up before
-    either up (inr (inl same)) = apart same
-    either up (inr (inr nothing)) = nothing
+    either : Among (events.Crash id) trace ⊎ Among (events.Crash id) (event ∷ []) → ⊥
+    either (inl before) = h.none up before
+    either (inr (inl same)) = apart same
+    either (inr (inr nothing)) = nothing
 
--- the crash was
-pub crash_now : (id : ℕ) (trace longer : List Event) (starved : Bool) → longer ≡ trace ++ events.Crash id ∷ [] → NotesCrash id longer starved true
-crash_now id trace longer starved is = record {
+    none_more : Among (events.Crash id) longer → ⊥
+    none_more there = either (among-append (events.Crash id) trace (event ∷ []) (subst (Among (events.Crash id)) is there))
+
+-- what stands behind other things alone is the last
+abbrev rest_of : {X : Type 0} → List X → List X
+rest_of [] = []
+rest_of (x ∷ xs) = xs
+
+abbrev head_of : {X : Type 0} → X → List X → X
+head_of x [] = x
+head_of x (y ∷ ys) = y
+
+abbrev is_empty_list : {X : Type 0} → List X → Bool
+is_empty_list [] = true
+is_empty_list (x ∷ xs) = false
+
+ends_there : {X : Type 0} (x : X) (xs before rest : List X) → (Among x xs → ⊥) → xs ++ x ∷ [] ≡ before ++ (x ∷ rest) → rest ≡ []
+ends_there x [] [] rest apart is = sym (ap rest_of is)
+ends_there x [] (b ∷ []) rest apart is = absurd (both_no true refl (ap is_empty_list (ap rest_of is)))
+ends_there x [] (b ∷ (c ∷ bs)) rest apart is = absurd (both_no true refl (ap is_empty_list (ap rest_of is)))
+ends_there x (y ∷ ys) [] rest apart is = absurd (apart (inl (sym (ap (head_of x) is))))
+ends_there x (y ∷ ys) (b ∷ bs) rest apart is = ends_there x ys bs rest (λ there. apart (inr there)) (ap rest_of is)
+
+-- the crash was, by a server that hadn't crashed
+pub crash_now : (id : ℕ) (trace longer : List Event) (starved : Bool) → (Among (events.Crash id) trace → ⊥) → longer ≡ trace ++ events.Crash id ∷ [] → NotesCrash id longer starved true
+crash_now id trace longer starved apart is = record {
   noted = λ over. subst (Among (events.Crash id)) (sym is) (among-right (events.Crash id) trace (events.Crash id ∷ []) (inl refl));
   none = λ up there. both_no true refl up;
+  last = λ before rest there. ends_there (events.Crash id) trace before rest apart (sym is ∙ there);
   by_memory = λ short. refl;
 }
 
 -- before the first turn
 pub crash_none : (id : ℕ) → NotesCrash id [] false false
-crash_none id = record { noted = λ over. absurd (both_no false over refl); none = λ up there. there; by_memory = λ short. short }
+crash_none id = record { noted = λ over. absurd (both_no false over refl); none = λ up there. there; last = λ before rest is. absurd (no_crash before rest is); by_memory = λ short. short } where
+  no_crash : (before rest : List Event) → [] ≡ before ++ (events.Crash id ∷ rest) → ⊥
+  no_crash [] rest is = both_no true refl (ap is_empty_list is)
+  no_crash (b ∷ bs) rest is = both_no true refl (ap is_empty_list is)

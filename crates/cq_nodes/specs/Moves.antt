@@ -1,16 +1,23 @@
 -- What one step of a server's node does to what its core stands for, and to the list of one end.
-use Rattle.std.specs.Prelude.{◌≡◌, ◌==◌, ◌<◌, ℕ, length, List, [], ◌∷◌, ◌++◌, slice_get, if◌then◌else◌, Option, Some, true, false, ⊤, ◌⊎◌}
+use Rattle.std.specs.Prelude.{◌≡◌, ◌==◌, ◌<◌, ℕ, length, List, [], ◌∷◌, ◌++◌, slice_get, if◌then◌else◌, Option, Some, None, Bool, true, false, ⊤, ◌⊎◌}
 use Rattle.cq_base.specs.declared.ask.Request.{Request}
 use Rattle.cq_base.specs.declared.party.Party.{Party}
 use Rattle.cq_base.specs.declared.party.Party.TheVariants as parties
 use Rattle.cq_chain.specs.declared.message.Message.{Message}
 use Rattle.cq_chain.specs.declared.server.Server.{Server}
+use Rattle.cq_chain.specs.Messages as messages
 use Rattle.cq_nodes.specs.declared.ends.In.{In}
 use Rattle.cq_nodes.specs.declared.ends.Out.{Out}
 use Rattle.cq_nodes.specs.declared.ends.ToClients.{ToClients}
 use Rattle.cq_nodes.specs.Acts.{Acts}
 use Rattle.cq_nodes.specs.Ends.{party_at, listed, with_back, back_of, if_for}
 use Rattle.cq_events.specs.Actions.{Put, Took, Arrived, StandsAs, Keeps}
+
+-- whether a message was handed back, or waits in the outbox
+abbrev pub waits : Option Message → List messages.Message → Bool
+waits (Some x) box = true
+waits None [] = false
+waits None (m ∷ box) = true
 
 -- nothing is done, but the first message for that party may have left the core's outbox and be kept
 abbrev pub Passes : Server → Server → (Party → Option Message) → Party → Option Message → Type 0

@@ -83,10 +83,12 @@ abbrev pub HasRoom : Bool → ℕ → ℕ → Type 0
 HasRoom true length capacity = ⊤
 HasRoom false length capacity = length < capacity
 
--- A server has a crash among its events just where it has ended by one. One that found no memory has.
+-- A server has a crash among its events just where it has ended by one, and it is the last of them. One that found no memory
+-- has.
 pub record NotesCrash (id : ℕ) (trace : List Event) (starved ended : Bool) : Type 0 where
   pub noted : ended ≡ true → Among (events.Crash id) trace
   pub none : ended ≡ false → Among (events.Crash id) trace → ⊥
+  pub last : (before rest : List Event) → trace ≡ before ++ (events.Crash id ∷ rest) → rest ≡ []
   pub by_memory : starved ≡ true → ended ≡ true
 
 -- What callers see of a server's node: what it was made with, its trace, the ends of its links, that of its inbox, whether

@@ -1,5 +1,5 @@
 //! What a client's node does at one end of a link, and what its core makes of asks and answers.
-ghost use Rattle.std.specs.Prelude.{◌≡◌, ℕ, length, map, true, false, List, IfOk, OnErr, MatchOption};
+ghost use Rattle.std.specs.Prelude.{◌≡◌, ℕ, length, map, true, false, List, [], ◌∷◌, ◌++◌, IfOk, OnErr, MatchOption};
 ghost use Rattle.std.specs.Option.{IfSome};
 ghost use Rattle.cq_base.specs.Relations.{Among};
 ghost use Rattle.cq_base.specs.declared.ask.Ask as rust_ask;
@@ -50,6 +50,17 @@ pub fn put_at<R: Wait, P: PutEnd<Request> + Drop>(
     }
 }
 
+/// Takes the next message from a link, after a look at whether one is there.
+fn take_one<R: Wait, T: TakeEnd<Message> + Drop>(rt: &R, end: &mut T) -> Option<Message>
+    ensures link { T.link end.new ≡ T.link end.old }
+    ensures taken { MatchOption result (T.list end.new ≡ T.list end.old) (λ message. T.list end.new ≡ T.list end.old ++ message ∷ []) }
+{
+    if end.is_empty() {
+        return None;
+    }
+    end.take(rt)
+}
+
 /// Takes the next message from the link of that place: none where none is there, and where there is no such place.
 pub fn take_at<R: Wait, T: TakeEnd<Message> + Drop>(
     rt: &R,
@@ -61,7 +72,7 @@ pub fn take_at<R: Wait, T: TakeEnd<Message> + Drop>(
     ensures kept { (message : rust_message.Message) → IsTaken T.list message ins.old.items → IsTaken T.list message ins.new.items }
 {
     match ins.get_mut(place) {
-        Some(end) => end.take(rt),
+        Some(end) => take_one(rt, end),
         None => None,
     }
 }

@@ -3,15 +3,17 @@ ghost use Rattle.std.specs.Prelude.{◌≡◌, ℕ, ◌+◌, ◌++◌, map, None
 ghost use Rattle.cq_base.specs.declared.party.Party as rust_party;
 ghost use Rattle.cq_base.specs.declared.party.Party.TheVariants as parties;
 ghost use Rattle.cq_chain.specs.declared.message.Message as rust_message;
-ghost use Rattle.cq_chain.specs.Stands.{KeepsMaster};
+ghost use Rattle.cq_chain.specs.Masters as masters;
+ghost use Rattle.cq_chain.specs.Messages as sent;
+ghost use Rattle.cq_chain.specs.Stands.{KeepsMaster, MasterStandsFor};
 ghost use Rattle.cq_nodes.specs.Acts.{ActsMaster};
 ghost use Rattle.cq_nodes.specs.Ends.{listed};
-ghost use Rattle.cq_nodes.specs.Moves.{ArePut, AreTaken};
+ghost use Rattle.cq_nodes.specs.Moves.{waits, ArePut, AreTaken};
 ghost use Rattle.cq_nodes.specs.MasterMoves.{PassesFor, PutsOneFor, TakesOneOf, ReadsOf, back_of_servers, PutsFor, TakesOf};
 ghost use Rattle.cq_events.specs.Actions.{IsMasterAs, Keeps, Detected, Joined};
 
 use crate::ends::{In, Out};
-use crate::moves::next_message;
+use crate::moves::{is_there, next_message};
 use cq_base::{NoMemory, ServerId};
 use cq_chain::{Master, Message, WorldFault};
 use cq_link::{PutEnd, TakeEnd};
@@ -30,8 +32,16 @@ fn first_message(core: &mut Master, to: ServerId, kept: &mut Option<Message>) ->
     }
 }
 
+/// Whether something waits for a server: a message that was handed back, or one in the core's outbox. Nothing is moved.
+fn has_for(core: &Master, to: ServerId, kept: &Option<Message>) -> bool
+    ensures { (m : masters.Master) (outbox : rust_party.Party → List sent.Message) → MasterStandsFor core.now m outbox
+        → result ≡ waits kept.now (outbox (parties.Server to)) }
+{
+    kept.is_some() || core.waiting(to) > 0
+}
+
 /// Puts the first message for a server on its link: false where there is none or the link is full.
-fn put_one<R: Wait, P: PutEnd<Message> + Drop>(
+fn put_first<R: Wait, P: PutEnd<Message> + Drop>(
     rt: &R,
     core: &mut Master,
     to: ServerId,
@@ -56,6 +66,26 @@ fn put_one<R: Wait, P: PutEnd<Message> + Drop>(
     }
 }
 
+/// The same, after a look at whether something waits.
+fn put_one<R: Wait, P: PutEnd<Message> + Drop>(
+    rt: &R,
+    core: &mut Master,
+    to: ServerId,
+    out: &mut Out<P>,
+) -> bool
+    ensures link { P.link out.new.end ≡ P.link out.old.end }
+    ensures put { (back : rust_party.Party → Option rust_message.Message) → back (parties.Server to) ≡ out.old.kept → result ≡ true
+        → PutsOneFor core.old core.new back to out.new.kept (P.list out.old.end) (P.list out.new.end) }
+    ensures unchanged { result ≡ false → P.list out.new.end ≡ P.list out.old.end }
+    ensures idle { (back : rust_party.Party → Option rust_message.Message) → back (parties.Server to) ≡ out.old.kept → result ≡ false
+        → PassesFor core.old core.new back to out.new.kept }
+{
+    if !has_for(core, to, &out.kept) {
+        return false;
+    }
+    put_first(rt, core, to, out)
+}
+
 /// Gives the core a message.
 fn read(core: &mut Master, from: ServerId, message: &Message) -> Result<(), NoMemory>
     ensures ok { (back : rust_party.Party → Option rust_message.Message)
@@ -66,7 +96,7 @@ fn read(core: &mut Master, from: ServerId, message: &Message) -> Result<(), NoMe
 }
 
 /// Gives the core the next message of a link: false where there is none. One for which there is no memory stays unread.
-fn take_one<R: Wait, T: TakeEnd<Message> + Drop>(
+fn take_first<R: Wait, T: TakeEnd<Message> + Drop>(
     rt: &R,
     core: &mut Master,
     from: ServerId,
@@ -90,6 +120,27 @@ fn take_one<R: Wait, T: TakeEnd<Message> + Drop>(
         },
         None => Ok(false),
     }
+}
+
+/// The same, after a look at whether something is there.
+fn take_one<R: Wait, T: TakeEnd<Message> + Drop>(
+    rt: &R,
+    core: &mut Master,
+    from: ServerId,
+    end: &mut In<T>,
+) -> Result<bool, NoMemory>
+    ensures link { T.link end.new.end ≡ T.link end.old.end }
+    ensures taken { (back : rust_party.Party → Option rust_message.Message) (seen : List rust_message.Message)
+        → T.list end.old.end ≡ seen ++ listed end.old.unread
+        → result ≡ Ok true → ReadsOf core.old core.new back from seen end.new.unread (T.list end.new.end) }
+    ensures list { (seen : List rust_message.Message) → T.list end.old.end ≡ seen ++ listed end.old.unread
+        → (result ≡ Ok true → ⊥) → T.list end.new.end ≡ seen ++ listed end.new.unread }
+    ensures idle { (result ≡ Ok true → ⊥) → KeepsMaster core.old core.new }
+{
+    if !is_there(end) {
+        return Ok(false);
+    }
+    take_first(rt, core, from, end)
 }
 
 /// The place of the ends to and from a server.

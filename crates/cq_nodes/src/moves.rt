@@ -2,10 +2,12 @@
 ghost use Rattle.std.specs.Prelude.{◌≡◌, ℕ, ◌++◌, map, None, true, false, Ok, Option, List, OnOk, OnErr};
 ghost use Rattle.cq_base.specs.declared.party.Party as rust_party;
 ghost use Rattle.cq_chain.specs.declared.message.Message as rust_message;
-ghost use Rattle.cq_chain.specs.Stands.{Keeps};
+ghost use Rattle.cq_chain.specs.Messages as sent;
+ghost use Rattle.cq_chain.specs.Servers as states;
+ghost use Rattle.cq_chain.specs.Stands.{Keeps, StandsFor};
 ghost use Rattle.cq_nodes.specs.Ends.{listed, back_of, ends_of, in_ends_of};
 ghost use Rattle.cq_events.specs.Actions.{StandsAs, Keeps as RemainingKept};
-ghost use Rattle.cq_nodes.specs.Moves.{Passes, PutsOne, TakesOne, Reads, ArePut, PutsAt, AreTaken, TakesAt};
+ghost use Rattle.cq_nodes.specs.Moves.{waits, Passes, PutsOne, TakesOne, Reads, ArePut, PutsAt, AreTaken, TakesAt};
 
 use crate::ends::{In, Out, party_at};
 use cq_base::Party;
@@ -26,8 +28,16 @@ pub fn first_message(core: &mut Server, to: Party, kept: &mut Option<Message>) -
     }
 }
 
+/// Whether something waits for a party: a message that was handed back, or one in the core's outbox. Nothing is moved.
+pub fn has_for(core: &Server, to: Party, kept: &Option<Message>) -> bool
+    ensures { (s : states.Server) (outbox : rust_party.Party → List sent.Message) → StandsFor core.now s outbox
+        → result ≡ waits kept.now (outbox to) }
+{
+    kept.is_some() || core.waiting(to) > 0
+}
+
 /// Puts the first message for a party on its link: false where there is none or the link is full.
-pub fn put_one<R: Wait, P: PutEnd<Message> + Drop>(
+fn put_first<R: Wait, P: PutEnd<Message> + Drop>(
     rt: &R,
     core: &mut Server,
     to: Party,
@@ -50,6 +60,27 @@ pub fn put_one<R: Wait, P: PutEnd<Message> + Drop>(
         },
         None => false,
     }
+}
+
+/// The same, after a look at whether something waits.
+pub fn put_one<R: Wait, P: PutEnd<Message> + Drop>(
+    rt: &R,
+    core: &mut Server,
+    to: Party,
+    out: &mut Out<P>,
+) -> bool
+    ensures link { P.link out.new.end ≡ P.link out.old.end }
+    ensures put { (back : rust_party.Party → Option rust_message.Message) → back to ≡ out.old.kept → result ≡ true
+        → PutsOne core.old core.new back to out.new.kept (P.list out.old.end) (P.list out.new.end) }
+    ensures unchanged { result ≡ false → P.list out.new.end ≡ P.list out.old.end }
+    ensures idle { (back : rust_party.Party → Option rust_message.Message) → back to ≡ out.old.kept → result ≡ false
+        → Passes core.old core.new back to out.new.kept }
+{
+    let party = to;
+    if !has_for(core, party, &out.kept) {
+        return false;
+    }
+    put_first(rt, core, to, out)
 }
 
 /// Gives the core a message.
@@ -75,9 +106,18 @@ pub fn next_message<R: Wait, T: TakeEnd<Message> + Drop>(rt: &R, end: &mut In<T>
     }
 }
 
+/// Whether there is something to take: a message that is unread, or one of the link.
+pub fn is_there<T: TakeEnd<Message> + Drop>(end: &mut In<T>) -> bool
+    ensures link { T.link end.new.end ≡ T.link end.old.end }
+    ensures list { T.list end.new.end ≡ T.list end.old.end }
+    ensures unread { end.new.unread ≡ end.old.unread }
+{
+    end.unread.is_some() || !end.end.is_empty()
+}
+
 /// Gives the core the next message of a link: false where there is none. One for which the core has no room stays
 /// unread.
-pub fn take_one<R: Wait, T: TakeEnd<Message> + Drop>(
+fn take_first<R: Wait, T: TakeEnd<Message> + Drop>(
     rt: &R,
     core: &mut Server,
     from: Party,
@@ -101,6 +141,27 @@ pub fn take_one<R: Wait, T: TakeEnd<Message> + Drop>(
         },
         None => Ok(false),
     }
+}
+
+/// The same, after a look at whether something is there.
+pub fn take_one<R: Wait, T: TakeEnd<Message> + Drop>(
+    rt: &R,
+    core: &mut Server,
+    from: Party,
+    end: &mut In<T>,
+) -> Result<bool, WorldFault>
+    ensures link { T.link end.new.end ≡ T.link end.old.end }
+    ensures taken { (back : rust_party.Party → Option rust_message.Message) (seen : List rust_message.Message)
+        → T.list end.old.end ≡ seen ++ listed end.old.unread
+        → result ≡ Ok true → Reads core.old core.new back from seen end.new.unread (T.list end.new.end) }
+    ensures list { (seen : List rust_message.Message) → T.list end.old.end ≡ seen ++ listed end.old.unread
+        → (result ≡ Ok true → ⊥) → T.list end.new.end ≡ seen ++ listed end.new.unread }
+    ensures idle { (result ≡ Ok true → ⊥) → Keeps core.old core.new }
+{
+    if !is_there(end) {
+        return Ok(false);
+    }
+    take_first(rt, core, from, end)
 }
 
 /// Puts the first message for the party at that place on its link: false where there is none, or no such place, or the

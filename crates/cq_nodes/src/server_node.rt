@@ -140,6 +140,7 @@ impl<
     /// Puts the first message for the party at that place on its link. It answers false where there is no message and
     /// no such place, and where the link is full.
     fn put_on<R: Wait>(&mut self, rt: &R, place: u32) -> Result<bool, NoMemory>
+        requires up { self.old.ended ≡ false }
         ensures same { KeepsLinks P.link T.link I.link self.old self.new }
         ensures turn { IsSameTurn self.old self.new }
         ensures noted { self.new.trace ≡ noting (is_done result) (events.Put (parties.Server self.old.id) (party_at place)) self.old.trace }
@@ -161,6 +162,7 @@ impl<
     /// The core takes the next message of the party at that place. It answers false where there is no message and no
     /// such place. After a fault the message stays unread.
     fn take_from<R: Wait>(&mut self, rt: &R, place: u32) -> Result<bool, WorldFault>
+        requires up { self.old.ended ≡ false }
         ensures same { KeepsLinks P.link T.link I.link self.old self.new }
         ensures turn { IsSameTurn self.old self.new }
         ensures noted { self.new.trace ≡ noting (is_done result) (events.Take (party_at place) (parties.Server self.old.id)) self.old.trace }
@@ -181,6 +183,7 @@ impl<
     /// Puts the first message for the clients on the link to the one that it is for. It answers false where there is no
     /// message, and where the link is full.
     fn put_to_clients<R: Wait>(&mut self, rt: &R) -> Result<bool, NoMemory>
+        requires up { self.old.ended ≡ false }
         ensures same { KeepsLinks P.link T.link I.link self.old self.new }
         ensures turn { IsSameTurn self.old self.new }
         ensures noted { self.new.trace ≡ noting (is_done result) (events.Put (parties.Server self.old.id) parties.Clients) self.old.trace }
@@ -201,6 +204,7 @@ impl<
     /// The next request of the inbox arrives at the core, if that is the head; any other core drops it. It answers
     /// whether one arrived. The moment is the number of this turn, up to the limit of moments.
     fn take_request<R: Wait>(&mut self, rt: &R) -> Result<bool, WorldFault>
+        requires up { self.old.ended ≡ false }
         ensures same { KeepsLinks P.link T.link I.link self.old self.new }
         ensures turn { IsSameTurn self.old self.new }
         ensures arrived { GrewByArrival self.old.id (min self.old.turns MOMENT_LIMIT) self.old.trace self.new.trace }
@@ -261,6 +265,7 @@ impl<
 
     /// One take from each link. It answers whether anything was taken.
     fn take_all<R: Wait>(&mut self, rt: &R) -> Result<bool, WorldFault>
+        requires up { self.old.ended ≡ false }
         ensures same { KeepsLinks P.link T.link I.link self.old self.new }
         ensures turn { IsSameTurn self.old self.new }
         ensures taken { GrewByEach (take_of self.old.id) self.old.trace self.new.trace }
@@ -275,6 +280,7 @@ impl<
 
     /// One put on each link to a server or to the master. It answers whether anything was put.
     fn put_all<R: Wait>(&mut self, rt: &R) -> Result<bool, NoMemory>
+        requires up { self.old.ended ≡ false }
         ensures same { KeepsLinks P.link T.link I.link self.old self.new }
         ensures turn { IsSameTurn self.old self.new }
         ensures put { GrewByEach (put_of self.old.id) self.old.trace self.new.trace }
@@ -289,6 +295,7 @@ impl<
 
     /// One take from each link and from the inbox, then one put on each link. It answers whether anything was done.
     fn work<R: Wait>(&mut self, rt: &R) -> Result<bool, WorldFault>
+        requires up { self.old.ended ≡ false }
         ensures same { KeepsLinks P.link T.link I.link self.old self.new }
         ensures turn { IsSameTurn self.old self.new }
         ensures worked { GrewByWork self.old.id (min self.old.turns MOMENT_LIMIT) self.old.trace self.new.trace }

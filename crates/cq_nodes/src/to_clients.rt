@@ -8,7 +8,7 @@ ghost use Rattle.cq_events.specs.Actions.{StandsAs, Keeps as RemainingKept};
 
 use crate::ends::ToClients;
 use crate::flags::Flags;
-use crate::moves::first_message;
+use crate::moves::{first_message, has_for};
 use cq_base::Party;
 use cq_chain::{Message, Server};
 use cq_link::{Full, PutEnd};
@@ -45,7 +45,7 @@ fn put_for_one<R: Wait, P: PutEnd<Message> + Drop>(
 
 /// Puts the first message for the clients on the link to the one that it is for, and rings that one's bell: false where
 /// there is none or the link is full.
-pub fn put_to_one<R: Wait, P: PutEnd<Message> + Drop>(
+fn put_first<R: Wait, P: PutEnd<Message> + Drop>(
     rt: &R,
     core: &mut Server,
     clients: &mut ToClients<P>,
@@ -73,4 +73,23 @@ pub fn put_to_one<R: Wait, P: PutEnd<Message> + Drop>(
         }
         None => false,
     }
+}
+
+/// The same, after a look at whether something waits.
+pub fn put_to_one<R: Wait, P: PutEnd<Message> + Drop>(
+    rt: &R,
+    core: &mut Server,
+    clients: &mut ToClients<P>,
+    flags: &Flags,
+) -> bool
+    ensures links { (P.link clients.new.first ≡ P.link clients.old.first) × (P.link clients.new.second ≡ P.link clients.old.second) }
+    ensures put { (outs : List (Out P)) → result ≡ true → PutsToOne P.list core.old core.new outs clients.old clients.new }
+    ensures idle { (outs : List (Out P)) → result ≡ false
+        → RemainingKept StandsAs (record { core = core.old; back = back_of outs clients.old.kept }) (record { core = core.new; back = back_of outs clients.new.kept }) }
+    ensures lists { result ≡ false → (P.list clients.new.first ≡ P.list clients.old.first) × (P.list clients.new.second ≡ P.list clients.old.second) }
+{
+    if !has_for(core, Party::Clients, &clients.kept) {
+        return false;
+    }
+    put_first(rt, core, clients, flags)
 }

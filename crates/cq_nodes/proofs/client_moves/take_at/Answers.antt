@@ -9,20 +9,20 @@ pub returns-in-Some-clause-links : goal.returns-in-Some-clause-links
 returns-in-Some-clause-links g c =
     let ins = c.args.ins.now.items in
     let item = c.in-Some.ensures.item in
-    links_set _ ins c.args.place c.in-Some.end.now c.take.new.self (slice_get_read ins (length ins) c.args.place c.in-Some.end.now refl item.3.0 item.1) c.take.ensures.link
+    links_set _ ins c.args.place c.in-Some.end.now c.take_one.new.end (slice_get_read ins (length ins) c.args.place c.in-Some.end.now refl item.3.0 item.1) c.take_one.ensures.link
 
 pub returns-in-Some-clause-taken : goal.returns-in-Some-clause-taken
 returns-in-Some-clause-taken g c =
     let ins = c.args.ins.now.items in
     let item = c.in-Some.ensures.item in
     let list = g.T.TakeEnd.list in
-    IfSome_then c.take.result (taken_last c.take.result (list c.in-Some.end.now) (list c.take.new.self) c.take.ensures.taken)
-    (λ message among. taken_here list ins c.args.place c.in-Some.end.now c.take.new.self (slice_get_read ins (length ins) c.args.place c.in-Some.end.now refl item.3.0 item.1) message among)
+    IfSome_then c.take_one.result (taken_last c.take_one.result (list c.in-Some.end.now) (list c.take_one.new.end) c.take_one.ensures.taken)
+    (λ message among. taken_here list ins c.args.place c.in-Some.end.now c.take_one.new.end (slice_get_read ins (length ins) c.args.place c.in-Some.end.now refl item.3.0 item.1) message among)
 
 pub returns-in-Some-clause-kept : goal.returns-in-Some-clause-kept
 returns-in-Some-clause-kept g c = λ message.
     let ins = c.args.ins.now.items in
     let item = c.in-Some.ensures.item in
     let list = g.T.TakeEnd.list in
-    taken_set list ins c.args.place c.in-Some.end.now c.take.new.self (slice_get_read ins (length ins) c.args.place c.in-Some.end.now refl item.3.0 item.1) message
-    (taken_more c.take.result (list c.in-Some.end.now) (list c.take.new.self) c.take.ensures.taken message)
+    taken_set list ins c.args.place c.in-Some.end.now c.take_one.new.end (slice_get_read ins (length ins) c.args.place c.in-Some.end.now refl item.3.0 item.1) message
+    (taken_more c.take_one.result (list c.in-Some.end.now) (list c.take_one.new.end) c.take_one.ensures.taken message)

@@ -14,7 +14,7 @@ invariant_of-self g c =
       ran_crashed g.P.PutEnd.list g.T.TakeEnd.list g.I.TakeEnd.list old.size old.id old.core c.crash.new.core old.outs.items old.clients old.ins.items old.inbox old.trace.items c.crash.new.trace.items old.crash_after old.starved c.self.invariant.0 count
           (server-crashed old.core c.crash.new.core (back_of old.outs.items old.clients.kept) count c.crash.ensures.core c.count-count.ensures) (inl (c.is_due.ensures.0 c.if-not-is_due.false)) c.crash.ensures.trace,
       tt,
-      crash_now old.id old.trace.items c.crash.new.trace.items old.starved c.crash.ensures.trace,
+      crash_now old.id old.trace.items c.crash.new.trace.items old.starved (c.self.invariant.2.none c.if-self.false) c.crash.ensures.trace,
     )
 
 pub returns-clause-crashed : goal.returns-clause-crashed

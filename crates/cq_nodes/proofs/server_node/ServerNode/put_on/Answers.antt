@@ -7,6 +7,7 @@ use Rattle.cq_nodes.proofs.MasterSteps.{same_count}
 use Rattle.cq_nodes.proofs.NodeSteps.{ran_put, ran_idle, room_if}
 use Rattle.cq_events.specs.Actions.{put_to}
 use Rattle.cq_events.specs.declared.event.Event.TheVariants as events
+use Rattle.cq_nodes.proofs.ServerTurns.{up_still}
 use Rattle.cq_nodes.proofs.server_node.ServerNode.put_on.Goals as goal
 
 pub invariant_of-self-then-put : goal.invariant_of-self-then-put
@@ -20,7 +21,7 @@ invariant_of-self-then-put g c =
       ran_put g.P.PutEnd.list g.T.TakeEnd.list g.I.TakeEnd.list old.size old.id old.core c.put_at-put.new.core old.outs.items old.clients old.ins.items old.inbox old.trace.items c.push_reserved.new.self.items old.crash_after old.starved was after c.args.place count
           (c.put_at-put.ensures.put old.clients.kept (λ at. put_to (party_at at) was.actions) was.puts c.if-put.true) is,
       room_if old.ended _ _ (omega (arith, c.in_ok-reserve.ensures.ok, c.push_reserved.ensures.len, c.push_reserved.ensures.capacity)),
-      crash_more old.id old.trace.items c.push_reserved.new.self.items old.starved old.ended c.self.invariant.2 (events.Put own (party_at c.args.place)) is (λ same. absurd (cc)),
+      crash_more old.id old.trace.items c.push_reserved.new.self.items old.starved old.ended c.self.invariant.2 (up_still _ c.args.self.now c.self.view_is c.requires.up) (events.Put own (party_at c.args.place)) is (λ same. absurd (cc)),
     )
 
 pub invariant_of-self-else-put : goal.invariant_of-self-else-put

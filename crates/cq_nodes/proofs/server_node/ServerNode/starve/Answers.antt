@@ -15,7 +15,7 @@ invariant_of-self g c =
       ran_crashed g.P.PutEnd.list g.T.TakeEnd.list g.I.TakeEnd.list old.size old.id old.core c.crash.new.core old.outs.items old.clients old.ins.items old.inbox old.trace.items c.crash.new.trace.items old.crash_after true was count
           (server-crashed old.core c.crash.new.core (back_of old.outs.items old.clients.kept) count c.crash.ensures.core c.count-count.ensures) (inr refl) c.crash.ensures.trace,
       tt,
-      crash_now old.id old.trace.items c.crash.new.trace.items true c.crash.ensures.trace,
+      crash_now old.id old.trace.items c.crash.new.trace.items true (c.self.invariant.2.none c.if-self.false) c.crash.ensures.trace,
     )
 
 pub returns-clause-crashed : goal.returns-clause-crashed

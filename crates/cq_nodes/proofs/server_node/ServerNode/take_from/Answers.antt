@@ -7,6 +7,7 @@ use Rattle.cq_nodes.proofs.MasterSteps.{same_count}
 use Rattle.cq_nodes.proofs.NodeSteps.{ran_taken, ran_waiting, not_taken, none_taken, room_if}
 use Rattle.cq_events.specs.Actions.{taken_from}
 use Rattle.cq_events.specs.declared.event.Event.TheVariants as events
+use Rattle.cq_nodes.proofs.ServerTurns.{up_still}
 use Rattle.cq_nodes.proofs.server_node.ServerNode.take_from.Goals as goal
 
 pub invariant_of-self-in_err-taken : goal.invariant_of-self-in_err-taken
@@ -27,7 +28,7 @@ invariant_of-self-then-taken g c =
           (c.take_at.ensures.taken (back_of old.outs.items old.clients.kept) (λ at. taken_from (party_at at) was.actions) was.takes (c.in_ok-taken.was ∙ ap Ok c.if-taken.true))
           (c.push_reserved.ensures.items ∙ ap (λ us. us ++ events.Take c.party_at.result own ∷ []) c.in_ok-reserve.ensures.items ∙ ap (λ from. old.trace.items ++ events.Take from own ∷ []) c.party_at.ensures),
       room_if old.ended _ _ (omega (arith, c.in_ok-reserve.ensures.ok, c.push_reserved.ensures.len, c.push_reserved.ensures.capacity)),
-      crash_more old.id old.trace.items c.push_reserved.new.self.items old.starved old.ended c.self.invariant.2 (events.Take (party_at c.args.place) own)
+      crash_more old.id old.trace.items c.push_reserved.new.self.items old.starved old.ended c.self.invariant.2 (up_still _ c.args.self.now c.self.view_is c.requires.up) (events.Take (party_at c.args.place) own)
           (c.push_reserved.ensures.items ∙ ap (λ us. us ++ events.Take c.party_at.result own ∷ []) c.in_ok-reserve.ensures.items ∙ ap (λ from. old.trace.items ++ events.Take from own ∷ []) c.party_at.ensures) (λ same. absurd (cc)),
     )
 

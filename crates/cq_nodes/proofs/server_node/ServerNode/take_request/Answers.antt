@@ -4,6 +4,7 @@ use Rattle.cq_nodes.specs.Ends.{back_of}
 use Rattle.cq_nodes.proofs.Growing.{crash_kept, crash_more}
 use Rattle.cq_nodes.proofs.NodeSteps.{ran_arrived, ran_unasked, refused_came, none_came, room_if}
 use Rattle.cq_events.specs.declared.event.Event.TheVariants as events
+use Rattle.cq_nodes.proofs.ServerTurns.{up_still}
 use Rattle.cq_nodes.proofs.server_node.ServerNode.take_request.Goals as goal
 
 pub invariant_of-self-in_err-request : goal.invariant_of-self-in_err-request
@@ -24,7 +25,7 @@ invariant_of-self-in-Some g c =
           (c.arrive_one.ensures.arrived (back_of old.outs.items old.clients.kept) request (c.in_ok-request.was ∙ ap Ok c.in-Some.is))
           (c.push_reserved.ensures.items ∙ ap (λ us. us ++ events.Arrive old.id clock request ∷ []) c.in_ok-reserve.ensures.items),
       room_if old.ended _ _ (omega (arith, c.in_ok-reserve.ensures.ok, c.push_reserved.ensures.len, c.push_reserved.ensures.capacity)),
-      crash_more old.id old.trace.items c.push_reserved.new.self.items old.starved old.ended c.self.invariant.2 (events.Arrive old.id clock request)
+      crash_more old.id old.trace.items c.push_reserved.new.self.items old.starved old.ended c.self.invariant.2 (up_still _ c.args.self.now c.self.view_is c.requires.up) (events.Arrive old.id clock request)
           (c.push_reserved.ensures.items ∙ ap (λ us. us ++ events.Arrive old.id clock request ∷ []) c.in_ok-reserve.ensures.items) (λ same. absurd (cc)),
     )
 

@@ -2,7 +2,7 @@
 use Rattle.std.proofs.Common.{◌∙◌, ap, refl, Some}
 use Rattle.cq_nodes.specs.Ends.{back_of}
 use Rattle.cq_nodes.proofs.Answering.{answer_put, answer_kept}
-use Rattle.cq_nodes.proofs.to_clients.put_to_one.Goals as goal
+use Rattle.cq_nodes.proofs.to_clients.put_first.Goals as goal
 
 pub returns-in-Ok-clause-put : goal.returns-in-Ok-clause-put
 returns-in-Ok-clause-put g c = λ outs is.

@@ -4,7 +4,7 @@ use Rattle.cq_nodes.specs.Ends.{with_back}
 use Rattle.cq_nodes.proofs.Moving.{put-done}
 use Rattle.cq_events.specs.Actions.{Put}
 use Rattle.cq_nodes.specs.Acts.{Acts}
-use Rattle.cq_nodes.proofs.moves.put_one.Goals as goal
+use Rattle.cq_nodes.proofs.moves.put_first.Goals as goal
 
 pub returns-in-Ok-clause-put : goal.returns-in-Ok-clause-put
 returns-in-Ok-clause-put g c = λ back is ok.

@@ -1,7 +1,7 @@
 -- The next message was read.
 use Rattle.std.proofs.Common.{◌∙◌, ◌++◌, ◌∷◌, [], ap, sym, append-nil}
 use Rattle.cq_nodes.specs.Ends.{listed}
-use Rattle.cq_nodes.proofs.master_moves.take_one.Goals as goal
+use Rattle.cq_nodes.proofs.moves.take_first.Goals as goal
 
 pub returns-in-Ok-clause-taken : goal.returns-in-Ok-clause-taken
 returns-in-Ok-clause-taken g c = λ back seen told is.
