@@ -1,5 +1,5 @@
 -- Asks, requests, entries and queries that are read were written so, and what was written is read.
-use Rattle.std.proofs.Common.{◌≡◌, ℕ, ◌^◌, ◌<◌, ◌≤◌, Bool, true, false, cond, eqb, List, [], ◌∷◌, ◌++◌, Option, Result, Ok, Err, refl, sym, ap, subst, ◌∙◌}
+use Rattle.std.proofs.Common.{◌≡◌, ℕ, ◌^◌, ◌<◌, ◌≤◌, true, cond, eqb, List, [], ◌∷◌, ◌++◌, Result, Ok, Err, sym, subst}
 use Rattle.std.specs.Prelude.{⊤}
 use Rattle.std.specs.Int.{w32, w64}
 use Rattle.std.proofs.lemmas.Bool.{eqb-true}
@@ -9,12 +9,12 @@ use Rattle.cq_base.specs.declared.ask.Ask.TheVariants.{Create, Remove, Send, Rec
 use Rattle.cq_base.specs.declared.ask.Request.{Request}
 use Rattle.cq_base.specs.declared.ask.Entry.{Entry}
 use Rattle.cq_base.specs.declared.ask.Query.{Query}
-use Rattle.cq_base.specs.Handle.{Handle, IsHandle}
+use Rattle.cq_base.specs.Handle.{IsHandle}
 use Rattle.cq_wire.specs.declared.fault.WireFault.{WireFault}
 use Rattle.cq_wire.specs.declared.fault.WireFault.TheVariants.{BadTag}
 use Rattle.cq_wire.specs.Layout.{number32, number64, text, flag, optional, receipt, ask, request, entry, query}
 use Rattle.cq_wire.specs.Limits.{IsName, IsId, IsBody, IsSeconds, IsBatch, IfThere, IsAsk, IsRequest, IsEntry, IsQuery}
-use Rattle.cq_wire.specs.Reading.{◌>>=◌, number_at, name_at, id_at, body_at, flag_at, seconds_at, batch_at, moment_at, optional_at, receipt_at, create_at, remove_at, send_at, receive_at, delete_at, change_at, ask_at, request_at, entry_at, query_at}
+use Rattle.cq_wire.specs.Reading.{number_at, name_at, id_at, body_at, flag_at, seconds_at, batch_at, moment_at, optional_at, receipt_at, create_at, remove_at, send_at, receive_at, delete_at, change_at, ask_at, request_at, entry_at, query_at}
 use Rattle.cq_wire.proofs.Fronts.{IsBytes, IsBytes-rest, Takes, Takes-tagged, Reads, IsRead, either}
 use Rattle.cq_wire.proofs.Sequences.{one, two, three, four, one_read, two_read, three_read, four_read}
 use Rattle.cq_wire.proofs.PartLaws.{reads32, reads64, is_read32, is_read64, name_reads, name_is_read, id_reads, id_is_read, body_reads, body_is_read, flag_reads, flag_is_read, optional_reads, optional_is_read, moment_reads, moment_is_read, seconds_reads, seconds_is_read, batch_reads, batch_is_read, receipt_reads, receipt_is_read}

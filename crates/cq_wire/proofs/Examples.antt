@@ -1,18 +1,14 @@
 -- Worked layouts, one for each kind of value, and what is read of bytes that are none.
-use Rattle.std.proofs.Common.{◌≡◌, ℕ, true, false, List, [], ◌∷◌, ◌++◌, Some, None, Result, Ok, Err, refl}
+use Rattle.std.proofs.Common.{◌≡◌, ℕ, true, List, [], ◌∷◌, ◌++◌, Some, None, Err, refl}
 use Rattle.std.specs.Prelude.{codes}
-use Rattle.cq_base.specs.declared.ask.Ask.{Ask}
 use Rattle.cq_base.specs.declared.ask.Ask.TheVariants.{Create, Remove, Send, Receive, Delete, Change}
 use Rattle.cq_base.specs.declared.ask.Entry.{Entry}
-use Rattle.cq_base.specs.declared.ask.Query.{Query}
-use Rattle.cq_base.specs.declared.reply.Reply.{Reply}
 use Rattle.cq_base.specs.declared.reply.Reply.TheVariants.{Created, Removed, Sent, Received, Deleted, Changed, Counts, Refused}
 use Rattle.cq_base.specs.declared.reply.Refusal.TheVariants.{StaleNumber}
 use Rattle.cq_base.specs.Handle.{Handle}
-use Rattle.cq_wire.specs.declared.fault.WireFault.{WireFault}
-use Rattle.cq_wire.specs.declared.fault.WireFault.TheVariants.{Truncated, BadTag, BadText, BadNumber, BytesLeft, OtherVersion}
+use Rattle.cq_wire.specs.declared.fault.WireFault.TheVariants.{Truncated, BadTag, BytesLeft, OtherVersion}
 use Rattle.cq_wire.specs.Layout.{number32, number64, text, flag, optional, listed, receipt, ask, request, entry, query, delivery, reply, whole}
-use Rattle.cq_wire.specs.Reading.{◌>>=◌, number_at, ask_at, entry_at, query_at, reply_at, whole_at, all_of}
+use Rattle.cq_wire.specs.Reading.{reply_at, whole_at, all_of}
 
 q : List ℕ
 q = codes "q.fifo"

@@ -1,5 +1,5 @@
 -- Each part that is read was written so, and what was written is read.
-use Rattle.std.proofs.Common.{◌≡◌, ℕ, zero, suc, ◌+◌, ◌^◌, ◌<◌, ◌≤◌, Bool, true, false, cond, ltb, leb, List, [], ◌∷◌, ◌++◌, length, take, drop, Option, Some, None, Result, Ok, Err, refl, sym, ap, subst, ◌∙◌, append_assoc, arith}
+use Rattle.std.proofs.Common.{◌≡◌, ℕ, zero, suc, ◌^◌, ◌<◌, ◌≤◌, Bool, true, false, cond, ltb, leb, List, [], ◌∷◌, ◌++◌, length, take, drop, Option, Some, None, Ok, Err, refl, sym, subst, append_assoc, arith}
 use Rattle.std.specs.Prelude.{⊤, ◌&&◌}
 use Rattle.std.specs.Int.{Width, w32, w64, byte_len, from_le_bytes, to_le_bytes}
 use Rattle.std.specs.Str.{is_utf8}
@@ -10,11 +10,11 @@ use Rattle.cq_base.specs.declared.limits.TheConstants.{MOMENT_LIMIT, SECONDS_LIM
 use Rattle.cq_base.specs.Handle.{Handle, IsHandle}
 use Rattle.cq_base.specs.Texts.{is_queue_name, is_id, is_body}
 use Rattle.cq_wire.specs.declared.fault.WireFault.{WireFault}
-use Rattle.cq_wire.specs.declared.fault.WireFault.TheVariants.{Truncated, BadTag, BadText, BadNumber}
+use Rattle.cq_wire.specs.declared.fault.WireFault.TheVariants.{Truncated, BadText, BadNumber}
 use Rattle.cq_wire.specs.Layout.{number32, number64, text, flag, optional, receipt}
 use Rattle.cq_wire.specs.Limits.{IsName, IsId, IsBody, IsSeconds, IsBatch, IfThere}
 use Rattle.cq_wire.specs.Reading.{◌>>=◌, Reader, kept, number_at, bytes_at, text_at, flag_at, moment_at, seconds_at, batch_at, name_at, id_at, body_at, optional_at, receipt_at}
-use Rattle.cq_wire.proofs.Fronts.{IsBytes, IsBytes-take, IsBytes-drop, IsBytes-rest, Takes, Takes-then, Takes-nothing, Reads, IsRead, bind_ok, ok_is, kept_ok}
+use Rattle.cq_wire.proofs.Fronts.{IsBytes, IsBytes-take, IsBytes-drop, IsBytes-rest, Takes, Takes-then, Reads, IsRead, bind_ok, ok_is, kept_ok}
 use Rattle.cq_wire.proofs.Sequences.{kept_reads, kept_is_read}
 
 -- a test that didn't fail

@@ -1,5 +1,5 @@
 -- Readers one after the other, and readers whose value has to pass a test.
-use Rattle.std.proofs.Common.{◌≡◌, ℕ, Bool, true, false, List, [], ◌∷◌, ◌++◌, Result, Ok, Err, refl, sym, ap, subst, ◌∙◌, append_assoc}
+use Rattle.std.proofs.Common.{◌≡◌, ℕ, Bool, true, List, ◌++◌, Ok, refl, subst, append_assoc}
 use Rattle.cq_wire.specs.declared.fault.WireFault.{WireFault}
 use Rattle.cq_wire.specs.Reading.{◌>>=◌, Reader, kept}
 use Rattle.cq_wire.proofs.Fronts.{IsBytes, Takes, Takes-then, Reads, IsRead, bind_ok, ok_is, kept_ok, read_as}

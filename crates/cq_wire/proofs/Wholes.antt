@@ -8,8 +8,8 @@ use Rattle.cq_wire.specs.declared.fault.WireFault.{WireFault}
 use Rattle.cq_wire.specs.declared.fault.WireFault.TheVariants.{BytesLeft, OtherVersion}
 use Rattle.cq_wire.specs.declared.fault.ReadFault.{ReadFault}
 use Rattle.cq_wire.specs.Layout.{whole}
-use Rattle.cq_wire.specs.Reading.{◌>>=◌, Reader, Gives, all_of, whole_at}
-use Rattle.cq_wire.proofs.Fronts.{IsBytes, IsBytes-rest, Takes, Reads, IsRead, bind_ok, either}
+use Rattle.cq_wire.specs.Reading.{Reader, Gives, all_of, whole_at}
+use Rattle.cq_wire.proofs.Fronts.{IsBytes, IsBytes-rest, Reads, IsRead, bind_ok, either}
 
 all_ended : {A : Type 0} (b : Bool) (x y : A) → cond b (Ok x) (Err BytesLeft) ≡ Ok y → (b ≡ true) × (x ≡ y)
 all_ended true x y e = (refl, cc)

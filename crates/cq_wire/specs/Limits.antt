@@ -11,7 +11,7 @@ use Rattle.cq_base.specs.declared.reply.Delivery.{Delivery}
 use Rattle.cq_base.specs.declared.reply.Reply.{Reply}
 use Rattle.cq_base.specs.declared.reply.Reply.TheVariants.{Created, Removed, Sent, Received, Deleted, Changed, Counts, Refused}
 use Rattle.cq_base.specs.declared.limits.TheConstants.{MOMENT_LIMIT, SECONDS_LIMIT, BATCH_LIMIT}
-use Rattle.cq_base.specs.Handle.{Handle, IsHandle}
+use Rattle.cq_base.specs.Handle.{IsHandle}
 use Rattle.cq_base.specs.Texts.{is_queue_name, is_id, is_body}
 
 abbrev pub IsName : List ℕ → Type 0

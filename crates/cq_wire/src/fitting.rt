@@ -1,10 +1,12 @@
 //! Each value of the types has bytes.
 ghost use Rattle.std.specs.Prelude.{◌≤◌, ◌<◌, ◌^◌};
-ghost use Rattle.std.specs.List.{AllByRecursion};
 ghost use Rattle.cq_base.specs.Handle.{IsHandle};
-ghost use Rattle.cq_wire.specs.Limits.{IfThere, IsName, IsId, IsBody, IsSeconds, IsAsk, IsRequest, IsEntry, IsQuery};
+ghost use Rattle.cq_wire.specs.Limits.{IfThere, IsName, IsId, IsBody, IsSeconds, IsAsk, IsRequest, IsEntry, IsQuery, IsDelivery, AreListed, IsReply};
 
-use cq_base::{Ask, Body, DedupId, Entry, GroupId, Query, QueueName, Receipt, Request, Seconds};
+use cq_base::{
+    Ask, Body, DedupId, Delivery, Entry, GroupId, Query, QueueName, Receipt, Reply, Request,
+    Seconds,
+};
 
 #[tactic(auto, using(crate::proofs::Utf8::utf8_is))]
 fn name_fits(name: &QueueName)
@@ -135,4 +137,41 @@ pub fn query_fits(query: &Query)
     let _client = query.client;
     let _tag = query.tag;
     name_fits(&query.queue);
+}
+
+fn delivery_fits(delivery: &Delivery)
+    ensures { IsDelivery delivery.now }
+{
+    receipt_fits(delivery.receipt);
+    group_fits(&delivery.group);
+    body_fits(&delivery.body);
+}
+
+fn deliveries_fit(deliveries: &[Delivery])
+    ensures { AreListed IsDelivery deliveries.now }
+{
+    let _count = deliveries.len();
+    for delivery in deliveries {
+        delivery_fits(delivery);
+    }
+}
+
+/// Each reply has bytes.
+pub fn reply_fits(reply: &Reply)
+    ensures { IsReply reply.now }
+{
+    match reply {
+        Reply::Created(incarnation) => {
+            let _number = *incarnation;
+        }
+        Reply::Sent(sequence) => {
+            let _number = *sequence;
+        }
+        Reply::Received(deliveries) => deliveries_fit(deliveries.as_slice()),
+        Reply::Counts { visible, in_flight } => {
+            let _visible = *visible;
+            let _in_flight = *in_flight;
+        }
+        Reply::Removed | Reply::Deleted(_) | Reply::Changed | Reply::Refused(_) => (),
+    }
 }

@@ -15,7 +15,7 @@ mod write;
 mod writer;
 
 pub use fault::{ReadFault, WireFault};
-pub use fitting::{entry_fits, query_fits, request_fits};
+pub use fitting::{entry_fits, query_fits, reply_fits, request_fits};
 pub use read::{read_entry, read_query, read_reply, read_request};
 pub use version::VERSION;
 pub use write::{write_entry, write_query, write_reply, write_request};

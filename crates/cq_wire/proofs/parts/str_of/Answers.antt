@@ -1,4 +1,3 @@
-use Rattle.std.proofs.Common.{◌≡◌, sym, ap, ◌∙◌}
 use Rattle.cq_wire.proofs.Utf8.{utf8_found, utf8_refused}
 use Rattle.cq_wire.proofs.parts.str_of.Goals as goal
 

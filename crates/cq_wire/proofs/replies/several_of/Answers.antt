@@ -1,4 +1,3 @@
-use Rattle.std.proofs.Common.{◌≡◌, ◌++◌, ◌∷◌, []}
 use Rattle.cq_wire.specs.Reading.{several_at, delivery_at}
 use Rattle.cq_wire.proofs.Loop.{goes_on, fails, ends}
 use Rattle.cq_wire.proofs.replies.several_of.Goals as goal
