@@ -139,7 +139,8 @@ fn add_reply(text: &mut String, reply: &Reply) -> io::Result<()> {
     Ok(())
 }
 
-fn add_value(text: &mut String, value: &Value) -> io::Result<()> {
+/// Adds the words of a value.
+pub fn add_value(text: &mut String, value: &Value) -> io::Result<()> {
     match value {
         Value::Entry(entry) => add_entry(text, entry),
         Value::Request(request) => {

@@ -17,6 +17,19 @@ pub enum Kind {
     Reply,
 }
 
+impl Kind {
+    /// The kind of that name.
+    pub fn named(name: &str) -> Option<Kind> {
+        match name {
+            "entry" => Some(Kind::Entry),
+            "request" => Some(Kind::Request),
+            "query" => Some(Kind::Query),
+            "reply" => Some(Kind::Reply),
+            _ => None,
+        }
+    }
+}
+
 pub const KINDS: [Kind; 4] = [Kind::Entry, Kind::Request, Kind::Query, Kind::Reply];
 
 /// A value of some kind.
@@ -47,16 +60,21 @@ impl Value {
         }
     }
 
-    /// Its bytes.
+    /// Its bytes. A write that finds no memory has to leave no byte, and is made once more.
     pub fn bytes(&self, alloc: Global) -> io::Result<Vec<u8>> {
         let mut bytes = Vec::new(alloc);
+        if self.write_into(&mut bytes).is_ok() {
+            return Ok(bytes);
+        }
+        if !bytes.is_empty() {
+            return Err(stop("a write that found no memory left bytes"));
+        }
         self.write_into(&mut bytes).map_err(|_| stop("no memory"))?;
         Ok(bytes)
     }
 }
 
-/// The value of that kind that the bytes are.
-pub fn read(alloc: Global, kind: Kind, bytes: &[u8]) -> Result<Value, ReadFault> {
+fn read_once(alloc: Global, kind: Kind, bytes: &[u8]) -> Result<Value, ReadFault> {
     match kind {
         Kind::Entry => match read_entry(alloc, bytes) {
             Ok(entry) => Ok(Value::Entry(entry)),
@@ -74,5 +92,13 @@ pub fn read(alloc: Global, kind: Kind, bytes: &[u8]) -> Result<Value, ReadFault>
             Ok(reply) => Ok(Value::Reply(reply)),
             Err(fault) => Err(fault),
         },
+    }
+}
+
+/// The value of that kind that the bytes are. A read that finds no memory is made once more.
+pub fn read(alloc: Global, kind: Kind, bytes: &[u8]) -> Result<Value, ReadFault> {
+    match read_once(alloc, kind, bytes) {
+        Err(ReadFault::NoMemory) => read_once(alloc, kind, bytes),
+        read => read,
     }
 }

@@ -66,7 +66,7 @@ fn name(alloc: Global, draws: &mut Draws) -> io::Result<QueueName> {
         text.push(char::from(*byte))?;
     }
     text.push_str(".fifo")?;
-    QueueName::new(alloc, text.as_str()).map_err(|_| stop("no name"))
+    QueueName::new(alloc, text.as_str()).map_err(|_| stop("no memory"))
 }
 
 /// One to six letters.
@@ -81,7 +81,7 @@ fn letters(alloc: Global, draws: &mut Draws) -> io::Result<String> {
 
 fn group(alloc: Global, draws: &mut Draws) -> io::Result<GroupId> {
     let text = letters(alloc, draws)?;
-    GroupId::new(alloc, text.as_str()).map_err(|_| stop("no group"))
+    GroupId::new(alloc, text.as_str()).map_err(|_| stop("no memory"))
 }
 
 fn dedup(alloc: Global, draws: &mut Draws) -> io::Result<Option<DedupId>> {
@@ -89,7 +89,7 @@ fn dedup(alloc: Global, draws: &mut Draws) -> io::Result<Option<DedupId>> {
         return Ok(None);
     }
     let text = letters(alloc, draws)?;
-    Ok(Some(DedupId::new(alloc, text.as_str()).map_err(|_| stop("no id"))?))
+    Ok(Some(DedupId::new(alloc, text.as_str()).map_err(|_| stop("no memory"))?))
 }
 
 fn body(alloc: Global, draws: &mut Draws) -> io::Result<Body> {
@@ -98,7 +98,7 @@ fn body(alloc: Global, draws: &mut Draws) -> io::Result<Body> {
         let place = draws.place(PIECES.len());
         text.push_str(PIECES.get(place).ok_or(stop("no piece"))?)?;
     }
-    Body::new(alloc, text.as_str()).map_err(|_| stop("no body"))
+    Body::new(alloc, text.as_str()).map_err(|_| stop("no memory"))
 }
 
 fn seconds(draws: &mut Draws) -> io::Result<Seconds> {

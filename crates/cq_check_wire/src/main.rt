@@ -5,12 +5,16 @@
 //!   read with each of its bytes changed.
 //! - `bytes SEED COUNT`: so many texts of bytes are read as each kind of value.
 //! - `dump SEED COUNT`: so many values are written as hex digits, with words that say them, for a reader in another language.
+//! - `read KIND HEX`: those bytes are read as a value of that kind, and the words of the value are told, or the fault.
+//! - `hold KIND HEX`, `skip KIND HEX`: the bytes are read, and the value is held; or they aren't read. What the one takes more
+//!   than the other is the memory of the value.
 //!
 //! What is read has to be written as just the bytes that it was read from. Told is how many reads gave a value, and how many each
 //! fault. The status is 1 where a value is written otherwise.
 #![tactic(auto)]
 
 mod dump;
+mod given;
 mod kinds;
 mod made;
 mod reads;
@@ -21,6 +25,7 @@ use std::alloc::Global;
 use std::io;
 use std::io::{BufRead, BufReader};
 use std::process::ExitCode;
+use std::str::SplitWhitespace;
 
 /// The error of that text.
 fn stop(what: &'static str) -> io::Error {
@@ -33,10 +38,13 @@ fn number(word: Option<&str>) -> io::Result<u64> {
         .ok_or(stop("no number"))
 }
 
-/// The job of that line.
-fn run_line(rt: &impl Print, alloc: Global, line: &str) -> io::Result<()> {
-    let mut words = line.split_whitespace();
-    let kind = words.next().ok_or(stop("no job"))?;
+/// The job of that kind, by a seed.
+fn run_drawn(
+    rt: &impl Print,
+    alloc: Global,
+    kind: &str,
+    words: &mut SplitWhitespace<'_>,
+) -> io::Result<()> {
     let mut draws = Draws::new(number(words.next())?);
     let count = number(words.next())?;
     match kind {
@@ -44,6 +52,17 @@ fn run_line(rt: &impl Print, alloc: Global, line: &str) -> io::Result<()> {
         "bytes" => trials::try_bytes(rt, alloc, &mut draws, count),
         "dump" => dump::dump(rt, alloc, &mut draws, count),
         _ => Err(stop("no such job")),
+    }
+}
+
+/// The job of that line.
+fn run_line(rt: &impl Print, alloc: Global, line: &str) -> io::Result<()> {
+    let mut words = line.split_whitespace();
+    match words.next().ok_or(stop("no job"))? {
+        "read" => given::tell_read(rt, alloc, &mut words),
+        "hold" => given::tell_held(rt, alloc, &mut words, true),
+        "skip" => given::tell_held(rt, alloc, &mut words, false),
+        kind => run_drawn(rt, alloc, kind, &mut words),
     }
 }
 
