@@ -1,7 +1,8 @@
 //! Values as hex digits and as words.
 use crate::kinds::Value;
 use crate::made::{Draws, value};
-use cq_base::{Ask, DedupId, Delivery, Entry, Query, Receipt, Reply, Request, Seconds};
+use cq_base::{Ask, DedupId, Delivery, Entry, Query, Receipt, Reply, Request, Seconds, ServerId};
+use cq_chain::{Answer, Message};
 use std::alloc::Global;
 use std::fmt::Write;
 use std::io;
@@ -106,7 +107,7 @@ fn add_request(text: &mut String, request: &Request) -> io::Result<()> {
 }
 
 fn add_entry(text: &mut String, entry: &Entry) -> io::Result<()> {
-    write!(text, "entry {}", entry.moment.get())?;
+    write!(text, " {}", entry.moment.get())?;
     add_request(text, &entry.request)
 }
 
@@ -116,7 +117,7 @@ fn add_query(text: &mut String, query: &Query) -> io::Result<()> {
 }
 
 fn add_deliveries(text: &mut String, deliveries: &[Delivery]) -> io::Result<()> {
-    write!(text, "reply received {}", deliveries.len())?;
+    write!(text, " received {}", deliveries.len())?;
     for delivery in deliveries {
         add_receipt(text, delivery.receipt)?;
         add_text(text, delivery.group.as_str())?;
@@ -127,14 +128,61 @@ fn add_deliveries(text: &mut String, deliveries: &[Delivery]) -> io::Result<()> 
 
 fn add_reply(text: &mut String, reply: &Reply) -> io::Result<()> {
     match reply {
-        Reply::Created(incarnation) => write!(text, "reply created {incarnation}")?,
-        Reply::Removed => text.push_str("reply removed")?,
-        Reply::Sent(sequence) => write!(text, "reply sent {sequence}")?,
+        Reply::Created(incarnation) => write!(text, " created {incarnation}")?,
+        Reply::Removed => text.push_str(" removed")?,
+        Reply::Sent(sequence) => write!(text, " sent {sequence}")?,
         Reply::Received(deliveries) => add_deliveries(text, deliveries.as_slice())?,
-        Reply::Deleted(removed) => write!(text, "reply deleted {removed}")?,
-        Reply::Changed => text.push_str("reply changed")?,
-        Reply::Counts { visible, in_flight } => write!(text, "reply counts {visible} {in_flight}")?,
-        Reply::Refused(refusal) => write!(text, "reply refused {}", refusal.code())?,
+        Reply::Deleted(removed) => write!(text, " deleted {removed}")?,
+        Reply::Changed => text.push_str(" changed")?,
+        Reply::Counts { visible, in_flight } => write!(text, " counts {visible} {in_flight}")?,
+        Reply::Refused(refusal) => write!(text, " refused {}", refusal.code())?,
+    }
+    Ok(())
+}
+
+fn add_counted(text: &mut String, kind: &str, id: ServerId, count: u64) -> io::Result<()> {
+    write!(text, " {kind} {} {count}", id.get())?;
+    Ok(())
+}
+
+fn add_server_if(text: &mut String, id: Option<ServerId>) -> io::Result<()> {
+    match id {
+        Some(id) => write!(text, " {}", id.get())?,
+        None => text.push_str(" none")?,
+    }
+    Ok(())
+}
+
+fn add_answer(text: &mut String, answer: &Answer) -> io::Result<()> {
+    write!(
+        text,
+        " answer {} {} {} {}",
+        answer.client, answer.number, answer.is_query, answer.length
+    )?;
+    add_reply(text, &answer.reply)
+}
+
+fn add_message(text: &mut String, message: &Message) -> io::Result<()> {
+    match message {
+        Message::Fwd { place, entry } => {
+            write!(text, " fwd {place}")?;
+            add_entry(text, entry)?;
+        }
+        Message::Snap { state: _ } => text.push_str(" snap")?,
+        Message::Ack { place } => write!(text, " ack {place}")?,
+        Message::BeHead => text.push_str(" be-head")?,
+        Message::Report { pred } => write!(text, " report {}", pred.get())?,
+        Message::Adopt { succ, have } => add_counted(text, "adopt", *succ, *have)?,
+        Message::BeTail { at_least } => write!(text, " be-tail {at_least}")?,
+        Message::Feed { succ } => {
+            text.push_str(" feed")?;
+            add_server_if(text, *succ)?;
+        }
+        Message::Have { pred, count } => add_counted(text, "have", *pred, *count)?,
+        Message::Adopted { succ, count } => add_counted(text, "adopted", *succ, *count)?,
+        Message::Caught { pred, count } => add_counted(text, "caught", *pred, *count)?,
+        Message::Ready => text.push_str(" ready")?,
+        Message::Answer(answer) => add_answer(text, answer)?,
     }
     Ok(())
 }
@@ -142,13 +190,23 @@ fn add_reply(text: &mut String, reply: &Reply) -> io::Result<()> {
 /// Adds the words of a value.
 pub fn add_value(text: &mut String, value: &Value) -> io::Result<()> {
     match value {
-        Value::Entry(entry) => add_entry(text, entry),
+        Value::Entry(entry) => {
+            text.push_str("entry")?;
+            add_entry(text, entry)
+        }
         Value::Request(request) => {
             text.push_str("request")?;
             add_request(text, request)
         }
         Value::Query(query) => add_query(text, query),
-        Value::Reply(reply) => add_reply(text, reply),
+        Value::Reply(reply) => {
+            text.push_str("reply")?;
+            add_reply(text, reply)
+        }
+        Value::Message(message) => {
+            text.push_str("message")?;
+            add_message(text, message)
+        }
     }
 }
 

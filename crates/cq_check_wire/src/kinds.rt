@@ -1,6 +1,8 @@
 //! The kinds of values.
 use crate::stop;
 use cq_base::{Entry, NoMemory, Query, Reply, Request};
+use cq_chain::Message;
+use cq_chain_wire::{is_plain, read_message, write_message};
 use cq_wire::{
     ReadFault, read_entry, read_query, read_reply, read_request, write_entry, write_query,
     write_reply, write_request,
@@ -15,6 +17,7 @@ pub enum Kind {
     Request,
     Query,
     Reply,
+    Message,
 }
 
 impl Kind {
@@ -25,12 +28,19 @@ impl Kind {
             "request" => Some(Kind::Request),
             "query" => Some(Kind::Query),
             "reply" => Some(Kind::Reply),
+            "message" => Some(Kind::Message),
             _ => None,
         }
     }
 }
 
-pub const KINDS: [Kind; 4] = [Kind::Entry, Kind::Request, Kind::Query, Kind::Reply];
+pub const KINDS: [Kind; 5] = [
+    Kind::Entry,
+    Kind::Request,
+    Kind::Query,
+    Kind::Reply,
+    Kind::Message,
+];
 
 /// A value of some kind.
 #[derive(Drop)]
@@ -39,6 +49,16 @@ pub enum Value {
     Request(Request),
     Query(Query),
     Reply(Reply),
+    Message(Message),
+}
+
+/// Writes a message. A snapshot isn't written.
+fn write_plain(bytes: &mut Vec<u8>, message: &Message) -> Result<(), NoMemory> {
+    if is_plain(message) {
+        write_message(bytes, message)
+    } else {
+        Ok(())
+    }
 }
 
 impl Value {
@@ -48,6 +68,7 @@ impl Value {
             Value::Request(_) => Kind::Request,
             Value::Query(_) => Kind::Query,
             Value::Reply(_) => Kind::Reply,
+            Value::Message(_) => Kind::Message,
         }
     }
 
@@ -57,6 +78,7 @@ impl Value {
             Value::Request(request) => write_request(bytes, request),
             Value::Query(query) => write_query(bytes, query),
             Value::Reply(reply) => write_reply(bytes, reply),
+            Value::Message(message) => write_plain(bytes, message),
         }
     }
 
@@ -90,6 +112,10 @@ fn read_once(alloc: Global, kind: Kind, bytes: &[u8]) -> Result<Value, ReadFault
         },
         Kind::Reply => match read_reply(alloc, bytes) {
             Ok(reply) => Ok(Value::Reply(reply)),
+            Err(fault) => Err(fault),
+        },
+        Kind::Message => match read_message(alloc, bytes) {
+            Ok(message) => Ok(Value::Message(message)),
             Err(fault) => Err(fault),
         },
     }

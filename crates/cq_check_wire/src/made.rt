@@ -3,8 +3,9 @@ use crate::kinds::Value;
 use crate::stop;
 use cq_base::{
     Ask, BatchSize, Body, DedupId, Deliveries, Delivery, Entry, GroupId, MOMENT_LIMIT, Moment,
-    Query, QueueName, Receipt, Refusal, Reply, Request, SECONDS_LIMIT, Seconds,
+    Query, QueueName, Receipt, Refusal, Reply, Request, SECONDS_LIMIT, Seconds, ServerId,
 };
+use cq_chain::{Answer, Message};
 use rand_xoshiro::Xoshiro256PlusPlus;
 use rand_xoshiro::rand_core::{Rng, SeedableRng};
 use std::alloc::Global;
@@ -221,12 +222,89 @@ fn reply(alloc: Global, draws: &mut Draws) -> io::Result<Reply> {
     })
 }
 
+fn server(draws: &mut Draws) -> io::Result<ServerId> {
+    ServerId::new(draws.number32().max(1)).ok_or(stop("no server"))
+}
+
+fn server_if(draws: &mut Draws) -> io::Result<Option<ServerId>> {
+    if draws.below(2) == 0 {
+        return Ok(None);
+    }
+    Ok(Some(server(draws)?))
+}
+
+fn answer(alloc: Global, draws: &mut Draws) -> io::Result<Answer> {
+    Ok(Answer {
+        client: draws.number32(),
+        number: draws.number(),
+        is_query: draws.below(2) == 0,
+        length: draws.number(),
+        reply: reply(alloc, draws)?,
+    })
+}
+
+/// A message of the master.
+fn order(draws: &mut Draws) -> io::Result<Message> {
+    Ok(match draws.below(5) {
+        0 => Message::BeHead,
+        1 => Message::Report {
+            pred: server(draws)?,
+        },
+        2 => Message::Adopt {
+            succ: server(draws)?,
+            have: draws.number(),
+        },
+        3 => Message::BeTail {
+            at_least: draws.number(),
+        },
+        _ => Message::Feed {
+            succ: server_if(draws)?,
+        },
+    })
+}
+
+/// A message to the master.
+fn report(draws: &mut Draws) -> io::Result<Message> {
+    Ok(match draws.below(4) {
+        0 => Message::Have {
+            pred: server(draws)?,
+            count: draws.number(),
+        },
+        1 => Message::Adopted {
+            succ: server(draws)?,
+            count: draws.number(),
+        },
+        2 => Message::Caught {
+            pred: server(draws)?,
+            count: draws.number(),
+        },
+        _ => Message::Ready,
+    })
+}
+
+/// A message that isn't a snapshot.
+fn message(alloc: Global, draws: &mut Draws) -> io::Result<Message> {
+    Ok(match draws.below(5) {
+        0 => Message::Fwd {
+            place: draws.number(),
+            entry: entry(alloc, draws)?,
+        },
+        1 => Message::Ack {
+            place: draws.number(),
+        },
+        2 => order(draws)?,
+        3 => report(draws)?,
+        _ => Message::Answer(answer(alloc, draws)?),
+    })
+}
+
 /// A value of some kind.
 pub fn value(alloc: Global, draws: &mut Draws) -> io::Result<Value> {
-    Ok(match draws.below(4) {
+    Ok(match draws.below(5) {
         0 => Value::Entry(entry(alloc, draws)?),
         1 => Value::Request(request(alloc, draws)?),
         2 => Value::Query(query(alloc, draws)?),
-        _ => Value::Reply(reply(alloc, draws)?),
+        3 => Value::Reply(reply(alloc, draws)?),
+        _ => Value::Message(message(alloc, draws)?),
     })
 }

@@ -148,6 +148,7 @@ pub fn request_of(alloc: Global, bytes: &[u8]) -> Result<(Request, &[u8]), ReadF
     ))
 }
 
+/// An entry. O(bytes of it), and memory for its texts alone.
 #[tactic(auto, unfolding(crate::specs::Reading::entry_at))]
 pub fn entry_of(alloc: Global, bytes: &[u8]) -> Result<(Entry, &[u8]), ReadFault>
     ensures { Gives (λ x. (x.0, x.1.now)) result (entry_at bytes.now) }

@@ -1,5 +1,8 @@
 //! Values as bytes: each has one layout, which is read back, and nothing else is read as it. `specs/Layout.antt` has the bytes
 //! of each, `specs/Reading.antt` what is read of any bytes, and where they are of no value the fault.
+//!
+//! Other crates lay out values of their own by the parts that are public here: a `Writer` puts them behind what is there, and
+//! each function `.._of` reads one from the front of bytes, and answers it with the bytes behind it.
 #![tactic(auto)]
 
 mod asks;
@@ -14,8 +17,13 @@ mod version;
 mod write;
 mod writer;
 
+pub use asks::entry_of;
 pub use fault::{ReadFault, WireFault};
 pub use fitting::{entry_fits, query_fits, reply_fits, request_fits};
+pub use parts::{flag_of, u32_of, u64_of};
+pub use put::{put_entry, put_reply};
 pub use read::{read_entry, read_query, read_reply, read_request};
+pub use replies::reply_of;
 pub use version::VERSION;
 pub use write::{write_entry, write_query, write_reply, write_request};
+pub use writer::Writer;

@@ -9,6 +9,7 @@ use cq_base::{BaseFault, BatchSize, Body, DedupId, GroupId, Moment, QueueName, R
 use std::alloc::Global;
 use std::str;
 
+/// A number of four bytes, the lowest first. O(1).
 #[tactic(auto, unfolding(crate::specs::Reading::number_at))]
 pub fn u32_of(bytes: &[u8]) -> Result<(u32, &[u8]), ReadFault>
     ensures { Gives (λ x. (x.0, x.1.now)) result (number_at w32 bytes.now) }
@@ -21,6 +22,7 @@ pub fn u32_of(bytes: &[u8]) -> Result<(u32, &[u8]), ReadFault>
     Ok((number, rest))
 }
 
+/// A number of eight bytes, the lowest first. O(1).
 #[tactic(auto, unfolding(crate::specs::Reading::number_at))]
 pub fn u64_of(bytes: &[u8]) -> Result<(u64, &[u8]), ReadFault>
     ensures { Gives (λ x. (x.0, x.1.now)) result (number_at w64 bytes.now) }
@@ -63,6 +65,7 @@ fn text_of(bytes: &[u8]) -> Result<(&str, &[u8]), ReadFault>
     Ok((str_of(front)?, rest))
 }
 
+/// Yes or no, of one byte. O(1).
 #[tactic(auto, unfolding(crate::specs::Reading::flag_at))]
 pub fn flag_of(bytes: &[u8]) -> Result<(bool, &[u8]), ReadFault>
     ensures { Gives (λ x. (x.0, x.1.now)) result (flag_at bytes.now) }

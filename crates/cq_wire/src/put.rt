@@ -178,6 +178,7 @@ pub fn put_request(out: &mut Writer, value: &Request) -> Result<(), NoMemory>
     put_ask(out, &value.ask)
 }
 
+/// Puts an entry, without a version: O(bytes of it). After `NoMemory` a front of its bytes may be there.
 #[tactic(auto, unfolding(crate::specs::Layout::entry))]
 pub fn put_entry(out: &mut Writer, value: &Entry) -> Result<(), NoMemory>
     ensures ok { OnOk result (out.new.value ≡ out.old.value ++ entry value.now) }
@@ -226,6 +227,7 @@ fn put_deliveries(out: &mut Writer, values: &[Delivery]) -> Result<(), NoMemory>
     put_several(out, values)
 }
 
+/// Puts a reply, without a version: O(bytes of it). After `NoMemory` a front of its bytes may be there.
 #[tactic(auto, unfolding(crate::specs::Layout::reply))]
 pub fn put_reply(out: &mut Writer, value: &Reply) -> Result<(), NoMemory>
     ensures ok { OnOk result (out.new.value ≡ out.old.value ++ reply value.now) }

@@ -123,6 +123,7 @@ fn refused_of(bytes: &[u8]) -> Result<(Reply, &[u8]), ReadFault>
     Ok((Reply::Refused(refusal), rest))
 }
 
+/// A reply. O(bytes of it), and memory for its deliveries and their texts alone.
 #[tactic(auto, unfolding(crate::specs::Reading::reply_at))]
 pub fn reply_of(alloc: Global, bytes: &[u8]) -> Result<(Reply, &[u8]), ReadFault>
     ensures { Gives (λ x. (x.0, x.1.now)) result (reply_at bytes.now) }

@@ -14,7 +14,7 @@ pub struct Writer {
 
 impl Model for Writer {
     ghost use Rattle.std.specs.Prelude.{◌≤◌, length, take, drop};
-    ghost use Rattle.cq_wire.specs.within.Written.{Written};
+    ghost use Rattle.cq_wire.specs.Written.{Written};
 
     ghost Value = { Written };
 
@@ -59,6 +59,7 @@ impl Writer {
         Ok(())
     }
 
+    /// Writes a number in four bytes, the lowest first, or after `NoMemory` nothing.
     #[tactic(auto, unfolding(crate::specs::Layout::number32))]
     pub fn put_u32(&mut self, number: u32) -> Result<(), NoMemory>
         ensures ok { OnOk result (self.new.value ≡ self.old.value ++ number32 number) }
@@ -67,6 +68,7 @@ impl Writer {
         self.put(&number.to_le_bytes())
     }
 
+    /// Writes a number in eight bytes, the lowest first, or after `NoMemory` nothing.
     #[tactic(auto, unfolding(crate::specs::Layout::number64))]
     pub fn put_u64(&mut self, number: u64) -> Result<(), NoMemory>
         ensures ok { OnOk result (self.new.value ≡ self.old.value ++ number64 number) }
@@ -75,6 +77,7 @@ impl Writer {
         self.put(&number.to_le_bytes())
     }
 
+    /// Writes 1 for yes, 0 for no, or after `NoMemory` nothing.
     #[tactic(auto, unfolding(crate::specs::Layout::flag))]
     pub fn put_flag(&mut self, is_set: bool) -> Result<(), NoMemory>
         ensures ok { OnOk result (self.new.value ≡ self.old.value ++ flag is_set) }
@@ -87,6 +90,7 @@ impl Writer {
         }
     }
 
+    /// Writes the number of bytes of a text, and these. After `NoMemory` the number may be there.
     #[tactic(auto, unfolding(crate::specs::Layout::text))]
     pub fn put_text(&mut self, words: &str) -> Result<(), NoMemory>
         requires { length words.now < 2 ^ 32 }
