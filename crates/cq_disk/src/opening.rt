@@ -4,7 +4,7 @@ ghost use Rattle.cq_disk.specs.Opened.{IsOpened};
 
 use crate::{Host, Modelled, Start, TornWrites};
 use std::fs::{self, File, OpenOptions, TryLockError};
-use std::io::{self, Write};
+use std::io;
 use std::os::fd::AsRawFd;
 use std::os::unix::fs::{MetadataExt, OpenOptionsExt};
 use thiserror::Error;
@@ -47,16 +47,17 @@ pub fn open<S: Start>(
     Ok(Modelled::new(Host::new(file), len, torn))
 }
 
-/// Makes a file of so many zeros, which only its owner may read. Once this ends well, the zeros and the file's name
-/// are on the medium. A file that is there is left alone, and is an `Io` of the kind `AlreadyExists`.
+/// Makes a file of so many zeros, which only its owner may read. It takes no space yet: a write into it may find the
+/// disk full. Once this ends well, the file's length and its name are on the medium. A file that is there is left
+/// alone, and is an `Io` of the kind `AlreadyExists`.
 pub fn create(rt: &HostRuntime, path: &str, len: usize) -> Result<(), OpenFault> {
     let file = OpenOptions::new()
         .write(true)
         .create_new(true)
         .mode(0o600)
         .open(rt, path)?;
-    let mut file = lock(rt, path, above_the_streams(file)?)?;
-    fill(&mut file, len)?;
+    let file = lock(rt, path, above_the_streams(file)?)?;
+    file.set_len(len as u64)?;
     file.sync_all()?;
     let mut folder = fs::canonicalize(rt, path)?;
     folder.pop();
@@ -85,16 +86,4 @@ fn lock(rt: &HostRuntime, path: &str, file: File) -> Result<File, OpenFault> {
         Err(TryLockError::WouldBlock) => Err(OpenFault::Busy),
         Err(TryLockError::Error(error)) => Err(OpenFault::Io(error)),
     }
-}
-
-const ZEROS: [u8; 65_536] = [0; 65_536];
-
-fn fill(file: &mut File, len: usize) -> io::Result<()> {
-    let mut left = len;
-    while left > 0 {
-        let many = left.min(ZEROS.len());
-        file.write_all(&ZEROS[..many])?;
-        left -= many;
-    }
-    Ok(())
 }

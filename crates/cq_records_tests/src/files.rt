@@ -4,7 +4,7 @@ use cq_disk::{OpenFault, TornWrites, Unknown, create, open};
 use cq_records::Log;
 use rand_xoshiro::Xoshiro256PlusPlus;
 use rand_xoshiro::rand_core::SeedableRng;
-use std::os::unix::fs::symlink;
+use std::os::unix::fs::{MetadataExt, symlink};
 use std::test::Fail;
 use std::{fs, io};
 
@@ -19,6 +19,10 @@ const FIRST: &str = "cq_records_tests_names/first";
 const SECOND: &str = "cq_records_tests_names/second";
 
 const LENGTH: usize = 10_000;
+
+const SPARSE_FOLDER: &str = "cq_records_tests_sparse";
+
+const SPARSE: &str = "cq_records_tests_sparse/log";
 
 fn make_folder(rt: &HostRuntime, folder: &str) -> Result<(), Fail> {
     let _ = fs::remove_dir_all(rt, folder);
@@ -82,5 +86,16 @@ fn a_file_has_one_name(rt: HostRuntime) -> Result<(), Fail> {
     assert!(rt; opens_as_no_file(&rt, FIRST));
     assert_eq!(rt; fs::metadata(&rt, FIRST)?.len(), 10);
     fs::remove_dir_all(&rt, NAMES)?;
+    Ok(())
+}
+
+#[test]
+fn a_file_takes_no_space_before_it_is_written(rt: HostRuntime) -> Result<(), Fail> {
+    make_folder(&rt, SPARSE_FOLDER)?;
+    create(&rt, SPARSE, 1 << 30)?;
+    let made = fs::metadata(&rt, SPARSE)?;
+    assert_eq!(rt; made.len(), 1 << 30);
+    assert!(rt; made.blocks() < 100);
+    fs::remove_dir_all(&rt, SPARSE_FOLDER)?;
     Ok(())
 }
