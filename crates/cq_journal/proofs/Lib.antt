@@ -1,7 +1,10 @@
 mod Bases
+mod Changes
 mod Copies
+mod Examples
 mod Halves
 mod Moves
 mod OtherRegions
 mod Refreshed
 mod Regions
+mod Survival

@@ -8,3 +8,5 @@ pub mod Journal
 pub mod Base
 pub mod Rests
 pub mod Faults
+pub mod Changes
+pub mod Histories

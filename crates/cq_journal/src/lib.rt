@@ -5,6 +5,7 @@
 
 mod base;
 mod blanks;
+mod calls;
 mod commits;
 mod copying;
 mod fault;
@@ -22,9 +23,16 @@ mod rewriting;
 mod root;
 
 pub use base::Base;
+pub use calls::{
+    add_to_base_rests, begin_base_rests, commit_adds, next_region_rests, read_root_opens,
+    recover_rests, rewrite_replaces, widen_base_rests,
+};
 pub use fault::OpenFault;
 pub use journal::{Journal, REGION_LIMIT};
-pub use laws::a_journal_keeps_its_records;
+pub use laws::{
+    a_journal_keeps_its_records, changes_stand_for, rewrites_tell_the_same,
+    what_is_acknowledged_stays, what_is_left_outlives_openings,
+};
 pub use making::create;
 pub use number::NUMBER_LIMIT;
 pub use opening::{Found, read_root};

@@ -38,6 +38,9 @@ pub fn read_root<D: Device>(
     ensures seen { IsTrue (D.is_honest region.new.device) → D.seen region.new.device ≡ D.seen region.old.device }
     ensures length { length (D.seen region.new.device) ≡ length (D.seen region.old.device) }
     ensures durable { IfOk result (λ _. Only (D.seen region.new.device) (D.may_leave region.new.device)) }
+    // A crash at any moment leaves what it might have left before, or what is read.
+    ensures any_moment { IsTrue (D.is_honest region.new.device) → LeavesOnly D.moment D.left_since region.old.device region.new.device
+        (λ c. D.may_leave region.old.device c ⊎ (c ≡ D.seen region.old.device)) }
     ensures honest { IsTrue (D.is_honest region.new.device) → IsTrue (D.is_honest region.old.device) }
     ensures failed { IsErrOf result ReadFault.Failed → D.faults region.old.device < D.faults region.new.device }
 {
@@ -57,6 +60,8 @@ fn find_root<D: Device>(alloc: Global, region: &mut Region<D>) -> Result<Option<
     ensures place { IfOk result (λ _. (region.new.start ≡ 0) × (region.new.len ≡ region.old.len)) }
     ensures seen { D.seen region.new.device ≡ D.seen region.old.device }
     ensures durable { IfOk result (λ _. Only (D.seen region.new.device) (D.may_leave region.new.device)) }
+    ensures any_moment { LeavesOnly D.moment D.left_since region.old.device region.new.device
+        (λ c. D.may_leave region.old.device c ⊎ (c ≡ D.seen region.old.device)) }
     ensures honest { IsTrue (D.is_honest region.new.device) → IsTrue (D.is_honest region.old.device) }
     ensures later { D.faults region.old.device ≤ D.faults region.new.device }
     ensures failed { IsErrOf result ReadFault.Failed → D.faults region.old.device < D.faults region.new.device }
@@ -105,6 +110,8 @@ fn read_half<D: Device>(alloc: Global, region: &mut Region<D>) -> Result<Option<
     ensures place { (region.new.start ≡ region.old.start) × (region.new.len ≡ region.old.len) }
     ensures seen { D.seen region.new.device ≡ D.seen region.old.device }
     ensures durable { Only (D.seen region.old.device) (D.may_leave region.old.device) → Only (D.seen region.new.device) (D.may_leave region.new.device) }
+    ensures any_moment { Only (D.seen region.old.device) (D.may_leave region.old.device) → LeavesOnly D.moment D.left_since region.old.device region.new.device
+        (λ c. c ≡ D.seen region.old.device) }
     ensures honest { IsTrue (D.is_honest region.new.device) → IsTrue (D.is_honest region.old.device) }
     ensures later { D.faults region.old.device ≤ D.faults region.new.device }
     ensures failed { IsErrOf result ReadFault.Failed → D.faults region.old.device < D.faults region.new.device }

@@ -4,6 +4,7 @@ ghost use Rattle.cq_disk.specs.Device.{LeavesOnly};
 ghost use Rattle.cq_disk.specs.Region.{part, Beside};
 ghost use Rattle.cq_records.specs.Frames.{records};
 ghost use Rattle.cq_records.specs.Layout.{IsLog};
+ghost use Rattle.cq_journal.specs.Histories.{OpensTo};
 ghost use Rattle.cq_journal.specs.Regions.{kept, HasRecords};
 ghost use Rattle.cq_journal.specs.Root.{root_half, root_device, root_number, IsRoot};
 ghost use Rattle.cq_journal.specs.Roots.{root_of};
@@ -26,6 +27,7 @@ impl<D: Device> Journal<D> {
         ensures journal { IfOk result IsJournal }
         ensures kept { IfOk result (λ journal. IsTrue (D.is_honest (journal_device journal)) → kept half len (D.seen device) ≡ Some (journal_records journal)) }
         ensures lengths { IfOk result (λ journal. (journal_half journal ≡ half) × (region_len journal ≡ len)) }
+        ensures any_moment { IfOk result (λ journal. IsTrue (D.is_honest (journal_device journal)) → OpensTo D.moment D.left_since D.may_leave D.seen half len device (journal_device journal)) }
     {
         let _len = device.len();
         let mut region = Region {

@@ -1,6 +1,8 @@
-use Rattle.std.proofs.Common.{◌∙◌, sym}
+-- The device is synced, and then only read.
+use Rattle.std.proofs.Common.{◌≡◌, ◌⊎◌, inl, inr, List, ℕ, sym, ◌∙◌}
 use Rattle.std.specs.Prelude.{Result, Ok, Err, OnOk}
 use Rattle.cq_disk.specs.Device.{Only}
+use Rattle.cq_disk.proofs.Moments.{started, goes_on, runs_on, weakened}
 use Rattle.cq_journal.proofs.opening.find_root.Goals as goal
 
 always : {T E P : Type 0} (r : Result T E) → P → OnOk r P
@@ -11,3 +13,50 @@ pub returns-clause-durable : goal.returns-clause-durable
 returns-clause-durable g c =
     let only : Only (g.D.Device.seen c.sync.new.self) (g.D.Device.may_leave c.sync.new.self) = λ f left. c.in_ok-sync.ensures.durable f left ∙ sym c.sync.ensures.seen in
     always c.choose.result (c.read_half-2.ensures.durable (c.read_half.ensures.durable only))
+
+pub returns-in_err-sync-clause-any_moment : goal.returns-in_err-sync-clause-any_moment
+returns-in_err-sync-clause-any_moment g c =
+    let d = g.D.Device in
+    let device = c.args.region.now.device in
+    let P : List ℕ → Type 0 = λ f. d.may_leave device f ⊎ (f ≡ d.seen device) in
+    let begun = started d.moment d.left_since device P (λ f left. inl (g.met.D.Device.only_now device f left)) in
+    let synced = goes_on d.moment d.left_since device device c.sync.new.self P _ begun c.sync.ensures.time (λ f now. inl (c.sync.ensures.crash f now)) in
+    synced
+
+pub returns-in_err-first-clause-any_moment : goal.returns-in_err-first-clause-any_moment
+returns-in_err-first-clause-any_moment g c =
+    let d = g.D.Device in
+    let device = c.args.region.now.device in
+    let P : List ℕ → Type 0 = λ f. d.may_leave device f ⊎ (f ≡ d.seen device) in
+    let begun = started d.moment d.left_since device P (λ f left. inl (g.met.D.Device.only_now device f left)) in
+    let synced = goes_on d.moment d.left_since device device c.sync.new.self P _ begun c.sync.ensures.time (λ f now. inl (c.sync.ensures.crash f now)) in
+    let only : Only (d.seen c.sync.new.self) (d.may_leave c.sync.new.self) = λ f left. c.in_ok-sync.ensures.durable f left ∙ sym c.sync.ensures.seen in
+    let first = runs_on d.moment d.left_since device c.sync.new.self c.read_half.new.region.device P synced
+    (weakened d.moment d.left_since c.sync.new.self c.read_half.new.region.device _ P (c.read_half.ensures.any_moment only) (λ f is. inr (is ∙ c.sync.ensures.seen))) in
+    first
+
+pub returns-in_err-second-clause-any_moment : goal.returns-in_err-second-clause-any_moment
+returns-in_err-second-clause-any_moment g c =
+    let d = g.D.Device in
+    let device = c.args.region.now.device in
+    let P : List ℕ → Type 0 = λ f. d.may_leave device f ⊎ (f ≡ d.seen device) in
+    let begun = started d.moment d.left_since device P (λ f left. inl (g.met.D.Device.only_now device f left)) in
+    let synced = goes_on d.moment d.left_since device device c.sync.new.self P _ begun c.sync.ensures.time (λ f now. inl (c.sync.ensures.crash f now)) in
+    let only : Only (d.seen c.sync.new.self) (d.may_leave c.sync.new.self) = λ f left. c.in_ok-sync.ensures.durable f left ∙ sym c.sync.ensures.seen in
+    let first = runs_on d.moment d.left_since device c.sync.new.self c.read_half.new.region.device P synced
+    (weakened d.moment d.left_since c.sync.new.self c.read_half.new.region.device _ P (c.read_half.ensures.any_moment only) (λ f is. inr (is ∙ c.sync.ensures.seen))) in
+    runs_on d.moment d.left_since device c.read_half.new.region.device c.read_half-2.new.region.device P first
+    (weakened d.moment d.left_since c.read_half.new.region.device c.read_half-2.new.region.device _ P (c.read_half-2.ensures.any_moment (c.read_half.ensures.durable only)) (λ f is. inr (is ∙ (c.read_half.ensures.seen ∙ c.sync.ensures.seen))))
+
+pub returns-clause-any_moment : goal.returns-clause-any_moment
+returns-clause-any_moment g c =
+    let d = g.D.Device in
+    let device = c.args.region.now.device in
+    let P : List ℕ → Type 0 = λ f. d.may_leave device f ⊎ (f ≡ d.seen device) in
+    let begun = started d.moment d.left_since device P (λ f left. inl (g.met.D.Device.only_now device f left)) in
+    let synced = goes_on d.moment d.left_since device device c.sync.new.self P _ begun c.sync.ensures.time (λ f now. inl (c.sync.ensures.crash f now)) in
+    let only : Only (d.seen c.sync.new.self) (d.may_leave c.sync.new.self) = λ f left. c.in_ok-sync.ensures.durable f left ∙ sym c.sync.ensures.seen in
+    let first = runs_on d.moment d.left_since device c.sync.new.self c.read_half.new.region.device P synced
+    (weakened d.moment d.left_since c.sync.new.self c.read_half.new.region.device _ P (c.read_half.ensures.any_moment only) (λ f is. inr (is ∙ c.sync.ensures.seen))) in
+    runs_on d.moment d.left_since device c.read_half.new.region.device c.read_half-2.new.region.device P first
+    (weakened d.moment d.left_since c.read_half.new.region.device c.read_half-2.new.region.device _ P (c.read_half-2.ensures.any_moment (c.read_half.ensures.durable only)) (λ f is. inr (is ∙ (c.read_half.ensures.seen ∙ c.sync.ensures.seen))))

@@ -1,7 +1,8 @@
 use Rattle.std.proofs.Common.{◌≡◌, ◌∙◌, ℕ, List, sym, ap}
 use Rattle.cq_disk.specs.Device.{Only}
-use Rattle.cq_disk.specs.Region.{part, Leaves}
-use Rattle.cq_disk.proofs.Parts.{whole_again}
+use Rattle.cq_disk.specs.Region.{part, Leaves, Beside}
+use Rattle.cq_disk.proofs.Moments.{weakened}
+use Rattle.cq_disk.proofs.Parts.{alone, whole_again}
 use Rattle.cq_journal.proofs.Halves.{only_on}
 use Rattle.cq_journal.proofs.opening.read_half.Goals as goal
 
@@ -48,3 +49,29 @@ returns-clause-durable g c = λ only.
     let was = e.any_moment.each x (left.0, g.met.D.Device.counts_now n.device (d.moment r.device) left.0 e.any_moment.later left.1, left.2) in
     was.2 ∙ ap (λ (f : List ℕ). part r.start r.len f) (only was.0 was.1) ∙ sym e.seen in
     only_on d.moment d.left_since d.may_leave d.keeps d.seen r.start r.len n.start n.len r.device n.device k only part_only
+
+pub returns-in_err-found-clause-any_moment : goal.returns-in_err-found-clause-any_moment
+returns-in_err-found-clause-any_moment g c = λ only.
+    let d = g.D.Device in
+    let r = c.args.region.now in
+    let n = c.read_record.new.device in
+    let e = c.read_record.ensures in
+    let P : List ℕ → Type 0 = λ x. x ≡ part r.start r.len (d.seen r.device) in
+    let same : (x : List ℕ) → Leaves r.start r.len (d.left_since n.device (d.moment r.device)) x → P x = λ x left.
+    let was = e.any_moment.each x (left.0, left.1, left.2 ∙ sym (λ i. part (e.keeps.same_start i) (e.keeps.same_len i) left.0)) in
+    was.2 ∙ ap (λ (f : List ℕ). part r.start r.len f) (only was.0 was.1) in
+    let run = alone d.moment d.left_since d.may_leave d.keeps d.seen g.met.D.Device.splits r.start r.len n.start n.len r.device n.device P e.keeps only same in
+    weakened d.moment d.left_since r.device n.device (λ f. P (part r.start r.len f) × Beside r.start r.len (d.seen r.device) f) (λ f. f ≡ d.seen r.device) run (λ f both. whole_again r.start r.len (d.seen r.device) f both.1 both.0)
+
+pub returns-clause-any_moment : goal.returns-clause-any_moment
+returns-clause-any_moment g c = λ only.
+    let d = g.D.Device in
+    let r = c.args.region.now in
+    let n = c.read_record.new.device in
+    let e = c.read_record.ensures in
+    let P : List ℕ → Type 0 = λ x. x ≡ part r.start r.len (d.seen r.device) in
+    let same : (x : List ℕ) → Leaves r.start r.len (d.left_since n.device (d.moment r.device)) x → P x = λ x left.
+    let was = e.any_moment.each x (left.0, left.1, left.2 ∙ sym (λ i. part (e.keeps.same_start i) (e.keeps.same_len i) left.0)) in
+    was.2 ∙ ap (λ (f : List ℕ). part r.start r.len f) (only was.0 was.1) in
+    let run = alone d.moment d.left_since d.may_leave d.keeps d.seen g.met.D.Device.splits r.start r.len n.start n.len r.device n.device P e.keeps only same in
+    weakened d.moment d.left_since r.device n.device (λ f. P (part r.start r.len f) × Beside r.start r.len (d.seen r.device) f) (λ f. f ≡ d.seen r.device) run (λ f both. whole_again r.start r.len (d.seen r.device) f both.1 both.0)
