@@ -6,14 +6,17 @@ use Rattle.cq_lines.specs.Grammars.{parse_text}
 use Rattle.cq_lines.specs.declared.fault.ScriptFault.{ScriptFault}
 use Rattle.cq_lines.specs.declared.fault.ScriptFault.TheVariants.{BadLine, LineTooLong, TooManyLines, ReadFailed, WriteFailed, NoMemory}
 use Rattle.cq_lines.specs.declared.text.TheConstants.{BYTES_LIMIT}
+use Rattle.cq_lines.specs.Progress.{Progress}
 use Rattle.cq_lines.proofs.Sizes.{strict_size}
 use Rattle.cq_lines.proofs.Complete.{complete_ends, first_of_all, all_of_them}
+use Rattle.cq_world.specs.declared.sim.Sim.{Sim}
+use Rattle.cq_script.specs.declared.script_line.ScriptLine.{ScriptLine}
 use Rattle.cq_script.specs.Lines.{script_grammar, script_limits, session_grammar, session_lines}
 use Rattle.cq_script.specs.Output.{text_of}
 use Rattle.cq_script.specs.Replays.{Replays, IsToldOfOneObject, WritesScript}
 use Rattle.cq_script.specs.Sessions.{Sessions, IsSessionPrefix, IsSessionEndedPrefix, SessionHeadlines, session_text}
-use Rattle.cq_script.specs.within.Played.{FailsAtFault, CountsAllBytes, RunsText, IsPrefixOfText, IsPrefixOfEnded, session_limits}
-use Rattle.cq_script.proofs.Played.{prefix_of_lines, lines_of_one_object}
+use Rattle.cq_script.specs.within.Played.{FailsAtFault, CountsAllBytes, RunsText, IsPlayed, IsPrefixOfText, IsPrefixOfEnded, session_limits}
+use Rattle.cq_script.proofs.Played.{ended_text, prefix_of_lines, lines_of_one_object}
 
 -- ---- scripts
 
@@ -59,6 +62,10 @@ session_prefix size input (Some more) output prefix = prefix_of_session size (in
 
 pub session_ended_prefix : (size : ℕ) (input output : List ℕ) → IsPrefixOfEnded session_grammar session_limits size input output → IsSessionEndedPrefix size input output
 session_ended_prefix size input output prefix = prefix_of_session size (ended_part input) output prefix
+
+-- what was written of lines that have ended is their text
+pub written_of_ended : (size : ℕ) (input written : List ℕ) (progress : Progress ScriptLine) (sim : Sim) → IsPlayed session_grammar session_limits size input progress sim written → written ≡ session_text size (ended_part input)
+written_of_ended size input written progress sim played = text_of_session size (ended_part input) written (ended_text session_grammar session_limits size input written progress sim played)
 
 -- no line of a session is a fault
 ends_session : (size : ℕ) (f : ScriptFault) (input output : List ℕ) (left : Option (List ℕ)) → FailsAtFault session_grammar session_limits size f input left output

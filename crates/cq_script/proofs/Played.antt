@@ -311,6 +311,36 @@ module _ (grammar : Grammar ScriptLine) (limits : Limits) (size : ℕ) where
   nothing_run None = (tt, tt, (_, refl))
   nothing_run (Some more) = ((_, refl), (_, refl), (_, refl))
 
+  -- ---- behind what was run before
+
+  pub nothing_behind : (before written : List ℕ) (progress : Progress ScriptLine) (sim : Sim) → IsPlayed grammar limits size before progress sim written → IsPlayed grammar limits size (before ++ []) progress sim (written ++ [])
+  nothing_behind before written progress sim played =
+      subst (λ input. IsPlayed grammar limits size input progress sim (written ++ [])) (sym (append-nil before)) (subst (λ output. IsPlayed grammar limits size before progress sim output) (sym (append-nil written)) played)
+
+  pub played_behind : (before input chunk written output more : List ℕ) (progress : Progress ScriptLine) (sim : Sim) → IsPlayed grammar limits size ((before ++ input) ++ chunk) progress sim ((written ++ output) ++ more)
+      → IsPlayed grammar limits size (before ++ (input ++ chunk)) progress sim (written ++ (output ++ more))
+  played_behind before input chunk written output more progress sim played =
+      subst (λ bytes. IsPlayed grammar limits size bytes progress sim (written ++ (output ++ more))) (append_assoc before input chunk)
+      (subst (λ text. IsPlayed grammar limits size ((before ++ input) ++ chunk) progress sim text) (append_assoc written output more) played)
+
+  -- what was written comes behind what was written before
+  pub runs_behind : (r : Result (Unit {0}) ScriptFault) (input written output more : List ℕ) (left : Option (List ℕ)) → RunsText grammar limits size r input left ((written ++ output) ++ more)
+      → IsPrefixOfText grammar limits size input left ((written ++ output) ++ more) → EndsRun r input left (written ++ (output ++ more))
+  runs_behind r input written output more left runs prefix = subst (λ text. EndsRun r input left text) (append_assoc written output more) (runs, prefix)
+
+  pub ends_behind : (f : ScriptFault) (before input chunk written output more : List ℕ) (left : Option (List ℕ)) → StopsAtFault grammar limits size f ((before ++ input) ++ chunk) ((written ++ output) ++ more)
+      → RunsText grammar limits size (Err f) (before ++ (input ++ chunk)) left (written ++ (output ++ more)) × IsPrefixOfText grammar limits size (before ++ (input ++ chunk)) left (written ++ (output ++ more))
+      × IsPrefixOfEnded grammar limits size (before ++ (input ++ chunk)) (written ++ (output ++ more))
+  ends_behind f before input chunk written output more left stops =
+      let all = subst (λ bytes. StopsAtFault grammar limits size f bytes (written ++ (output ++ more))) (append_assoc before input chunk)
+      (subst (λ text. StopsAtFault grammar limits size f ((before ++ input) ++ chunk) text) (append_assoc written output more) stops) in
+      (all.runs left, all.prefix left, all.ended)
+
+  -- the text of the lines that have ended is what was written
+  pub ended_text : (input written : List ℕ) (progress : Progress ScriptLine) (sim : Sim) → IsPlayed grammar limits size input progress sim written → WritesScript size (parse_text grammar limits (ended_part input)) None written
+  ended_text input written progress sim played =
+      writes_parsed size _ played.lines None written (played.read.ended ∙ ap (λ lines. record { values = lines; fault = None }) (lines_before input written progress sim played)) played.text
+
   -- ---- what is claimed of all
 
   -- the flush failed

@@ -7,6 +7,7 @@ pub mod Output
 pub mod Runs
 pub mod Replays
 pub mod Sessions
+pub mod Resumed
 pub mod Laws
 -- refusals of lines
 pub mod Faults

@@ -9,6 +9,7 @@ mod fault;
 mod flat_event;
 pub mod laws;
 mod outcome;
+mod resumed;
 mod run;
 mod running;
 mod script_line;
@@ -22,5 +23,6 @@ pub use cq_lines::{
 };
 pub use event_line::{Line, event_of};
 pub use fault::LineRefusal;
+pub use resumed::ResumedSession;
 pub use run::replay;
 pub use sessions::session;

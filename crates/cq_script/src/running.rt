@@ -42,7 +42,36 @@ pub(crate) fn run_lines<P: LineParser<ScriptLine>, R: Source, W: Sink>(
     ensures read_failed { result ≡ Err ReadFailed → R.has_failed reader.new ≡ true }
     ensures write_failed { result ≡ Err WriteFailed → W.has_failed writer.new ≡ true }
 {
-    let ended = run_chunks(alloc, parser, limits, size, reader, writer);
+    let mut sim = Sim::new(alloc, size)?;
+    let mut lines = LineReader::new(alloc, limits);
+    run_on(alloc, parser, &mut lines, &mut sim, reader, writer)
+}
+
+/// Runs what the reader gives behind what has been run, as `run_lines` does.
+pub(crate) fn run_on<P: LineParser<ScriptLine>, R: Source, W: Sink>(
+    alloc: Global,
+    parser: &mut P,
+    lines: &mut LineReader<ScriptLine>,
+    sim: &mut Sim,
+    reader: &mut R,
+    writer: &mut W,
+) -> Result<(), ScriptFault>
+    requires reader { R.has_failed reader.old ≡ false }
+    requires writer { W.has_failed writer.old ≡ false }
+    ensures runs { (limits : Limits) (size : ℕ) (before written : List ℕ) → IsPlayed P.grammar limits size before lines.old sim.old written
+        → (input : List ℕ) × (output : List ℕ)
+        × Consumes (R.remaining reader.old) (R.remaining reader.new) input
+        × Appends (W.contents writer.old) (W.contents writer.new) output
+        × RunsText P.grammar limits size result (before ++ input) (R.remaining reader.new) (written ++ output)
+        × IsPrefixOfText P.grammar limits size (before ++ input) (R.remaining reader.new) (written ++ output)
+        × (R.has_failed reader.new ≡ true → IsPrefixOfEnded P.grammar limits size (before ++ input) (written ++ output)) }
+    ensures reader_sound { OnOk result (R.has_failed reader.new ≡ false) }
+    ensures writer_sound { OnWritten result (W.has_failed writer.new ≡ false) }
+    ensures flushed { OnWritten result (W.has_flushed writer.new ≡ true) }
+    ensures read_failed { result ≡ Err ReadFailed → R.has_failed reader.new ≡ true }
+    ensures write_failed { result ≡ Err WriteFailed → W.has_failed writer.new ≡ true }
+{
+    let ended = run_chunks(alloc, parser, lines, sim, reader, writer);
     if was_cut_short(&ended) {
         return ended;
     }
@@ -71,23 +100,22 @@ fn ran_out(answer: &Result<(), ScriptFault>) -> bool
 fn run_chunks<P: LineParser<ScriptLine>, R: Source, W: Sink>(
     alloc: Global,
     parser: &mut P,
-    limits: Limits,
-    size: ChainSize,
+    lines: &mut LineReader<ScriptLine>,
+    sim: &mut Sim,
     reader: &mut R,
     writer: &mut W,
 ) -> Result<(), ScriptFault>
-    ensures runs { (input : List ℕ) × (output : List ℕ)
+    ensures runs { (limits : Limits) (size : ℕ) (before written : List ℕ) → IsPlayed P.grammar limits size before lines.old sim.old written
+        → (input : List ℕ) × (output : List ℕ)
         × Consumes (R.remaining reader.old) (R.remaining reader.new) input
         × Appends (W.contents writer.old) (W.contents writer.new) output
-        × RunsText P.grammar limits size result input (R.remaining reader.new) output
-        × IsPrefixOfText P.grammar limits size input (R.remaining reader.new) output
-        × (R.has_failed reader.new ≡ true → IsPrefixOfEnded P.grammar limits size input output) }
+        × RunsText P.grammar limits size result (before ++ input) (R.remaining reader.new) (written ++ output)
+        × IsPrefixOfText P.grammar limits size (before ++ input) (R.remaining reader.new) (written ++ output)
+        × (R.has_failed reader.new ≡ true → IsPrefixOfEnded P.grammar limits size (before ++ input) (written ++ output)) }
     ensures sound { OnOk result (R.has_failed reader.new ≡ false) }
     ensures read_failed { result ≡ Err ReadFailed → R.has_failed reader.new ≡ true }
     ensures write_failed { result ≡ Err WriteFailed → W.has_failed writer.new ≡ true }
 {
-    let mut sim = Sim::new(alloc, size)?;
-    let mut lines = LineReader::new(alloc, limits);
     let mut chunk = [0; CHUNK_SIZE];
     for _ in 0..BYTES_LIMIT {
         match reader.read(&mut chunk) {
@@ -95,9 +123,9 @@ fn run_chunks<P: LineParser<ScriptLine>, R: Source, W: Sink>(
                 if reader.failed() {
                     return Err(ScriptFault::ReadFailed);
                 }
-                return run_end(alloc, parser, &mut lines, &mut sim, writer);
+                return run_end(alloc, parser, lines, sim, writer);
             }
-            Ok(count) => run_chunk(alloc, parser, &mut lines, &mut sim, &chunk[..count], writer)?,
+            Ok(count) => run_chunk(alloc, parser, lines, sim, &chunk[..count], writer)?,
             Err(_) => return Err(read_fault(reader)),
         }
     }
@@ -105,7 +133,7 @@ fn run_chunks<P: LineParser<ScriptLine>, R: Source, W: Sink>(
 }
 
 /// Runs the lines that end in this chunk, and writes what comes of them.
-fn run_chunk<P: LineParser<ScriptLine>, W: Sink>(
+pub(crate) fn run_chunk<P: LineParser<ScriptLine>, W: Sink>(
     alloc: Global,
     parser: &mut P,
     lines: &mut LineReader<ScriptLine>,

@@ -6,4 +6,6 @@
 #[cfg(test)]
 mod live_scripts;
 #[cfg(test)]
+mod resumed;
+#[cfg(test)]
 mod scripts;

@@ -124,7 +124,7 @@ fn replayed(
 }
 
 /// A queue is made, a message sent and received, each answer given at once.
-const FIRST_PATH: &str =
+pub(crate) const FIRST_PATH: &str =
     r#"{"op":"arrive","at":1,"clock":1000,"client":1,"number":1,"ask":{"kind":"create","queue":"q.fifo","visibility":30}}
 {"op":"put","from":1,"to":"clients"}
 {"op":"arrive","at":1,"clock":1001,"client":1,"number":2,"ask":{"kind":"send","queue":"q.fifo","group":"a","dedup":"d1","body":"hello"}}
@@ -133,7 +133,7 @@ const FIRST_PATH: &str =
 {"op":"put","from":1,"to":"clients"}
 "#;
 
-const FIRST_PATH_TEXT: &str =
+pub(crate) const FIRST_PATH_TEXT: &str =
     r#"{"client":1,"length":1,"line":2,"number":1,"reply":{"incarnation":1,"kind":"created"}}
 {"client":1,"length":2,"line":4,"number":2,"reply":{"kind":"sent","sequence":1}}
 {"client":1,"length":3,"line":6,"number":3,"reply":{"kind":"received","messages":[{"body":"hello","group":"a","receipt":"1-1-1"}]}}

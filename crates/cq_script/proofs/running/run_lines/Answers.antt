@@ -1,24 +1,16 @@
--- The flush adds nothing to what was written.
+-- Nothing was run before.
 use Rattle.std.proofs.lemmas.Result.{err_from_is_err_and}
-use Rattle.std.proofs.KnownBytes.{Appends-kept}
-use Rattle.cq_script.proofs.Played.{runs_unflushed}
+use Rattle.std.proofs.Common.{[]}
+use Rattle.std.proofs.KnownBytes.{Consumes-nil, Appends-nil}
+use Rattle.cq_script.proofs.Played.{nothing_played, nothing_run}
 use Rattle.cq_script.proofs.running.run_lines.Goals as goal
 
-pub returns-in_err-finish_writing-clause-runs : goal.returns-in_err-finish_writing-clause-runs
-returns-in_err-finish_writing-clause-runs g c =
-    let r = c.run_chunks-ended.ensures.runs in
+pub returns-in_err-sim-clause-runs : goal.returns-in_err-sim-clause-runs
+returns-in_err-sim-clause-runs g c =
+    let none = nothing_run g.P.LineParser.grammar c.args.limits c.args.size _ in
     let fault = err_from_is_err_and c.from_residual.result c.from_residual.ensures.1 in
-    rw (fault.1, fault.2) (
-      r.0,
-      r.1,
-      r.2,
-      Appends-kept _ _ _ r.1 r.3 c.in_err-finish_writing.ensures.kept,
-      runs_unflushed g.P.LineParser.grammar c.args.limits c.args.size c.in_err-finish_writing.field-0.0 _ r.0 _ r.1 c.in_err-finish_writing.ensures.answer r.5,
-      r.5,
-      r.6,
-    )
+    rw (fault.1, fault.2) ([], [], Consumes-nil _, Appends-nil _, none.0, none.1, λ failed. none.2)
 
 pub returns-clause-runs : goal.returns-clause-runs
 returns-clause-runs g c =
-    let r = c.run_chunks-ended.ensures.runs in
-    (r.0, r.1, r.2, Appends-kept _ _ _ r.1 r.3 c.in_ok-finish_writing.ensures.kept, r.4, r.5, r.6)
+    c.run_on.ensures.runs c.args.limits c.args.size [] [] (rw c.new-lines.ensures (nothing_played g.P.LineParser.grammar c.args.limits c.args.size _ c.in_ok-sim.ensures))

@@ -1,0 +1,21 @@
+-- A session that goes on behind what was kept of its lines.
+use Rattle.std.specs.Prelude.{ℕ, List, ◌++◌, Option, Result}
+use Rattle.cq_lines.specs.Lines.{ended_part}
+use Rattle.cq_lines.specs.declared.fault.ScriptFault.{ScriptFault}
+use Rattle.cq_script.specs.Lines.{session_grammar}
+use Rattle.cq_script.specs.Sessions.{Sessions, SessionHeadlines, session_text}
+use Rattle.cq_script.specs.declared.resumed.ResumedSession.{ResumedSession}
+use Rattle.cq_script.specs.within.Played.{IsPlayed, session_limits}
+
+-- the lines that have ended in these bytes were run on so many servers, from the first one on
+pub record HasRun (size : ℕ) (bytes : List ℕ) (session : ResumedSession) : Type 0 where
+  pub written : List ℕ
+  pub played : IsPlayed session_grammar session_limits size bytes session.lines session.sim written
+
+-- What a session writes behind these bytes. With the text of their lines it is what one session writes on these bytes and the input.
+abbrev pub GoesOn : ℕ → Result (Unit {0}) ScriptFault → List ℕ → List ℕ → Option (List ℕ) → List ℕ → Type 0
+GoesOn size result before input left output = Sessions size result (before ++ input) left (session_text size (ended_part before) ++ output)
+
+-- and it is told of one queue object, with the text of their lines
+abbrev pub GoesOnByOneObject : ℕ → List ℕ → List ℕ → Option (List ℕ) → List ℕ → Type 0
+GoesOnByOneObject size before input left output = SessionHeadlines size (before ++ input) left (session_text size (ended_part before) ++ output)
