@@ -1,7 +1,8 @@
 -- A journal on its device.
-use Rattle.std.specs.Prelude.{◌≡◌, ℕ, ◌+◌, ◌<◌, ◌≤◌, List, [], ◌∷◌, ◌++◌, length, Some, IsTrue}
+use Rattle.std.specs.Prelude.{◌≡◌, Bool, ℕ, ◌+◌, ◌<◌, ◌≤◌, List, [], ◌∷◌, ◌++◌, length, Some, IsTrue}
 use Rattle.cq_disk.specs.Region.{part}
 use Rattle.cq_disk.specs.declared.device.Device.{Ghosts}
+use Rattle.cq_records.specs.Frames.{frames, all_sound}
 use Rattle.cq_records.specs.Layout.{IsLog}
 use Rattle.cq_journal.specs.declared.journal.Journal.{Journal}
 use Rattle.cq_journal.specs.declared.journal.TheConstants.{REGION_LIMIT}
@@ -28,6 +29,10 @@ module _ {D : Type 0} {g : Ghosts D} where
   -- the journal's records, in order
   abbrev pub journal_records : Journal D g → List (List ℕ)
   journal_records j = records_at j.len (journal_places j) (g.seen (journal_device j))
+
+  -- each record of the region that grows has its checksum
+  abbrev pub grows_soundly : Journal D g → Bool
+  grows_soundly j = all_sound (frames (part j.growing j.len (g.seen (journal_device j))))
 
   -- All regions lie behind the root and in the device, the one that grows apart from the others. If reads gave what was seen, the
   -- root names them.

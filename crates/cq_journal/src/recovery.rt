@@ -1,5 +1,5 @@
 //! How a journal is opened after any crash.
-ghost use Rattle.std.specs.Prelude.{◌≡◌, ◌+◌, ◌<◌, ◌≤◌, length, Some, IsTrue, IfOk, IfSome, OnOk, IsErrOf};
+ghost use Rattle.std.specs.Prelude.{◌≡◌, ◌+◌, ◌<◌, ◌≤◌, length, Some, false, IsTrue, IfOk, IfSome, OnOk, IsErrOf};
 ghost use Rattle.cq_disk.specs.Device.{LeavesOnly};
 ghost use Rattle.cq_disk.specs.Region.{part, Beside};
 ghost use Rattle.cq_records.specs.Frames.{records};
@@ -16,7 +16,7 @@ use cq_records::Batch;
 use std::alloc::Global;
 
 impl<D: Device> Journal<D> {
-    ghost use Rattle.cq_journal.specs.Journal.{HasRegions, IsJournal, IsFree, journal_device, journal_half, journal_records, region_len};
+    ghost use Rattle.cq_journal.specs.Journal.{HasRegions, IsJournal, IsFree, grows_soundly, journal_device, journal_half, journal_records, region_len};
 
     /// Opens the journal of a device, with halves of the root and regions of these lengths, and makes it ready for records:
     /// its records are those that the device had. `NoJournal`: there is no root. The calls that it makes one by one, `read_root`,
@@ -120,6 +120,7 @@ impl<D: Device> Journal<D> {
             (HasRecords (journal_half self.old) (region_len self.old) (journal_records self.old)) }
         ensures honest { IsTrue (D.is_honest (journal_device self.new)) → IsTrue (D.is_honest (journal_device self.old)) }
         ensures full { IsErrOf result OpenFault.Full → self.new ≡ self.old }
+        ensures damaged { IsErrOf result OpenFault.Damaged → IsTrue (D.is_honest (journal_device self.new)) → grows_soundly self.old ≡ false }
         ensures failed { IsErrOf result OpenFault.Failed → D.faults (journal_device self.old) < D.faults (journal_device self.new) }
     {
         let Some(place) = self.free_region() else {
@@ -140,6 +141,7 @@ impl<D: Device> Journal<D> {
             (HasRecords (journal_half self.old) (region_len self.old) (journal_records self.old)) }
         ensures honest { IsTrue (D.is_honest (journal_device self.new)) → IsTrue (D.is_honest (journal_device self.old)) }
         ensures full { IsErrOf result OpenFault.Full → self.new ≡ self.old }
+        ensures damaged { IsErrOf result OpenFault.Damaged → IsTrue (D.is_honest (journal_device self.new)) → grows_soundly self.old ≡ false }
         ensures failed { IsErrOf result OpenFault.Failed → D.faults (journal_device self.old) < D.faults (journal_device self.new) }
     {
         let text = text_of(alloc, &self.closed, place as u64)?;
@@ -170,6 +172,7 @@ impl<D: Device> Journal<D> {
             (HasRecords (journal_half self.old) (region_len self.old) (journal_records self.old)) }
         ensures honest { IsTrue (D.is_honest (journal_device self.new)) → IsTrue (D.is_honest (journal_device self.old)) }
         ensures full { IsErrOf result OpenFault.Full → ⊥ }
+        ensures damaged { IsErrOf result OpenFault.Damaged → IsTrue (D.is_honest (journal_device self.new)) → grows_soundly self.old ≡ false }
         ensures failed { IsErrOf result OpenFault.Failed → D.faults (journal_device self.old) < D.faults (journal_device self.new) }
         ensures later { D.faults (journal_device self.old) ≤ D.faults (journal_device self.new) }
     {
