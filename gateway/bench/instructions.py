@@ -2,7 +2,7 @@
 """How many instructions gateways take for a send, a receive and a delete, by callgrind of valgrind.
 
 64 requests at once over 64 connections that are kept alive, messages of 100 bytes, each in a group of its own:
-`instructions.py [--journal] [--requests 2000] NAME=PROGRAM ..`. A count varies by a hundredth from run to run, whatever
+`instructions.py [--journal] [--requests 2000] [--bytes 100] NAME=PROGRAM ..`. A count varies by a hundredth from run to run, whatever
 else the machine does; what the system and cq do for a request isn't in it. HOBBYCHAIR_CQ names the program cq.
 """
 
@@ -76,7 +76,7 @@ class Counted:
         (dump,) = set(self.out.parent.glob("out.*")) - before
         return int(re.search(r"^(?:summary|totals): (\d+)", dump.read_text(), re.MULTILINE)[1]) / requests, answers
 
-    def works(self, requests: int) -> dict[str, float]:
+    def works(self, requests: int, length: int) -> dict[str, float]:
         self.begin(0, "CreateQueue", {"QueueName": QUEUE, "Attributes": {"FifoQueue": "true", "VisibilityTimeout": "600"}})
         url = self.end(0)["QueueUrl"]
         for place in range(CONNECTIONS):
@@ -84,7 +84,7 @@ class Counted:
         for place in range(CONNECTIONS):
             self.end(place)
         sends, _ = self.count("SendMessage", requests, lambda request: {
-            "QueueUrl": url, "MessageBody": "x" * 100, "MessageGroupId": str(request), "MessageDeduplicationId": str(request)})
+            "QueueUrl": url, "MessageBody": "x" * length, "MessageGroupId": str(request), "MessageDeduplicationId": str(request)})
         receives, received = self.count("ReceiveMessage", requests, lambda _: {"QueueUrl": url, "MaxNumberOfMessages": 1})
         handles = [one["Messages"][0]["ReceiptHandle"] for one in received]
         deletes, _ = self.count("DeleteMessage", requests, lambda request: {"QueueUrl": url, "ReceiptHandle": handles[request]})
@@ -99,6 +99,7 @@ def main() -> None:
     parser = argparse.ArgumentParser(description=__doc__, formatter_class=argparse.RawDescriptionHelpFormatter)
     parser.add_argument("--journal", action="store_true")
     parser.add_argument("--requests", type=int, default=2000)
+    parser.add_argument("--bytes", type=int, default=100)
     parser.add_argument("gateways", nargs="+", metavar="NAME=PROGRAM")
     options = parser.parse_args()
     for gateway in options.gateways:
@@ -106,7 +107,7 @@ def main() -> None:
         with tempfile.TemporaryDirectory() as room:
             counted = Counted(os.path.abspath(program), Path(room), options.journal)
             try:
-                told = counted.works(options.requests)
+                told = counted.works(options.requests, options.bytes)
             finally:
                 counted.stop()
         print(f"{name:12} " + "  ".join(f"{work} {count:,.0f}" for work, count in told.items()), flush=True)

@@ -239,7 +239,7 @@ struct OutputFields<'a> {
     number: Option<u64>,
     tag: Option<u64>,
     #[serde(borrow)]
-    reply: Option<&'a RawValue>,
+    reply: Option<ReplyFields<'a>>,
     refused: Option<u32>,
 }
 
@@ -265,15 +265,33 @@ pub fn read_output(line: &[u8]) -> Result<OutputLine<'_>, BadOutput> {
     if let Some(code) = fields.refused {
         return Ok(if code == OUTBOX_EMPTY { OutputLine::Nothing } else { OutputLine::Refused(code) });
     }
-    let (Some(client), Some(number), Some(raw)) = (fields.client, fields.number.or(fields.tag), fields.reply) else {
+    let (Some(client), Some(number), Some(reply)) = (fields.client, fields.number.or(fields.tag), fields.reply) else {
         return Err(bad());
     };
-    let reply = read_reply(raw.get()).ok_or_else(bad)?;
-    Ok(OutputLine::Answer { client, number, reply, text: raw.get() })
+    let reply = read_reply(reply).ok_or_else(bad)?;
+    Ok(OutputLine::Answer { client, number, reply, text: text_of_reply(text).ok_or_else(bad)? })
 }
 
-fn read_reply(text: &str) -> Option<StoreReply> {
-    let fields: ReplyFields<'_> = serde_json::from_str(text).ok()?;
+/// The text of the reply in a line, where nothing stands behind it. Only numbers stand before it. Serde could tell it, too,
+/// but would read a reply twice for that, which may be long.
+fn text_of_reply(line: &str) -> Option<&str> {
+    const NAME: &str = "\"reply\":";
+    let start = line.find(NAME)? + NAME.len();
+    line.get(start..line.len() - 1)
+}
+
+/// Lines without their line feeds, of a text that ends with none.
+pub fn split_lines(text: &[u8]) -> impl Iterator<Item = &[u8]> {
+    let mut rest = Some(text);
+    std::iter::from_fn(move || {
+        let left = rest?;
+        let end = memchr::memchr(b'\n', left);
+        rest = end.map(|end| &left[end + 1..]);
+        Some(&left[..end.unwrap_or(left.len())])
+    })
+}
+
+fn read_reply(fields: ReplyFields<'_>) -> Option<StoreReply> {
     Some(match fields.kind.as_ref() {
         "created" => StoreReply::Created,
         "removed" => StoreReply::Removed,
@@ -320,7 +338,8 @@ mod tests {
         else {
             panic!()
         };
-        assert!(text.starts_with("{\"kind\"") && given[0].body == "a\n");
+        let expected = r#"{"kind":"received","messages":[{"body":"a\n","group":"g","receipt":"1-2-1"}]}"#;
+        assert_eq!((text, given[0].body.as_str()), (expected, "a\n"));
         assert_eq!(read_receipt(&given[0].receipt, 10), Some(Receipt { sequence: 12, ordinal: 1 }));
         let refused = br#"{"line":3,"name":"BadLine","refused":61}"#;
         assert!(matches!(read_output(refused), Ok(OutputLine::Refused(61))));
@@ -328,6 +347,14 @@ mod tests {
         assert!(matches!(read_output(put), Ok(OutputLine::Nothing)));
         for bad in [&b"hello"[..], b"{}", b"{\"client\":1,\"number\":1,\"reply\":{\"kind\":\"x\"}}"] {
             assert!(read_output(bad).is_err());
+        }
+    }
+
+    #[test]
+    fn lines_are_split_at_each_line_feed() {
+        for text in ["", "a", "a\nbc\n\nd", "\n", "a\n"] {
+            let expected: Vec<_> = text.split('\n').map(str::as_bytes).collect();
+            assert_eq!(split_lines(text.as_bytes()).collect::<Vec<_>>(), expected, "{text:?}");
         }
     }
 

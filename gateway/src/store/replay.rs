@@ -315,7 +315,7 @@ impl Replay {
     fn take_answers(&mut self, incoming: &mut BytesMut) -> Result<(), ReplayError> {
         let Some(end) = memchr::memrchr(b'\n', incoming) else { return Ok(()) };
         let whole = incoming.split_to(end + 1);
-        for line in whole[..end].split(|byte| *byte == b'\n') {
+        for line in lines::split_lines(&whole[..end]) {
             self.apply_changes();
             let number = match self.waiting.front() {
                 Some(Unanswered::Ask { number, .. }) => *number,

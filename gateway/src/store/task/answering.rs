@@ -12,7 +12,7 @@ impl Task {
     pub(super) fn read_answers(&mut self) -> Result<(), Ended> {
         let Some(end) = memchr::memrchr(b'\n', &self.incoming) else { return Ok(()) };
         let whole = self.incoming.split_to(end + 1);
-        for line in whole[..end].split(|byte| *byte == b'\n') {
+        for line in lines::split_lines(&whole[..end]) {
             match lines::read_output(line)? {
                 OutputLine::Nothing => {}
                 OutputLine::Refused(code) => self.refused(code)?,
