@@ -188,9 +188,8 @@ async fn counts(store: &Store) -> Vec<Counts> {
     let mut counts = Vec::new();
     for queue in store.queues().all() {
         if let Ok(Outcome::Counts { visible, in_flight }) = store.count(&queue).await {
-            let mut state = queue.state();
-            let [visible, in_flight, delayed] = state.counts(visible, in_flight, store.clock().now());
-            let set_aside = state.count_set_aside();
+            let [visible, in_flight, delayed] = queue.counts(visible, in_flight, store.clock().now());
+            let set_aside = queue.count_set_aside();
             counts.push(Counts { queue: queue.name.to_string(), visible, in_flight, delayed, set_aside });
         }
     }

@@ -236,16 +236,17 @@ impl From<QueueAttributes> for BTreeMap<String, String> {
 impl QueueAttributes {
     /// Those of a new queue: what is given, and defaults.
     pub fn for_creation(kind: QueueKind, given: &GivenAttributes) -> Result<QueueAttributes, SqsError> {
-        let mut whole = BTreeMap::new();
-        for attribute in of_kind(kind) {
-            if let Some(default) = attribute.default {
-                whole.insert(attribute.name.to_string(), default.to_string());
-            }
-        }
-        let mut attributes = QueueAttributes::from(whole);
+        let mut attributes = QueueAttributes::defaults(kind);
         attributes.set(&given.clone().with_what_it_ends());
         attributes.test_together()?;
         Ok(attributes)
+    }
+
+    /// Those of a new queue of which nothing is said.
+    pub fn defaults(kind: QueueKind) -> QueueAttributes {
+        let with_default = of_kind(kind).filter_map(|attribute| Some((attribute.name, attribute.default?)));
+        let whole = with_default.map(|(name, default)| (name.to_string(), default.to_string()));
+        QueueAttributes::from(whole.collect::<BTreeMap<_, _>>())
     }
 
     /// A queue that lives is created again only with the values that it has; those left out don't count

@@ -1,6 +1,8 @@
-//! Messages of standard queues that were sent with a delay: when it is over they go to the store.
+//! Messages of standard queues that were sent with a delay. Until it is over they stand in a queue of the store beside
+//! theirs; then `moves` takes each into its own, once, after whatever end.
 //!
-//! Before that the journal and the tables have them. `moves` sends each once, after whatever end.
+//! The store hands messages out in the order of their sends, and hides what it hands out. So what stands before a message
+//! that is due is hidden for long, and given back when it is due itself.
 
 use std::cmp::{Ordering, Reverse};
 use std::collections::{BinaryHeap, HashMap};
@@ -10,16 +12,25 @@ use tokio::sync::Notify;
 
 use crate::clock::{Clock, Moment};
 use crate::errors::SqsError;
-use crate::moves::move_due;
-use crate::queues::ask::Delayed;
+use crate::messages::{Envelope, EnvelopeHead};
+use crate::moves::{move_due, show_again};
+use crate::parts;
+use crate::queues::ask::{Ask, Cause, Delayed, Handed, PartsCause};
 use crate::queues::Queue;
-use crate::store::Store;
+use crate::store::{Held, Store};
+use crate::texts::{DedupId, GroupId};
 
-/// So many messages are sent at once.
-const AT_ONCE: usize = 32;
+/// So many messages are moved, or handed out, at once.
+const AT_ONCE: usize = 10;
 
-/// Messages that couldn't be sent are tried again after so many milliseconds.
+/// Messages that couldn't be moved are tried again after so many milliseconds.
 const PAUSE: u64 = 1000;
+
+/// So many messages of an older journal are sent at once.
+const TAKEN_OVER_AT_ONCE: usize = 32;
+
+/// What is handed out before it is due is hidden for so many seconds: as long as can be.
+const HIDDEN: u32 = 43_200;
 
 /// A moment at which a message of a queue is due.
 struct Alarm {
@@ -107,69 +118,202 @@ impl Alarms {
     }
 }
 
-/// Sends messages when they are due, for as long as the gateway serves.
-pub async fn keep_sending(store: Store) {
+/// Moves messages when they are due, for as long as the gateway serves.
+pub async fn keep_moving(store: Store) {
     loop {
         store.queues().alarms().wait(store.clock()).await;
-        for queue in store.queues().alarms().take(store.clock().now()) {
-            tokio::spawn(try_to_send(store.clone(), queue));
+        for delays in store.queues().alarms().take(store.clock().now()) {
+            tokio::spawn(try_to_move(store.clone(), delays));
         }
     }
 }
 
-async fn try_to_send(store: Store, queue: Arc<Queue>) {
+async fn try_to_move(store: Store, delays: Arc<Queue>) {
     let alarms = store.queues().alarms();
-    match send_due(&store, &queue).await {
+    match move_all(&store, &delays).await {
         Ok(()) => {
-            queue.state().forget_alarm();
-            alarms.set_next(&queue);
+            delays.state().forget_alarm();
+            alarms.set_next(&delays);
         }
         Err(SqsError::QueueDoesNotExist) => {}
         Err(error) => {
-            tracing::warn!("delayed messages of {} wait longer: {error}", queue.name);
-            alarms.set(store.clock().now() + PAUSE, &queue);
+            tracing::warn!("delayed messages of {} wait longer: {error}", delays.name);
+            alarms.set(store.clock().now() + PAUSE, &delays);
         }
     }
 }
 
-/// Sends the first messages of a queue whose delay is over, before somebody looks for them: more than one receive takes.
-/// The others follow, and what can't be sent is tried again.
+/// Moves the first messages of a queue that are due, before somebody looks for them: as many as one receive takes. The
+/// others follow, and what can't be moved is tried again.
 pub async fn bring_up_to_date(store: &Store, queue: &Arc<Queue>) {
-    if let Err(error) = send_some(store, queue).await {
-        tracing::debug!("delayed messages of {} wait longer: {error}", queue.name);
+    let Some(delays) = queue.delays().filter(|delays| is_any_due(store, delays)) else { return };
+    let (store, name) = (store.clone(), queue.name.clone());
+    // Whoever has a queue to itself brings that to its end.
+    let moved = tokio::spawn(async move { move_some(&store, &delays).await }).await;
+    if let Ok(Err(error)) = moved {
+        tracing::debug!("delayed messages of {name} wait longer: {error}");
     }
 }
 
-/// Sends the messages of a queue whose delay is over, in the order in which they are due. Where others send the same ones
-/// meanwhile, the store has each once.
-async fn send_due(store: &Store, queue: &Arc<Queue>) -> Result<(), SqsError> {
-    while send_some(store, queue).await? {}
+fn is_any_due(store: &Store, delays: &Queue) -> bool {
+    let state = delays.state();
+    !state.removed && !state.due(store.clock().now(), 1).is_empty()
+}
+
+/// Moves the messages that are due, in the order in which they are.
+async fn move_all(store: &Store, delays: &Arc<Queue>) -> Result<(), SqsError> {
+    while is_any_due(store, delays) {
+        move_some(store, delays).await?;
+    }
     Ok(())
 }
 
-/// Sends the first of them, and tells whether there were any.
-async fn send_some(store: &Store, queue: &Arc<Queue>) -> Result<bool, SqsError> {
-    let due = queue.state().delayed_and_due(store.clock().now(), AT_ONCE);
-    if due.is_empty() {
-        return Ok(false);
+/// Moves the first of them, while nobody else moves any.
+async fn move_some(store: &Store, delays: &Arc<Queue>) -> Result<(), SqsError> {
+    let held = store.hold_for_move(delays).await?;
+    let target = delays.main().ok_or(SqsError::QueueDoesNotExist)?;
+    if !is_any_due(store, delays) {
+        return Ok(());
     }
-    let answers = move_due(store, queue, &due).await?;
-    let mut sent = Ok(true);
-    for (message, answer) in due.iter().zip(answers) {
-        match answer {
-            Ok(_) => {}
-            Err(error @ (SqsError::QueueDoesNotExist | SqsError::ServiceUnavailable(_) | SqsError::OverLimit(_))) => {
-                sent = Err(error);
-            }
-            Err(error) => put_behind(store, queue, message, &error),
+    let (due, bytes) = {
+        let state = delays.state();
+        let due = state.due(store.clock().now(), AT_ONCE);
+        let bytes = due.iter().map(|sequence| state.bytes_of_copy(*sequence)).sum();
+        (due, bytes)
+    };
+    store.test_room_to_move(bytes)?;
+    let handed = hand_out(store, &held, &due).await?;
+    match move_due(store, held, &target, handed).await {
+        (_, Err(error)) if is_for_now(&error) => Err(error),
+        (failed, Err(error)) => {
+            failed.iter().for_each(|handed| put_behind(store, delays, handed, &error));
+            Ok(())
         }
+        (failed, Ok(())) if failed.is_empty() => Ok(()),
+        // Their queue went meanwhile.
+        (_, Ok(())) => Err(SqsError::QueueDoesNotExist),
     }
-    sent
+}
+
+/// Whether it concerns all messages of a queue, or passes.
+fn is_for_now(error: &SqsError) -> bool {
+    matches!(error, SqsError::QueueDoesNotExist | SqsError::ServiceUnavailable(_) | SqsError::OverLimit(_))
 }
 
 /// What the store refuses holds nothing up: it is tried again later, and after some tries not any more.
-fn put_behind(store: &Store, queue: &Queue, message: &Delayed, error: &SqsError) {
-    if queue.state().refused_delayed(message.id, store.clock().now() + PAUSE) {
-        tracing::error!("the delayed message {} of {} is set aside: {error}", message.id, queue.name);
+fn put_behind(store: &Store, delays: &Queue, handed: &Handed, error: &SqsError) {
+    let sequence = handed.receipt.sequence;
+    if delays.state().refused_due(sequence, store.clock().now() + PAUSE) {
+        tracing::error!("the delayed message {sequence} of {} is set aside: {error}", delays.name);
     }
+}
+
+/// Has the store hand out messages that are due, in their order, and what stands before them.
+async fn hand_out(store: &Store, held: &Held, due: &[u64]) -> Result<Vec<Handed>, SqsError> {
+    let delays = held.queue();
+    let hidden = delays.state().receipts_of_hidden(due, store.clock().now());
+    show_again(held, hidden).await?;
+    let mut found = HashMap::new();
+    while let Some(last) = due.iter().filter(|sequence| !found.contains_key(*sequence)).max() {
+        let next = delays.state().next_up_to(*last, AT_ONCE, store.clock().now());
+        let handed = held.take_and_hide(next, HIDDEN).await?;
+        if handed.is_empty() {
+            return Err(SqsError::InternalFailure("The store didn't hand out what is due.".into()));
+        }
+        let with_numbers = handed.into_iter().map(|handed| (handed.receipt.sequence, handed));
+        found.extend(with_numbers.filter(|(sequence, _)| due.contains(sequence)));
+    }
+    Ok(due.iter().filter_map(|sequence| found.remove(sequence)).collect())
+}
+
+/// Has a queue beside a standard one, for what is delayed.
+pub async fn prepare(store: &Store, queue: &Arc<Queue>) -> Result<(), SqsError> {
+    if queue.delays().is_some() {
+        return Ok(());
+    }
+    let _held = store.hold(queue).await?;
+    create_beside(store, queue).await
+}
+
+/// Creates the queue beside one that nobody else has, unless it is there.
+pub async fn create_beside(store: &Store, queue: &Arc<Queue>) -> Result<(), SqsError> {
+    let (name, removed) = {
+        let state = queue.state();
+        (state.store, state.removed)
+    };
+    match queue.delays() {
+        _ if removed => Err(SqsError::QueueDoesNotExist),
+        Some(_) => Ok(()),
+        None => {
+            let (delays, create) = Queue::beside(queue, name);
+            store.ask(&Arc::new(delays), create).await.map(drop)
+        }
+    }
+}
+
+/// Sends delayed messages to the store that an older journal has in records of their own, before anybody is served. What
+/// the store refuses is set aside until the next start, and what can't be sent for now is tried again.
+pub async fn take_over(store: &Store) {
+    for queue in store.queues().all() {
+        let older = queue.state().older_delayed();
+        if let Err(error) = send_older(store, &queue, older).await {
+            tracing::warn!("delayed messages of {} aren't taken over yet: {error}", queue.name);
+            tokio::spawn(keep_taking_over(store.clone(), queue));
+        }
+    }
+}
+
+async fn keep_taking_over(store: Store, queue: Arc<Queue>) {
+    loop {
+        tokio::time::sleep(std::time::Duration::from_millis(PAUSE)).await;
+        let older = queue.state().older_delayed();
+        match send_older(&store, &queue, older).await {
+            Ok(()) | Err(SqsError::QueueDoesNotExist) => return,
+            Err(_) => {}
+        }
+    }
+}
+
+async fn send_older(store: &Store, queue: &Arc<Queue>, older: Vec<Arc<Delayed>>) -> Result<(), SqsError> {
+    if older.is_empty() {
+        return Ok(());
+    }
+    prepare(store, queue).await?;
+    for some in older.chunks(TAKEN_OVER_AT_ONCE) {
+        let (mut refused, mut asks, mut numbers) = (Vec::new(), Vec::new(), Vec::new());
+        for message in some {
+            match ready_older(store, queue, message).await {
+                Ok((ask, number)) => {
+                    asks.push(ask);
+                    numbers.extend(number);
+                    refused.push(None);
+                }
+                Err(error) => refused.push(Some(error)),
+            }
+        }
+        let answers = if asks.is_empty() { Vec::new() } else { store.ask_all_beside(queue, asks).await };
+        parts::settle(store, &numbers);
+        for (message, answer) in some.iter().zip(parts::in_place(refused, answers)) {
+            match answer {
+                Ok(_) => {}
+                Err(error) if is_for_now(&error) => return Err(error),
+                Err(error) => {
+                    tracing::error!("the delayed message {} of {} is set aside: {error}", message.id, queue.name);
+                }
+            }
+        }
+    }
+    Ok(())
+}
+
+/// What goes to the store in the place of an older journal's record, when its parts are there, and their number.
+async fn ready_older(store: &Store, queue: &Queue, message: &Delayed) -> Result<(Ask, Option<u64>), SqsError> {
+    let no_envelope = || SqsError::InternalFailure("The journal has a message in no form.".into());
+    let head = EnvelopeHead::of(&message.envelope).ok_or_else(no_envelope)?;
+    let head = EnvelopeHead { id: Some(message.id), due: Some(message.due), ..head };
+    let whole = head.over(&message.envelope).ok_or_else(no_envelope)?;
+    let envelope = Envelope::of_whole(Some(message.id), whole).map_err(|_| no_envelope())?;
+    let (group, dedup) = (GroupId::of_message(message.id), DedupId::of_message(message.id));
+    let ask = Ask::Send { group, dedup, envelope, cause: Cause::Older(message.id) };
+    parts::put(store, queue, ask, PartsCause::Move).await
 }

@@ -21,7 +21,7 @@ pub fn dump(path: &Path, out: &mut impl Write) -> Result<()> {
     records.read(|payload| {
         for line in payload.split(|byte| *byte == b'\n') {
             let Some(record) = Record::read(line) else { continue };
-            let is_removed = record.store_name().is_some_and(|name| removed.contains(&name));
+            let is_removed = record.store_name().is_some_and(|name| name.is_among(&removed));
             let Some(ask) = record.ask.filter(|_| !is_removed) else { continue };
             number += 1;
             let mut script = Vec::new();
@@ -70,12 +70,12 @@ pub fn verify(path: &Path, out: &mut impl Write) -> Result<()> {
                 continue;
             };
             last_clock = record.clock.max(last_clock);
-            let name = record.store_name().filter(|name| !removed.contains(name));
+            let name = record.store_name().filter(|name| !name.is_among(&removed));
             if record.creates() {
                 created.extend(name);
             }
             strangers += u64::from(name.is_some_and(|name| !created.contains(&name)));
-            match (record.store_name().map(|name| removed.contains(&name)), record.ask.is_some()) {
+            match (record.store_name().map(|name| name.is_among(&removed)), record.ask.is_some()) {
                 (Some(true), _) => passed += 1,
                 (Some(false), true) => requests += 1,
                 (Some(false), false) => notes += 1,

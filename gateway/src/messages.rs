@@ -206,6 +206,9 @@ pub struct Metadata {
     pub of: Option<Origin>,
     /// When it was sent, in milliseconds.
     pub sent: u64,
+    /// Of one that is delayed: when it is due.
+    #[serde(default, skip_serializing_if = "Option::is_none")]
+    pub due: Option<Moment>,
     /// The deduplication id that clients see, of a FIFO queue.
     #[serde(default, skip_serializing_if = "Option::is_none")]
     pub dedup: Option<DedupId>,
@@ -321,6 +324,8 @@ pub struct EnvelopeHead {
     pub of: Option<Origin>,
     #[serde(default, skip_serializing_if = "Option::is_none")]
     pub sent: Option<Moment>,
+    #[serde(default, skip_serializing_if = "Option::is_none")]
+    pub due: Option<Moment>,
     /// Of a dead letter.
     #[serde(default, skip_serializing_if = "Option::is_none")]
     pub source: Option<QueueName>,
@@ -350,8 +355,8 @@ impl EnvelopeHead {
     /// The envelope that stands in parts, with what this head says. None if it is none.
     pub fn over(&self, whole: &str) -> Option<String> {
         let (metadata, body) = read_envelope(whole)?;
-        let EnvelopeHead { id, of, source, .. } = self.clone();
-        let metadata = Metadata { id, of, sent: self.sent?, source, ..metadata };
+        let EnvelopeHead { id, of, due, source, .. } = self.clone();
+        let metadata = Metadata { id, of, sent: self.sent?, due, source, ..metadata };
         Some(serde_json::to_string(&metadata).ok()? + "\n" + body)
     }
 }
@@ -417,6 +422,7 @@ mod tests {
             id: None,
             of: None,
             sent: 1_700_000_000_000,
+            due: None,
             dedup: DedupId::parse("d").ok(),
             group: None,
             sender: None,
@@ -520,7 +526,7 @@ mod tests {
     }
 
     fn no_head() -> EnvelopeHead {
-        EnvelopeHead { parts: None, bytes: None, id: None, of: None, sent: None, source: None }
+        EnvelopeHead { parts: None, bytes: None, id: None, of: None, sent: None, due: None, source: None }
     }
 
     #[test]

@@ -1,5 +1,5 @@
-//! Moving messages, each one once: dead letters to the dead-letter queue of theirs, by tasks out of it, and into the
-//! store when their delay is over.
+//! Moving messages, each one once: dead letters to the dead-letter queue of theirs, by tasks out of it, and delayed ones
+//! into their queue when they are due.
 //!
 //! Nobody else has the message's queue meanwhile. A copy is sent to the other queue, under a deduplication id that
 //! nobody can guess, and its envelope says of which message it is one. Behind the copies their originals are deleted,
@@ -17,10 +17,10 @@ use crate::errors::SqsError;
 use crate::handles::Receipt;
 use crate::messages::{message_id, Envelope, EnvelopeHead};
 use crate::parts;
-use crate::queues::ask::{Ask, Cause, Changer, Delayed, Fate, Handed, PartsCause};
+use crate::queues::ask::{Ask, Cause, Changer, Fate, Handed, PartsCause};
 use crate::queues::Queue;
-use crate::store::{Answer, Copy, Held, Store};
-use crate::texts::{hex, DedupId, GroupId, QueueKind, STORE_LIMIT};
+use crate::store::{Copy, Held, Store};
+use crate::texts::{hex, DedupId, GroupId, QueueKind};
 
 /// Which message a copy is of: the mark of its queue, and its sequence number there.
 #[derive(Clone, Copy, Debug, PartialEq, Eq, Hash, Serialize, Deserialize)]
@@ -67,6 +67,8 @@ pub enum MoveKind {
     /// Out of a dead-letter queue. They are new messages with ids of their own
     /// (API Reference, StartMessageMoveTask).
     Redrive,
+    /// From the queue beside a standard one into it.
+    Due,
 }
 
 /// Moves messages that a receive set aside to the target of their queue. Where there is none any more they are given
@@ -227,16 +229,17 @@ fn origin_of(queue: &Queue, handed: &Handed) -> Origin {
 fn copy_of(store: &Store, queue: &Queue, handed: &Handed, kind: MoveKind) -> Result<Ask, SqsError> {
     let no_envelope = || SqsError::InternalFailure("The store has a message in no form.".into());
     let head = EnvelopeHead::of(&handed.envelope).ok_or_else(no_envelope)?;
-    let is_dead_letter = kind == MoveKind::DeadLetter;
+    let is_new = kind == MoveKind::Redrive;
     let id = || head.id.unwrap_or_else(|| message_id(queue.mark, handed.receipt.sequence));
     // Only in a standard queue a dead letter is as old as it was (Developer Guide, "Amazon SQS dead-letter queues").
-    let keeps_age = is_dead_letter && queue.name.kind() == QueueKind::Standard;
+    let keeps_age = !is_new && queue.name.kind() == QueueKind::Standard;
     let origin = origin_of(queue, handed);
     let head = EnvelopeHead {
-        id: is_dead_letter.then(id),
+        id: (!is_new).then(id),
         of: Some(origin),
         sent: if keeps_age { head.sent } else { Some(store.clock().now()) },
-        source: is_dead_letter.then(|| queue.name.clone()),
+        due: None,
+        source: (kind == MoveKind::DeadLetter).then(|| queue.name.clone()),
         ..head
     };
     let envelope = match head.parts {
@@ -249,47 +252,27 @@ fn copy_of(store: &Store, queue: &Queue, handed: &Handed, kind: MoveKind) -> Res
     Ok(Ask::Send { group, dedup, envelope, cause: Cause::Move(origin) })
 }
 
-/// Sends messages to the store whose delay is over, and gives the answers. The tables have each until its send is
-/// answered, and know it by the id in its envelope, also after a start. Where others send the same ones meanwhile, the
-/// store has each once.
-pub async fn move_due(store: &Store, queue: &Arc<Queue>, due: &[Arc<Delayed>]) -> Result<Vec<Answer>, SqsError> {
-    let is_too_long = due.iter().any(|message| message.envelope.len() > STORE_LIMIT);
-    let _alone = if is_too_long { Some(store.queues().parts().alone().await) } else { None };
-    let (mut refused, mut asks, mut numbers) = (Vec::new(), Vec::new(), Vec::new());
-    for message in due {
-        let ask = copy_of_due(message)?;
-        if !queue.state().is_delayed(message.id) {
-            // The store isn't asked for it, so it needs no parts.
-            asks.push(ask);
-            refused.push(None);
-            continue;
-        }
-        match parts::put(store, queue, ask, PartsCause::Move).await {
-            Ok((ask, number)) => {
-                asks.push(ask);
-                numbers.extend(number);
-                refused.push(None);
-            }
-            // These concern the others as well.
-            Err(error @ (SqsError::QueueDoesNotExist | SqsError::ServiceUnavailable(_) | SqsError::OverLimit(_))) => {
-                parts::settle(store, &numbers);
-                return Err(error);
-            }
-            // A message whose parts the store refuses holds no other up.
-            Err(error) => refused.push(Some(error)),
-        }
-    }
-    let answers = store.ask_all(queue, asks).await;
-    parts::settle(store, &numbers);
-    Ok(parts::in_place(refused, answers))
+/// Moves messages that are due from the queue beside a standard one into it. Tells those that couldn't be moved, and why.
+pub async fn move_due(
+    store: &Store,
+    held: Held,
+    target: &Arc<Queue>,
+    due: Vec<Handed>,
+) -> (Vec<Handed>, Result<(), SqsError>) {
+    let delays = held.queue().clone();
+    let moved = move_held(store, &delays, &held, target, due, MoveKind::Due).await;
+    drop(held);
+    delete_all(store, &delays, &moved.copied).await;
+    (moved.failed, moved.result)
 }
 
-fn copy_of_due(message: &Delayed) -> Result<Ask, SqsError> {
-    let envelope = Envelope::of_whole(Some(message.id), message.envelope.clone());
-    let envelope =
-        envelope.map_err(|error| SqsError::InternalFailure(format!("The message can't be kept: {error}")))?;
-    let (group, dedup) = (GroupId::of_message(message.id), DedupId::of_message(message.id));
-    Ok(Ask::Send { group, dedup, envelope, cause: Cause::Due(message.id) })
+/// Gives messages back, by who has their queue, so that they can be handed out once more.
+pub async fn show_again(held: &Held, receipts: Vec<Receipt>) -> Result<(), SqsError> {
+    if receipts.is_empty() {
+        return Ok(());
+    }
+    let answers = held.ask_all(receipts.into_iter().map(change_back).collect()).await;
+    answers.into_iter().try_for_each(|answer| answer.map(drop))
 }
 
 fn change_back(receipt: Receipt) -> Ask {
@@ -394,7 +377,7 @@ async fn ask_each(store: &Store, queue: &Arc<Queue>, asks: Vec<Ask>) -> Vec<Ask>
 
 async fn delete_copied(store: &Store) {
     let by_mark: HashMap<u64, Arc<Queue>> =
-        store.queues().all().into_iter().map(|queue| (queue.mark.0, queue)).collect();
+        store.queues().all_and_delays().into_iter().map(|queue| (queue.mark.0, queue)).collect();
     let mut finished = 0;
     for origin in store.queues().copies().take_all() {
         let Some(queue) = by_mark.get(&origin.mark) else { continue };
@@ -407,6 +390,6 @@ async fn delete_copied(store: &Store) {
         }
     }
     if finished > 0 {
-        tracing::info!("{finished} messages had been moved to dead-letter queues, and were there still");
+        tracing::info!("{finished} messages had been moved, and were there still");
     }
 }

@@ -9,6 +9,7 @@ use std::sync::Arc;
 use std::time::Duration;
 
 use crate::budget::Share;
+use crate::delays;
 use crate::errors::SqsError;
 use crate::messages::{parts_of, Envelope, EnvelopeHead};
 use crate::queues::ask::{Ask, Handed, Outcome, PartsAsk, PartsCause};
@@ -30,15 +31,19 @@ fn gone() -> SqsError {
 }
 
 /// The answers to operations that are performed one after the other, in their order. What is too long for the store is put
-/// in parts before.
+/// in parts before, and a queue for what is delayed is there.
 pub async fn perform_all(
     store: &Store,
     queue: &Arc<Queue>,
     operations: Vec<Operation>,
     share: &Arc<Share>,
 ) -> Vec<Answer> {
-    let is_too_long = |operation: &Operation| matches!(operation, Operation::Ask(ask) if ask.is_too_long());
-    if !operations.iter().any(is_too_long) {
+    let is_ready = |operation: &Operation| match operation {
+        Operation::Ask(ask) => !ask.is_too_long(),
+        Operation::AskBeside(ask) => !ask.is_too_long() && queue.delays().is_some(),
+        _ => true,
+    };
+    if operations.iter().all(is_ready) {
         return store.perform_all(queue, operations, share).await;
     }
     let count = operations.len();
@@ -87,6 +92,11 @@ async fn in_parts(
         Operation::Ask(ask) => {
             let (ask, number) = put(store, queue, ask, PartsCause::Client).await?;
             Ok((Operation::Ask(ask), number))
+        }
+        Operation::AskBeside(ask) => {
+            delays::prepare(store, queue).await?;
+            let (ask, number) = put(store, queue, ask, PartsCause::Client).await?;
+            Ok((Operation::AskBeside(ask), number))
         }
         other => Ok((other, None)),
     }

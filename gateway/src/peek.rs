@@ -178,18 +178,15 @@ struct Page {
 }
 
 impl Page {
-    fn of(store: &Store, queue: &Queue, wanted: &PeekRequest, owner: &Owner) -> Result<Page, SqsError> {
+    fn of(store: &Store, queue: &Arc<Queue>, wanted: &PeekRequest, owner: &Owner) -> Result<Page, SqsError> {
         let mut page = Page::default();
         let mut cursor = Some(wanted.after);
         while let (Some(after), false) = (cursor, page.is_full()) {
-            let chunk = {
-                let state = queue.state();
-                if state.removed {
-                    return Err(SqsError::QueueDoesNotExist);
-                }
-                state.peek(after, CHUNK, store.clock().now())
-            };
-            cursor = page.take(store, chunk, wanted, queue, owner)?;
+            if queue.state().removed {
+                return Err(SqsError::QueueDoesNotExist);
+            }
+            let (place, chunk) = queue.peek(after, CHUNK, store.clock().now());
+            cursor = page.take(store, chunk, wanted, &place, owner)?;
         }
         page.next = cursor.map(|cursor| cursor.to_string());
         Ok(page)
@@ -257,7 +254,7 @@ impl Page {
 
 /// The whole envelope of a message; none where it is gone by now. Waits for the store where it stands in parts.
 fn whole_of(store: &Store, peeked: &Peeked) -> Result<Option<Arc<str>>, SqsError> {
-    let envelope = Arc::<str>::from(peeked.envelope.clone());
+    let envelope = peeked.envelope.clone();
     match Handle::current().block_on(parts::read(store, &envelope))? {
         Read::Whole => Ok(Some(envelope)),
         Read::InParts(whole) => Ok(Some(whole.into())),

@@ -19,11 +19,14 @@ const HANDED_AT_ONCE: usize = 10;
 /// A purge that can't go on for now tries again after this.
 const PAUSE: Duration = Duration::from_secs(1);
 
+/// What a purge has to itself: the queue, and before it the one beside it, if there is one.
+pub type HeldAll = (Option<Held>, Held);
+
 /// Deletes the messages up to this one, and the delayed ones of a standard queue. Where it fails on the way, it goes on
 /// later, and what is sent meanwhile stays.
-pub async fn purge(store: Store, queue: Arc<Queue>, held: Held, last: u64) -> Result<(), SqsError> {
-    held.change(TableChange::Purging(last)).await?;
-    let purged = delete_all(&store, &queue, &held, last).await;
+pub async fn purge(store: Store, queue: Arc<Queue>, held: HeldAll, last: u64) -> Result<(), SqsError> {
+    held.1.change(TableChange::Purging(last)).await?;
+    let purged = delete_all(&store, &held, last).await;
     drop(held);
     if purged.is_err() {
         tokio::spawn(keep_purging(store, queue));
@@ -55,19 +58,30 @@ async fn go_on(store: &Store, queue: &Arc<Queue>) -> Result<(), SqsError> {
     if queue.state().purging().is_none() {
         return Ok(());
     }
-    let held = store.hold(queue).await?;
+    let held = store.hold_all(queue).await?;
     let (last, removed) = {
         let state = queue.state();
         (state.purging(), state.removed)
     };
     match last {
-        Some(last) if !removed => delete_all(store, queue, &held, last).await,
+        Some(last) if !removed => delete_all(store, &held, last).await,
         _ => Ok(()),
     }
 }
 
+async fn delete_all(store: &Store, held: &HeldAll, last: u64) -> Result<(), SqsError> {
+    let (delays, held) = held;
+    delete_up_to(store, held, last).await?;
+    if let Some(held) = delays {
+        let last = held.queue().state().purging();
+        delete_up_to(store, held, last.unwrap_or(0)).await?;
+    }
+    held.change(TableChange::Purged).await.map(drop)
+}
+
 /// Deletes what was handed out before, and then hands all else to itself and deletes it.
-async fn delete_all(store: &Store, queue: &Queue, held: &Held, last: u64) -> Result<(), SqsError> {
+async fn delete_up_to(store: &Store, held: &Held, last: u64) -> Result<(), SqsError> {
+    let queue = held.queue();
     let mut first = 0;
     loop {
         let found = queue.state().receipts_between(first, last, LOOKED_AT_AT_ONCE);
@@ -80,9 +94,8 @@ async fn delete_all(store: &Store, queue: &Queue, held: &Held, last: u64) -> Res
     loop {
         let next = queue.state().next_up_to(last, HANDED_AT_ONCE, store.clock().now());
         if next.is_empty() {
-            break;
+            return Ok(());
         }
         delete_next(held, next).await?;
     }
-    held.change(TableChange::Purged).await.map(drop)
 }

@@ -4,6 +4,7 @@ use std::collections::HashMap;
 use std::sync::Arc;
 use std::time::{Duration, Instant};
 
+use crate::delays::create_beside;
 use crate::errors::SqsError;
 use crate::handles::Mark;
 use crate::queues::ask::{Ask, Before, Creation};
@@ -54,7 +55,7 @@ pub async fn keep_rolling(store: Store) {
         }
         looked = Instant::now();
         for queue in store.queues().all() {
-            if rests.is_resting(queue.mark, looked) || !is_due(&queue.state(), least, store.clock().now()) {
+            if rests.is_resting(queue.mark, looked) || !is_due(&queue, least, store.clock().now()) {
                 continue;
             }
             if let Err(error) = roll(&store, &queue, least).await {
@@ -66,28 +67,36 @@ pub async fn keep_rolling(store: Store) {
 }
 
 /// Empty, no deduplication id that counts, and at least so many records to gain; or a name is left that should be gone.
-fn is_due(state: &State, least: u64, now: u64) -> bool {
-    !state.removed && (!state.earlier.is_empty() || is_worth_rolling(state, least, now))
-}
-
-fn is_worth_rolling(state: &State, least: u64, now: u64) -> bool {
-    state.is_at_rest(now) && state.purging().is_none() && state.records() >= least
+fn is_due(queue: &Queue, least: u64, now: u64) -> bool {
+    let delays = queue.delays();
+    let (is_at_rest, records) = delays.map_or((true, 0), |delays| {
+        let state = delays.state();
+        (state.is_at_rest(now), state.records())
+    });
+    let state = queue.state();
+    let is_worth = is_at_rest && state.is_at_rest(now) && state.purging().is_none();
+    !state.removed && (!state.earlier.is_empty() || (is_worth && state.records() + records >= least))
 }
 
 /// Gives a queue a fresh name, while nobody else has it, and removes the old one. If this ends half way, the old one is
 /// removed at the next time, before the queue itself is removed, or by the next start.
 async fn roll(store: &Store, queue: &Arc<Queue>, least: u64) -> Result<(), SqsError> {
-    let held = store.hold(queue).await?;
+    let (held_delays, held) = store.hold_all(queue).await?;
     remove_earlier(queue, &held).await?;
+    let is_due = is_due(queue, least, store.clock().now());
     let (visibility, creation) = {
         let state = queue.state();
-        if state.removed || !is_worth_rolling(&state, least, store.clock().now()) {
+        if state.removed || !is_due {
             return Ok(());
         }
         (state.attributes.visibility_timeout(), creation_of(queue, &state))
     };
     let fresh = store.queues().next_store_name();
     held.ask(Ask::Create { store: fresh, visibility, creation: Arc::new(creation) }).await?;
+    if held_delays.is_some() {
+        // Who waits to send something with a delay finds one.
+        create_beside(store, queue).await?;
+    }
     remove_earlier(queue, &held).await
 }
 

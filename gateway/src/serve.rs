@@ -162,7 +162,7 @@ async fn start(settings: Arc<Settings>, prepared: Prepared, cqs: Vec<Cq>) -> Res
     let _ = admin.store.set(running.store.clone());
     tokio::spawn(retention::keep_sweeping(running.store.clone()));
     tokio::spawn(parts::keep_removing(running.store.clone()));
-    tokio::spawn(delays::keep_sending(running.store.clone()));
+    tokio::spawn(delays::keep_moving(running.store.clone()));
     if running.journal.is_some() {
         tokio::spawn(crate::rolling::keep_rolling(running.store.clone()));
     }
@@ -263,6 +263,7 @@ async fn begin(settings: &Settings, health: &Health, mut cqs: Vec<Cq>) -> Result
     store.queues().parts().settle_all();
     moves::finish(&store).await;
     purges::finish(&store).await;
+    delays::take_over(&store).await;
     Ok(RunningStore { store, ended, journal })
 }
 

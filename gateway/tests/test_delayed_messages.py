@@ -2,13 +2,17 @@
 
 from __future__ import annotations
 
+import json
+import random
+import threading
 import time
 import urllib.request
+from collections.abc import Callable
+from pathlib import Path
 
 import pytest
 
-from frames import replace
-from started import START, ByJson, ByQuery, Refused, Started
+from started import START, ByJson, ByQuery, Refused, Started, run
 from steered import SteeredCq
 from test_standard import sent_by_call
 
@@ -39,61 +43,285 @@ def test_a_type_with_characters_that_no_message_has_is_refused(gateway, way, del
                  MessageAttributes=attribute(data_type))
 
 
-def test_large_message_whose_parts_the_store_does_not_take_holds_no_other_up(tmp_path):
-    cq = SteeredCq(tmp_path)
-    gateway = Started("--journal", str(tmp_path / "journal"), *cq.words(), room=tmp_path)
-    call = ByJson(gateway.url)
-    call("CreateQueue", QueueName="q", Attributes={"VisibilityTimeout": "0"})
-    cq.tell(end="POISON")
-    call("SendMessage", QueueUrl="q", MessageBody="POISON" + "x" * 400_000, DelaySeconds=5)
-    behind = [f"behind {number}" for number in range(3)]
-    for body in behind:
-        call("SendMessage", QueueUrl="q", MessageBody=body, DelaySeconds=5)
-    gateway.set_clock(gateway.moment + 5000)
-    found, latest = set(), time.monotonic() + 30
-    while found != set(behind):
-        assert time.monotonic() < latest, f"only {found} after {cq.ends()} ends of the program"
-        time.sleep(0.3)
-        try:
-            found.update(bodies(call, "q"))
-        except Refused:
-            pass  # the program is being started again
-    assert gateway.stop() == 0
+class Delayed:
+    """A gateway with a journal, a program that is steered, and a standard queue in it."""
 
+    def __init__(self, room: Path, *words: str) -> None:
+        self.cq, self.journal = SteeredCq(room), room / "journal"
+        self.gateway = Started("--journal", str(self.journal), "--admin", "0", *words, *self.cq.words(), room=room)
+        self.call("CreateQueue", QueueName="q", Attributes={"VisibilityTimeout": "600"})
 
-def test_what_the_store_refuses_holds_no_other_message_up(tmp_path):
-    """An older gateway took such messages. They are put into its journal here."""
-    journal = tmp_path / "journal"
-    gateway = Started("--journal", str(journal), "--admin", "0", room=tmp_path)
-    call = ByJson(gateway.url)
-    call("CreateQueue", QueueName="q")
-    for _ in range(40):
-        call("SendMessage", QueueUrl="q", MessageBody="bad", DelaySeconds=5, MessageAttributes=attribute("String.zzz"))
-    call("SendMessage", QueueUrl="q", MessageBody="good", DelaySeconds=5)
-    assert gateway.stop() == 0
-    assert replace(journal.with_name("journal.1"), b"String.zzz", "String.\ufffe".encode()) == 40
-    for _ in range(2):
-        gateway.set_clock(gateway.moment + 5000)
-        gateway.start()
-        call = ByJson(gateway.url)
-        found = bodies(call, "q", WaitTimeSeconds=5, VisibilityTimeout=0)
-        assert found == ["good"]
-        # They are tried three times, a second of the gateway's clock apart.
-        for _ in range(6):
-            time.sleep(0.3)
-            gateway.set_clock(gateway.moment + 1000)
-        assert counts(call, "q") == [1, 0, 40]
-        admin = gateway.said[0].split()[-1]
+    def call(self, action: str, **members):
+        return ByJson(self.gateway.url)(action, **members)
+
+    def send(self, body: str, delay: int) -> str:
+        return self.call("SendMessage", QueueUrl="q", MessageBody=body, DelaySeconds=delay)["MessageId"]
+
+    def bodies(self) -> list[str]:
+        return bodies(self.call, "q")
+
+    def counts(self) -> list[int]:
+        return counts(self.call, "q")
+
+    def move(self, milliseconds: int) -> None:
+        self.gateway.set_clock(self.gateway.moment + milliseconds)
+
+    def set_aside(self) -> int:
+        admin = self.gateway.said[0].split()[-1]
         with urllib.request.urlopen(f"{admin}/metrics") as answer:
             rows = answer.read().decode().splitlines()
-        assert 'hobbychair_messages{queue="q",state="set aside"} 40' in rows
-        assert 'hobbychair_messages{queue="q",state="delayed"} 40' in rows
-        gateway.kill()
-    gateway.start()
-    call = ByJson(gateway.url)
-    call("PurgeQueue", QueueUrl="q")
-    assert counts(call, "q") == [0, 0, 0]
-    assert gateway.stop() == 0
+        return int(next(row for row in rows if row.startswith('hobbychair_messages{queue="q",state="set aside"}')).split()[-1])
+
+    def restart(self) -> None:
+        self.gateway.kill()
+        self.gateway.start()
+
+    def names(self) -> set[str]:
+        """The names in the store of all queues that the journal has."""
+        lines = [json.loads(line) for line in run("dump", str(self.journal)).stdout.splitlines()]
+        return {line["ask"]["queue"] for line in lines if "ask" in line}
+
+
+@pytest.fixture
+def delayed(tmp_path):
+    delayed = Delayed(tmp_path, "--no-pauses")
+    yield delayed
+    assert delayed.gateway.stop() == 0
+
+
+def wait_for(what: Callable[[], bool]) -> None:
+    latest = time.monotonic() + 20
+    while not what():
+        assert time.monotonic() < latest
+        time.sleep(0.05)
+
+
+def test_what_is_delayed_stands_in_the_store_and_in_no_record_beside_it(delayed):
+    ids = {body: delayed.send(body, 5) for body in ("small", "x" * 300_000)}
+    records = b"".join(one.read_bytes() for one in delayed.journal.parent.glob("journal.[0-9]*"))
+    assert b'"note"' not in records and delayed.names() >= {"1.fifo", "1d.fifo"}
+    for _ in range(2):
+        delayed.restart()
+        assert delayed.counts() == [0, 0, 2]
+    delayed.move(5000)
+    found = delayed.call("ReceiveMessage", QueueUrl="q", MaxNumberOfMessages=10)["Messages"]
+    assert {message["Body"]: message["MessageId"] for message in found} == ids
+
+
+def test_a_message_that_is_too_long_for_the_store_once_it_has_its_id_comes_whole(delayed):
+    bodies_sent = ["x" * (262_144 - beside) for beside in range(20, 140, 10)]
+    ids = {body: delayed.send(body, 5) for body in bodies_sent}
+    lengths = sum(not name.startswith("b") for name in delayed.names())
+    assert lengths == 2 and len(delayed.names()) > 2
+    delayed.move(5000)
+    for _ in range(2):
+        found: dict[str, str] = {}
+        while len(found) < len(ids):
+            for one in delayed.call("ReceiveMessage", QueueUrl="q", MaxNumberOfMessages=10, WaitTimeSeconds=5)["Messages"]:
+                assert found.setdefault(one["Body"], one["MessageId"]) == one["MessageId"]
+        assert found == ids
+        delayed.move(600_000)
+        delayed.restart()
+
+
+@pytest.mark.parametrize("passing", range(4))
+def test_the_first_delayed_send_that_is_cut_off_can_be_repeated(delayed, passing):
+    """Its queue is created before it."""
+    delayed.cq.tell(each=['"queue":"1d.fifo"'], **{"pass": passing})
+
+    def send() -> None:
+        try:
+            sent_by_call(delayed.gateway.url, "q", "call", 1, DelaySeconds=5)
+        except OSError:
+            pass
+
+    sending = threading.Thread(target=send)
+    sending.start()
+    wait_for(lambda: delayed.cq.ends() > 0 or not sending.is_alive())
+    time.sleep(0.1)
+    delayed.gateway.kill()
+    delayed.cq.tell()
+    sending.join()
+    delayed.gateway.start()
+    ids = {sent_by_call(delayed.gateway.url, "q", "call", attempt, DelaySeconds=5)[0] for attempt in (2, 3)}
+    assert delayed.counts() == [0, 0, 1]
+    delayed.move(5000)
+    (message,) = delayed.call("ReceiveMessage", QueueUrl="q", MaxNumberOfMessages=10)["Messages"]
+    assert {message["MessageId"]} == ids
+
+
+@pytest.mark.parametrize("passing", range(3))
+def test_a_removal_that_is_cut_off_takes_all_or_nothing(delayed, passing):
+    delayed.send("old", 5)
+    delayed.send("now", 0)
+    delayed.cq.tell(each=['"kind":"remove"'], **{"pass": passing})
+
+    def remove() -> None:
+        try:
+            delayed.call("DeleteQueue", QueueUrl="q")
+        except OSError:
+            pass
+
+    removing = threading.Thread(target=remove)
+    removing.start()
+    wait_for(lambda: delayed.cq.ends() > 0 or not removing.is_alive())
+    time.sleep(0.1)
+    delayed.gateway.kill()
+    delayed.cq.tell()
+    removing.join()
+    assert "undamaged" in run("verify", str(delayed.journal)).stdout
+    delayed.gateway.start()
+    if passing == 0:
+        assert delayed.counts() == [1, 0, 1]
+        delayed.call("DeleteQueue", QueueUrl="q")
+    assert "QueueUrls" not in delayed.call("ListQueues")
+    delayed.call("CreateQueue", QueueName="q")
+    delayed.send("new", 5)
+    for _ in range(2):
+        assert delayed.counts() == [0, 0, 1]
+        delayed.restart()
+    delayed.move(5000)
+    assert delayed.bodies() == ["new"]
+
+
+def test_a_copy_that_ends_the_program_each_time_holds_no_other_message_up(delayed):
+    ids = [delayed.send(str(number), 5) for number in range(5)]
+    # Only its copy says a message's id.
+    delayed.cq.tell(end=ids[2])
+    delayed.move(5000)
+    found: set[str] = set()
+
+    def are_there() -> bool:
+        try:
+            found.update(delayed.bodies())
+        except Refused:
+            pass  # the program is being started again
+        delayed.move(1000)
+        return found == {"0", "1", "3", "4"}
+
+    wait_for(are_there)
+
+    def is_set_aside() -> bool:
+        delayed.move(1000)
+        return delayed.set_aside() == 1
+
+    wait_for(is_set_aside)
+    assert delayed.counts() == [0, 4, 1]
+    delayed.cq.tell()
+    delayed.restart()
+    (message,) = delayed.call("ReceiveMessage", QueueUrl="q", MaxNumberOfMessages=10, WaitTimeSeconds=5)["Messages"]
+    assert (message["Body"], message["MessageId"]) == ("2", ids[2]) and delayed.set_aside() == 0
+
+
+def test_messages_come_as_they_are_due_whatever_the_order_of_their_sends(delayed):
+    chance = random.Random(7)
+    due = sorted((delay, number) for number, delay in enumerate(chance.choices(range(1, 30), k=60)))
+    for number, delay in sorted((number, delay) for delay, number in due):
+        delayed.send(str(number), delay)
+    found, expected = [], [str(number) for _, number in due]
+    for second in range(1, 31):
+        delayed.move(1000)
+        if second % 10 == 0:
+            delayed.restart()
+        while bodies_now := delayed.bodies():
+            found += bodies_now
+        assert found == [str(number) for delay, number in due if delay <= second], second
+        assert delayed.counts() == [0, len(found), 60 - len(found)]
+    assert found == expected
+
+
+def test_a_delayed_message_is_due_also_after_all_that_was_hidden_is_visible_again(delayed):
+    """What stands before a due message is handed to the gateway, for twelve hours."""
+    first = delayed.send("first", 900)
+    delayed.send("second", 1)
+    delayed.move(1000)
+    assert delayed.bodies() == ["second"]
+    delayed.gateway.kill()
+    delayed.move(13 * 3_600_000)
+    delayed.gateway.start()
+    delayed.send("third", 900)
+    messages = delayed.call("ReceiveMessage", QueueUrl="q", MaxNumberOfMessages=10, AttributeNames=["All"])["Messages"]
+    told = [(one["Body"], one["Attributes"]["ApproximateReceiveCount"]) for one in messages]
+    assert told == [("second", "2"), ("first", "1")] and messages[1]["MessageId"] == first
+    assert delayed.counts() == [0, 2, 1]
+
+
+@pytest.mark.parametrize("action", ["PurgeQueue", "DeleteQueue"])
+@pytest.mark.parametrize("passing", [0, 1, 3, 4, 6])
+def test_a_purge_or_a_removal_takes_what_is_being_moved(delayed, action, passing):
+    for number in range(3):
+        delayed.send(str(number), 5)
+    delayed.cq.tell(each=['"kind":"send"', '"kind":"delete"'], **{"pass": passing})
+    delayed.move(5000)
+    wait_for(lambda: delayed.cq.ends() > 0 or passing == 6)
+    acting = threading.Thread(target=lambda: delayed.call(action, QueueUrl="q"))
+    acting.start()
+    time.sleep(0.1)
+    delayed.cq.tell()
+    acting.join()
+    if action == "DeleteQueue":
+        delayed.call("CreateQueue", QueueName="q")
+    delayed.send("new", 1)
+    for _ in range(2):
+        assert delayed.counts() == [0, 0, 1]
+        delayed.restart()
+    delayed.move(1000)
+    assert delayed.bodies() == ["new"] and delayed.counts() == [0, 1, 0]
+
+
+def test_a_queue_that_was_removed_takes_no_delayed_message(delayed):
+    delayed.send("old", 5)
+    delayed.call("DeleteQueue", QueueUrl="q")
+    with pytest.raises(Refused, match="NonExistentQueue|QueueDoesNotExist"):
+        delayed.send("late", 5)
+    delayed.call("CreateQueue", QueueName="q")
+    delayed.restart()
+    assert delayed.counts() == [0, 0, 0]
+    ids = {delayed.send("new", 5)}
+    for _ in range(2):
+        delayed.restart()
+        assert delayed.counts() == [0, 0, 1]
+    delayed.move(5000)
+    assert {one["MessageId"] for one in delayed.call("ReceiveMessage", QueueUrl="q")["Messages"]} == ids
+
+
+def test_what_is_delayed_goes_over_to_another_name_with_its_queue(tmp_path):
+    delayed = Delayed(tmp_path, "--journal-size", "4MiB")
+    ids = set()
+    for turn in range(3):
+        sent = 0
+        with pytest.raises(Refused, match="OverLimit"):
+            while sent < 200:
+                ids.add(delayed.send(f"{turn}/{sent}" + "x" * 50_000, 5))
+                sent += 1
+        delayed.move(5000)
+        taken = 0
+        while messages := delayed.call("ReceiveMessage", QueueUrl="q", MaxNumberOfMessages=10).get("Messages"):
+            taken += len(messages)
+            for message in messages:
+                delayed.call("DeleteMessage", QueueUrl="q", ReceiptHandle=message["ReceiptHandle"])
+        assert taken == sent >= 10 and delayed.counts() == [0, 0, 0]
+        delayed.move(300_000)
+
+        def is_taking() -> bool:
+            try:
+                ids.add(delayed.send(f"taken {turn}", 5))
+                return True
+            except Refused as refused:
+                assert refused.code == "OverLimit"
+                return False
+
+        wait_for(is_taking)
+        delayed.restart()
+        assert delayed.counts() == [0, 0, 1]
+        delayed.move(5000)
+        (message,) = delayed.call("ReceiveMessage", QueueUrl="q", MaxNumberOfMessages=10)["Messages"]
+        assert message["Body"] == f"taken {turn}" and message["MessageId"] in ids
+        delayed.call("DeleteMessage", QueueUrl="q", ReceiptHandle=message["ReceiptHandle"])
+        delayed.move(300_000)
+    names = {name for name in delayed.names() if not name.startswith("b")}
+    assert len(names) == 2 and "1.fifo" not in names, names
+    assert delayed.gateway.stop() == 0
 
 
 @pytest.mark.parametrize("batch", [False, True])
@@ -113,6 +341,30 @@ def test_a_call_is_known_again_where_the_queues_delay_has_changed(tmp_path, befo
     gateway.set_clock(START + 5000)
     assert len(bodies(call, "q")) == 2 * len(first)
     assert gateway.stop() == 0
+
+
+def test_two_sends_of_a_call_that_are_open_at_once_are_one_message(delayed):
+    """The first one waits for the queue of delayed messages while the delay is taken away, and then for its answer."""
+    delayed.call("SetQueueAttributes", QueueUrl="q", Attributes={"DelaySeconds": "5"})
+    told: list[list[str]] = []
+
+    def begin(act: Callable[[], object]) -> threading.Thread:
+        thread = threading.Thread(target=act)
+        thread.start()
+        time.sleep(0.3)
+        return thread
+
+    delayed.cq.tell(hold='"kind":"create"')
+    first = begin(lambda: told.append(sent_by_call(delayed.gateway.url, "q", "call", 1)))
+    change = begin(lambda: delayed.call("SetQueueAttributes", QueueUrl="q", Attributes={"DelaySeconds": "0"}))
+    delayed.cq.tell(hold='"kind":"send"')
+    change.join()
+    second = begin(lambda: told.append(sent_by_call(delayed.gateway.url, "q", "call", 2)))
+    assert told == []
+    delayed.cq.tell()
+    first.join()
+    second.join()
+    assert told[0] == told[1] and delayed.counts() == [0, 0, 1]
 
 
 def test_a_receive_does_not_wait_until_all_due_messages_are_sent(tmp_path):

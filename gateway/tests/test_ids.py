@@ -125,9 +125,14 @@ def test_an_id_stands_only_with_messages_that_have_no_place_or_had_another(journ
     plain = [journaled.send("q.fifo", "plain"), journaled.send("q.fifo", "x" * 300_000, dedup="large"),
              journaled.send("standard", "b")]
     delayed = journaled.send("standard", "c", DelaySeconds=5)
-    segment = journaled.path.with_name("journal.1").read_bytes()
-    assert [segment.count(one.encode()) for one in plain] == [0, 0, 0]
-    assert segment.count(moved.encode()) == 1 and delayed.encode() in segment
+
+    def found(ids: list[str]) -> list[int]:
+        segment = journaled.path.with_name("journal.1").read_bytes()
+        return [segment.count(one.encode()) for one in ids]
+
+    assert found([*plain, delayed, moved]) == [0, 0, 0, 0, 1]
+    journaled.gateway.set_clock(START + 5000)
+    assert journaled.ids("standard").keys() == {"b", "c"} and found([*plain, delayed, moved]) == [0, 0, 0, 1, 1]
     assert journaled.ids("dead.fifo") == {"letter": moved}
 
 
@@ -245,7 +250,7 @@ def test_messages_of_an_older_journal_keep_their_ids(tmp_path):
     journaled.gateway.set_clock(START + 20_000)
     assert answers(journaled) == json.loads(here.with_name("version3.answers.json").read_text())
     assert path.with_name("journal.1").read_bytes()[: len(old)] == old
-    assert path.with_name("journal.2").read_bytes().startswith(b"hobbychair journal 6\n")
+    assert path.with_name("journal.2").read_bytes().startswith(b"hobbychair journal 7\n")
     ids = stored_ids(journaled)
     assert [len(one) for one in ids] == [1, 1, 2, 3, 6]
     for _ in range(2):

@@ -55,10 +55,10 @@ class Cut:
     def receive(self, queue: str) -> list[dict]:
         return self.call("ReceiveMessage", QueueUrl=queue, MaxNumberOfMessages=10).get("Messages", [])
 
-    def cut(self, act: Callable[[], None], passing: int, asks: int) -> None:
-        """Acts, and ends what is to be ended behind so many asks of the move."""
+    def cut(self, act: Callable[[], None], passing: int, asks: int, each: list[str] = ASKS) -> None:
+        """Acts, and ends what is to be ended behind so many asks of the move, of those that have one of these texts."""
         ends = self.cq.ends()
-        self.cq.tell(each=ASKS, kill=self.by == "cq", **{"pass": passing})
+        self.cq.tell(each=each, kill=self.by == "cq", **{"pass": passing})
         acting = threading.Thread(target=self.try_to, args=(act,))
         acting.start()
         latest = time.monotonic() + 20
@@ -146,10 +146,12 @@ def test_messages_of_a_task_that_is_cut_off_are_moved_once(tmp_path, kind, by):
 @pytest.mark.parametrize("by", ["gateway", "cq"])
 def test_due_messages_that_are_cut_off_come_once(tmp_path, by):
     cut = Cut(tmp_path, "", by)
-    for passing in range(COUNT + 1):
+    # They are handed to the gateway, copied and deleted.
+    asks, each = 1 + 2 * COUNT, ['d.fifo"', '"kind":"send"']
+    for passing in range(asks + 1):
         cut.create()
         ids = cut.send(cut.queue, DelaySeconds=5)
-        cut.cut(lambda: cut.gateway.set_clock(cut.gateway.moment + 5000), passing, COUNT)
+        cut.cut(lambda: cut.gateway.set_clock(cut.gateway.moment + 5000), passing, asks, each)
         latest = time.monotonic() + 20
         found: dict[str, list[str]] = {}
         while len(found) < COUNT:

@@ -1,14 +1,20 @@
-"""A journal of version 5: sweeps handed young messages to the gateway, and a record has a large body whole."""
+"""Journals of version 5, in which sweeps handed young messages to the gateway and a record has a large body whole, and of
+version 6, which has delayed messages in records beside the store."""
 
 from __future__ import annotations
 
 import gzip
 import json
+import select
+import subprocess
+import time
 from pathlib import Path
 
 import pytest
 
-from started import START, ByJson, Refused, Started, handing, run
+from started import START, ByJson, Refused, Started, command, environment, handing, run
+from steered import SteeredCq
+from test_standard import sent_by_call
 
 LARGE = "large" * 60_000
 
@@ -90,4 +96,100 @@ def test_a_body_that_an_older_journal_has_whole_is_in_parts_once_it_moves(older)
         older.gateway.kill()
         older.gateway.start()
     assert older.journal.with_name("journal.1").read_bytes()[: len(older.old)] == older.old
-    assert older.journal.with_name("journal.2").read_bytes().startswith(b"hobbychair journal 6\n")
+    assert older.journal.with_name("journal.2").read_bytes().startswith(b"hobbychair journal 7\n")
+
+
+class Delayed:
+    """A gateway with a journal of version 6, which has delayed messages in records beside the store. `q` has two that are
+    visible, three that no store takes, and six that are due at their moments; `purged` has one, and `removed`, which was
+    made again, none. Their ids are kept beside it."""
+
+    def __init__(self, room: Path, *words: str) -> None:
+        here = Path(__file__)
+        self.journal, self.cq = room / "journal", SteeredCq(room)
+        self.old = gzip.decompress(here.with_name("version6.journal.gz").read_bytes())
+        self.ids = json.loads(here.with_name("version6.ids.json").read_text())
+        self.journal.with_name("journal.1").write_bytes(self.old)
+        assert self.old.startswith(b"hobbychair journal 6\n") and "undamaged" in run("verify", str(self.journal)).stdout
+        self.words, self.room = ["--journal", str(self.journal), *words], room
+        (room / "clock").write_text(str(START + 1000))
+
+    def start(self, *words: str) -> None:
+        self.gateway = Started(*self.words, *words, "--clock-file", str(self.room / "clock"))
+        self.gateway.clock_file = self.room / "clock"
+
+    def call(self, action: str, **members):
+        return ByJson(self.gateway.url)(action, **members)
+
+    def counts(self, queue: str) -> list[int]:
+        told = self.call("GetQueueAttributes", QueueUrl=queue, AttributeNames=["All"])["Attributes"]
+        return [int(told[f"ApproximateNumberOfMessages{which}"]) for which in ("", "NotVisible", "Delayed")]
+
+    def all_counts(self) -> list[list[int]]:
+        return [self.counts(queue) for queue in ("q", "purged", "removed")]
+
+    def take(self, queue: str) -> dict[str, str]:
+        """The ids of all that is visible by their bodies. It is deleted."""
+        found = {}
+        while messages := self.call("ReceiveMessage", QueueUrl=queue, MaxNumberOfMessages=10).get("Messages"):
+            for message in messages:
+                assert found.setdefault(message["Body"][:10], message["MessageId"]) == message["MessageId"]
+                self.call("DeleteMessage", QueueUrl=queue, ReceiptHandle=message["ReceiptHandle"])
+        return found
+
+
+def test_delayed_messages_of_an_older_journal_come_as_they_are_due(tmp_path):
+    delayed = Delayed(tmp_path)
+    delayed.start()
+    for _ in range(3):
+        assert delayed.all_counts() == [[2, 0, 8], [0, 0, 1], [0, 0, 0]]
+        assert sent_by_call(delayed.gateway.url, "q", "call", 2, DelaySeconds=60, body="called") == [delayed.ids["called"]]
+        delayed.gateway.kill()
+        delayed.start()
+    assert delayed.journal.with_name("journal.2").read_bytes().startswith(b"hobbychair journal 7\n")
+    found: dict[str, str] = {}
+    for moment, bodies in ((0, ["stored", "was due"]), (5000, ["good", "good too", "largelarge"]), (60_000, ["called"]),
+                           (900_000, ["late"])):
+        delayed.gateway.set_clock(START + 1000 + moment)
+        now = delayed.take("q")
+        assert list(now) == bodies
+        found.update(now)
+        delayed.gateway.kill()
+        delayed.start()
+        assert delayed.take("q") == {}
+    assert delayed.take("purged") == {"since": delayed.ids.pop("since")} and delayed.take("removed") == {}
+    del delayed.ids["purged"], delayed.ids["removed"]
+    assert found == delayed.ids and delayed.all_counts() == [[0, 0, 3], [0, 0, 0], [0, 0, 0]]
+    # Those that no store takes go with a purge.
+    delayed.call("PurgeQueue", QueueUrl="q")
+    for _ in range(2):
+        assert delayed.all_counts() == [[0, 0, 0]] * 3
+        delayed.gateway.kill()
+        delayed.start()
+    assert delayed.gateway.stop() == 0
+
+
+@pytest.mark.parametrize("words", [[], ["--memory", "1MiB", "--journal-size", "1MiB"]])
+def test_a_start_that_is_cut_off_takes_delayed_messages_over_once(tmp_path, words):
+    """The gateway is killed behind each of the sends that take them over."""
+    delayed = Delayed(tmp_path, *words)
+    delayed.cq.tell()
+    for passing in range(12):
+        delayed.cq.tell(each=['"queue":"1d.fifo","group"', '"queue":"2d.fifo","group"'], **{"pass": passing})
+        ends = delayed.cq.ends()
+        starting = subprocess.Popen(
+            command("--port", "0", *delayed.words, *delayed.cq.words(), "--clock-file", str(tmp_path / "clock")),
+            stdout=subprocess.PIPE, env=environment())
+        latest = time.monotonic() + 10
+        while delayed.cq.ends() == ends and not select.select([starting.stdout], [], [], 0.01)[0]:
+            assert time.monotonic() < latest
+        time.sleep(0.1)
+        starting.kill()
+        starting.wait()
+    delayed.cq.tell()
+    delayed.start()
+    assert delayed.all_counts() == [[2, 0, 8], [0, 0, 1], [0, 0, 0]]
+    delayed.gateway.set_clock(START + 901_000)
+    found = delayed.take("q")
+    assert {**found, **delayed.take("purged"), "purged": "", "removed": ""} == {**delayed.ids, "purged": "", "removed": ""}
+    assert delayed.gateway.stop() == 0

@@ -104,9 +104,9 @@ def test_a_newer_journal_and_a_missing_segment_are_told(tmp_path):
     assert begun(path, tmp_path).stop() == 0
     segment = first_segment(path)
     data = segment.read_bytes()
-    segment.write_bytes(data.replace(b"journal 6", b"journal 7", 1))
+    segment.write_bytes(data.replace(b"journal 7", b"journal 8", 1))
     ended = start(path)
-    assert ended.returncode == 1 and "is a journal of version 7, and this gateway reads versions 1 to 6" in ended.stderr
+    assert ended.returncode == 1 and "is a journal of version 8, and this gateway reads versions 1 to 7" in ended.stderr
     segment.write_bytes(b"Dear Sir or Madam")
     assert "is no journal" in start(path).stderr
     segment.unlink()
@@ -373,7 +373,7 @@ def test_a_journal_without_standard_queues_is_read_and_goes_on_behind_a_newer_he
     call("CreateQueue", QueueName="standard")
     call("SendMessage", QueueUrl="standard", MessageBody="b", DelaySeconds=10)
     assert first_segment(path).read_bytes()[: len(old)] == old
-    assert path.with_name("journal.2").read_bytes().startswith(b"hobbychair journal 6\n")
+    assert path.with_name("journal.2").read_bytes().startswith(b"hobbychair journal 7\n")
     gateway.kill()
     gateway.set_clock(START + 10_000)
     gateway.start()

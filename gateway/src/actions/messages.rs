@@ -10,7 +10,7 @@ use crate::digests::{md5_of_attributes, md5_of_text};
 use crate::errors::SqsError;
 use crate::messages::{message_id, Envelope, MessageAttributes, Metadata, TRACE_HEADER};
 use crate::parts;
-use crate::queues::ask::{Ask, Cause, Changer, Delayed, Outcome, TableChange};
+use crate::queues::ask::{Ask, Cause, Changer, Outcome};
 use crate::queues::Queue;
 use crate::store::{Answer, Operation};
 use crate::texts::{Body, DedupId, GroupId, QueueKind, QueueName};
@@ -104,6 +104,7 @@ impl Actions {
             id: None,
             of: None,
             sent: self.store.clock().now(),
+            due: None,
             dedup: None,
             group: None,
             sender: caller.identity.as_ref().map(|identity| identity.name().to_string()),
@@ -199,8 +200,8 @@ fn cannot_be_kept(error: serde_json::Error) -> SqsError {
     SqsError::InternalFailure(format!("The message can't be kept: {error}"))
 }
 
-/// Sends a message to a standard queue: at once, or into the tables where it is delayed, by `delay` milliseconds. Where
-/// repeats of the call can be told, `call` stands for this message of it.
+/// Sends a message to a standard queue, or to the one beside it where it is delayed, by `delay` milliseconds. Where repeats
+/// of the call can be told, `call` stands for this message of it.
 fn standard_send(
     mut metadata: Metadata,
     call: Option<DedupId>,
@@ -208,15 +209,11 @@ fn standard_send(
     body: &Body,
 ) -> Result<Operation, SqsError> {
     let own = Uuid::new_v4();
-    // One that is delayed gets its place later, and its id is told now.
-    metadata.id = (delay > 0).then_some(own);
+    metadata.due = (delay > 0).then_some(metadata.sent + delay);
     let envelope = Envelope::new(&metadata, body).map_err(cannot_be_kept)?;
-    if delay > 0 {
-        let delayed = Delayed { id: own, due: metadata.sent + delay, call, envelope: envelope.into_whole() };
-        return Ok(Operation::Change(TableChange::Delayed(Arc::new(delayed))));
-    }
     let dedup = call.unwrap_or_else(|| DedupId::of_message(own));
-    Ok(Operation::Ask(Ask::Send { group: GroupId::of_message(own), dedup, envelope, cause: Cause::Client }))
+    let ask = Ask::Send { group: GroupId::of_message(own), dedup, envelope, cause: Cause::Client };
+    Ok(if delay > 0 { Operation::AskBeside(ask) } else { Operation::Ask(ask) })
 }
 
 fn no_answer() -> SqsError {
@@ -245,7 +242,6 @@ fn sent(queue: &Queue, message: &NewMessage, outcome: &Outcome) -> Result<Sent, 
             let id = id.unwrap_or_else(|| message_id(queue.mark, sequence));
             (id, sequence_number(queue.name.kind(), sequence))
         }
-        Outcome::Delayed { id } => (id, None),
         _ => return Err(no_answer()),
     };
     let system = message.trace.clone().map(|trace| MessageAttributes::from([(TRACE_HEADER.to_string(), trace)]));

@@ -49,10 +49,14 @@ impl Actions {
     pub(super) async fn remove(&self, name: &QueueName) -> Result<Performed, SqsError> {
         let _locked = self.lock_of(name).lock().await;
         let queue = self.queue(name)?;
-        let held = self.store.hold(&queue).await?;
+        let (held_delays, held) = self.store.hold_all(&queue).await?;
         remove_earlier(&queue, &held).await?;
         let store = queue.state().store;
         held.ask(Ask::Remove { store, name: Some(name.clone()) }).await?;
+        if let Some(delays) = held_delays {
+            // It is gone with the queue. Where the store has it still, that is until the program is started again.
+            let _ = delays.ask(Ask::Remove { store: store.of_delays(), name: None }).await;
+        }
         Ok(Response::Nothing.into())
     }
 
@@ -81,7 +85,7 @@ impl Actions {
         let is_durable = counts.is_some();
         let mut attributes = self.attributes_of(&queue);
         if let Some(Outcome::Counts { visible, in_flight }) = counts {
-            let counts = queue.state().counts(visible, in_flight, self.store.clock().now());
+            let counts = queue.counts(visible, in_flight, self.store.clock().now());
             attributes.extend(COUNTS.iter().zip(counts).map(|(name, count)| (name.to_string(), count.to_string())));
         }
         attributes.retain(|(name, _)| wanted.has(name));
@@ -142,7 +146,7 @@ impl Actions {
     /// Deletes all messages that are there; deduplication ids stay. Nobody else has the queue meanwhile.
     pub(super) async fn purge(&self, name: &QueueName) -> Result<Performed, SqsError> {
         let queue = self.queue(name)?;
-        let held = self.store.hold(&queue).await?;
+        let held = self.store.hold_all(&queue).await?;
         let now = self.store.clock().now();
         let (purged, removed, last) = {
             let state = queue.state();

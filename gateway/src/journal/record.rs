@@ -6,7 +6,6 @@ use std::sync::Arc;
 use serde::{Deserialize, Serialize};
 use serde_json::value::RawValue;
 use sha2::{Digest, Sha256};
-use uuid::Uuid;
 
 use crate::clock::Moment;
 use crate::lines::{read_receipt, AskFields, AskKind};
@@ -37,9 +36,6 @@ pub struct Record<'a> {
     /// Of a send that moves a message, in journals up to version 4. Since then the envelope says it.
     #[serde(default, skip_serializing_if = "Option::is_none")]
     pub copies: Option<Origin>,
-    /// Of a send of a message whose delay is over, in journals up to version 4: its id, which the envelope has as well.
-    #[serde(default, skip_serializing_if = "Option::is_none")]
-    pub due: Option<Uuid>,
     /// Of a receive.
     #[serde(default, skip_serializing_if = "Option::is_none")]
     pub attempt: Option<AttemptId>,
@@ -72,7 +68,6 @@ impl<'a> Record<'a> {
             removed: None,
             envelope: None,
             copies: None,
-            due: None,
             attempt: None,
             most: None,
             own: false,
@@ -89,6 +84,8 @@ impl<'a> Record<'a> {
         record.ask = Some(raw);
         record.digest = Some(digest_of_reply(reply).into());
         match ask {
+            // That of a queue beside another one follows from the name.
+            Ask::Create { store, .. } if store.main().is_some() => {}
             Ask::Create { creation, .. } => record.creation = Some(creation.clone()),
             Ask::Remove { name, .. } => record.removed = name.clone(),
             Ask::Send { envelope, .. } => {
@@ -193,8 +190,7 @@ impl<'a> Record<'a> {
     }
 
     fn cause(&self, envelope: &str) -> Cause {
-        let moved = self.copies.or_else(|| origin_in(envelope)).map(Cause::Move);
-        moved.or(self.due.map(Cause::Due)).unwrap_or(Cause::Client)
+        self.copies.or_else(|| origin_in(envelope)).map_or(Cause::Client, Cause::Move)
     }
 
     fn envelope_of(&self, stored: String) -> Envelope {
@@ -273,7 +269,7 @@ mod tests {
 
     #[test]
     fn records_have_the_names_that_journals_have() {
-        let delayed = Delayed { id: Uuid::from_u128(7), due: 9, call: None, envelope: "{}\nb".into() };
+        let delayed = Delayed { id: uuid::Uuid::from_u128(7), due: 9, call: None, envelope: "{}\nb".into() };
         let mut lines = Vec::new();
         Record::of_change(5, StoreName(7), &TableChange::Delayed(Arc::new(delayed))).append(&mut lines).unwrap();
         Record { envelope: Some("{}\nb".into()), ..Record::at(6) }.append(&mut lines).unwrap();

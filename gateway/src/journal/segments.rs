@@ -25,7 +25,7 @@ pub enum JournalError {
     InUse(String),
     #[error("{0} is no journal: it doesn't begin as one")]
     NoJournal(String),
-    #[error("{0} is a journal of version {1}, and this gateway reads versions 1 to 6")]
+    #[error("{0} is a journal of version {1}, and this gateway reads versions 1 to 7")]
     NewerVersion(String, u32),
     #[error("segment {segment} of the journal is damaged at byte {place}, and there are good commits behind it")]
     Damaged { segment: u64, place: u64 },
@@ -60,13 +60,14 @@ impl From<io::Error> for JournalError {
 }
 
 /// A segment begins with these bytes, which name the version.
-pub const MAGIC: &[u8] = b"hobbychair journal 6\n";
+pub const MAGIC: &[u8] = b"hobbychair journal 7\n";
 
-/// The version that a gateway writes. The others have the same frames. Up to version 5 there are receives that count as no
+/// The version that a gateway writes. The others have the same frames. Up to version 6 a delayed message of a standard
+/// queue is a record of its own. Up to version 5 there are receives that count as no
 /// handings, and a purge has no record before its end. Up to version 4 a record says of which message a send is a copy, and
 /// which one is due; since then envelopes do. In version 3 the envelope of each message has its id, and a gateway of that
 /// version can't do without. In version 2 there are no records of standard queues.
-const VERSION: u32 = 6;
+const VERSION: u32 = 7;
 const OLDEST: u32 = 2;
 
 fn oldest() -> u32 {
@@ -358,7 +359,7 @@ fn without(payload: &[u8], removed: &HashSet<StoreName>) -> Vec<u8> {
     for line in payload.split_inclusive(|byte| *byte == b'\n') {
         let record = Record::read(line.strip_suffix(b"\n").unwrap_or(line));
         let name = record.and_then(|record| record.store_name());
-        if !name.is_some_and(|name| removed.contains(&name)) {
+        if !name.is_some_and(|name| name.is_among(removed)) {
             kept.extend_from_slice(line);
         }
     }

@@ -272,6 +272,7 @@ impl Conversion {
                     id: Some(old_message_id(&queue.mark, queue.sends)),
                     of: None,
                     sent: clock,
+                    due: None,
                     dedup: Some(message.dedup),
                     group: None,
                     sender: None,

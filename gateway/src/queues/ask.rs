@@ -1,6 +1,6 @@
 //! What is asked of the store, and what comes of it.
 
-use std::collections::BTreeMap;
+use std::collections::{BTreeMap, HashSet};
 use std::sync::Arc;
 
 use serde::{Deserialize, Serialize};
@@ -15,12 +15,16 @@ use crate::moves::Origin;
 use crate::texts::{AttemptId, DedupId, GroupId, QueueName};
 
 /// The name under which a queue stands in the store: a number, and another one each time. Queues that have the parts of
-/// large messages have numbers of their own.
+/// large messages have numbers of their own, and one that has what is delayed has that of the queue beside which it
+/// stands.
 #[derive(Clone, Copy, Debug, PartialEq, Eq, Hash, PartialOrd, Ord)]
 pub struct StoreName(pub u64);
 
 /// Of the numbers of names that are for parts.
 const PARTS: u64 = 1 << 63;
+
+/// Of those that are for what is delayed.
+const DELAYS: u64 = 1 << 62;
 
 impl StoreName {
     /// The name of a queue that has the parts of one message, by its number.
@@ -33,19 +37,36 @@ impl StoreName {
         (self.0 & PARTS > 0).then_some(self.0 & !PARTS)
     }
 
+    /// The name of the queue that has what is delayed of this one.
+    pub fn of_delays(self) -> StoreName {
+        StoreName(DELAYS | self.0)
+    }
+
+    /// The name of the queue of which it has what is delayed, if it has that of one.
+    pub fn main(self) -> Option<StoreName> {
+        (self.0 & (PARTS | DELAYS) == DELAYS).then_some(StoreName(self.0 & !DELAYS))
+    }
+
+    /// Whether it went with one of these names: what is delayed goes with its queue.
+    pub fn is_among(self, removed: &HashSet<StoreName>) -> bool {
+        removed.contains(&self) || self.main().is_some_and(|main| removed.contains(&main))
+    }
+
     /// The name as the store's rules want it.
     pub fn text(self) -> String {
-        match self.parts() {
-            Some(number) => format!("b{number}.fifo"),
-            None => format!("{}.fifo", self.0),
+        match (self.parts(), self.main()) {
+            (Some(number), _) => format!("b{number}.fifo"),
+            (None, Some(main)) => format!("{}d.fifo", main.0),
+            (None, None) => format!("{}.fifo", self.0),
         }
     }
 
     pub fn parse(text: &str) -> Option<StoreName> {
         let number = text.strip_suffix(".fifo")?;
-        let name = match number.strip_prefix('b') {
-            Some(number) => StoreName::of_parts(number.parse().ok()?),
-            None => StoreName(number.parse().ok()?),
+        let name = match (number.strip_prefix('b'), number.strip_suffix('d')) {
+            (Some(number), _) => StoreName::of_parts(number.parse().ok()?),
+            (None, Some(number)) => StoreName(number.parse().ok()?).of_delays(),
+            (None, None) => StoreName(number.parse().ok()?),
         };
         Some(name).filter(|name| name.text() == text)
     }
@@ -135,14 +156,6 @@ impl Ask {
             other => other,
         }
     }
-
-    /// Which message is due, if this sends one that is.
-    pub fn due(&self) -> Option<Uuid> {
-        match self {
-            Ask::Send { cause, .. } => cause.due(),
-            _ => None,
-        }
-    }
 }
 
 /// Which messages a receive may be handed. Whoever names some has the queue to itself, and asks for no more than the
@@ -190,21 +203,11 @@ pub enum Cause {
     Client,
     /// It is moved here, and this is the message that it copies.
     Move(Origin),
-    /// The delay of the message of this id is over.
-    Due(Uuid),
+    /// It is delayed, and a record of an older journal has it, by this id.
+    Older(Uuid),
 }
 
-impl Cause {
-    /// Which message is due, if one is.
-    pub fn due(self) -> Option<Uuid> {
-        match self {
-            Cause::Due(id) => Some(id),
-            Cause::Client | Cause::Move(_) => None,
-        }
-    }
-}
-
-/// A delayed message of a standard queue. The store has it from when it is due on.
+/// A delayed message of a standard queue, as a journal up to version 6 has it in a record of its own.
 #[derive(Clone, Debug, PartialEq, Eq, Serialize, Deserialize)]
 pub struct Delayed {
     pub id: Uuid,
@@ -227,6 +230,14 @@ pub struct Creation {
     /// Of a queue that was there before under another name of the store.
     #[serde(default, skip_serializing_if = "Option::is_none")]
     pub before: Option<Before>,
+}
+
+impl Creation {
+    /// That of a queue of which nothing is said.
+    pub fn plain(name: QueueName, mark: u64) -> Creation {
+        let attributes = QueueAttributes::defaults(name.kind());
+        Creation { name, mark, attributes, tags: BTreeMap::new(), before: None }
+    }
 }
 
 /// What a queue was before it went over to another name of the store.
@@ -254,7 +265,7 @@ pub enum TableChange {
     Purged,
     /// How a task stands that moves messages.
     Task(MoveTask),
-    /// A message was sent with a delay.
+    /// A message was sent with a delay, in journals up to version 6.
     Delayed(Arc<Delayed>),
 }
 
@@ -293,10 +304,6 @@ pub enum Outcome {
     Sent {
         sequence: u64,
         id: Option<Uuid>,
-    },
-    /// A message with a delay is kept; the id is that of the first send where this one repeats it.
-    Delayed {
-        id: Uuid,
     },
     /// `openings` counts what happened to the queue by then that can open a group.
     Received {

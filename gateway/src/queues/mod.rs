@@ -10,20 +10,20 @@ mod tests;
 
 use std::collections::{BTreeMap, HashMap};
 use std::sync::atomic::{AtomicU64, Ordering};
-use std::sync::{Arc, Mutex, MutexGuard, OnceLock, PoisonError, RwLock};
+use std::sync::{Arc, Mutex, MutexGuard, OnceLock, PoisonError, RwLock, Weak};
 
 use tokio::sync::Notify;
 
-use crate::attributes::{GivenAttributes, QueueAttributes};
 use crate::clock::Moment;
 use crate::delays::Alarms;
 use crate::errors::SqsError;
 use crate::handles::{Handle, Mark, Receipt};
 use crate::lines::StoreReply;
+use crate::messages::{message_id, own_id};
 use crate::moves::Copies;
 use crate::polling::Polls;
 use crate::retention::Jumps;
-use crate::texts::QueueName;
+use crate::texts::{QueueKind, QueueName};
 use ask::{Ask, Cause, Creation, Outcome, StoreName, TableChange};
 pub use parts::Parts;
 pub use state::{bytes_of_queue, Chunk, Cursor, Peeked, State, Visibility, WINDOW};
@@ -40,6 +40,10 @@ pub struct Queue {
     /// Told when something happened that can open a group.
     pub opened: Notify,
     pub polls: Polls,
+    /// Of a standard queue: the one beside it, which has what is delayed, once there was something.
+    delays: Mutex<Option<Arc<Queue>>>,
+    /// Of such a queue: the one beside which it stands.
+    main: Option<Weak<Queue>>,
 }
 
 impl Queue {
@@ -51,7 +55,56 @@ impl Queue {
             state: Mutex::new(State::new(store, creation, now)),
             opened: Notify::new(),
             polls: Polls::default(),
+            delays: Mutex::new(None),
+            main: None,
         }
+    }
+
+    /// The queue for what is delayed of a standard one that has this name in the store, and its creation.
+    ///
+    /// Its mark follows from the other's: it is made as a MessageId is, of a number that no message has.
+    pub fn beside(main: &Arc<Queue>, store: StoreName) -> (Queue, Ask) {
+        let store = store.of_delays();
+        let (mark, _) = message_id(main.mark, store.0).as_u64_pair();
+        let creation = Creation::plain(main.name.clone(), mark);
+        let queue = Queue { main: Some(Arc::downgrade(main)), ..Queue::new(store, &creation, 0) };
+        (queue, Ask::Create { store, visibility: 0, creation: Arc::new(creation) })
+    }
+
+    fn delays_slot(&self) -> MutexGuard<'_, Option<Arc<Queue>>> {
+        self.delays.lock().unwrap_or_else(PoisonError::into_inner)
+    }
+
+    /// The queue beside this one, which has what is delayed, if there is one.
+    pub fn delays(&self) -> Option<Arc<Queue>> {
+        self.delays_slot().clone()
+    }
+
+    /// The queue beside which this one stands, if it stands beside one that is there.
+    pub fn main(&self) -> Option<Arc<Queue>> {
+        self.main.as_ref()?.upgrade()
+    }
+
+    /// Whether it has what is delayed of a queue that goes without it.
+    pub fn is_left_over(&self) -> bool {
+        let is_of = |main: Arc<Queue>| main.delays().is_some_and(|delays| delays.mark == self.mark);
+        self.main.is_some() && (self.state().removed || !self.main().is_some_and(is_of))
+    }
+
+    /// How many messages are visible, in flight and delayed, by the counts of the store.
+    pub fn counts(&self, visible: u64, in_flight: u64, now: Moment) -> [u64; 3] {
+        if self.name.kind() == QueueKind::Fifo {
+            let delayed = self.state().count_delayed(now).min(visible);
+            return [visible - delayed, in_flight, delayed];
+        }
+        let [all, due] = self.delays().map_or([0, 0], |delays| delays.state().count_due(now));
+        [visible + due, in_flight, all - due + self.state().count_older_delayed()]
+    }
+
+    /// How many delayed messages can't be sent.
+    pub fn count_set_aside(&self) -> u64 {
+        let of_delays = self.delays().map_or(0, |delays| delays.state().count_set_aside());
+        of_delays + self.state().count_older_delayed()
     }
 
     /// What is known of it. Whoever holds this does nothing else meanwhile.
@@ -99,10 +152,7 @@ impl Queues {
         if let Some(queue) = self.of_parts.get() {
             return Some(queue.clone());
         }
-        let name = QueueName::parse("parts.fifo")?;
-        let attributes =
-            QueueAttributes::for_creation(name.kind(), &GivenAttributes::read(name.kind(), &[]).ok()?).ok()?;
-        let creation = Creation { name, mark: 0, attributes, tags: BTreeMap::new(), before: None };
+        let creation = Creation::plain(QueueName::parse("parts.fifo")?, 0);
         Some(self.of_parts.get_or_init(|| Arc::new(Queue::new(StoreName(0), &creation, 0))).clone())
     }
 
@@ -145,6 +195,11 @@ impl Queues {
         self.by_name.read().unwrap_or_else(PoisonError::into_inner).values().cloned().collect()
     }
 
+    /// The same, and the queues beside them that have what is delayed.
+    pub fn all_and_delays(&self) -> Vec<Arc<Queue>> {
+        self.all().into_iter().flat_map(|queue| [queue.delays(), Some(queue)]).flatten().collect()
+    }
+
     /// Up to `most` names behind `after` that begin with `prefix` and that `sees` lets through, in order, and whether
     /// there are more.
     pub fn page(
@@ -178,6 +233,7 @@ impl Queues {
 
     /// From now on this name of the store counts as used.
     pub fn saw_store_name(&self, name: StoreName) {
+        let name = name.main().unwrap_or(name);
         match name.parts() {
             Some(number) => self.parts.saw_number(number),
             None => drop(self.last_store_name.fetch_max(name.0, Ordering::Relaxed)),
@@ -205,7 +261,12 @@ impl Queues {
         match ask {
             Ask::Create { .. } => self.insert(queue),
             Ask::Remove { name: Some(name), .. } => self.remove(queue, name, moment),
-            Ask::Send { cause: Cause::Move(origin), .. } => self.copies.mark_copied(*origin),
+            Ask::Send { cause: Cause::Move(origin), .. } => {
+                self.copies.mark_copied(*origin);
+                if let Some(delays) = queue.delays().filter(|delays| delays.mark.0 == origin.mark) {
+                    delays.state().has_copy(origin.sequence);
+                }
+            }
             _ => {}
         }
         match (ask, applied.parts) {
@@ -216,14 +277,37 @@ impl Queues {
         if applied.opened {
             queue.opened.notify_one();
         }
-        Ok((applied.outcome, applied.changed))
+        let outcome = match (queue.main(), ask) {
+            (Some(main), Ask::Send { .. }) => self.delayed(queue, &main, ask, applied.outcome, moment),
+            _ => applied.outcome,
+        };
+        Ok((outcome, applied.changed))
+    }
+
+    /// A message was sent to the queue beside `main`: others find it by its call, and it is due some day.
+    fn delayed(&self, delays: &Arc<Queue>, main: &Queue, ask: &Ask, outcome: Outcome, moment: Moment) -> Outcome {
+        let (Ask::Send { dedup, envelope, cause, .. }, Outcome::Sent { sequence, id }) = (ask, &outcome) else {
+            return outcome;
+        };
+        let told = id.unwrap_or_else(|| message_id(delays.mark, *sequence));
+        self.counted(main, |state| {
+            if let Some(id) = own_id(envelope.whole()) {
+                state.forget_older(id);
+            }
+            if *cause == Cause::Client {
+                state.remember_delayed(dedup, told, moment);
+            }
+            state.last_send = moment;
+        });
+        self.alarms.set_next(delays);
+        Outcome::Sent { sequence: *sequence, id: Some(told) }
     }
 
     /// Applies a change of which the store knows nothing. The second value says whether the journal has to know.
     pub fn apply_change(&self, queue: &Arc<Queue>, change: &TableChange, moment: Moment) -> (Outcome, bool) {
         let applied = self.counted(queue, |state| state.apply_change(change, moment));
-        if matches!(change, TableChange::Delayed(_)) {
-            self.alarms.set_next(queue);
+        if let (TableChange::Purging(_) | TableChange::Purged, Some(delays)) = (change, queue.delays()) {
+            delays.state().purge_with(matches!(change, TableChange::Purging(_)));
         }
         if applied.opened {
             queue.opened.notify_one();
@@ -248,7 +332,7 @@ impl Queues {
 
     /// Takes out of the count what counts no more at this moment. Takes time in proportion to the number of queues.
     pub fn look_at_ages(&self, now: Moment) {
-        for queue in self.all() {
+        for queue in self.all_and_delays() {
             self.counted(&queue, |state| state.look_at_ages(now));
         }
     }
@@ -259,6 +343,12 @@ impl Queues {
     }
 
     fn insert(&self, queue: &Arc<Queue>) {
+        if let Some(main) = queue.main() {
+            *main.delays_slot() = Some(queue.clone());
+            self.bytes_in_use.fetch_add(queue.state().bytes_of_all(), Ordering::Relaxed);
+            return;
+        }
+        self.let_delays_go(queue);
         let mut queues = self.by_name.write().unwrap_or_else(PoisonError::into_inner);
         let earlier = queues.insert(queue.name.clone(), queue.clone());
         // One that goes over to another name in the store is counted already.
@@ -268,9 +358,7 @@ impl Queues {
     }
 
     fn remove(&self, queue: &Arc<Queue>, name: &QueueName, moment: Moment) {
-        self.counted(queue, |state| state.removed = true);
-        let parts = queue.state().take_parts();
-        parts.into_iter().for_each(|number| self.parts.unname(number));
+        self.take_out(queue);
         let mut queues = self.by_name.write().unwrap_or_else(PoisonError::into_inner);
         queues.remove(name);
         drop(queues);
@@ -279,12 +367,31 @@ impl Queues {
 
     /// This queue isn't there, whatever has the name by now.
     pub fn forget(&self, queue: &Arc<Queue>) {
-        self.counted(queue, |state| state.removed = true);
-        let parts = queue.state().take_parts();
-        parts.into_iter().for_each(|number| self.parts.unname(number));
+        self.take_out(queue);
         let mut queues = self.by_name.write().unwrap_or_else(PoisonError::into_inner);
         if queues.get(&queue.name).is_some_and(|found| Arc::ptr_eq(found, queue)) {
             queues.remove(&queue.name);
+        }
+    }
+
+    /// A queue is removed, and with it what is delayed of it.
+    fn take_out(&self, queue: &Queue) {
+        for queue in queue.delays().iter().map(Arc::as_ref).chain([queue]) {
+            let parts = self.counted(queue, State::take_out);
+            parts.into_iter().for_each(|number| self.parts.unname(number));
+        }
+    }
+
+    /// A queue that goes over to another name in the store leaves the one beside it behind: nothing is in that one, and
+    /// it goes with the earlier name.
+    fn let_delays_go(&self, queue: &Queue) {
+        let own = queue.state().store.of_delays();
+        let Some(delays) = queue.delays() else { return };
+        let store = delays.state().store;
+        if store != own {
+            *queue.delays_slot() = None;
+            self.counted(&delays, State::take_out);
+            queue.state().earlier.push(store);
         }
     }
 

@@ -40,7 +40,6 @@ impl Entries {
 pub struct Parts {
     entries: Mutex<Entries>,
     some_freed: Notify,
-    alone: tokio::sync::Mutex<()>,
 }
 
 impl Parts {
@@ -53,11 +52,6 @@ impl Parts {
         let (mut entries, count) = (self.entries(), u64::from(shards.count()));
         entries.last_number = (entries.last_number / count + 1) * count + place as u64;
         entries.last_number
-    }
-
-    /// Keeps others waiting that put parts of messages that are due, since these may be the same ones.
-    pub async fn alone(&self) -> tokio::sync::MutexGuard<'_, ()> {
-        self.alone.lock().await
     }
 
     /// From now on this number counts as used.

@@ -341,13 +341,30 @@ fn what_is_handed_out_is_that_of_a_list_with_delays() {
 
 #[test]
 fn names_of_the_store_come_back() {
-    for (name, text) in [(StoreName(7), "7.fifo"), (StoreName::of_parts(7), "b7.fifo")] {
+    let names = [
+        (StoreName(7), "7.fifo", None, None),
+        (StoreName::of_parts(7), "b7.fifo", Some(7), None),
+        (StoreName(7).of_delays(), "7d.fifo", None, Some(StoreName(7))),
+    ];
+    for (name, text, parts, main) in names {
         assert_eq!((name.text().as_str(), StoreName::parse(text)), (text, Some(name)));
+        assert_eq!((name.parts(), name.main()), (parts, main), "{text}");
     }
-    assert_eq!((StoreName(7).parts(), StoreName::of_parts(7).parts()), (None, Some(7)));
-    for bad in
-        ["b.fifo", "b07.fifo", "7", "bb7.fifo", "9223372036854775815.fifo", "b9223372036854775815.fifo", "-7.fifo"]
-    {
+    for bad in [
+        "b.fifo",
+        "b07.fifo",
+        "7",
+        "bb7.fifo",
+        "9223372036854775815.fifo",
+        "b9223372036854775815.fifo",
+        "-7.fifo",
+        "d.fifo",
+        "07d.fifo",
+        "b7d.fifo",
+        "7dd.fifo",
+        "4611686018427387911.fifo",
+        "4611686018427387911d.fifo",
+    ] {
         assert_eq!(StoreName::parse(bad), None, "{bad}");
     }
 }

@@ -45,7 +45,7 @@ impl Admission {
             // What is moved goes from where it was, and what is due was counted before.
             Ask::Send { .. } => return Ok(0),
             Ask::Parts { ask: PartsAsk::Add(PartsCause::Client, _, text), .. } => text.len() as u64,
-            Ask::Create { creation, .. } if creation.before.is_none() => {
+            Ask::Create { store, creation, .. } if creation.before.is_none() && store.main().is_none() => {
                 bytes_of_queue(&creation.attributes, &creation.tags)
             }
             _ => return Ok(0),
@@ -56,7 +56,6 @@ impl Admission {
     /// Lets a change pass that the gateway alone keeps, as `admit` does an ask.
     pub fn admit_change(&self, queue: &Queue, change: &TableChange, now: Moment) -> Result<u64, SqsError> {
         match change {
-            TableChange::Delayed(message) => self.admit_bytes(message.envelope.len() as u64 + MESSAGE_BYTES, now),
             // A queue of ordinary size stays what operators can change, so that memory comes free by other attributes.
             TableChange::Tag(_) | TableChange::Attributes(_) => match queue.state().growth(change) {
                 (_, whole) if whole <= ORDINARY => Ok(0),

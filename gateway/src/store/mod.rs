@@ -58,6 +58,8 @@ impl From<oneshot::Sender<Answers>> for AnswerSender {
 pub enum Operation {
     /// The program does it.
     Ask(Ask),
+    /// The program does it to the queue beside this one, which has what is delayed.
+    AskBeside(Ask),
     /// A change of what the gateway alone keeps.
     Change(TableChange),
     /// Counts visible messages and those in flight.
@@ -232,6 +234,11 @@ impl Store {
         self.submit(queue, operations, false, Some(share)).await
     }
 
+    /// The answers to asks of the queue beside this one, which has what is delayed.
+    pub async fn ask_all_beside(&self, queue: &Arc<Queue>, asks: Vec<Ask>) -> Vec<Answer> {
+        self.submit(queue, asks.into_iter().map(Operation::AskBeside).collect(), false, None).await
+    }
+
     /// How many messages of the queue are visible and how many in flight, at this moment.
     pub async fn count(&self, queue: &Arc<Queue>) -> Answer {
         self.submit_one(queue, Operation::Count).await
@@ -280,6 +287,22 @@ impl Store {
         self.hold_by(queue, Operation::HoldForMove).await
     }
 
+    /// The same for a queue and the one beside it, which has what is delayed. That one comes first: whoever moves messages
+    /// out of it has it, and waits for the other.
+    pub async fn hold_all(&self, queue: &Arc<Queue>) -> Result<(Option<Held>, Held), SqsError> {
+        loop {
+            let delays = queue.delays();
+            let held_delays = match &delays {
+                Some(delays) => Some(self.hold(delays).await?),
+                None => None,
+            };
+            let held = self.hold(queue).await?;
+            if queue.delays().map(|delays| delays.mark) == delays.map(|delays| delays.mark) {
+                return Ok((held_delays, held));
+            }
+        }
+    }
+
     async fn hold_by(&self, queue: &Arc<Queue>, operation: Operation) -> Result<Held, SqsError> {
         self.submit_one(queue, operation).await?;
         Ok(Held { store: self.clone(), queue: queue.clone() })
@@ -301,6 +324,10 @@ pub struct Held {
 }
 
 impl Held {
+    pub fn queue(&self) -> &Arc<Queue> {
+        &self.queue
+    }
+
     pub async fn ask_all(&self, asks: Vec<Ask>) -> Vec<Answer> {
         self.store.submit(&self.queue, asks.into_iter().map(Operation::from).collect(), true, None).await
     }
@@ -311,11 +338,16 @@ impl Held {
 
     /// Hands messages to the gateway, as far as they are the next ones of the queue, and hides none of them.
     pub async fn take(&self, next: Vec<u64>) -> Result<Vec<Handed>, SqsError> {
+        self.take_and_hide(next, 0).await
+    }
+
+    /// The same, and hides them for so many seconds.
+    pub async fn take_and_hide(&self, next: Vec<u64>, visibility: u32) -> Result<Vec<Handed>, SqsError> {
         if next.is_empty() {
             return Ok(Vec::new());
         }
         let (size, named) = (next.len() as u8, next.clone());
-        let ask = Ask::Receive { size, visibility: 0, attempt: None, most: None, reach: Reach::Own(next) };
+        let ask = Ask::Receive { size, visibility, attempt: None, most: None, reach: Reach::Own(next) };
         let Outcome::Received { mut handed, .. } = self.ask(ask).await? else { return Ok(Vec::new()) };
         // Nothing else is handed out, and whatever it were, it isn't the gateway's.
         handed.retain(|handed| named.contains(&handed.receipt.sequence));

@@ -228,7 +228,7 @@ impl Replay {
             tables.clock.go_on_from(record.clock);
             tables.queues.saw_store_name(store);
         }
-        if self.skipped.contains(&store) {
+        if store.is_among(&self.skipped) {
             self.remember_passed(&record, store);
             if let (Some(tables), Some(name)) = (&self.tables, &record.removed) {
                 if self.shard.has(name) {
@@ -284,6 +284,7 @@ impl Replay {
         if let Some(number) = store.parts() {
             return Some(self.shard.has_parts(number));
         }
+        let store = store.main().unwrap_or(store);
         if let Some(creation) = &record.creation {
             self.own.insert(store, self.shard.has(&creation.name));
         }
@@ -298,6 +299,13 @@ impl Replay {
     fn ask_of(&mut self, record: &Record<'_>, fields: AskFields<'_>, store: StoreName) -> Option<(Arc<Queue>, Ask)> {
         if let (Some(number), Some(tables)) = (store.parts(), &self.tables) {
             return Some((tables.queues.of_parts()?, record.to_parts_ask(&fields, number)?));
+        }
+        if let (AskKind::Create, Some(main)) = (fields.kind, store.main()) {
+            let (queue, ask) = Queue::beside(self.queues.get(&main)?, main);
+            let queue = Arc::new(queue);
+            self.queues.insert(store, queue.clone());
+            self.bases.insert(store, 0);
+            return Some((queue, ask));
         }
         if fields.kind == AskKind::Create {
             let creation = record.creation.as_ref()?;
@@ -362,7 +370,7 @@ impl Replay {
             if let (true, Some(tables)) = (is_gone, &self.tables) {
                 tables.queues.forget(queue);
             }
-            if is_gone || queue.state().earlier.contains(name) {
+            if is_gone || queue.is_left_over() || queue.state().earlier.contains(name) {
                 left.push((*name, queue.clone()));
             }
         }

@@ -4,11 +4,13 @@ use std::sync::Arc;
 
 use uuid::Uuid;
 
+use super::delayed::First;
 use super::message::Message;
 use super::State;
 use crate::clock::Moment;
-use crate::queues::ask::Delayed;
-use crate::texts::{DedupId, QueueKind};
+use crate::handles::Receipt;
+use crate::queues::ask::{Delayed, Outcome};
+use crate::texts::DedupId;
 
 impl State {
     pub(super) fn set_delay(&mut self, delay: u64) {
@@ -36,53 +38,78 @@ impl State {
         self.messages.look_for_due(|message| message.sent + delay <= now)
     }
 
-    /// The first messages of a standard queue whose delay is over and that the store doesn't have, at most so many.
-    pub fn delayed_and_due(&self, now: Moment, most: usize) -> Vec<Arc<Delayed>> {
-        self.delayed.due(now, most)
+    /// The first messages that are due and have no copy yet, in the order in which they are due, at most so many. Of a
+    /// queue beside a standard one.
+    pub fn due(&self, now: Moment, most: usize) -> Vec<u64> {
+        self.due.due(now, most)
     }
 
-    /// The store has refused a delayed message. It is tried again at `next`, or not any more: then this is true.
-    pub fn refused_delayed(&mut self, id: Uuid, next: Moment) -> bool {
-        self.delayed.refused(id, next)
+    /// The last receipts of those of these messages that are hidden.
+    pub fn receipts_of_hidden(&self, these: &[u64], now: Moment) -> Vec<Receipt> {
+        let is_hidden = |sequence: &u64| self.messages.get(*sequence).is_some_and(|message| message.until() > now);
+        these.iter().filter(|sequence| is_hidden(sequence)).filter_map(|one| self.last_receipt_of(*one)).collect()
     }
 
-    /// How many delayed messages the store refuses, so that they aren't tried before the next start.
+    /// A message has a copy in the queue beside this one.
+    pub fn has_copy(&mut self, sequence: u64) {
+        self.due.remove(sequence);
+    }
+
+    /// A due message couldn't be moved. It is tried again at `next`, or not any more: then this is true.
+    pub fn refused_due(&mut self, sequence: u64, next: Moment) -> bool {
+        self.due.refused(sequence, next)
+    }
+
+    /// How many delayed messages can't be moved, so that they aren't tried before the next start.
     pub fn count_set_aside(&self) -> u64 {
-        self.delayed.count_set_aside() as u64
+        self.due.count_set_aside() as u64
     }
 
-    /// The delayed message of the last five minutes that this call sent.
-    pub fn delayed_by(&mut self, call: &DedupId, now: Moment) -> Option<Uuid> {
-        self.delayed.first_of(call, now)
+    /// How many delayed messages there are, and how many of these are due.
+    pub fn count_due(&self, now: Moment) -> [u64; 2] {
+        self.due.count(now).map(|count| count as u64)
     }
 
     /// When somebody has to look for messages that are due, if nobody does by then.
     pub fn next_alarm(&mut self) -> Option<Moment> {
-        self.delayed.next_alarm()
+        self.due.next_alarm()
     }
 
     /// An alarm has come.
     pub fn forget_alarm(&mut self) {
-        self.delayed.forget_alarm();
+        self.due.forget_alarm();
     }
 
-    /// Whether this message was sent to a standard queue with a delay, and the store doesn't have it.
-    pub fn is_delayed(&self, id: Uuid) -> bool {
-        self.delayed.has(id)
+    /// Delayed messages that an older journal has and the store hasn't, in the order of their sends.
+    pub fn older_delayed(&self) -> Vec<Arc<Delayed>> {
+        self.older.in_order()
     }
 
-    /// How many messages are visible, in flight and delayed, by the counts of the store.
-    pub fn counts(&mut self, visible: u64, in_flight: u64, now: Moment) -> [u64; 3] {
-        match self.kind {
-            QueueKind::Fifo => {
-                let delayed = self.count_delayed(now).min(visible);
-                [visible - delayed, in_flight, delayed]
-            }
-            QueueKind::Standard => {
-                let [all, due] = self.delayed.count(now).map(|count| count as u64);
-                [visible + due, in_flight, all - due]
-            }
-        }
+    /// Whether it has this one.
+    pub fn has_older(&self, id: Uuid) -> bool {
+        self.older.has(id)
+    }
+
+    pub fn count_older_delayed(&self) -> u64 {
+        self.older.count() as u64
+    }
+
+    /// The store has the delayed message of this id.
+    pub fn forget_older(&mut self, id: Uuid) {
+        self.older.remove(id);
+    }
+
+    /// This call has sent a message with a delay.
+    pub fn remember_delayed(&mut self, call: &DedupId, id: Uuid, moment: Moment) {
+        self.calls.remember(call, First::Delayed(id), moment);
+    }
+
+    /// What this call has sent in the last five minutes, with a delay or without.
+    pub fn sent_by(&mut self, call: &DedupId, now: Moment) -> Option<Outcome> {
+        Some(match self.calls.find(call, now)? {
+            First::Delayed(id) => Outcome::Sent { sequence: 0, id: Some(id) },
+            First::Stored(sequence) => Outcome::Sent { sequence, id: self.own_id(sequence) },
+        })
     }
 
     /// How many messages of the store are neither due nor in flight.

@@ -18,23 +18,21 @@ use std::sync::Arc;
 
 use uuid::Uuid;
 
-use super::ask::{
-    Ask, Before, Cause, Changer, Creation, Delayed, Fate, Handed, Outcome, Reach, StoreName, TableChange,
-};
+use super::ask::{Ask, Before, Cause, Changer, Creation, Fate, Handed, Outcome, Reach, StoreName, TableChange};
 use super::groups::{Group, Groups};
 use crate::attributes::QueueAttributes;
 use crate::clock::Moment;
 use crate::errors::SqsError;
-use crate::handles::{Mark, Receipt};
+use crate::handles::Receipt;
 use crate::limits::{ID_BYTES, MESSAGE_BYTES, QUEUE_BYTES};
 use crate::lines::{read_receipt, StoreMessage, StoreReply};
-use crate::messages::{has_parts, message_id, own_id, Envelope, EnvelopeHead};
+use crate::messages::{has_parts, own_id, Envelope, EnvelopeHead};
 use crate::move_tasks::{self, MoveTask, Status};
 use crate::redrive::RedrivePolicy;
 use crate::retention::Jumps;
 use crate::texts::{AttemptId, GroupId, QueueKind};
 use attempts::{Attempt, Attempts};
-use delayed::{DelayedMessages, First};
+use delayed::{Calls, DueMessages, First, OlderDelayed};
 use message::{Handing, Message, Messages};
 pub use peek::{Chunk, Cursor, Peeked, Visibility};
 use uncounted::UncountedHandings;
@@ -61,7 +59,6 @@ struct Receiving<'a> {
 #[derive(Debug)]
 pub struct State {
     kind: QueueKind,
-    mark: Mark,
     pub store: StoreName,
     /// Names that it had in the store before, and that the store has still.
     pub earlier: Vec<StoreName>,
@@ -106,8 +103,11 @@ pub struct State {
     uncounted: UncountedHandings,
     /// All messages up to this one are being deleted.
     purging: Option<u64>,
+    /// Of a queue beside a standard one.
+    due: DueMessages,
     /// Of a standard queue.
-    delayed: DelayedMessages,
+    older: OlderDelayed,
+    calls: Calls,
     /// How many openings there were at a sweep that found nothing to delete, and when the next timeout ended.
     vain_sweep: Option<(u64, Option<Moment>)>,
 }
@@ -149,7 +149,6 @@ impl State {
         let delay = delay_of_all(kind, &creation.attributes);
         State {
             kind,
-            mark: Mark(creation.mark),
             store,
             earlier: Vec::new(),
             base: before.base,
@@ -178,7 +177,9 @@ impl State {
             groups_needed: 0,
             uncounted: UncountedHandings::default(),
             purging: None,
-            delayed: DelayedMessages::default(),
+            due: DueMessages::default(),
+            older: OlderDelayed::default(),
+            calls: Calls::default(),
             vain_sweep: None,
         }
     }
@@ -213,14 +214,8 @@ impl State {
             }
             (Ask::Send { group, dedup, envelope, cause }, StoreReply::Sent(place)) => {
                 let applied = self.sent(group, envelope, *cause, place, moment)?;
-                match (cause, &applied.outcome) {
-                    (Cause::Due(id), _) => {
-                        self.delayed.remove(*id);
-                    }
-                    (Cause::Client, Outcome::Sent { sequence, .. }) if self.kind == QueueKind::Standard => {
-                        self.delayed.remember_call(dedup, *sequence, moment);
-                    }
-                    _ => {}
+                if *cause == Cause::Client && self.kind == QueueKind::Standard && self.store.main().is_none() {
+                    self.calls.remember(dedup, First::Stored(self.base + place), moment);
                 }
                 Ok(applied)
             }
@@ -266,12 +261,15 @@ impl State {
             _ => moment,
         };
         let (parts, bytes_of_parts) = head.as_ref().map_or((None, None), |head| (head.parts, head.bytes));
+        if let Some(due) = head.as_ref().and_then(|head| head.due) {
+            self.due.add(sequence, due);
+        }
         let source = head.and_then(|head| head.source).map(Arc::new);
         let id = match cause {
             // No client can repeat the gateway's own sends.
-            Cause::Move(_) | Cause::Due(_) => None,
-            // A replay knows by its id which message's delay was over.
-            Cause::Client => own_id(envelope.whole()).filter(|id| !self.delayed.remove(*id)),
+            Cause::Move(_) => None,
+            // An older journal has a delayed message in a record of its own, until it is due.
+            Cause::Client | Cause::Older(_) => own_id(envelope.whole()).filter(|id| !self.older.remove(*id)),
         };
         self.remember(moment, sequence, id);
         self.last_sequence = sequence;
@@ -322,11 +320,6 @@ impl State {
     fn own_id(&self, sequence: u64) -> Option<Uuid> {
         let place = self.own_ids.binary_search_by_key(&sequence, |(own, _)| *own).ok()?;
         self.own_ids.get(place).map(|(_, id)| *id)
-    }
-
-    /// The id that was told of this message.
-    fn told_id(&self, sequence: u64) -> Uuid {
-        self.own_id(sequence).unwrap_or_else(|| message_id(self.mark, sequence))
     }
 
     fn received(
@@ -395,6 +388,9 @@ impl State {
             }
             self.attempts.forget_with(receipt.sequence);
             self.uncounted.end(receipt.sequence, true);
+            if !self.due.is_empty() {
+                self.due.remove(receipt.sequence);
+            }
             self.envelope_bytes -= message.bytes;
             if self.messages.is_empty() {
                 self.longest_envelope = 0;
@@ -407,8 +403,10 @@ impl State {
         Applied { parts, ..Applied::done(true) }
     }
 
-    /// The parts of all messages, which are named no more.
-    pub fn take_parts(&mut self) -> Vec<u64> {
+    /// The queue is removed. Tells the parts of all messages, which are named no more.
+    pub fn take_out(&mut self) -> Vec<u64> {
+        self.removed = true;
+        self.due.clear();
         self.messages.take_parts()
     }
 
@@ -449,7 +447,14 @@ impl State {
     /// Applies a change of which the store knows nothing.
     pub fn apply_change(&mut self, change: &TableChange, moment: Moment) -> Applied {
         let applied = match change {
-            TableChange::Delayed(message) => self.delay_message(message, moment),
+            TableChange::Delayed(message) => {
+                if let Some(call) = &message.call {
+                    self.remember_delayed(call, message.id, moment);
+                }
+                self.older.add(message);
+                self.last_send = moment;
+                Applied::done(false)
+            }
             TableChange::Attributes(given) if !self.attributes.news_of(given).is_empty() => {
                 self.attributes.set(given);
                 self.redrive = self.attributes.redrive();
@@ -472,13 +477,13 @@ impl State {
             }
             TableChange::Purging(last) => {
                 (self.purging, self.purged) = (Some(*last), Some(moment));
-                self.delayed.clear();
+                self.older.clear();
                 Applied::done(false)
             }
             TableChange::Purged => {
                 self.purged = Some(moment);
                 if self.purging.take().is_none() {
-                    self.delayed.clear();
+                    self.older.clear();
                 }
                 Applied::done(false)
             }
@@ -492,14 +497,11 @@ impl State {
         applied
     }
 
-    fn delay_message(&mut self, message: &Arc<Delayed>, moment: Moment) -> Applied {
-        match self.delayed.add(message, moment) {
-            Some(First::Delayed(id)) => Applied::unchanged(Outcome::Delayed { id }),
-            Some(First::Stored(sequence)) => Applied::unchanged(Outcome::Delayed { id: self.told_id(sequence) }),
-            None => {
-                self.last_send = moment;
-                Applied { outcome: Outcome::Delayed { id: message.id }, ..Applied::done(false) }
-            }
+    /// All messages of this queue, which stands beside one that is being purged, are being deleted, or are by now.
+    pub fn purge_with(&mut self, purging: bool) {
+        self.purging = purging.then_some(self.last_sequence);
+        if purging {
+            self.due.clear();
         }
     }
 
@@ -526,7 +528,7 @@ impl State {
     pub fn look_at_ages(&mut self, now: Moment) {
         self.forget_old_sends(now);
         self.attempts.forget_old(now);
-        self.delayed.forget_old_calls(now);
+        self.calls.forget_old(now);
     }
 
     /// What the queue and its messages take of memory, in bytes; nothing once it is removed.
@@ -562,7 +564,8 @@ impl State {
             return 0;
         }
         let messages = MESSAGE_BYTES * self.messages.len() as u64;
-        self.envelope_bytes + self.attempts.bytes() + self.delayed.bytes() + messages + ID_BYTES * self.left_ids
+        let tables = self.attempts.bytes() + self.older.bytes() + self.calls.bytes();
+        self.envelope_bytes + tables + messages + ID_BYTES * self.left_ids
     }
 
     /// How many bytes a receive of `size` messages takes at most until it is answered: their envelopes, what is shown of
@@ -610,7 +613,7 @@ impl State {
 
     /// Whether the queue is empty and remembers no deduplication id.
     pub fn is_at_rest(&self, now: Moment) -> bool {
-        self.messages.is_empty() && self.delayed.is_empty() && self.last_send + WINDOW <= now
+        self.messages.is_empty() && self.older.count() == 0 && self.last_send + WINDOW <= now
     }
 
     /// How many records the queue has since it has its name in the store, at least.

@@ -2,13 +2,15 @@
 
 use std::sync::Arc;
 
+use super::delayed::Place;
 use super::message::Message;
 use super::{Applied, State};
 use crate::clock::Moment;
-use crate::queues::ask::{Ask, Delayed, Outcome};
+use crate::queues::ask::{Ask, Outcome};
+use crate::queues::Queue;
 
-/// Where a look goes on: behind a message that the store has, by its sequence number, or behind a delayed one that it
-/// doesn't have yet, by when that is due and which one it was of those that were added.
+/// Where a look goes on: behind a message by its sequence number, or behind a delayed one of a standard queue, by when
+/// that is due and its number in the queue where it stands.
 #[derive(Clone, Copy, Debug, PartialEq, Eq)]
 pub enum Cursor {
     Stored(u64),
@@ -27,35 +29,18 @@ pub enum Visibility {
     Delayed,
 }
 
-/// The whole envelope of a message.
-#[derive(Clone, Debug)]
-pub enum PeekedEnvelope {
-    Stored(Arc<str>),
-    Delayed(Arc<Delayed>),
-}
-
-impl From<PeekedEnvelope> for Arc<str> {
-    fn from(envelope: PeekedEnvelope) -> Arc<str> {
-        match envelope {
-            PeekedEnvelope::Stored(envelope) => envelope,
-            PeekedEnvelope::Delayed(message) => message.envelope.as_str().into(),
-        }
-    }
-}
-
 /// A message as it stands in its queue.
 #[derive(Clone, Debug)]
 pub struct Peeked {
     pub cursor: Cursor,
     pub visibility: Visibility,
-    /// 0 where the store doesn't have it yet.
     pub sequence: u64,
     /// The group by which the store has it.
     pub group: String,
     /// How often it was handed out to clients, and when for the first time.
     pub count: u64,
     pub first: Option<Moment>,
-    pub envelope: PeekedEnvelope,
+    pub envelope: Arc<str>,
 }
 
 /// A part of a queue's messages.
@@ -64,6 +49,17 @@ pub struct Chunk {
     pub peeked: Vec<Peeked>,
     /// Where to go on; nowhere where these were the last ones.
     pub next: Option<Cursor>,
+}
+
+impl Queue {
+    /// The next messages behind a cursor, at most `most`, and the queue where they stand. Takes time in proportion to
+    /// their number.
+    pub fn peek(self: &Arc<Queue>, after: Cursor, most: usize, now: Moment) -> (Arc<Queue>, Chunk) {
+        let beside = self.delays().filter(|_| matches!(after, Cursor::Delayed(..)));
+        let place = beside.unwrap_or_else(|| self.clone());
+        let chunk = place.state().peek(after, most, now);
+        (place, chunk)
+    }
 }
 
 impl State {
@@ -85,11 +81,10 @@ impl State {
         self.envelope_bytes += bytes;
     }
 
-    /// The next messages behind a cursor, at most `most`. Takes time in proportion to their number.
-    pub fn peek(&self, after: Cursor, most: usize, now: Moment) -> Chunk {
+    pub(super) fn peek(&self, after: Cursor, most: usize, now: Moment) -> Chunk {
         match after {
             Cursor::Stored(sequence) => self.peek_at_stored(sequence, most, now),
-            Cursor::Delayed(due, added) => self.peek_at_delayed((due, added), most, now),
+            Cursor::Delayed(due, sequence) => self.peek_at_delayed((due, sequence), most, now),
         }
     }
 
@@ -123,21 +118,23 @@ impl State {
             group: message.group_id.as_deref()?.into(),
             count: message.ordinal.saturating_sub(self.uncounted.count(sequence)),
             first: message.last.map(|last| last.first),
-            envelope: PeekedEnvelope::Stored(message.envelope.clone()?),
+            envelope: message.envelope.clone()?,
         })
     }
 
-    fn peek_at_delayed(&self, after: (Moment, u64), most: usize, now: Moment) -> Chunk {
-        let found: Vec<_> = self.delayed.behind(after).take(most).collect();
-        let next = found.last().filter(|_| found.len() == most).map(|((due, added), _)| Cursor::Delayed(*due, *added));
-        let peeked = found.into_iter().map(|((due, added), message)| Peeked {
-            cursor: Cursor::Delayed(due, added),
-            visibility: if due <= now { Visibility::Visible } else { Visibility::Delayed },
-            sequence: 0,
-            group: String::new(),
-            count: 0,
-            first: None,
-            envelope: PeekedEnvelope::Delayed(message.clone()),
+    fn peek_at_delayed(&self, after: Place, most: usize, now: Moment) -> Chunk {
+        let found: Vec<_> = self.due.behind(after).take(most).collect();
+        let next = found.last().filter(|_| found.len() == most).map(|(due, sequence)| Cursor::Delayed(*due, *sequence));
+        let peeked = found.into_iter().filter_map(|(due, sequence)| {
+            Some(Peeked {
+                cursor: Cursor::Delayed(due, sequence),
+                visibility: if due <= now { Visibility::Visible } else { Visibility::Delayed },
+                sequence,
+                group: String::new(),
+                count: 0,
+                first: None,
+                envelope: self.messages.get(sequence)?.envelope.clone()?,
+            })
         });
         Chunk { peeked: peeked.collect(), next }
     }

@@ -3,6 +3,8 @@
 use super::*;
 use crate::attributes::GivenAttributes;
 use crate::handles::Handle;
+use crate::queues::ask::Delayed;
+use crate::queues::{Queue, Queues};
 use crate::texts::{DedupId, QueueName};
 
 fn state() -> State {
@@ -159,28 +161,62 @@ fn send_standard(state: &mut State, place: u64, sent: Moment, cause: Cause, mome
     state.apply_reply(&ask, StoreReply::Sent(place), moment, &Jumps::default()).unwrap().outcome
 }
 
-fn delay(state: &mut State, id: u128, due: Moment, moment: Moment) -> bool {
-    let envelope = envelope(id, moment).into_whole();
-    let message = Delayed { id: Uuid::from_u128(id), due, call: None, envelope };
-    state.apply_change(&TableChange::Delayed(Arc::new(message)), moment).changed
+/// Sends a message that is due at some moment, as to the queue beside a standard one.
+fn delay(state: &mut State, place: u64, due: Moment, moment: Moment) {
+    let id = Uuid::from_u128(u128::from(place));
+    let envelope = Envelope::Whole(format!("{{\"id\":\"{id}\",\"sent\":{moment},\"due\":{due}}}\nbody"));
+    let ask =
+        Ask::Send { group: GroupId::of_message(id), dedup: DedupId::of_message(id), envelope, cause: Cause::Client };
+    let applied = state.apply_reply(&ask, StoreReply::Sent(place), moment, &Jumps::default()).unwrap();
+    state.keep_copy(&ask, &applied);
 }
 
 #[test]
-fn a_delayed_message_is_as_old_as_its_send() {
+fn a_delayed_message_is_due_until_it_has_a_copy() {
     let mut state = state_of("standard");
-    assert!(delay(&mut state, 1, 5000, 1000) && delay(&mut state, 2, 6000, 1000));
-    let delayed = state.bytes_in_use();
-    assert_eq!((state.counts(7, 8, 1000), state.is_at_rest(WINDOW + 5000)), ([7, 8, 2], false));
-    let due = |state: &State, now| state.delayed_and_due(now, 9).len();
-    assert_eq!((due(&state, 4999), due(&state, 5000), due(&state, 6000)), (0, 1, 2));
-    let id = Uuid::from_u128(1);
-    assert!(matches!(send_standard(&mut state, 1, 1000, Cause::Due(id), 5001), Outcome::Sent { .. }));
-    assert!(!state.is_delayed(id) && state.bytes_in_use() == delayed);
+    [(1, 5000), (2, 6000), (3, 7000)].into_iter().for_each(|(place, due)| delay(&mut state, place, due, 1000));
+    let due = |state: &State| [4999, 5000, 6000].map(|now| state.due(now, 9));
+    assert_eq!(due(&state), [vec![], vec![1], vec![1, 2]]);
+    assert_eq!((state.count_due(6000), state.is_at_rest(WINDOW + 5000)), ([3, 2], false));
+    state.has_copy(1);
+    assert_eq!((due(&state), state.count_due(6000)), ([vec![], vec![], vec![2]], [2, 1]));
+    delete(&mut state, 2, 6000);
+    assert_eq!((due(&state), state.count_due(9000), state.count()), ([vec![], vec![], vec![]], [1, 1], 2));
+    state.purge_with(true);
+    assert_eq!((state.purging(), state.count_due(9000), state.next_up_to(3, 9, 9000)), (Some(3), [0, 0], vec![1, 3]));
+    state.purge_with(false);
+    assert_eq!(state.purging(), None);
+}
+
+#[test]
+fn a_delayed_message_of_an_older_journal_is_there_until_the_store_has_it() {
+    let call = DedupId::of_call(&[0; 32], None);
+    let mut state = state_of("standard");
+    let empty = state.bytes_in_use();
+    for id in 1..=3 {
+        let envelope = envelope(id, 1000).into_whole();
+        let call = (id == 3).then(|| call.clone());
+        let message = Delayed { id: Uuid::from_u128(id), due: 5000, call, envelope };
+        assert!(state.apply_change(&TableChange::Delayed(Arc::new(message)), 1000).changed);
+    }
+    let ids = |state: &State| state.older_delayed().iter().map(|one| one.id.as_u128()).collect::<Vec<_>>();
+    assert_eq!((ids(&state), state.is_at_rest(WINDOW + 5000)), (vec![1, 2, 3], false));
+    // That version sent it itself, when it was due.
+    send_standard(&mut state, 1, 1000, Cause::Client, 5001);
+    state.forget_older(Uuid::from_u128(2));
+    assert_eq!(ids(&state), [3]);
     let four_days = 345_600_000;
     assert!(state.has_old(&Jumps::default(), 1000 + four_days) && !state.has_old(&Jumps::default(), 999 + four_days));
-    state.apply_change(&TableChange::Purged, 5500);
-    assert_eq!((due(&state, 6000), state.counts(1, 0, 6000)), (0, [1, 0, 0]));
-    assert!(state.bytes_in_use() < delayed);
+    let id_of_call = |state: &mut State, now| match state.sent_by(&call, now) {
+        Some(Outcome::Sent { id, .. }) => id,
+        _ => None,
+    };
+    assert_eq!(id_of_call(&mut state, 999 + WINDOW), Some(Uuid::from_u128(3)));
+    state.apply_change(&TableChange::Purging(1), 5500);
+    assert_eq!((ids(&state), id_of_call(&mut state, 1000 + WINDOW)), (vec![], None));
+    delete(&mut state, 1, 6000);
+    state.look_at_ages(5001 + WINDOW);
+    assert_eq!(state.bytes_in_use(), empty);
 }
 
 fn given(places: std::ops::RangeInclusive<u64>) -> StoreReply {
@@ -295,7 +331,7 @@ fn send_and_keep(state: &mut State, place: u64, moment: Moment) {
 
 fn peek_at_all(state: &State, at_once: usize, now: Moment) -> Vec<Peeked> {
     let (mut seen, mut place) = (Vec::new(), Some(Cursor::FIRST));
-    while let Some(after) = place {
+    while let Some(after) = place.filter(|after| matches!(after, Cursor::Stored(_))) {
         let step = state.peek(after, at_once, now);
         assert!(step.peeked.len() <= at_once);
         seen.extend(step.peeked);
@@ -306,25 +342,34 @@ fn peek_at_all(state: &State, at_once: usize, now: Moment) -> Vec<Peeked> {
 
 #[test]
 fn looks_come_to_each_message_once_and_change_nothing() {
-    let mut state = state_of("standard");
-    (1..=5).for_each(|place| send_and_keep(&mut state, place, 10));
-    for (id, due) in [(6, 60), (7, 50), (8, 60)] {
-        assert!(delay(&mut state, id, due, 10));
-    }
-    let refused = [70, 80, 90].map(|next| state.refused_delayed(Uuid::from_u128(8), next));
+    let queue = Arc::new(Queue::new(StoreName(1), &Creation::plain(QueueName::parse("standard").unwrap(), 1), 0));
+    let (delays, create) = Queue::beside(&queue, StoreName(1));
+    let delays = Arc::new(delays);
+    Queues::default().apply_reply(&delays, &create, StoreReply::Created, 0).unwrap();
+    (1..=5).for_each(|place| send_and_keep(&mut queue.state(), place, 10));
+    [(1, 60), (2, 50), (3, 60)].into_iter().for_each(|(place, due)| delay(&mut delays.state(), place, due, 10));
+    let refused = [70, 80, 90].map(|next| delays.state().refused_due(3, next));
     assert_eq!(refused, [false, false, true]);
-    delete(&mut state, 2, 20);
-    receive(&mut state, 1, 30);
-    let bytes = state.bytes_in_use();
+    delete(&mut queue.state(), 2, 20);
+    receive(&mut queue.state(), 1, 30);
+    let bytes = queue.state().bytes_in_use();
     for at_once in 1..9 {
-        let seen = peek_at_all(&state, at_once, 55);
-        let ids = seen.iter().map(|one| own_id(&Arc::<str>::from(one.envelope.clone())).unwrap().as_u128());
-        assert_eq!(ids.collect::<Vec<_>>(), [1, 3, 4, 5, 7, 6, 8], "{at_once} at once");
-        let seen: Vec<_> = seen.iter().map(|one| (one.visibility, one.count, one.first)).collect();
+        let (mut seen, mut place) = (Vec::new(), Some(Cursor::FIRST));
+        while let Some(after) = place {
+            let (found_in, step) = queue.peek(after, at_once, 55);
+            assert!(step.peeked.len() <= at_once);
+            seen.extend(step.peeked.into_iter().map(|one| (found_in.mark, one)));
+            place = step.next;
+        }
+        let places: Vec<_> = seen.iter().map(|(mark, one)| (*mark == queue.mark, one.sequence)).collect();
+        let expected = [(true, 1), (true, 3), (true, 4), (true, 5), (false, 2), (false, 1), (false, 3)];
+        assert_eq!(places, expected, "{at_once} at once");
+        let seen: Vec<_> = seen.iter().map(|(_, one)| (one.visibility, one.count, one.first)).collect();
         let (visible, delayed) = ((Visibility::Visible, 0, None), (Visibility::Delayed, 0, None));
         assert_eq!(seen[..2], [(Visibility::InFlight, 1, Some(30)), visible]);
         assert_eq!(seen[2..], [visible, visible, visible, delayed, delayed]);
     }
+    let state = queue.state();
     assert_eq!((state.bytes_in_use(), state.openings), (bytes, 6));
 }
 
@@ -404,13 +449,20 @@ fn a_repeat_is_told_the_id_that_an_earlier_version_gave() {
 }
 
 #[test]
-fn a_call_that_is_repeated_with_a_delay_is_told_the_first_ones_id() {
+fn a_call_is_known_whether_it_sent_its_message_with_a_delay_or_without() {
     let call = DedupId::of_call(&[0; 32], None);
-    for (own, told) in [(None, message_id(Mark(1), 1)), (Some(7), Uuid::from_u128(7))] {
+    for own in [None, Some(7)] {
         let mut state = state_of("standard");
         own_id_told(&mut state, 1, own, &call, 10);
-        let message = Delayed { id: Uuid::from_u128(9), due: 5000, call: Some(call.clone()), envelope: "{}\nb".into() };
-        let applied = state.apply_change(&TableChange::Delayed(Arc::new(message)), 20);
-        assert!(matches!(applied.outcome, Outcome::Delayed { id } if id == told) && !applied.changed);
+        state.remember_delayed(&call, Uuid::from_u128(9), 20);
+        let first = state.sent_by(&call, 30);
+        assert!(
+            matches!(first, Some(Outcome::Sent { sequence: 1, id }) if id == own.map(Uuid::from_u128)),
+            "{first:?}"
+        );
+        assert!(state.sent_by(&call, 10 + WINDOW).is_none());
+        state.remember_delayed(&call, Uuid::from_u128(9), 20 + WINDOW);
+        let first = state.sent_by(&call, 20 + WINDOW);
+        assert!(matches!(first, Some(Outcome::Sent { id, .. }) if id == Some(Uuid::from_u128(9))), "{first:?}");
     }
 }

@@ -141,9 +141,6 @@ impl Task {
     /// The program doesn't have this one any more.
     pub(super) fn forget_open(&mut self, ask: &Ask) {
         self.open_visibility_changes -= usize::from(matches!(ask, Ask::ChangeVisibility { .. }));
-        if let Some(id) = ask.due() {
-            self.open_due.remove(&id);
-        }
     }
 
     pub(super) fn give_room_back(&self, asked: &OpenAsk) {

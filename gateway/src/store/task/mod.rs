@@ -9,7 +9,7 @@ mod outgoing;
 mod room;
 mod starting;
 
-use std::collections::{HashSet, VecDeque};
+use std::collections::VecDeque;
 use std::sync::Arc;
 use std::time::Duration;
 
@@ -17,7 +17,6 @@ use bytes::BytesMut;
 use thiserror::Error;
 use tokio::io::{AsyncReadExt, AsyncWriteExt};
 use tokio::sync::{mpsc, oneshot, watch};
-use uuid::Uuid;
 
 use super::admission::Admission;
 use super::figures::Counters;
@@ -97,8 +96,6 @@ struct Task {
     waits_for_answer: bool,
     /// How many changes of timeouts are with the program.
     open_visibility_changes: usize,
-    /// Due messages whose sends are with the program.
-    open_due: HashSet<Uuid>,
     grown: Option<watch::Receiver<()>>,
     ends: u32,
 }
@@ -154,7 +151,6 @@ pub fn start(start: Start) -> (Store, oneshot::Receiver<Ended>) {
             lacks_room: false,
             waits_for_answer: false,
             open_visibility_changes: 0,
-            open_due: HashSet::new(),
             grown: start.journal.as_ref().map(Journal::grown),
             ends: 0,
         };
@@ -313,8 +309,6 @@ impl Task {
         self.out.clear();
         self.clients = Clients::new();
         self.waits_for_answer = false;
-        // One whose answer couldn't be read isn't among those that are open.
-        self.open_due.clear();
         let mut given_up = None;
         let mut copies_given_up = Vec::new();
         for open in std::mem::take(&mut self.open) {
@@ -352,7 +346,6 @@ impl Task {
                 self.last_number += 1;
                 asked.number = self.last_number;
                 asked.client = self.clients.take(asked.ask.reads_parts()).unwrap_or(CLIENTS);
-                self.open_due.extend(asked.ask.due());
                 self.write(&asked)?;
                 Entry::Ask(asked)
             }

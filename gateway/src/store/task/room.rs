@@ -9,6 +9,8 @@ pub(super) fn need_of(ask: &Ask) -> Need {
     match ask {
         // A queue goes over to another name so that records can go.
         Ask::Create { creation, .. } if creation.before.is_some() => Need::Less,
+        // What is delayed may be there already, in an older journal.
+        Ask::Create { store, .. } if store.main().is_some() => Need::Same,
         Ask::Create { .. } | Ask::Send { cause: Cause::Client, .. } => Need::More,
         // What the gateway is handed itself it deletes or gives back, and for that there has to be space.
         Ask::ChangeVisibility { by: Changer::Gateway, .. } => Need::Less,
@@ -24,8 +26,7 @@ pub(super) fn need_of(ask: &Ask) -> Need {
 
 pub(super) fn need_of_change(change: &TableChange) -> Need {
     match change {
-        TableChange::Delayed(_) => Need::More,
-        TableChange::Attributes(_) | TableChange::Tag(_) | TableChange::Task(_) => Need::Same,
+        TableChange::Attributes(_) | TableChange::Tag(_) | TableChange::Task(_) | TableChange::Delayed(_) => Need::Same,
         TableChange::Untag(_) | TableChange::Purging(_) | TableChange::Purged => Need::Less,
     }
 }
@@ -41,30 +42,5 @@ pub(super) fn bytes_of(ask: &Ask, raw: &RawValue) -> u64 {
 
 /// What the record of a change takes at most.
 pub(super) fn bytes_of_change(change: &TableChange) -> u64 {
-    let bytes = match change {
-        TableChange::Delayed(message) => length_in_json(&message.envelope),
-        _ => serde_json::to_vec(change).map_or(0, |bytes| bytes.len()),
-    };
-    (bytes + 512) as u64
-}
-
-/// How many bytes a text has in JSON, without its quotes.
-fn length_in_json(text: &str) -> usize {
-    let length_of = |byte: u8| match byte {
-        b'"' | b'\\' | b'\n' | b'\r' | b'\t' | 8 | 12 => 2,
-        0..=0x1f => 6,
-        _ => 1,
-    };
-    text.bytes().map(length_of).sum()
-}
-
-#[cfg(test)]
-mod tests {
-    use super::*;
-
-    #[test]
-    fn a_record_has_the_room_that_was_set_aside_for_it() {
-        let text: String = (0..=0x2ff).filter_map(char::from_u32).collect();
-        assert_eq!(length_in_json(&text) + 2, serde_json::to_string(&text).unwrap().len());
-    }
+    (serde_json::to_vec(change).map_or(0, |bytes| bytes.len()) + 512) as u64
 }

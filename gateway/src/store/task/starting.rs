@@ -3,7 +3,6 @@
 use std::sync::Arc;
 
 use serde_json::value::RawValue;
-use uuid::Uuid;
 
 use super::entries::{Entry, Open, OpenAsk, OpenChange, Pending, StartOutcome};
 use super::room::{bytes_of, bytes_of_change, need_of, need_of_change};
@@ -24,6 +23,12 @@ impl Task {
             let Some(Pending { queue, operation, mut sender }) = self.pending.pop_front() else { break };
             let started = match (queue, operation) {
                 (Some(queue), Some(Operation::Ask(ask))) => self.start_ask(queue, ask)?,
+                (Some(queue), Some(Operation::AskBeside(ask))) => match queue.delays() {
+                    _ if is_purged(&ask, &queue) => StartOutcome::ready(Ok(Outcome::Done)),
+                    Some(delays) if !delays.state().removed => self.start_ask(delays, ask)?,
+                    // It went meanwhile, or its queue goes over to another name.
+                    _ => StartOutcome::ready(Err(without_delays(&queue))),
+                },
                 (Some(queue), Some(Operation::Change(change))) => self.start_change(queue, change),
                 (Some(queue), Some(Operation::Count)) => StartOutcome::Open(self.count(queue)?),
                 (Some(queue), Some(Operation::Move { target, copies })) => {
@@ -69,16 +74,16 @@ impl Task {
         if let Some(answer) = answer_about_earlier(&ask, base) {
             return ready(answer);
         }
-        if self.is_of_no_use(&ask, &queue) {
-            return ready(Ok(Outcome::Done));
-        }
         let moment = self.clock.now();
         let ask = match within_reach(ask, &queue, moment) {
             Ok(ask) => ask,
             Err(nothing) => return ready(Ok(nothing)),
         };
-        if let Some(id) = repeats_delayed(&ask, &queue, moment) {
-            return ready(Ok(Outcome::Delayed { id }));
+        if let Some(first) = repeated(&ask, &queue, moment) {
+            return ready(Ok(first));
+        }
+        if self.is_repeated_beside(&ask, &queue) {
+            return Ok(StartOutcome::WaitsForAnswer(queue, ask.into()));
         }
         if let (Ask::Delete { receipt, by_client: true }, QueueKind::Fifo) = (&ask, queue.name.kind()) {
             let receipt = *receipt;
@@ -132,7 +137,6 @@ impl Task {
         };
         self.last_number += 1;
         self.open_visibility_changes += usize::from(matches!(ask, Ask::ChangeVisibility { .. }));
-        self.open_due.extend(ask.due());
         let asked = OpenAsk {
             queue,
             ask: ask.without_text(),
@@ -149,10 +153,19 @@ impl Task {
         Ok(StartOutcome::Open(Entry::Ask(Box::new(asked))))
     }
 
-    /// Whether this is the send of a due message that the store has by now, that a purge has taken, or that is with the
-    /// program. A second send might come to the store when it doesn't know the first any more; it is answered behind it.
-    fn is_of_no_use(&self, ask: &Ask, queue: &Queue) -> bool {
-        ask.due().is_some_and(|id| self.open_due.contains(&id) || !queue.state().is_delayed(id))
+    /// Whether the same call sends its message with a delay and without, and one of both isn't answered yet. Takes time in
+    /// proportion to the open requests, where a queue has had something that is delayed.
+    fn is_repeated_beside(&self, ask: &Ask, queue: &Queue) -> bool {
+        let Ask::Send { dedup, cause: Cause::Client, .. } = ask else { return false };
+        let Some(other) = queue.delays().or_else(|| queue.main()) else { return false };
+        let is_same = |open: &Open| match &open.entry {
+            Entry::Ask(asked) => match &asked.ask {
+                Ask::Send { dedup: first, .. } => asked.queue.mark == other.mark && first == dedup,
+                _ => false,
+            },
+            _ => false,
+        };
+        dedup.call_key().is_some() && self.open.iter().any(is_same)
     }
 
     pub(super) fn write(&mut self, asked: &OpenAsk) -> Result<(), Ended> {
@@ -232,13 +245,29 @@ impl Task {
     }
 }
 
-/// The message that was sent with a delay by the call that this repeats. Meanwhile the queue may have got another delay.
-fn repeats_delayed(ask: &Ask, queue: &Queue, now: Moment) -> Option<Uuid> {
+/// What the call sent that this repeats, with a delay or without: meanwhile the queue may have got another one.
+fn repeated(ask: &Ask, queue: &Queue, now: Moment) -> Option<Outcome> {
     match ask {
         Ask::Send { dedup, cause: Cause::Client, .. } if queue.name.kind() == QueueKind::Standard => {
-            queue.state().delayed_by(dedup, now)
+            let main = queue.main();
+            let mut state = main.as_deref().unwrap_or(queue).state();
+            state.sent_by(dedup, now)
         }
         _ => None,
+    }
+}
+
+/// Whether this sends a message of an older journal that a purge has taken meanwhile.
+fn is_purged(ask: &Ask, queue: &Queue) -> bool {
+    matches!(ask, Ask::Send { cause: Cause::Older(id), .. } if !queue.state().has_older(*id))
+}
+
+/// Why nothing can be sent to a queue with a delay.
+fn without_delays(queue: &Queue) -> SqsError {
+    if queue.state().removed {
+        SqsError::QueueDoesNotExist
+    } else {
+        SqsError::ServiceUnavailable("The queue goes over to another name in the store.".into())
     }
 }
 
