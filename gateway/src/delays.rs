@@ -4,14 +4,14 @@
 //! The store hands messages out in the order of their sends, and hides what it hands out. So what stands before a message
 //! that is due is hidden for long, and given back when it is due itself.
 
-use std::cmp::{Ordering, Reverse};
-use std::collections::{BinaryHeap, HashMap};
+use std::collections::{BTreeMap, HashMap};
 use std::sync::{Arc, Mutex, MutexGuard, PoisonError, Weak};
 
 use tokio::sync::Notify;
 
 use crate::clock::{Clock, Moment};
 use crate::errors::SqsError;
+use crate::handles::Mark;
 use crate::messages::{Envelope, EnvelopeHead};
 use crate::moves::{move_due, show_again};
 use crate::parts;
@@ -32,42 +32,17 @@ const TAKEN_OVER_AT_ONCE: usize = 32;
 /// What is handed out before it is due is hidden for so many seconds: as long as can be.
 const HIDDEN: u32 = 43_200;
 
-/// A moment at which a message of a queue is due.
-struct Alarm {
-    moment: Moment,
-    queue: Weak<Queue>,
-}
-
-impl PartialEq for Alarm {
-    fn eq(&self, other: &Alarm) -> bool {
-        self.moment == other.moment
-    }
-}
-
-impl Eq for Alarm {}
-
-impl PartialOrd for Alarm {
-    fn partial_cmp(&self, other: &Alarm) -> Option<Ordering> {
-        Some(self.cmp(other))
-    }
-}
-
-impl Ord for Alarm {
-    fn cmp(&self, other: &Alarm) -> Ordering {
-        self.moment.cmp(&other.moment)
-    }
-}
-
 /// When messages are due, and of which queues: the first of each.
 #[derive(Default)]
 pub struct Alarms {
-    alarms: Mutex<BinaryHeap<Reverse<Alarm>>>,
+    /// By their moments, and by the marks of the queues.
+    alarms: Mutex<BTreeMap<(Moment, Mark), Weak<Queue>>>,
     /// Told when one is set that is before all others.
     earlier: Notify,
 }
 
 impl Alarms {
-    fn alarms(&self) -> MutexGuard<'_, BinaryHeap<Reverse<Alarm>>> {
+    fn alarms(&self) -> MutexGuard<'_, BTreeMap<(Moment, Mark), Weak<Queue>>> {
         self.alarms.lock().unwrap_or_else(PoisonError::into_inner)
     }
 
@@ -81,32 +56,25 @@ impl Alarms {
 
     fn set(&self, moment: Moment, queue: &Arc<Queue>) {
         let mut alarms = self.alarms();
-        let is_first = alarms.peek().map_or(true, |Reverse(first)| moment < first.moment);
-        alarms.push(Reverse(Alarm { moment, queue: Arc::downgrade(queue) }));
-        drop(alarms);
-        if is_first {
+        alarms.insert((moment, queue.mark), Arc::downgrade(queue));
+        if alarms.keys().next() == Some(&(moment, queue.mark)) {
             self.earlier.notify_one();
         }
-    }
-
-    fn first(&self) -> Option<Moment> {
-        self.alarms().peek().map(|Reverse(first)| first.moment)
     }
 
     /// Takes out what has come by now, and tells the queues that are there still.
     fn take(&self, now: Moment) -> Vec<Arc<Queue>> {
         let mut alarms = self.alarms();
-        let mut queues = HashMap::new();
-        while alarms.peek().is_some_and(|Reverse(first)| first.moment <= now) {
-            let queue = alarms.pop().and_then(|Reverse(alarm)| alarm.queue.upgrade());
-            queues.extend(queue.map(|queue| (queue.mark, queue)));
-        }
-        queues.into_values().collect()
+        let later = alarms.split_off(&(now + 1, Mark(0)));
+        let come = std::mem::replace(&mut *alarms, later);
+        let queues = come.into_values().filter_map(|queue| queue.upgrade()).map(|queue| (queue.mark, queue));
+        queues.collect::<HashMap<_, _>>().into_values().collect()
     }
 
     async fn wait(&self, clock: &Clock) {
         let comes = async {
-            match self.first() {
+            let first = self.alarms().keys().next().map(|(moment, _)| *moment);
+            match first {
                 Some(first) => clock.wait_until(first).await,
                 None => std::future::pending().await,
             }

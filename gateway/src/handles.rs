@@ -14,7 +14,7 @@ pub struct Receipt {
 }
 
 /// The mark of a queue: random, and another one for each creation of a name.
-#[derive(Clone, Copy, Debug, PartialEq, Eq, Hash)]
+#[derive(Clone, Copy, Debug, PartialEq, Eq, Hash, PartialOrd, Ord)]
 pub struct Mark(pub u64);
 
 /// What a handle says: which queue, which handing, and when it was, in milliseconds.
