@@ -34,10 +34,6 @@ fn no_messages() -> SqsError {
     SqsError::InternalFailure("The store handed nothing out.".into())
 }
 
-fn gone() -> SqsError {
-    SqsError::ServiceUnavailable("The store is gone.".into())
-}
-
 /// Asks for messages until some are for the client, or nothing is there.
 pub async fn receive(store: &Store, queue: &Arc<Queue>, ask: Ask) -> Result<Delivered, SqsError> {
     let may_set_aside = {
@@ -49,13 +45,14 @@ pub async fn receive(store: &Store, queue: &Arc<Queue>, ask: Ask) -> Result<Deli
         return receiving.await;
     }
     // It goes on where its client goes.
-    tokio::spawn(receiving).await.unwrap_or_else(|_| Err(gone()))
+    tokio::spawn(receiving).await.unwrap_or_else(|_| Err(SqsError::store_is_gone()))
 }
 
 async fn receive_on(store: Store, queue: Arc<Queue>, ask: Ask) -> Result<Delivered, SqsError> {
     let mut own = 0;
     loop {
-        let outcome = ask_all(&store, &queue, vec![ask.clone()]).await.pop().unwrap_or_else(|| Err(gone()))?;
+        let outcome =
+            ask_all(&store, &queue, vec![ask.clone()]).await.pop().unwrap_or_else(|| Err(SqsError::store_is_gone()))?;
         let Outcome::Received { handed, set_aside, openings } = outcome else { return Err(no_messages()) };
         own += set_aside.len();
         match see_to(&store, &queue, handed, set_aside).await? {
@@ -87,7 +84,7 @@ pub async fn ask_all(store: &Store, queue: &Arc<Queue>, asks: Vec<Ask>) -> Vec<A
         }
         answers
     });
-    asked.await.unwrap_or_else(|_| (0..count).map(|_| Err(gone())).collect())
+    asked.await.unwrap_or_else(|_| (0..count).map(|_| Err(SqsError::store_is_gone())).collect())
 }
 
 /// Whether a receive can hand nothing out before a message is deleted or its timeout ends.
@@ -168,7 +165,7 @@ pub async fn see_to(
             }
         }
     });
-    seen.await.unwrap_or_else(|_| Err(gone()))
+    seen.await.unwrap_or_else(|_| Err(SqsError::store_is_gone()))
 }
 
 /// The groups of what stays are told.

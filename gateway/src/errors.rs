@@ -256,6 +256,11 @@ impl SqsError {
         ))
     }
 
+    /// The task that owns the program has ended, and no answer comes.
+    pub fn store_is_gone() -> SqsError {
+        SqsError::ServiceUnavailable("The store is gone.".into())
+    }
+
     /// A delete comes after the timeout. Its handle isn't known here.
     pub fn of_expiry() -> SqsError {
         SqsError::StaleHandle { handle: String::new(), reason: Stale::Expired }

@@ -26,10 +26,6 @@ fn no_parts() -> SqsError {
     SqsError::InternalFailure("The store has a message without its parts.".into())
 }
 
-fn gone() -> SqsError {
-    SqsError::ServiceUnavailable("The store is gone.".into())
-}
-
 /// The answers to operations that are performed one after the other, in their order. What is too long for the store is put
 /// in parts before, and a queue for what is delayed is there.
 pub async fn perform_all(
@@ -50,7 +46,7 @@ pub async fn perform_all(
     let (store, queue, share) = (store.clone(), queue.clone(), share.clone());
     // It goes on where its client goes, since parts may go only when it is known whether a line names them.
     let performed = tokio::spawn(async move { put_and_perform(&store, &queue, operations, &share).await });
-    performed.await.unwrap_or_else(|_| (0..count).map(|_| Err(gone())).collect())
+    performed.await.unwrap_or_else(|_| (0..count).map(|_| Err(SqsError::store_is_gone())).collect())
 }
 
 async fn put_and_perform(
@@ -78,8 +74,9 @@ async fn put_and_perform(
 /// The answers in their places: of what was refused before it was asked, and of what was asked, in its order.
 pub fn in_place(refused: Vec<Option<SqsError>>, answers: Vec<Answer>) -> Vec<Answer> {
     let mut answers = answers.into_iter();
-    let answer_of =
-        |refused: Option<SqsError>| refused.map_or_else(|| answers.next().unwrap_or_else(|| Err(gone())), Err);
+    let answer_of = |refused: Option<SqsError>| {
+        refused.map_or_else(|| answers.next().unwrap_or_else(|| Err(SqsError::store_is_gone())), Err)
+    };
     refused.into_iter().map(answer_of).collect()
 }
 
@@ -167,7 +164,7 @@ pub fn read(store: &Store, envelope: &str) -> impl Future<Output = Result<Read, 
     let begun = head.and_then(|head| Some((store.ask_parts(head.parts?, vec![PartsAsk::Read]), head)));
     async {
         let Some((answers, head)) = begun else { return Ok(Read::Whole) };
-        match answers.await.pop().unwrap_or_else(|| Err(gone())) {
+        match answers.await.pop().unwrap_or_else(|| Err(SqsError::store_is_gone())) {
             Ok(Outcome::Parts(whole)) => Ok(Read::InParts(head.over(&whole).ok_or_else(no_parts)?)),
             Err(SqsError::QueueDoesNotExist) => Ok(Read::Gone),
             Ok(_) => Err(no_parts()),

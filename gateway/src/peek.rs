@@ -156,13 +156,12 @@ impl Peeks {
         let making = tokio::task::spawn_blocking(move || {
             Page::of(&shared, &queue, &wanted, &owner).map(|page| page.reply(format))
         });
-        let gone = || SqsError::ServiceUnavailable("The store is gone.".into());
-        let reply = making.await.unwrap_or_else(|_| Err(gone()))?;
+        let reply = making.await.unwrap_or_else(|_| Err(SqsError::store_is_gone()))?;
         // What is shown is on disk, as all that clients are told.
         if store.wait_until_durable(&name).await {
             Ok(reply)
         } else {
-            Err(gone())
+            Err(SqsError::store_is_gone())
         }
     }
 }

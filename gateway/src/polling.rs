@@ -133,7 +133,7 @@ pub async fn wait(store: &Store, queue: &Arc<Queue>, ask: Ask, waiter: Waiter, s
         tokio::select! {
             biased;
             found = &mut found => {
-                return found.unwrap_or_else(|_| Err(SqsError::ServiceUnavailable("The store is gone.".into())));
+                return found.unwrap_or_else(|_| Err(SqsError::store_is_gone()));
             }
             () = tokio::time::sleep_until(until) => {}
             () = caller.leaves(), if until == deadline => {}

@@ -161,7 +161,7 @@ impl Actions {
         let performed = self.dispatch(request, caller).await;
         let is_durable = performed.as_ref().is_ok_and(|performed| performed.is_durable);
         if !is_durable && !self.wait_until_durable(name).await {
-            return Err(SqsError::ServiceUnavailable("The store is gone.".into()));
+            return Err(SqsError::store_is_gone());
         }
         performed
     }

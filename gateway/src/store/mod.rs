@@ -128,10 +128,6 @@ pub struct Store {
 /// What the records of ten messages take at most beside these.
 const ROOM: u64 = 32 << 10;
 
-fn gone() -> SqsError {
-    SqsError::ServiceUnavailable("The store is gone.".into())
-}
-
 impl Store {
     pub fn queues(&self) -> &Queues {
         &self.queues
@@ -185,7 +181,7 @@ impl Store {
         let job = Job { queue: self.queues.of_parts(), operations, ignores_hold: true, sender: sender.into() };
         // Where the task is gone, no answer comes.
         let _ = self.jobs[self.shards.place_of_parts(number)].send(job);
-        async move { answers.await.unwrap_or_else(|_| (0..count).map(|_| Err(gone())).collect()) }
+        async move { answers.await.unwrap_or_else(|_| (0..count).map(|_| Err(SqsError::store_is_gone())).collect()) }
     }
 
     fn jobs_of(&self, name: &QueueName) -> &mpsc::UnboundedSender<Job> {
@@ -207,11 +203,11 @@ impl Store {
             Ok(()) => answers.await.ok(),
             Err(_) => None,
         };
-        answered.unwrap_or_else(|| (0..count).map(|_| Err(gone())).collect())
+        answered.unwrap_or_else(|| (0..count).map(|_| Err(SqsError::store_is_gone())).collect())
     }
 
     async fn submit_one(&self, queue: &Arc<Queue>, operation: Operation) -> Answer {
-        self.submit(queue, vec![operation], false, None).await.pop().unwrap_or_else(|| Err(gone()))
+        self.submit(queue, vec![operation], false, None).await.pop().unwrap_or_else(|| Err(SqsError::store_is_gone()))
     }
 
     /// The answer to one ask, when all that it rests on is on disk.
@@ -226,7 +222,7 @@ impl Store {
 
     /// The answer to one operation, as that of `ask`. Its request counts by `share` until it is there.
     pub async fn perform(&self, queue: &Arc<Queue>, operation: Operation, share: &Arc<Share>) -> Answer {
-        self.perform_all(queue, vec![operation], share).await.pop().unwrap_or_else(|| Err(gone()))
+        self.perform_all(queue, vec![operation], share).await.pop().unwrap_or_else(|| Err(SqsError::store_is_gone()))
     }
 
     /// The answers to operations that are performed one after the other, in their order.
@@ -333,7 +329,7 @@ impl Held {
     }
 
     pub async fn ask(&self, ask: Ask) -> Answer {
-        self.ask_all(vec![ask]).await.pop().unwrap_or_else(|| Err(gone()))
+        self.ask_all(vec![ask]).await.pop().unwrap_or_else(|| Err(SqsError::store_is_gone()))
     }
 
     /// Hands messages to the gateway, as far as they are the next ones of the queue, and hides none of them.
@@ -374,7 +370,7 @@ impl Held {
         let job = vec![Operation::Move { target: target.clone(), copies }];
         let mut answers = self.store.submit(&self.queue, job, true, None).await;
         if answers.len() < count {
-            let error = answers.pop().and_then(Result::err).unwrap_or_else(gone);
+            let error = answers.pop().and_then(Result::err).unwrap_or_else(SqsError::store_is_gone);
             return vec![Err(error); count];
         }
         answers.truncate(count);
@@ -397,7 +393,7 @@ impl Held {
 
     pub async fn change(&self, change: TableChange) -> Answer {
         let answers = self.store.submit(&self.queue, vec![change.into()], true, None);
-        answers.await.pop().unwrap_or_else(|| Err(gone()))
+        answers.await.pop().unwrap_or_else(|| Err(SqsError::store_is_gone()))
     }
 }
 
