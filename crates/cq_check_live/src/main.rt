@@ -5,7 +5,8 @@
 //!   back once before it takes it. Told are each crash, detection and join, and the end of each node, with the number of the
 //!   turn.
 //! - `turns LIMIT SHUT`: each node runs by itself, for so many turns at most, by a gate that shuts before the turn of the
-//!   second number. Told are the turns that the gate was asked for, and why the run ended.
+//!   second number. Told are the turns that the gate was asked for, and why the run ended; and behind the first client's run
+//!   how many requests arrive at each server.
 //! - `live GATE LIMIT`: a live run on threads, with so many turns for each node at most. `gates.rt` has the gates.
 //!
 //! Then come how many servers the chain begins with, how many sends each of the two clients makes once it has made the queue

@@ -4,9 +4,13 @@ use crate::nodes::{Chain, Server, flags_of, nodes_of};
 use crate::plan::{number, plan_of};
 use crate::stop;
 use cq_nodes::Stop;
+use cq_world::Event;
 use std::alloc::Global;
 use std::io;
 use std::sync::Wait;
+
+/// So many turns take what waits in an inbox.
+const TURNS: u32 = 8;
 
 /// A word for why a run ended.
 fn word_of(stop: Stop) -> &'static str {
@@ -59,6 +63,31 @@ fn run_master<R: Wait + Print>(
     println!(rt; "  the master: the gate is asked for turns {first} to {last}; {word}")
 }
 
+/// How many requests arrive at a server in a few turns more.
+fn arrivals<R: Wait>(rt: &R, server: &mut Server<'_>) -> usize {
+    for _ in 0..TURNS {
+        server.turn(rt);
+    }
+    let mut count = 0_usize;
+    for event in server.trace() {
+        if let Event::Arrive { .. } = event {
+            count = count.saturating_add(1);
+        }
+    }
+    count
+}
+
+/// Tells how many requests arrive at each server.
+fn tell_arrivals<R: Wait + Print>(rt: &R, servers: &mut Vec<Server<'_>>) -> io::Result<()> {
+    let mut number = 0_usize;
+    for server in servers.iter_mut() {
+        number = number.saturating_add(1);
+        let count = arrivals(rt, server);
+        println!(rt; "  server {number}: requests that arrive: {count}")?;
+    }
+    Ok(())
+}
+
 /// The run of these words.
 pub fn run<R: Wait + Print>(rt: &R, alloc: Global, text: &str) -> io::Result<()> {
     let (limit, rest) = text.split_once(' ').ok_or(stop("no limit"))?;
@@ -75,6 +104,7 @@ pub fn run<R: Wait + Print>(rt: &R, alloc: Global, text: &str) -> io::Result<()>
         "  client 1: {word}; both have ended: {}",
         flags.have_ended()
     )?;
+    tell_arrivals(rt, &mut chain.servers)?;
     let word = word_of(chain.second.run(rt, limit));
     println!(rt;
         "  client 2: {word}; both have ended: {}",
