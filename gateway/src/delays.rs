@@ -23,6 +23,9 @@ use crate::texts::{DedupId, GroupId};
 /// So many messages are moved, or handed out, at once.
 const AT_ONCE: usize = 10;
 
+/// Nobody who looks for messages waits until so many are handed out.
+const FAR: usize = 100;
+
 /// Messages that couldn't be moved are tried again after so many milliseconds.
 const PAUSE: u64 = 1000;
 
@@ -112,15 +115,23 @@ async fn try_to_move(store: Store, delays: Arc<Queue>) {
 }
 
 /// Moves the first messages of a queue that are due, before somebody looks for them: as many as one receive takes. The
-/// others follow, and what can't be moved is tried again.
+/// others follow, and so do those before which many stand that aren't due; what can't be moved is tried again.
 pub async fn bring_up_to_date(store: &Store, queue: &Arc<Queue>) {
-    let Some(delays) = queue.delays().filter(|delays| is_any_due(store, delays)) else { return };
+    let Some(delays) = queue.delays().filter(|delays| is_any_near(store, delays)) else { return };
     let (store, name) = (store.clone(), queue.name.clone());
     // Whoever has a queue to itself brings that to its end.
     let moved = tokio::spawn(async move { move_some(&store, &delays).await }).await;
     if let Ok(Err(error)) = moved {
         tracing::debug!("delayed messages of {name} wait longer: {error}");
     }
+}
+
+/// Whether messages are due that are handed out soon, since not many are handed out before them.
+fn is_any_near(store: &Store, delays: &Queue) -> bool {
+    let now = store.clock().now();
+    let mut state = delays.state();
+    let last = state.due(now, AT_ONCE).into_iter().max();
+    !state.removed && last.is_some_and(|last| state.next_up_to(last, FAR, now).len() < FAR)
 }
 
 fn is_any_due(store: &Store, delays: &Queue) -> bool {

@@ -367,6 +367,31 @@ def test_two_sends_of_a_call_that_are_open_at_once_are_one_message(delayed):
     assert told[0] == told[1] and delayed.counts() == [0, 0, 1]
 
 
+def test_nobody_waits_until_all_is_handed_out_that_stands_before_a_due_message(tmp_path):
+    cq = SteeredCq(tmp_path)
+    gateway = Started(*cq.words(), room=tmp_path)
+    call = ByJson(gateway.url)
+    call("CreateQueue", QueueName="q")
+    for turn in range(1000):
+        call("SendMessageBatch", QueueUrl="q", Entries=[
+            {"Id": str(place), "MessageBody": "later", "DelaySeconds": 900} for place in range(10)])
+    call("SendMessage", QueueUrl="q", MessageBody="due", DelaySeconds=1)
+    call("SendMessage", QueueUrl="q", MessageBody="here")
+    cq.tell(slow='"kind":"receive"')
+    gateway.set_clock(START + 1000)
+    began = time.monotonic()
+    assert counts(call, "q")[2] == 10_000
+    assert bodies(call, "q") == ["here"]
+    took = time.monotonic() - began
+    assert took < 1.5, f"the thousand receives before the due message take three seconds and more: {took}"
+    cq.tell()
+    latest, found = time.monotonic() + 20, []
+    while not found:
+        assert time.monotonic() < latest
+        found = bodies(call, "q")
+    assert found == ["due"] and gateway.stop() == 0
+
+
 def test_a_receive_does_not_wait_until_all_due_messages_are_sent(tmp_path):
     cq = SteeredCq(tmp_path)
     gateway = Started(*cq.words(), room=tmp_path)
