@@ -54,7 +54,7 @@ pub enum Rule {
     ShutToServer,
     /// The first server and server 5 wait for each other before their second turns.
     Meet,
-    /// Server 3 waits in its second turn until the first server has had 3,000.
+    /// Server 3 waits in its second turn until the first server has had 300.
     Hold,
     /// The first server waits in its second turn until server 6 has had 100.
     AwaitSixth,
@@ -143,7 +143,7 @@ impl Gate for Ruled {
             Rule::ShutToMaster => party != Party::Master,
             Rule::ShutToServer => { self.hold(server, turn, 1, 2, 5) && (server != 2 || turn != 5) }
             Rule::Meet => self.meet(server, turn),
-            Rule::Hold => self.hold(server, turn, 3, 1, 3_001),
+            Rule::Hold => self.hold(server, turn, 3, 1, 301),
             Rule::AwaitSixth => self.hold(server, turn, 1, 6, 100),
         }
     }

@@ -32,7 +32,7 @@ struct Counts {
     crashes: u64,
     detections: u64,
     joins: u64,
-    /// Whether a request of number 3 or above arrived before moment 3,000.
+    /// Whether a request of number 3 or above arrived before moment 300.
     is_early: bool,
     /// Whether the master took something from server 6.
     has_sixth: bool,
@@ -44,7 +44,7 @@ fn count(counts: &mut Counts, event: &Event) {
         Event::Crash { .. } => counts.crashes = counts.crashes.saturating_add(1),
         Event::Detect { .. } => counts.detections = counts.detections.saturating_add(1),
         Event::Join { .. } => counts.joins = counts.joins.saturating_add(1),
-        Event::Arrive { clock, request, .. } if request.number >= 3 && clock.get() < 3_000 => {
+        Event::Arrive { clock, request, .. } if request.number >= 3 && clock.get() < 300 => {
             counts.is_early = true;
         }
         Event::Take {
@@ -83,7 +83,7 @@ fn tell(rt: &impl Print, rule: Rule, report: &LiveReport) -> io::Result<()> {
             "  crashes {}, detections {}, joins {}",
             counts.crashes, counts.detections, counts.joins
         ),
-        Rule::Hold => println!(rt; "  requests before moment 3,000: {}", counts.is_early),
+        Rule::Hold => println!(rt; "  requests before moment 300: {}", counts.is_early),
         Rule::AwaitSixth => println!(rt;
             "  joins {}, the master heard of server 6: {}",
             counts.joins, counts.has_sixth

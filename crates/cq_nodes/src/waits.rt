@@ -15,8 +15,12 @@ const LOOKS: u32 = 256;
 /// Then it lets other threads run, so often at most, before it sleeps.
 const YIELDS: u32 = 64;
 
-/// After a sleep in which nobody rang, so many turns follow before it waits again.
+/// After a sleep in which nobody rang, so many turns of a client or of the master follow before it waits again: a client
+/// asks again after so many turns, and a server joins at one of the master's.
 const TURNS_AFTER_SLEEP: u32 = 64;
+
+/// And so many of a server: turns alone bring it nothing.
+const SERVER_TURNS_AFTER_SLEEP: u32 = 4;
 
 /// For so many waits at least, and at most, a node doesn't yield once yields have taken long.
 const SHORTEST_PAUSE: u32 = 64;
@@ -34,6 +38,8 @@ pub(crate) struct Waits<'a> {
     flags: &'a Flags,
     bell: Option<&'a Bell>,
     is_master: bool,
+    /// So many turns follow a sleep in which nobody rang.
+    turns_after_sleep: u32,
     /// Turns in a row without work, of a node that doesn't sleep.
     idle: u32,
     /// So many turns without work follow before the next wait.
@@ -47,10 +53,16 @@ pub(crate) struct Waits<'a> {
 impl<'a> Waits<'a> {
     /// Before the first turn of that party's node.
     pub(crate) fn of(flags: &'a Flags, party: Party) -> Waits<'a> {
+        let is_master = party == Party::Master;
         Waits {
             flags,
             bell: flags.bell(party),
-            is_master: party == Party::Master,
+            is_master,
+            turns_after_sleep: if is_master {
+                TURNS_AFTER_SLEEP
+            } else {
+                SERVER_TURNS_AFTER_SLEEP
+            },
             idle: 0,
             credit: 0,
             shy: 0,
@@ -64,6 +76,7 @@ impl<'a> Waits<'a> {
             flags,
             bell: Some(flags.client_bell(second)),
             is_master: false,
+            turns_after_sleep: TURNS_AFTER_SLEEP,
             idle: 0,
             credit: 0,
             shy: 0,
@@ -116,7 +129,7 @@ impl<'a> Waits<'a> {
             return;
         }
         if bell.sleep(rt) {
-            self.credit = TURNS_AFTER_SLEEP;
+            self.credit = self.turns_after_sleep;
             if self.is_master {
                 self.flags.beat();
             }
