@@ -9,11 +9,11 @@ use Rattle.cq_link.specs.declared.link.Putter.{Putter}
 use Rattle.cq_link.specs.declared.link.Taker.{Taker}
 use Rattle.cq_link.specs.declared.rule.Tagged.{Tagged}
 use Rattle.cq_link.specs.Links.{putter_link, taker_link}
-use Rattle.cq_link.specs.Inboxes.{take_inbox}
+use Rattle.cq_link.specs.Inboxes.{take_inbox, put_in}
 use Rattle.cq_link.specs.Tags.{of, if_of, only, same}
 use Rattle.cq_link.specs.declared.clients.ServerPorts.{ServerPorts}
 use Rattle.cq_link.specs.declared.clients.ClientWires.{ClientWires}
-use Rattle.cq_link.specs.Clients.{AreTied, ArePut, HaveServed, seat_of}
+use Rattle.cq_link.specs.Clients.{AreTied, AreOfBoth, HaveServed, requests_in, seat_of}
 use Rattle.cq_link.specs.within.Tables.{HasDelivered}
 
 among_left : {X : Type 0} (x : X) (xs ys : List X) → Among x xs → Among x (xs ++ ys)
@@ -34,12 +34,16 @@ among_either {X} x (t ∷ xs) (inl e) = go t.second refl where
   go false is = inl (subst (λ (c : Bool). Among x (only (same false c) t.item ++ of false xs)) (sym is) (inl e))
 among_either x (t ∷ xs) (inr h) = ⊎_elim (λ a. inl (among_right x (if_of false t) (of false xs) a)) (λ a. inr (among_right x (if_of true t) (of true xs) a)) (among_either x xs h)
 
-pub put_by_either : {X : Type 0} (x : X) (xs : List (Tagged X)) (one two left more : List X) → of false xs ++ left ≡ one → of true xs ++ more ≡ two
-    → Among x (map (λ t. t.item) xs) → Among x one ⊎ Among x two
-put_by_either {X} x xs one two left more first second h = ⊎_elim
-    (λ a. inl (subst (λ (ys : List X). Among x ys) first (among_left x (of false xs) left a)))
-    (λ a. inr (subst (λ (ys : List X). Among x ys) second (among_left x (of true xs) more a)))
-    (among_either x xs h)
+-- a request of both lists is of one of them
+pub among_both : (r : Request) (requests one two : List Request) → AreOfBoth requests one two → Among r requests → Among r one ⊎ Among r two
+among_both r requests one two both h = ⊎_elim
+    (λ a. inl (subst (λ (ys : List Request). Among r ys) (sym both.first.1) (among_left r (of false both.tagged) both.first.0 a)))
+    (λ a. inr (subst (λ (ys : List Request). Among r ys) (sym both.second.1) (among_left r (of true both.tagged) both.second.0 a)))
+    (among_either r both.tagged (subst (λ (ys : List Request). Among r ys) both.items h))
+
+-- what was taken of an inbox, by what its settling says
+pub both_settled : (taken : List (Tagged Request)) (one two left more : List Request) → of false taken ++ left ≡ one → of true taken ++ more ≡ two → AreOfBoth (map (λ t. t.item) taken) one two
+both_settled taken one two left more first second = record { tagged = taken; items = refl; first = (left, sym first); second = (more, sym second) }
 
 -- ---- server after server
 
@@ -56,7 +60,7 @@ module _ {T : Type 0} where
   ToSecond w i = (s : ServerPorts T) (end : Taker T) → slice_get w.servers.items i ≡ Some s → slice_get w.second.ins.items i ≡ Some end → HasDelivered s.second end
 
   abbrev pub Requests : ClientWires T → ℕ → Type 0
-  Requests w i = (s : ServerPorts T) (one two : InPut Request) → slice_get w.servers.items i ≡ Some s → slice_get w.first.outs.items i ≡ Some one → slice_get w.second.outs.items i ≡ Some two → ArePut s.inbox one two
+  Requests w i = (s : ServerPorts T) (one two : InPut Request) → slice_get w.servers.items i ≡ Some s → slice_get w.first.outs.items i ≡ Some one → slice_get w.second.outs.items i ≡ Some two → AreOfBoth (requests_in s.inbox) (put_in one) (put_in two)
 
   -- so many servers are settled
   pub record AreServed (n : ℕ) (w : ClientWires T) : Type 0 where
@@ -111,5 +115,5 @@ module _ {T : Type 0} where
   to_second_next w n s r is-s is-r settled x end is-x is-end = subst (λ (y : ServerPorts T). HasDelivered y.second end) (same_Some s x (sym is-s ∙ is-x)) (settled s.second end refl (sym is-r ∙ is-end))
 
   pub requests_next : (w : ClientWires T) (n : ℕ) (s : ServerPorts T) (r q : Option (InPut Request)) → slice_get w.servers.items n ≡ Some s → slice_get w.first.outs.items n ≡ r → slice_get w.second.outs.items n ≡ q
-      → ((one two : InPut Request) → r ≡ Some one → q ≡ Some two → ArePut s.inbox one two) → Requests w n
-  requests_next w n s r q is-s is-r is-q settled x one two is-x is-one is-two = subst (λ (y : ServerPorts T). ArePut y.inbox one two) (same_Some s x (sym is-s ∙ is-x)) (settled one two (sym is-r ∙ is-one) (sym is-q ∙ is-two))
+      → ((one two : InPut Request) → r ≡ Some one → q ≡ Some two → AreOfBoth (requests_in s.inbox) (put_in one) (put_in two)) → Requests w n
+  requests_next w n s r q is-s is-r is-q settled x one two is-x is-one is-two = subst (λ (y : ServerPorts T). AreOfBoth (requests_in y.inbox) (put_in one) (put_in two)) (same_Some s x (sym is-s ∙ is-x)) (settled one two (sym is-r ∙ is-one) (sym is-q ∙ is-two))

@@ -3,8 +3,8 @@ ghost use Rattle.std.specs.Prelude.{◌≡◌, ◌++◌, ◌∷◌, [], List, ma
 ghost use Rattle.cq_base.specs.declared.ask.Request.{Request};
 ghost use Rattle.cq_link.specs.Faults.{IsBadCapacity};
 ghost use Rattle.cq_link.specs.declared.fault.LinkFault.TheVariants as faults;
-ghost use Rattle.cq_link.specs.Inboxes.{take_inbox};
-ghost use Rattle.cq_link.specs.Clients.{AreTied, AreFresh, AreOf, HaveServed, ArePut, seat_of};
+ghost use Rattle.cq_link.specs.Inboxes.{take_inbox, put_in};
+ghost use Rattle.cq_link.specs.Clients.{AreTied, AreFresh, AreOf, HaveServed, AreOfBoth, requests_in, seat_of};
 ghost use Rattle.cq_link.specs.within.Ends.{IsTied, IsFresh};
 
 use crate::fault::LinkFault;
@@ -149,7 +149,7 @@ pub fn settle_clients<T: Drop>(wires: ClientWires<T>)
 /// Settles the inbox with the two ends, if both are there, and drops what is left in it.
 fn settle_inbox(inbox: InTake, first: Option<InPut>, second: Option<InPut>)
     requires { (one two : InPut Request) → first ≡ Some one → second ≡ Some two → (seat_of one ≡ (take_inbox inbox, false)) × (seat_of two ≡ (take_inbox inbox, true)) }
-    ensures { (one two : InPut Request) → first ≡ Some one → second ≡ Some two → ArePut inbox one two }
+    ensures { (one two : InPut Request) → first ≡ Some one → second ≡ Some two → AreOfBoth (requests_in inbox) (put_in one) (put_in two) }
 {
     if let (Some(first), Some(second)) = (first, second) {
         let _ = Inbox::settle(first, second, inbox);

@@ -10,7 +10,7 @@ use Rattle.cq_chain.specs.declared.message.Answer.{Answer}
 use Rattle.cq_link.specs.Inboxes.{put_in}
 use Rattle.cq_link.specs.Links.{put_on, taken_from}
 use Rattle.cq_nodes.specs.ClientNodes.{ClientDid}
-use Rattle.cq_nodes.specs.Ends.{ends_of, in_ends_of}
+use Rattle.cq_nodes.specs.Ends.{ends_of, in_ends_of, unread_in}
 use Rattle.cq_nodes.specs.MasterNodes.{MasterLived}
 use Rattle.cq_nodes.specs.Nodes.{held_in, Tells}
 use Rattle.cq_link.specs.Clients.{requests_in}
@@ -109,11 +109,12 @@ left_more servers parts p server held tells before = record {
 -- ---- the master and the clients
 
 pub leaves_master : (master : Master) (ends : Ends) → MasterLived put_on taken_from master.size master.joins ends.outs.items ends.ins.items master.trace → ends_of ends.outs.items ≡ master.outs → in_ends_of ends.ins.items ≡ master.ins
-    → ends.trace.items ≡ master.trace → LeavesMaster master ends
-leaves_master master ends lived outs ins trace = record {
+    → unread_in ends.ins.items ≡ master.unread → ends.trace.items ≡ master.trace → LeavesMaster master ends
+leaves_master master ends lived outs ins unread trace = record {
   lived = subst (λ (es : List Event). MasterLived put_on taken_from master.size master.joins ends.outs.items ends.ins.items es) (sym trace) lived;
   outs = outs;
   ins = ins;
+  unread = unread;
   trace = trace;
 }
 

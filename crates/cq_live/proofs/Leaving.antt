@@ -1,6 +1,6 @@
 -- What the nodes of a chain leave after their run: their ends can be settled, and all together is what is known of nodes
 -- that have ended.
-use Rattle.std.proofs.Common.{◌≡◌, ◌⊎◌, ℕ, ◌+◌, ◌∙◌, ap, refl, sym, subst, List, ◌∷◌, length, map, slice_get, Bool, true, false, Some}
+use Rattle.std.proofs.Common.{◌≡◌, ◌≤◌, ◌⊎◌, ℕ, ◌+◌, ◌∙◌, arith, inl, inr, ap, refl, sym, subst, List, ◌∷◌, length, map, slice_get, Bool, true, false, Some}
 use Rattle.std.proofs.lemmas.List.{length-map}
 use Rattle.cq_base.proofs.Among.{among-image}
 use Rattle.cq_base.specs.Relations.{Among, IsPrefix}
@@ -16,9 +16,10 @@ use Rattle.cq_link.specs.declared.inbox.InPut.{InPut}
 use Rattle.cq_link.specs.declared.inbox.InTake.{InTake}
 use Rattle.cq_link.specs.declared.link.Putter.{Putter}
 use Rattle.cq_link.specs.declared.link.Taker.{Taker}
-use Rattle.cq_nodes.specs.Ends.{ends_of, in_ends_of}
+use Rattle.cq_nodes.specs.Ends.{ends_of, in_ends_of, unread_in}
 use Rattle.cq_nodes.specs.FreshLinks as fresh
 use Rattle.cq_nodes.specs.MasterNodes.{MasterLived}
+use Rattle.cq_nodes.specs.MasterNodes as masters
 use Rattle.cq_nodes.specs.Nodes.{held_in}
 use Rattle.cq_nodes.specs.declared.ends.In.{In}
 use Rattle.cq_nodes.specs.declared.ends.Out.{Out}
@@ -31,7 +32,8 @@ use Rattle.cq_live.specs.within.Runs.{IsSettled, HasEnded}
 use Rattle.cq_live.specs.declared.settle.Ended.{Ended}
 use Rattle.cq_live.proofs.Mapped.{fused, through, together, same_length}
 use Rattle.cq_live.proofs.Wired.{row_of, have_delivered}
-use Rattle.cq_live.specs.Ended.{Nodes, server_row, rows, server_events, events_of, AreOf, HaveDelivered, AreWhole, IsServer, IsMaster, IsClientNode, HaveServed, HaveEnded, requests_in}
+use Rattle.cq_link.specs.Clients.{requests_in}
+use Rattle.cq_live.specs.Ended.{Nodes, server_row, rows, server_events, events_of, AreOf, HaveDelivered, AreWhole, IsServer, IsMaster, IsClientNode, HaveServed, HaveEnded}
 use Rattle.cq_live_plan.specs.declared.step.LiveStep.{LiveStep}
 use Rattle.cq_events.specs.declared.trace.Trace.{Trace}
 use Rattle.cq_link.specs.Clients as clients
@@ -126,10 +128,15 @@ module _ (count size : ℕ) (steps : List LiveStep) (own : Own) (master : Master
     joins = master.joins;
     lived = subst (λ n. MasterLived put_on taken_from n master.joins left.ends.outs.items left.ends.ins.items left.ends.trace.items) chain.its_master.size left.its_master.lived;
     planned = λ join is. subst (Among join.server) (ap (map (λ (j : Join). j.server)) chain.its_master.joins) (among-image (λ (j : Join). j.server) join master.joins is);
+    read = read_by chain.its_master.read;
   }
+    where
+      read_by : masters.HasRead master → unread_in left.ends.ins.items ≤ 1
+      read_by (inl none) = let same = left.its_master.unread in omega arith
+      read_by (inr one) = let same = left.its_master.unread in let few = one.1 in omega arith
 
   its_server : (i : ℕ) (p : Parts) → slice_get left.parts i ≡ Some p → IsServer put_on taken_from requests_in size steps (i + 1) p
-  its_server i p is = let of = part_of i p is in record { size = of.size; id = of.id; crash_after = of.crash_after; tells = left.its_servers.told i p is }
+  its_server i p is = let of = part_of i p is in record { size = of.size; id = of.id; crash_after = of.crash_after; tells = left.its_servers.told i p is; read = of.read }
 
   its_first : IsClientNode put_in taken_from steps 1 first
   its_first = record { id = chain.its_first.id; asks = chain.its_first.asks; did = left.its_first.did }
@@ -153,11 +160,10 @@ module _ (count size : ℕ) (steps : List LiveStep) (own : Own) (master : Master
         let w = counterpart (λ (w : ServerPorts Message). w.second) (λ (q : Parts). q.clients.second) apart.wires.servers.items left.parts left.gathered.seconds i p is in
         subst (λ out. IsPrefix (taken_from end) (put_on out)) w.2 (settled.served.to_second i w.0 end w.1 (ap (λ es. slice_get es i) left.its_second.ins ∙ here))
 
-    requests : (i : ℕ) (p : Parts) (one two : InPut Request) → slice_get left.parts i ≡ Some p → slice_get first.outs i ≡ Some one → slice_get second.outs i ≡ Some two
-        → (request : Request) → Among request (requests_in p.inbox) → Among request (put_in one) ⊎ Among request (put_in two)
+    requests : (i : ℕ) (p : Parts) (one two : InPut Request) → slice_get left.parts i ≡ Some p → slice_get first.outs i ≡ Some one → slice_get second.outs i ≡ Some two → clients.AreOfBoth (requests_in p.inbox) (put_in one) (put_in two)
     requests i p one two is here there =
         let w = counterpart (λ (w : ServerPorts Message). w.inbox) (λ (q : Parts). q.inbox) apart.wires.servers.items left.parts left.gathered.inboxes i p is in
-        subst (λ inbox. clients.ArePut inbox one two) w.2 (settled.served.requests i w.0 one two w.1 (ap (λ es. slice_get es i) left.its_first.outs ∙ here) (ap (λ es. slice_get es i) left.its_second.outs ∙ there))
+        subst (λ inbox. clients.AreOfBoth (requests_in inbox) (put_in one) (put_in two)) w.2 (settled.served.requests i w.0 one two w.1 (ap (λ es. slice_get es i) left.its_first.outs ∙ here) (ap (λ es. slice_get es i) left.its_second.outs ∙ there))
 
     served : HaveServed put_on taken_from requests_in put_in its_nodes
     served = record { to_first = to_first; to_second = to_second; requests = requests }

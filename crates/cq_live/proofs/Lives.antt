@@ -84,7 +84,7 @@ module _ {P T I Q : Type 0} (put : P → List Message) (taken : T → List Messa
   server_at i s is =
       let life = life_at put taken got 1 nodes.servers (λ j t there. (servers j t there).tells) (λ j t there. (servers j t there).id) i s is (suc i) (sym (add-one i)) in
       let node = servers i s is in
-      subst (ServerKnown put taken got size steps (suc i) s) (sym life.1) (server_known put taken got size steps i s (record { size = node.size; id = node.id; crash_after = node.crash_after; tells = life.0 }))
+      subst (ServerKnown put taken got size steps (suc i) s) (sym life.1) (server_known put taken got size steps i s (record { size = node.size; id = node.id; crash_after = node.crash_after; tells = life.0; read = node.read }))
 
   idle : (p : Party) → HasNoNode (length nodes.servers) p → actions_of lives_of p ≡ []
   idle parties.Master away = absurd away

@@ -121,10 +121,11 @@ module _ (count size : ℕ) (steps : List LiveStep) (wires : Wires) (port : Port
         size = refl;
         id = ap (λ (r : Role). r.id) (sym role);
         crash_after = ap (λ (r : Role). r.crash_after) (sym role);
+        read = inl refl;
       })
 
   module _ (own : Own) (master : Master) (outs : own.0 ∷ master.outs ≡ port.outs.items) (ins : own.1 ∷ master.ins ≡ port.ins.items) (of_size : master.size ≡ size)
-      (of_joins : master.joins ≡ joins_of steps) where
+      (of_joins : master.joins ≡ joins_of steps) (of_unread : master.unread ≡ 0) where
     same_wiring : wiring_of own master made ≡ wiring wires.ports.items
     same_wiring = ap (λ w. w ∷ map server_wiring made) (same_wired (map putter_link (own.0 ∷ master.outs)) (map putter_link port.outs.items) (map taker_link (own.1 ∷ master.ins)) (map taker_link port.ins.items) (ap (map putter_link) outs) (ap (map taker_link) ins))
         ∙ ap (λ ws. port_wiring port ∷ ws) (of_ports size server_wiring port_wiring (λ role p w. refl) (roles_of steps count) ports wires.clients.servers.items roles_of_ports roles_of_wires)
@@ -138,6 +139,7 @@ module _ (count size : ℕ) (steps : List LiveStep) (wires : Wires) (port : Port
           ins = (let n = ap length ins ∙ square.1 in omega (arith, n));
           size = of_size;
           joins = of_joins;
+          read = inl of_unread;
         }
 
     made_chain : IsChain count size steps own master made (a_client 1 wires.clients.first.outs.items wires.clients.first.ins.items) (a_client 2 wires.clients.second.outs.items wires.clients.second.ins.items)

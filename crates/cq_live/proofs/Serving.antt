@@ -9,6 +9,7 @@ use Rattle.cq_base.specs.Relations.{Among, IsPrefix}
 use Rattle.cq_chain.specs.declared.message.Message.{Message}
 use Rattle.cq_nodes.specs.declared.server_ends.ServerParts.{ServerParts}
 use Rattle.cq_nodes.specs.Ends.{of_client}
+use Rattle.cq_link.proofs.ClientSettling.{among_both}
 use Rattle.cq_live.specs.Lives.{IsClientId}
 use Rattle.cq_live.proofs.Doing.{master_does, request_among}
 use Rattle.cq_live.proofs.Elements.{place_of, among_at, item_at, among_flat, among_prefix, among_part, among_clients}
@@ -39,7 +40,8 @@ module _ {P T I Q : Type 0} (put : P → List Message) (taken : T → List Messa
       let one = item_at nodes.first.outs i (omega arith) in
       let two = item_at nodes.second.outs i (omega arith) in
       put_on_one i one.0 two.0 request one.1 two.1
-      (served.requests i s one.0 two.0 is one.1 two.1 request (among_part request _ _ (known.servers i s is).bound.arrived (request_among clock request (actions (parties.Server (suc i))) h)))
+      (among_both request (got s.inbox) (asked one.0) (asked two.0) (served.requests i s one.0 two.0 is one.1 two.1)
+      (among_part request _ _ (known.servers i s is).bound.arrived (request_among clock request (actions (parties.Server (suc i))) h)))
 
   pub arrivals : (p : Party) (clock : ℕ) (request : Request) → Among (Arrived clock request) (actions p) → IsPut request
   arrivals = by_party nodes.servers (λ p. (clock : ℕ) (request : Request) → Among (Arrived clock request) (actions p) → IsPut request)

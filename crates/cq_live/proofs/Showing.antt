@@ -12,7 +12,8 @@ use Rattle.cq_live.proofs.Known.{HasNoNode, Known, by_party}
 use Rattle.cq_live.proofs.Lives.{lives_of, lives_known, lives_told}
 use Rattle.cq_live.proofs.Planned.{crashes, starved_crashes, silent, clients}
 use Rattle.cq_live.proofs.Serving.{arrivals, answers}
-use Rattle.cq_live.specs.Ended.{Nodes, HaveEnded, AreOf, Show, Shows, put_by, taken_by, closed_of, requests_in}
+use Rattle.cq_link.specs.Clients.{requests_in}
+use Rattle.cq_live.specs.Ended.{Nodes, HaveEnded, AreOf, Show, Shows, put_by, taken_by, closed_of}
 use Rattle.cq_live.specs.Plans.{plan_of}
 use Rattle.cq_live_plan.specs.declared.step.LiveStep.{LiveStep}
 use Rattle.cq_events.specs.Actions.{Action, Lived, AreActions}

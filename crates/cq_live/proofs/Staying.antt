@@ -6,6 +6,8 @@ use Rattle.cq_link.specs.Inboxes.{InboxId, take_inbox}
 use Rattle.cq_link.specs.Links.{LinkId, putter_link, taker_link}
 use Rattle.cq_nodes.specs.ClientNodes.{IsSameClient}
 use Rattle.cq_nodes.specs.MasterNodes.{IsSameNode}
+use Rattle.cq_nodes.proofs.MasterTurns as master_turns
+use Rattle.cq_nodes.proofs.ServerTurns.{still_read}
 use Rattle.cq_live.proofs.Images.{beside}
 use Rattle.cq_live.specs.within.Chains.{master_wiring, server_wiring, wiring_of, AreTied, IsMasterOf, IsServerOf, IsClientOf, IsChain}
 use Rattle.cq_live.proofs.Mapped.{same_map, same_length}
@@ -61,6 +63,7 @@ module _ (count size : ℕ) (steps : List LiveStep) where
     ins = same_length taker_link taker_link n.ins m.ins same.ins ∙ of.ins;
     size = same.size ∙ of.size;
     joins = same.joins ∙ of.joins;
+    read = master_turns.still_read m n of.read same.unread same.over;
   }
 
   same_server_of : (ss ts : List Server) → AreSame putter_link taker_link take_inbox ss ts → ((i : ℕ) (s : Server) → slice_get ss i ≡ Some s → IsServerOf count size steps (i + 1) s)
@@ -75,6 +78,7 @@ module _ (count size : ℕ) (steps : List LiveStep) where
         size = same.size ∙ of.size;
         id = same.id ∙ of.id;
         crash_after = same.crash_after ∙ of.crash_after;
+        read = still_read old.0 t of.read same.unread same.over;
       }
 
   same_client_of : (id : ℕ) (f g : Client) → IsSameClient seat_of taker_link f g → IsClientOf steps id f → IsClientOf steps id g

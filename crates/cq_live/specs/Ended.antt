@@ -1,5 +1,5 @@
 -- What is known of the nodes of a live run once it has ended, and what they show for it.
-use Rattle.std.specs.Prelude.{◌≡◌, ◌==◌, ◌⊎◌, ℕ, ◌+◌, List, ◌∷◌, length, map, slice_get, true, if◌then◌else◌, Some}
+use Rattle.std.specs.Prelude.{◌≡◌, ◌≤◌, ◌==◌, ◌⊎◌, ℕ, ◌+◌, List, ◌∷◌, length, map, slice_get, true, if◌then◌else◌, Some}
 use Rattle.std.specs.List.{flat_map}
 use Rattle.cq_base.specs.declared.ask.Request.{Request}
 use Rattle.cq_base.specs.declared.party.Party.{Party}
@@ -11,17 +11,18 @@ use Rattle.cq_link.specs.declared.inbox.InPut.{InPut}
 use Rattle.cq_link.specs.declared.inbox.InTake.{InTake}
 use Rattle.cq_link.specs.declared.link.Putter.{Putter}
 use Rattle.cq_link.specs.declared.link.Taker.{Taker}
-use Rattle.cq_link.specs.Inboxes.{put_in, taken_in}
+use Rattle.cq_link.specs.Clients.{AreOfBoth, requests_in}
+use Rattle.cq_link.specs.Inboxes.{put_in}
 use Rattle.cq_link.specs.Links.{put_on, taken_from}
 use Rattle.cq_live_plan.specs.declared.joins.Join.{Join}
 use Rattle.cq_nodes.specs.declared.master_node.MasterEnds.{MasterEnds}
 use Rattle.cq_nodes.specs.declared.server_ends.ServerParts.{ServerParts}
 use Rattle.cq_nodes.specs.ClientNodes.{ClientHeld, ClientDid}
-use Rattle.cq_nodes.specs.Ends.{ends_of, in_ends_of}
+use Rattle.cq_nodes.specs.Ends.{ends_of, in_ends_of, unread_in}
 use Rattle.cq_nodes.specs.FreshLinks.{Ends}
 use Rattle.cq_live.specs.Lives.{Life, AreNodes, AreTraces, actions_of}
 use Rattle.cq_nodes.specs.MasterNodes.{MasterLived}
-use Rattle.cq_nodes.specs.Nodes.{Tells}
+use Rattle.cq_nodes.specs.Nodes.{Tells, HasRead, held_in}
 use Rattle.cq_live.specs.Plans.{plan_of}
 use Rattle.cq_live_plan.specs.declared.step.LiveStep.{LiveStep}
 use Rattle.cq_live_plan.specs.Steps.{asks_of, crash_of, joiners_of}
@@ -104,12 +105,16 @@ pub record IsServer {P T I : Type 0} (put : P → List Message) (taken : T → L
   pub id : s.id ≡ number
   pub crash_after : s.crash_after ≡ crash_of number steps
   pub tells : Tells put taken got s
+  -- it read all that it took, but for one message where it found no memory
+  pub read : HasRead (held_in s)
 
 -- The master lived, and lets only servers join that the steps let join.
 pub record IsMaster {P T : Type 0} (put : P → List Message) (taken : T → List Message) (size : ℕ) (steps : List LiveStep) (master : MasterEnds P T) : Type 0 where
   pub joins : List Join
   pub lived : MasterLived put taken size joins master.outs.items master.ins.items master.trace.items
   pub planned : (join : Join) → Among join joins → Among join.server (joiners_of steps)
+  -- it read all that it took, but for one message
+  pub read : unread_in master.ins.items ≤ 1
 
 -- A client's node was made for the client of that id by the steps, and did what such a node does.
 pub record IsClientNode {Q T : Type 0} (asked : Q → List Request) (taken : T → List Message) (steps : List LiveStep) (number : ℕ) (client : ClientHeld Q T) : Type 0 where
@@ -118,13 +123,12 @@ pub record IsClientNode {Q T : Type 0} (asked : Q → List Request) (taken : T �
   pub did : ClientDid asked taken client
 
 module _ {P T I Q : Type 0} (put : P → List Message) (taken : T → List Message) (got : I → List Request) (asked : Q → List Request) where
-  -- For each server: what a client took from its link is a prefix of what the server put, and each request that came from
-  -- its inbox was put there by a client.
+  -- For each server: what a client took from its link is a prefix of what the server put, and of the requests that came from
+  -- its inbox those of each client are a prefix of what that client put there.
   pub record HaveServed (nodes : Nodes P T I Q) : Type 0 where
     pub to_first : (i : ℕ) (s : ServerParts P T I) (end : T) → slice_get nodes.servers i ≡ Some s → slice_get nodes.first.ins i ≡ Some end → IsPrefix (taken end) (put s.clients.first)
     pub to_second : (i : ℕ) (s : ServerParts P T I) (end : T) → slice_get nodes.servers i ≡ Some s → slice_get nodes.second.ins i ≡ Some end → IsPrefix (taken end) (put s.clients.second)
-    pub requests : (i : ℕ) (s : ServerParts P T I) (one two : Q) → slice_get nodes.servers i ≡ Some s → slice_get nodes.first.outs i ≡ Some one → slice_get nodes.second.outs i ≡ Some two
-        → (request : Request) → Among request (got s.inbox) → Among request (asked one) ⊎ Among request (asked two)
+    pub requests : (i : ℕ) (s : ServerParts P T I) (one two : Q) → slice_get nodes.servers i ≡ Some s → slice_get nodes.first.outs i ≡ Some one → slice_get nodes.second.outs i ≡ Some two → AreOfBoth (got s.inbox) (asked one) (asked two)
 
   -- What is known of the nodes of a live run of the steps, with so many servers, once all have ended and all links and
   -- inboxes are settled. The servers that found no memory are those of the last list.
@@ -152,10 +156,6 @@ pub record Show {P T I Q : Type 0} (taken : T → List Message) (asked : Q → L
   pub lives : List Life
   pub shown : AreNodes (plan_of steps) size (actions_of lives) (put_by asked nodes) (taken_by taken nodes) (closed_of nodes) starved
   pub told : AreTraces traces lives
-
--- the requests that were taken from an inbox, in order
-abbrev pub requests_in : InTake Request → List Request
-requests_in inbox = map (λ x. x.item) (taken_in inbox)
 
 -- The nodes of a live run that has ended show what is wanted of nodes.
 abbrev pub Shows : Type 0

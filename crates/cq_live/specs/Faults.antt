@@ -28,6 +28,11 @@ abbrev pub is_of_steps : LiveFault → Bool
 is_of_steps (BadScript step) = true
 is_of_steps fault = false
 
+-- it says that an audit found no order, where it was memory that was wanting
+abbrev pub hides_memory : LiveFault → Bool
+hides_memory (AuditRefused audits.NoMemory) = true
+hides_memory fault = false
+
 -- a fault of threads, as one of a live run
 abbrev pub of_threads : ThreadFault → LiveFault
 of_threads threads.SpawnFailed = SpawnFailed

@@ -1,6 +1,6 @@
 //! The faults of a live run.
 ghost use Rattle.std.specs.Prelude.{◌≡◌, false};
-ghost use Rattle.cq_live.specs.Faults.{code_of, name_of, is_of_steps, of_threads, of_audit};
+ghost use Rattle.cq_live.specs.Faults.{code_of, name_of, is_of_steps, hides_memory, of_threads, of_audit};
 ghost use Rattle.cq_live.specs.declared.fault.LiveFault.TheVariants as faults;
 
 use cq_base::NoMemory as OutOfMemory;
@@ -96,7 +96,7 @@ impl From<LinkFault> for LiveFault {
 }
 
 impl From<ThreadFault> for LiveFault {
-    ghost from_gives = { λ fault it. (it ≡ of_threads fault) × (is_of_steps it ≡ false) };
+    ghost from_gives = { λ fault it. (it ≡ of_threads fault) × (is_of_steps it ≡ false) × (hides_memory it ≡ false) };
 
     fn from(fault: ThreadFault) -> LiveFault {
         match fault {
@@ -107,7 +107,7 @@ impl From<ThreadFault> for LiveFault {
 }
 
 impl From<AuditFault> for LiveFault {
-    ghost from_gives = { λ fault it. (it ≡ of_audit fault) × (is_of_steps it ≡ false) };
+    ghost from_gives = { λ fault it. (it ≡ of_audit fault) × (is_of_steps it ≡ false) × (hides_memory it ≡ false) };
 
     /// An audit that found no memory is told as that.
     fn from(fault: AuditFault) -> LiveFault {

@@ -1,7 +1,7 @@
 //! A live run.
 ghost use Rattle.std.specs.Prelude.{◌≡◌, ◌↔◌, ℕ, [], false, Some, Err, IfOk, IfErr};
 ghost use Rattle.cq_live_plan.specs.Steps.{first_bad};
-ghost use Rattle.cq_live.specs.Faults.{is_of_steps};
+ghost use Rattle.cq_live.specs.Faults.{is_of_steps, hides_memory};
 ghost use Rattle.cq_live.specs.declared.fault.LiveFault.TheVariants as faults;
 ghost use Rattle.cq_world.specs.Laws.{Headline};
 ghost use Rattle.cq_live.specs.Reports.{IsReport};
@@ -33,6 +33,7 @@ fn perform<R: Threads + Wait + Sync, G: Gate + Sync>(
 ) -> Result<Ended, LiveFault>
     ensures ended { IfOk result (HasEnded size steps.now) }
     ensures others { IfErr result (λ fault. is_of_steps fault ≡ false) }
+    ensures audited { IfErr result (λ fault. hides_memory fault ≡ false) }
 {
     let joins = joins_of(alloc, steps)?;
     let servers = servers_in(size, &joins);
@@ -67,6 +68,7 @@ pub fn live<R: Threads + Wait + Sync, G: Gate + Sync>(
     gate: &G,
 ) -> Result<LiveReport, LiveFault>
     ensures bad { (step : ℕ) → (result ≡ Err (faults.BadScript step)) ↔ (first_bad size [] steps.now ≡ Some step) }
+    ensures audited { IfErr result (λ fault. hides_memory fault ≡ false) }
     ensures live { IfOk result (IsReport size steps.now) }
     ensures headline { IfOk result (λ report. Headline size report.events.items) }
 {

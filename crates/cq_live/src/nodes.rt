@@ -46,6 +46,7 @@ fn master_of<'a>(
     ensures ins { IfOk result (λ made. made.0.1 ∷ made.1.ins ≡ port.ins.items) }
     ensures size { IfOk result (λ made. made.1.size ≡ size) }
     ensures joins { IfOk result (λ made. made.1.joins ≡ joins.items) }
+    ensures unread { IfOk result (λ made. made.1.unread ≡ 0) }
 {
     let Ports { mut outs, mut ins } = port;
     let own = (outs.remove(0), ins.remove(0));

@@ -1,7 +1,7 @@
 //! What a live run reports.
 ghost use Rattle.std.specs.Prelude.{◌≡◌, ◌+◌, IfOk, IfErr, false};
 ghost use Rattle.cq_live.specs.Lives.{sends_closed};
-ghost use Rattle.cq_live.specs.Faults.{is_of_steps};
+ghost use Rattle.cq_live.specs.Faults.{is_of_steps, hides_memory};
 ghost use Rattle.cq_live.specs.Reports.{IsReport};
 ghost use Rattle.cq_live.specs.within.Runs.{HasEnded};
 
@@ -45,6 +45,7 @@ pub(crate) fn report_of(
     ensures live { IfOk result (IsReport size steps.now) }
     ensures memory { IfOk result (λ report. ended.is_starved ≡ false) }
     ensures others { IfErr result (λ fault. is_of_steps fault ≡ false) }
+    ensures audited { IfErr result (λ fault. hides_memory fault ≡ false) }
 {
     let first = asks_of(alloc, 1, steps)?;
     let second = asks_of(alloc, 2, steps)?;

@@ -1,6 +1,6 @@
 //! The run of all nodes.
 ghost use Rattle.std.specs.Prelude.{◌≡◌, ◌||◌, false, IfOk, IfErr};
-ghost use Rattle.cq_live.specs.Faults.{is_of_steps};
+ghost use Rattle.cq_live.specs.Faults.{is_of_steps, hides_memory};
 ghost use Rattle.cq_live.specs.within.Runs.{WasRun};
 
 use crate::apart::{Apart, take_apart};
@@ -38,6 +38,7 @@ pub(crate) fn run_nodes<R: Threads + Wait + Sync, G: Gate + Sync>(
 ) -> Result<Done, LiveFault>
     ensures run { IfOk result (λ done. WasRun live.entry done.apart done.is_starved) }
     ensures others { IfErr result (λ fault. is_of_steps fault ≡ false) }
+    ensures audited { IfErr result (λ fault. hides_memory fault ≡ false) }
 {
     let LiveNodes { own, nodes } = live;
     let Nodes {

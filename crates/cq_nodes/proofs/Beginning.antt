@@ -10,10 +10,11 @@ use Rattle.cq_chain.specs.declared.server.Server as rust_server
 use Rattle.cq_nodes.specs.declared.ends.In.{In}
 use Rattle.cq_nodes.specs.declared.ends.Out.{Out}
 use Rattle.cq_nodes.specs.declared.ends.ToClients.{ToClients}
-use Rattle.cq_nodes.specs.Ends.{back_of, kept_at, listed}
+use Rattle.cq_nodes.specs.Ends.{back_of, kept_at, listed, unread_in}
 use Rattle.cq_nodes.specs.FreshLinks.{AreUnput, AreUntaken}
 use Rattle.cq_nodes.specs.Moves.{ArePut, AreTaken}
 use Rattle.cq_nodes.specs.Nodes.{ServerRan}
+use Rattle.cq_nodes.proofs.Places.{none_unread}
 use Rattle.cq_events.specs.Actions.{CoreState, StandsAs}
 use Rattle.cq_events.specs.Worlds.{first_world}
 
@@ -47,6 +48,10 @@ none_taken_at : {T : Type 0} (taken : T → List rust.Message) (ins : List (In T
 none_taken_at taken ins untaken place end here =
     let both = all_at (λ e. (taken e.end ≡ []) × (e.unread ≡ None)) ins place end untaken here in
     both.0 ∙ ap listed (sym both.1)
+
+-- no message is unread
+pub fresh_unread : {T : Type 0} (taken : T → List rust.Message) (ins : List (In T)) → AreUntaken taken ins → unread_in ins ≡ 0
+fresh_unread taken ins untaken = none_unread ins (λ i end here. (all_at (λ e. (taken e.end ≡ []) × (e.unread ≡ None)) ins i end untaken here).1)
 
 pub ran_begun : {P T I : Type 0} (put : P → List rust.Message) (taken : T → List rust.Message) (got : I → List Request) (size id : ℕ) (core : rust_server.Server) (outs : List (Out P)) (clients : ToClients P) (ins : List (In T)) (inbox : I) (due : Option ℕ)
     → StandsAs (record { core = core; back = λ _. None }) ((first_world size).server id) ((first_world size).outbox (parties.Server id)) → AreUnput put outs → AreUntaken taken ins → put clients.first ≡ [] → put clients.second ≡ [] → clients.kept ≡ None

@@ -1,5 +1,5 @@
 -- The ends of a client's links in their places, after the one at one place was used.
-use Rattle.std.proofs.Common.{◌≡◌, ◌==◌, ℕ, zero, suc, ◌∙◌, ap, sym, refl, subst, List, [], ◌∷◌, ◌++◌, slice_get, slice_set, Bool, true, false, inl, inr, Option, Some, None}
+use Rattle.std.proofs.Common.{◌≡◌, ◌==◌, ℕ, zero, suc, ◌∙◌, ap, sym, refl, subst, cond, List, [], ◌∷◌, ◌++◌, slice_get, slice_set, Bool, true, false, inl, inr, Option, Some, None}
 use Rattle.std.specs.Option.{IfSome, MatchOption}
 use Rattle.std.proofs.lemmas.Bool.{eqb-true}
 use Rattle.std.proofs.lemmas.Option.{same_Some, none-some}
@@ -11,8 +11,9 @@ use Rattle.cq_chain.specs.declared.message.Answer.{Answer}
 use Rattle.cq_chain.specs.declared.message.Message.{Message}
 use Rattle.cq_chain.specs.declared.message.Message.TheVariants as stored
 use Rattle.cq_chain.specs.Stands.{answer_of}
-use Rattle.cq_nodes.specs.ClientMoves.{IsDueAsk, AreAsked, IsTaken}
-use Rattle.cq_nodes.proofs.Places.{apart_of, at_each}
+use Rattle.cq_nodes.specs.ClientMoves.{IsDueAsk, AreAsked, IsTaken, GrewAt}
+use Rattle.cq_nodes.specs.Ends.{listed}
+use Rattle.cq_nodes.proofs.Places.{apart_of, at_each, itself, empty_end}
 
 -- ---- places
 
@@ -62,6 +63,25 @@ module _ {T : Type 0} (list : T → List Message) (ins : List T) (i : ℕ) (end 
     go : (b : Bool) → (t.place == i) ≡ b → IsTaken list m (slice_set ins i now)
     go true e = taken_here m (more (subst (λ x. Among m (list x)) (same_Some t.end end (sym t.here ∙ ap (slice_get ins) (eqb-true t.place i e) ∙ is)) t.among))
     go false e = record { place = t.place; end = t.end; here = at_other ins i now t.place (apart_of t.place i e) ∙ t.here; among = t.among }
+
+-- ---- takes in order
+
+none_chosen : (t : Bool) → [] ≡ cond t (listed None) []
+none_chosen true = refl
+none_chosen false = refl
+
+pub grew_nowhere : {T : Type 0} (list : T → List Message) (ins : List T) (place : ℕ) → GrewAt list ins ins place None
+grew_nowhere list ins place link end is = (end, is, sym (empty_end (list end)) ∙ ap (λ us. list end ++ us) (none_chosen (link == place)))
+
+-- what one end has, by what its call gives
+took_listed : (r : Option Message) (before after : List Message) → MatchOption r (after ≡ before) (λ item. after ≡ before ++ item ∷ []) → after ≡ before ++ listed r
+took_listed None before after is = is ∙ sym (empty_end before)
+took_listed (Some x) before after is = is
+
+pub grew_set : {T : Type 0} (list : T → List Message) (ins : List T) (place : ℕ) (end now : T) → slice_get ins place ≡ Some end → (r : Option Message) → MatchOption r (list now ≡ list end) (λ item. list now ≡ list end ++ item ∷ []) → GrewAt list ins (slice_set ins place now) place r
+grew_set {T} list ins place end now is r taken = at_each (λ at (x : T). slice_get ins at ≡ Some x) (λ at (x : T). (was : T) × (slice_get ins at ≡ Some was) × (list x ≡ list was ++ cond (at == place) (listed r) [])) ins place end now is (λ at x here. here)
+    (end, is, took_listed r (list end) (list now) taken ∙ ap (λ t. list end ++ cond t (listed r) []) (sym (itself place)))
+    (λ at x apart here. (x, here, sym (empty_end (list x)) ∙ ap (λ t. list x ++ cond t (listed r) []) (sym apart)))
 
 -- ---- answers
 

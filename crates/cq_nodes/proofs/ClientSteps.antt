@@ -10,9 +10,10 @@ use Rattle.cq_chain.specs.Clients.{StandsFor, first_client}
 use Rattle.cq_chain.specs.declared.client.Client as rust_client
 use Rattle.cq_chain.specs.declared.message.Answer.{Answer}
 use Rattle.cq_chain.specs.declared.message.Message.{Message}
-use Rattle.cq_nodes.specs.ClientMoves.{IsDueAsk, AreAsked, IsTaken, IsAlong, ClosesBy}
-use Rattle.cq_nodes.specs.ClientNodes.{AreFresh, IsClosedBy, ClientRan, client_held}
+use Rattle.cq_nodes.specs.ClientMoves.{IsDueAsk, AreAsked, IsTaken, GrewAt, IsAlong, ClosesBy}
+use Rattle.cq_nodes.specs.ClientNodes.{AreFresh, IsClosedBy, CameInOrder, ClientRan, client_held}
 use Rattle.cq_nodes.proofs.ClientAsks.{one_more}
+use Rattle.cq_nodes.proofs.ClientOrders.{came_none, came_still, came_one}
 
 -- ---- lists
 
@@ -36,6 +37,7 @@ module _ {P T : Type 0} (put : P → List Request) (taken : T → List Message) 
     did = record {
       asked = λ place out here request among. absurd (subst (λ xs. Among request xs) (fresh.nothing_put place out here) among);
       closed_by = λ place answer nobody. absurd (none-some answer nobody);
+      came = came_none taken ins;
       rising = tt;
       few = omega arith;
     };
@@ -51,9 +53,9 @@ module _ {P T : Type 0} (put : P → List Request) (taken : T → List Message) 
         record { taken_here = kept _ was.taken_here; client = was.client; number = was.number; no_query = was.no_query }
 
     -- it took a message that closed nothing, or none
-    pub ran_took : (after : List T) → ((m : Message) → IsTaken taken m ins → IsTaken taken m after) → IsAlong id asks new closed → longer ≡ closed → ClientRan put taken new back (client_held id asks outs after longer starved)
-    ran_took after kept along is = subst (λ xs. ClientRan put taken new back (client_held id asks outs after xs starved)) (sym is) (record {
-      did = record { asked = h.did.asked; closed_by = closed_still after kept; rising = h.did.rising; few = h.did.few };
+    pub ran_took : (after : List T) (place : ℕ) (r : Option Message) → GrewAt taken ins after place r → ((m : Message) → IsTaken taken m ins → IsTaken taken m after) → IsAlong id asks new closed → longer ≡ closed → ClientRan put taken new back (client_held id asks outs after longer starved)
+    ran_took after place r grew kept along is = subst (λ xs. ClientRan put taken new back (client_held id asks outs after xs starved)) (sym is) (record {
+      did = record { asked = h.did.asked; closed_by = closed_still after kept; came = came_still taken ins after place r closed grew h.did.came; rising = h.did.rising; few = h.did.few };
       along = along;
       back = h.back;
     })
@@ -62,15 +64,15 @@ module _ {P T : Type 0} (put : P → List Request) (taken : T → List Message) 
     pub ran_put : (after : List P) (request : Request) (left : Option Request) → IsDueAsk id asks (length closed) request → (AreAsked put id asks (length closed) outs → AreAsked put id asks (length closed) after) → IfSome left (λ kept. kept ≡ request)
         → ClientRan put taken old left (client_held id asks after ins closed starved)
     ran_put after request left due puts kept = record {
-      did = record { asked = puts h.did.asked; closed_by = h.did.closed_by; rising = h.did.rising; few = h.did.few };
+      did = record { asked = puts h.did.asked; closed_by = h.did.closed_by; came = h.did.came; rising = h.did.rising; few = h.did.few };
       along = h.along;
       back = IfSome_then left kept (λ r is. subst (IsDueAsk id asks (length closed)) (sym is) due);
     }
 
     -- it took an answer that closed its open request
-    pub ran_closed : (after : List T) (message : Message) (answer : Answer) → ((m : Message) → IsTaken taken m ins → IsTaken taken m after) → IsTaken taken message after → ClosesBy id asks new closed message answer → (room : List Answer) → room ≡ closed → longer ≡ room ++ answer ∷ []
+    pub ran_closed : (after : List T) (place : ℕ) (r : Option Message) (message : Message) (answer : Answer) → r ≡ Some message → GrewAt taken ins after place r → ((m : Message) → IsTaken taken m ins → IsTaken taken m after) → IsTaken taken message after → ClosesBy id asks new closed message answer → (room : List Answer) → room ≡ closed → longer ≡ room ++ answer ∷ []
         → ClientRan put taken new None (client_held id asks outs after longer starved)
-    ran_closed after message answer kept there one room same is = subst (λ xs. ClientRan put taken new None (client_held id asks outs after xs starved)) (sym (is ∙ ap (λ xs. xs ++ answer ∷ []) same)) (record {
+    ran_closed after place r message answer gave grew kept there one room same is = subst (λ xs. ClientRan put taken new None (client_held id asks outs after xs starved)) (sym (is ∙ ap (λ xs. xs ++ answer ∷ []) same)) (record {
       did = record {
         asked = λ place out here request among. later request (h.did.asked place out here request among);
         closed_by = each_push (IsClosedBy put taken id after) closed answer (closed_still after kept) (record {
@@ -79,6 +81,7 @@ module _ {P T : Type 0} (put : P → List Request) (taken : T → List Message) 
           number = one.closes.next.number;
           no_query = one.closes.next.no_query;
         });
+        came = came_one taken ins after place message closed answer one.bears (subst (GrewAt taken ins after place) gave grew) h.did.came;
         rising = pairwise-push (λ a b. a.length < b.length) closed answer h.did.rising one.closes.next.longer;
         few = few (one_more closed answer) one.closes.next.asked;
       };

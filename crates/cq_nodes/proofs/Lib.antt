@@ -2,6 +2,7 @@ pub mod CoreStates
 pub mod ActionRuns
 pub mod Moving
 pub mod Places
+pub mod Growing
 pub mod Bounds
 pub mod Answering
 pub mod NodeSteps
@@ -9,10 +10,10 @@ pub mod FirstCores
 pub mod Beginning
 pub mod ClientEnds
 pub mod ClientAsks
+pub mod ClientOrders
 pub mod ClientSteps
 pub mod MasterMoving
 pub mod MasterSteps
-pub mod Growing
 pub mod ServerTurns
 pub mod MasterTurns
 pub mod ClientTurns

@@ -18,7 +18,7 @@ use Rattle.cq_live_plan.specs.declared.joins.Join.{Join}
 use Rattle.cq_nodes.specs.Ends.{listed, kept_at}
 use Rattle.cq_nodes.specs.FreshLinks.{AreUnput, AreUntaken}
 use Rattle.cq_nodes.specs.MasterMoves.{back_for, back_of_servers, PutsFor, TakesOf}
-use Rattle.cq_nodes.specs.MasterNodes.{MasterDid, AreAsked, HasNoPlace, MasterRan, MasterLived}
+use Rattle.cq_nodes.specs.MasterNodes.{MasterDid, AreToJoin, HasNoPlace, MasterRan, MasterLived}
 use Rattle.cq_nodes.specs.Moves.{ArePut, AreTaken}
 use Rattle.cq_nodes.specs.Turns.{due_of}
 use Rattle.cq_nodes.specs.Acts.{ActsMaster}
@@ -60,7 +60,7 @@ among_more x (z ∷ xs) y (inr later) = go (among_more x xs y later) where
   go (inr is) = inr is
 
 -- one more action, where its server was asked for if it is a join
-asked_more : (joins : List Join) (actions : List Action) (d : Action) → ((id : ℕ) → Joined id ≡ d → Among id (map (λ join. join.server) joins)) → AreAsked joins actions → AreAsked joins (actions ++ d ∷ [])
+asked_more : (joins : List Join) (actions : List Action) (d : Action) → ((id : ℕ) → Joined id ≡ d → Among id (map (λ join. join.server) joins)) → AreToJoin joins actions → AreToJoin joins (actions ++ d ∷ [])
 asked_more joins actions d own asked id here = go (among_more (Joined id) actions d here) where
   go : Among (Joined id) actions ⊎ (Joined id ≡ d) → Among id (map (λ join. join.server) joins)
   go (inl before) = asked id before

@@ -1,6 +1,6 @@
 -- What the master's node keeps over turns.
-use Rattle.std.proofs.Common.{◌≡◌, ℕ, ◌+◌, ◌∙◌, ap, refl, subst, sym, map, List, Bool, true, false}
-use Rattle.cq_nodes.specs.MasterNodes.{Held, KeepsNode, IsSameMoment, IsSameNode}
+use Rattle.std.proofs.Common.{◌≡◌, ◌≤◌, ℕ, ◌+◌, ◌∙◌, arith, inl, inr, ap, refl, subst, sym, map, List, Bool, true, false}
+use Rattle.cq_nodes.specs.MasterNodes.{Held, KeepsNode, IsSameMoment, IsSameNode, LeavesUnread, HasRead}
 use Rattle.cq_nodes.specs.Turns.{noting, taken_at, detected_at, sent_at, joined_at, each_of, GrewBy, GrewByEach, GrewByOrders}
 use Rattle.cq_nodes.proofs.Growing.{prefix_none, prefix_both, each_none, each_more, orders_none, orders_prefix}
 use Rattle.cq_nodes.proofs.Places.{both_no}
@@ -19,6 +19,35 @@ module _ {P T : Type 0} where
 
   pub seen_joined : (parts value : Held P T) (new : List Event) (place : ℕ) → parts ≡ value → GrewBy (joined_at parts.joins parts.turns place) parts.trace new → GrewBy (joined_at value.joins value.turns place) value.trace new
   seen_joined parts value new place view is = subst (λ (h : Held P T). GrewBy (joined_at h.joins h.turns place) h.trace new) view is
+
+  -- ---- messages that are unread
+
+  -- as callers see a node of these parts
+  pub seen_unread : (parts value : Held P T) (n more : ℕ) → parts ≡ value → n ≤ parts.unread + more → n ≤ value.unread + more
+  seen_unread parts value n more view few = subst (λ (h : Held P T). n ≤ h.unread + more) view few
+
+  pub no_more : (old new : Held P T) → new.unread ≡ old.unread → LeavesUnread old new
+  no_more old new still = inl (omega arith)
+
+  pub leaves_both : (a b c : Held P T) → LeavesUnread a b → LeavesUnread b c → (b.starved ≡ true → c ≡ record b { turns = c.turns }) → LeavesUnread a c
+  leaves_both a b c (inl one) (inl two) over = inl (omega arith)
+  leaves_both a b c (inl one) (inr two) over = inr (two.0, let most = two.1 in omega arith)
+  leaves_both a b c (inr one) two over =
+      let is = over one.0 in
+      let still : c.unread ≡ b.unread = ap (λ (h : Held P T). h.unread) is in
+      let most = one.1 in
+      inr (ap (λ (h : Held P T). h.starved) is ∙ one.0, omega arith)
+
+  pub still_read : (a b : Held P T) → HasRead a → LeavesUnread a b → (a.starved ≡ true → b ≡ record a { turns = b.turns }) → HasRead b
+  still_read a b (inl none) (inl few) over = inl (omega arith)
+  still_read a b (inl none) (inr one) over = inr (one.0, let most = one.1 in omega arith)
+  still_read a b (inr one) leaves over =
+      let is = over one.0 in
+      let same : b.unread ≡ a.unread = ap (λ (h : Held P T). h.unread) is in
+      let most = one.1 in
+      inr (ap (λ (h : Held P T). h.starved) is ∙ one.0, omega arith)
+
+  -- ---- steps
 
   -- a join at one place more
   pub joins_more : (a b c : Held P T) (place : ℕ) → b.joins ≡ a.joins → b.turns ≡ a.turns → GrewBy (each_of (joined_at a.joins a.turns) place) a.trace b.trace → GrewBy (joined_at b.joins b.turns place) b.trace c.trace → GrewBy (each_of (joined_at a.joins a.turns) (place + 1)) a.trace c.trace
@@ -60,14 +89,14 @@ module _ {P T L M : Type 0} (put : P → L) (taken : T → M) where
   counted_orders old mid t trace is worked = subst (λ us. GrewByOrders old.joins mid.turns us trace) (ap (λ (h : Held P T). h.trace) is)
       (subst (λ joins. GrewByOrders joins mid.turns mid.trace trace) (ap (λ (h : Held P T). h.joins) is) worked)
 
-  pub same_turned : (old new : Held P T) → KeepsNode put taken old new → GrewByOrders old.joins new.turns old.trace new.trace → (old.starved ≡ true → new ≡ record old { turns = new.turns }) → IsSameNode put taken old new
-  same_turned old new keeps worked over = record { size = keeps.size; joins = keeps.joins; outs = keeps.outs; ins = keeps.ins; trace = orders_prefix old.joins new.turns old.trace new.trace worked; over = over }
+  pub same_turned : (old new : Held P T) → KeepsNode put taken old new → GrewByOrders old.joins new.turns old.trace new.trace → (old.starved ≡ true → new ≡ record old { turns = new.turns }) → LeavesUnread old new → IsSameNode put taken old new
+  same_turned old new keeps worked over unread = record { size = keeps.size; joins = keeps.joins; outs = keeps.outs; ins = keeps.ins; trace = orders_prefix old.joins new.turns old.trace new.trace worked; over = over; unread = unread }
 
   pub over_counted : (old new : Held P T) (t : ℕ) → new ≡ record old { turns = t } → new ≡ record old { turns = new.turns }
   over_counted old new t is = is ∙ ap (λ n. record old { turns = n }) (sym (ap (λ (h : Held P T). h.turns) is))
 
   pub same_still : (a : Held P T) → IsSameNode put taken a a
-  same_still a = record { size = refl; joins = refl; outs = refl; ins = refl; trace = prefix_none a.trace; over = λ starved. refl }
+  same_still a = record { size = refl; joins = refl; outs = refl; ins = refl; trace = prefix_none a.trace; over = λ starved. refl; unread = no_more a a refl }
 
   pub same_both : (a b c : Held P T) → IsSameNode put taken a b → IsSameNode put taken b c → IsSameNode put taken a c
   same_both a b c one two = record {
@@ -77,6 +106,7 @@ module _ {P T L M : Type 0} (put : P → L) (taken : T → M) where
     ins = two.ins ∙ one.ins;
     trace = prefix_both a.trace b.trace c.trace one.trace two.trace;
     over = λ starved. let was = one.over starved in two.over (ap (λ (h : Held P T). h.starved) was ∙ starved) ∙ ap (λ (h : Held P T). record h { turns = c.turns }) was;
+    unread = leaves_both a b c one.unread two.unread two.over;
   }
 
   -- ---- one turn
@@ -96,10 +126,11 @@ module _ {P T L M : Type 0} (put : P → L) (taken : T → M) where
   fed_before old mid t is fed short = both_no old.starved short (sym (ap (λ (h : Held P T). h.starved) is) ∙ fed)
 
   pub over_turn : (old new : Held P T) (t : ℕ) → new ≡ record old { turns = t } → IsSameNode put taken old new
-  over_turn old new t is = same_turned old new (keeps_counted old new t is) (orders_counted old new t is) (λ starved. over_counted old new t is)
+  over_turn old new t is = same_turned old new (keeps_counted old new t is) (orders_counted old new t is) (λ starved. over_counted old new t is) (no_more old new (ap (λ (h : Held P T). h.unread) is))
 
-  pub work_turn : (old mid new : Held P T) (t : ℕ) → mid ≡ record old { turns = t } → mid.starved ≡ false → KeepsNode put taken mid new → GrewByOrders old.joins new.turns old.trace new.trace → IsSameNode put taken old new
-  work_turn old mid new t is fed keeps had = same_turned old new (keeps_both old mid new (keeps_counted old mid t is) keeps) had (λ short. absurd (fed_before old mid t is fed short))
+  pub work_turn : (old mid new : Held P T) (t : ℕ) → mid ≡ record old { turns = t } → mid.starved ≡ false → KeepsNode put taken mid new → GrewByOrders old.joins new.turns old.trace new.trace → new.unread ≤ mid.unread → IsSameNode put taken old new
+  work_turn old mid new t is fed keeps had unread = same_turned old new (keeps_both old mid new (keeps_counted old mid t is) keeps) had (λ short. absurd (fed_before old mid t is fed short)) (inl (let was : mid.unread ≡ old.unread = ap (λ (h : Held P T). h.unread) is in omega arith))
 
-  pub starved_turn : (old mid worked new : Held P T) (t : ℕ) → mid ≡ record old { turns = t } → mid.starved ≡ false → KeepsNode put taken mid worked → new ≡ record worked { starved = true } → GrewByOrders old.joins new.turns old.trace new.trace → IsSameNode put taken old new
-  starved_turn old mid worked new t is fed keeps short had = work_turn old mid new t is fed (keeps_both mid worked new keeps (keeps_starved worked new short)) had
+  pub starved_turn : (old mid worked new : Held P T) (t : ℕ) → mid ≡ record old { turns = t } → mid.starved ≡ false → KeepsNode put taken mid worked → new ≡ record worked { starved = true } → GrewByOrders old.joins new.turns old.trace new.trace → worked.unread ≤ mid.unread + 1 → IsSameNode put taken old new
+  starved_turn old mid worked new t is fed keeps short had unread = same_turned old new (keeps_both old mid new (keeps_counted old mid t is) (keeps_both mid worked new keeps (keeps_starved worked new short))) had (λ starved. absurd (fed_before old mid t is fed starved))
+      (inr (ap (λ (h : Held P T). h.starved) short, let was : mid.unread ≡ old.unread = ap (λ (h : Held P T). h.unread) is in let still : new.unread ≡ worked.unread = ap (λ (h : Held P T). h.unread) short in omega arith))

@@ -1,5 +1,5 @@
 -- The ends at their places, after the one at one place was changed.
-use Rattle.std.proofs.Common.{◌≡◌, ◌==◌, ◌<◌, ℕ, zero, suc, ◌∙◌, ap, sym, refl, subst, cond, List, [], ◌∷◌, ◌++◌, map, slice_get, slice_set, Bool, true, false, Option, Some, None}
+use Rattle.std.proofs.Common.{◌≡◌, ◌==◌, ◌<◌, ◌≤◌, ◌+◌, arith, length, ℕ, zero, suc, ◌∙◌, ap, sym, refl, subst, cond, List, [], ◌∷◌, ◌++◌, map, slice_get, slice_set, Bool, true, false, Option, Some, None}
 use Rattle.std.proofs.lemmas.Bool.{eqb-true}
 use Rattle.std.proofs.lemmas.List.{length-set}
 use Rattle.std.proofs.lemmas.Option.{same_Some, none-some, slice_get_within}
@@ -9,7 +9,7 @@ use Rattle.cq_chain.specs.declared.message.Message as rust
 use Rattle.cq_chain.specs.declared.server.Server as rust_server
 use Rattle.cq_nodes.specs.declared.ends.In.{In}
 use Rattle.cq_nodes.specs.declared.ends.Out.{Out}
-use Rattle.cq_nodes.specs.Ends.{party_at, listed, with_back, kept_at, back_of}
+use Rattle.cq_nodes.specs.Ends.{party_at, listed, with_back, kept_at, back_of, unread_in}
 use Rattle.cq_nodes.specs.Moves.{Passes, PutsOne, Reads, ArePut, PutsAt, AreTaken, TakesAt}
 use Rattle.cq_nodes.specs.Acts.{Acts}
 use Rattle.cq_events.specs.Actions.{Put, StandsAs, Keeps}
@@ -57,6 +57,31 @@ at_each Q R xs i x y here all new others at now is = go (at == i) refl where
 pub empty_end : {X : Type 0} (xs : List X) → xs ++ [] ≡ xs
 empty_end [] = refl
 empty_end (x ∷ xs) = ap (λ us. x ∷ us) (empty_end xs)
+
+-- ---- what is unread
+
+-- with one end changed, at which so many messages more are unread at most
+pub unread_set : {T : Type 0} (ins : List (In T)) (i : ℕ) (end now : In T) (n : ℕ) → slice_get ins i ≡ Some end → length (listed now.unread) ≤ length (listed end.unread) + n → unread_in (slice_set ins i now) ≤ unread_in ins + n
+unread_set [] i end now n is few = absurd (none-some end is)
+unread_set (x ∷ ins) zero end now n is few =
+    let same : length (listed x.unread) ≡ length (listed end.unread) = ap (λ (e : In _). length (listed e.unread)) (same_Some x end is) in
+    omega arith
+unread_set (x ∷ ins) (suc i) end now n is few =
+    let rest : unread_in (slice_set ins i now) ≤ unread_in ins + n = unread_set ins i end now n is few in
+    omega arith
+
+-- where nothing is unread at any end
+pub none_unread : {T : Type 0} (ins : List (In T)) → ((i : ℕ) (end : In T) → slice_get ins i ≡ Some end → end.unread ≡ None) → unread_in ins ≡ 0
+none_unread [] none = refl
+none_unread (x ∷ ins) none =
+    let here : length (listed x.unread) ≡ 0 = ap (λ (o : Option rust.Message). length (listed o)) (none 0 x refl) in
+    let rest : unread_in ins ≡ 0 = none_unread ins (λ i end is. none (suc i) end is) in
+    omega arith
+
+-- one at most
+pub one_unread : (o : Option rust.Message) → length (listed o) ≤ 1
+one_unread None = omega arith
+one_unread (Some m) = omega arith
 
 -- ---- what was handed back
 

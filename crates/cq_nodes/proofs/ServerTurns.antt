@@ -1,9 +1,9 @@
 -- What a server's node did in a turn, by the steps of that turn, and what it keeps over turns.
-use Rattle.std.proofs.Common.{◌≡◌, ℕ, ◌+◌, ◌∙◌, ap, sym, refl, subst, min, inl, inr, map, List, [], ◌∷◌, ◌++◌, Bool, true, false}
+use Rattle.std.proofs.Common.{◌≡◌, ℕ, ◌+◌, ◌≤◌, arith, ◌∙◌, ap, sym, refl, subst, min, inl, inr, map, List, [], ◌∷◌, ◌++◌, Bool, true, false}
 use Rattle.cq_base.specs.declared.party.Party.TheVariants as parties
 use Rattle.cq_base.specs.declared.limits.TheConstants.{MOMENT_LIMIT}
 use Rattle.cq_base.specs.Relations.{IsPrefix}
-use Rattle.cq_nodes.specs.Nodes.{Held, KeepsLinks, IsSameServer, IsSameTurn}
+use Rattle.cq_nodes.specs.Nodes.{Held, KeepsLinks, IsSameServer, IsSameTurn, LeavesUnread, HasRead}
 use Rattle.cq_nodes.specs.Ends.{party_at}
 use Rattle.cq_nodes.specs.Turns.{noting, take_of, put_of, each_of, GrewBy, GrewByEach, GrewByArrival, GrewByWork, HasJustCrashed, HadTurn}
 use Rattle.cq_nodes.proofs.Growing.{prefix_none, prefix_both, grew_none, grew_noted, each_none, each_more, work_none, work_prefix}
@@ -142,6 +142,33 @@ module _ {P T I : Type 0} where
     answer = subst (λ i. GrewBy (events.Put (parties.Server i) parties.Clients ∷ []) d.trace e.trace) (last ∙ then ∙ id) (grew_noted done (events.Put (parties.Server d.id) parties.Clients) d.trace e.trace answer);
   }
 
+  -- ---- messages that are unread
+
+  -- as callers see a node of these parts
+  pub seen_unread : (parts value : Held P T I) (n more : ℕ) → parts ≡ value → n ≤ parts.unread + more → n ≤ value.unread + more
+  seen_unread parts value n more view few = subst (λ (h : Held P T I). n ≤ h.unread + more) view few
+
+  pub no_more : (old new : Held P T I) → new.unread ≡ old.unread → LeavesUnread old new
+  no_more old new still = inl (omega arith)
+
+  pub leaves_both : (a b c : Held P T I) → LeavesUnread a b → LeavesUnread b c → (b.ended ≡ true → c ≡ record b { turns = c.turns }) → LeavesUnread a c
+  leaves_both a b c (inl one) (inl two) over = inl (omega arith)
+  leaves_both a b c (inl one) (inr two) over = inr (two.0, two.1, let most = two.2 in omega arith)
+  leaves_both a b c (inr one) two over =
+      let is = over one.1 in
+      let still : c.unread ≡ b.unread = ap (λ (h : Held P T I). h.unread) is in
+      let most = one.2 in
+      inr (ap (λ (h : Held P T I). h.starved) is ∙ one.0, ap (λ (h : Held P T I). h.ended) is ∙ one.1, omega arith)
+
+  pub still_read : (a b : Held P T I) → HasRead a → LeavesUnread a b → (a.ended ≡ true → b ≡ record a { turns = b.turns }) → HasRead b
+  still_read a b (inl none) (inl few) over = inl (omega arith)
+  still_read a b (inl none) (inr one) over = inr (one.0, one.1, let most = one.2 in omega arith)
+  still_read a b (inr one) leaves over =
+      let is = over one.1 in
+      let same : b.unread ≡ a.unread = ap (λ (h : Held P T I). h.unread) is in
+      let most = one.2 in
+      inr (ap (λ (h : Held P T I). h.starved) is ∙ one.0, ap (λ (h : Held P T I). h.ended) is ∙ one.1, omega arith)
+
   -- ---- turns
 
   module _ {L M N : Type 0} (put : P → L) (taken : T → M) (got : I → N) where
@@ -172,8 +199,8 @@ module _ {P T I : Type 0} where
       inbox = two.inbox ∙ one.inbox;
     }
 
-    pub same_turned : (old new : Held P T I) → KeepsLinks put taken got old new → HadTurn old new → (old.ended ≡ true → new ≡ record old { turns = new.turns }) → IsSameServer put taken got old new
-    same_turned old new keeps had over = record {
+    pub same_turned : (old new : Held P T I) → KeepsLinks put taken got old new → HadTurn old new → (old.ended ≡ true → new ≡ record old { turns = new.turns }) → LeavesUnread old new → IsSameServer put taken got old new
+    same_turned old new keeps had over unread = record {
       size = keeps.size;
       id = keeps.id;
       crash_after = keeps.crash_after;
@@ -184,6 +211,7 @@ module _ {P T I : Type 0} where
       inbox = keeps.inbox;
       trace = had_prefix old new had;
       over = over;
+      unread = unread;
     }
 
     -- a node that was only counted another turn
@@ -191,7 +219,7 @@ module _ {P T I : Type 0} where
     over_counted old new t is = is ∙ ap (λ n. record old { turns = n }) (sym (ap (λ (h : Held P T I). h.turns) is))
 
     pub same_still : (a : Held P T I) → IsSameServer put taken got a a
-    same_still a = record { size = refl; id = refl; crash_after = refl; outs = refl; first = refl; second = refl; ins = refl; inbox = refl; trace = prefix_none a.trace; over = λ ended. refl }
+    same_still a = record { size = refl; id = refl; crash_after = refl; outs = refl; first = refl; second = refl; ins = refl; inbox = refl; trace = prefix_none a.trace; over = λ ended. refl; unread = no_more a a refl }
 
     pub same_both : (a b c : Held P T I) → IsSameServer put taken got a b → IsSameServer put taken got b c → IsSameServer put taken got a c
     same_both a b c one two = record {
@@ -205,22 +233,23 @@ module _ {P T I : Type 0} where
       inbox = two.inbox ∙ one.inbox;
       trace = prefix_both a.trace b.trace c.trace one.trace two.trace;
       over = λ ended. let was = one.over ended in two.over (ap (λ (h : Held P T I). h.ended) was ∙ ended) ∙ ap (λ (h : Held P T I). record h { turns = c.turns }) was;
+      unread = leaves_both a b c one.unread two.unread two.over;
     }
 
     -- ---- one turn, as one of several
 
     pub over_turn : (old new : Held P T I) (t : ℕ) → new ≡ record old { turns = t } → IsSameServer put taken got old new
-    over_turn old new t is = same_turned old new (keeps_counted old new t is) (had_none old new t is) (λ ended. over_counted old new t is)
+    over_turn old new t is = same_turned old new (keeps_counted old new t is) (had_none old new t is) (λ ended. over_counted old new t is) (no_more old new (ap (λ (h : Held P T I). h.unread) is))
 
     -- a node that hasn't crashed before the turn
     up_before : (old mid : Held P T I) (t : ℕ) → mid ≡ record old { turns = t } → mid.ended ≡ false → old.ended ≡ true → ⊥
     up_before old mid t is up ended = both_no old.ended ended (sym (ap (λ (h : Held P T I). h.ended) is) ∙ up)
 
-    pub crash_turn : (old mid new : Held P T I) (t : ℕ) → mid ≡ record old { turns = t } → mid.ended ≡ false → KeepsLinks put taken got mid new → HasJustCrashed mid new mid.trace → IsSameServer put taken got old new
-    crash_turn old mid new t is up keeps crash = same_turned old new (keeps_both old mid new (keeps_counted old mid t is) keeps) (had_crash old mid new t is crash) (λ ended. absurd (up_before old mid t is up ended))
+    pub crash_turn : (old mid new : Held P T I) (t : ℕ) → mid ≡ record old { turns = t } → mid.ended ≡ false → KeepsLinks put taken got mid new → HasJustCrashed mid new mid.trace → new.unread ≡ mid.unread → IsSameServer put taken got old new
+    crash_turn old mid new t is up keeps crash unread = same_turned old new (keeps_both old mid new (keeps_counted old mid t is) keeps) (had_crash old mid new t is crash) (λ ended. absurd (up_before old mid t is up ended)) (no_more old new (unread ∙ ap (λ (h : Held P T I). h.unread) is))
 
-    pub work_turn : (old mid new : Held P T I) (t : ℕ) → mid ≡ record old { turns = t } → mid.ended ≡ false → KeepsLinks put taken got mid new → GrewByWork mid.id (min mid.turns MOMENT_LIMIT) mid.trace new.trace → IsSameTurn mid new → IsSameServer put taken got old new
-    work_turn old mid new t is up keeps work same = same_turned old new (keeps_both old mid new (keeps_counted old mid t is) keeps) (had_work old mid new t is work same) (λ ended. absurd (up_before old mid t is up ended))
+    pub work_turn : (old mid new : Held P T I) (t : ℕ) → mid ≡ record old { turns = t } → mid.ended ≡ false → KeepsLinks put taken got mid new → GrewByWork mid.id (min mid.turns MOMENT_LIMIT) mid.trace new.trace → IsSameTurn mid new → new.unread ≤ mid.unread → IsSameServer put taken got old new
+    work_turn old mid new t is up keeps work same unread = same_turned old new (keeps_both old mid new (keeps_counted old mid t is) keeps) (had_work old mid new t is work same) (λ ended. absurd (up_before old mid t is up ended)) (inl (let was : mid.unread ≡ old.unread = ap (λ (h : Held P T I). h.unread) is in omega arith))
 
-    pub starved_turn : (old mid worked new : Held P T I) (t : ℕ) → mid ≡ record old { turns = t } → mid.ended ≡ false → KeepsLinks put taken got mid worked → KeepsLinks put taken got worked new → HadTurn old new → IsSameServer put taken got old new
-    starved_turn old mid worked new t is up one two had = same_turned old new (keeps_both old mid new (keeps_counted old mid t is) (keeps_both mid worked new one two)) had (λ ended. absurd (up_before old mid t is up ended))
+    pub starved_turn : (old mid worked new : Held P T I) (t : ℕ) → mid ≡ record old { turns = t } → mid.ended ≡ false → KeepsLinks put taken got mid worked → KeepsLinks put taken got worked new → HadTurn old new → new.starved ≡ true → new.ended ≡ true → worked.unread ≤ mid.unread + 1 → new.unread ≡ worked.unread → IsSameServer put taken got old new
+    starved_turn old mid worked new t is up one two had starved ended unread still = same_turned old new (keeps_both old mid new (keeps_counted old mid t is) (keeps_both mid worked new one two)) had (λ ended. absurd (up_before old mid t is up ended)) (inr (starved, ended, let was : mid.unread ≡ old.unread = ap (λ (h : Held P T I). h.unread) is in omega arith))

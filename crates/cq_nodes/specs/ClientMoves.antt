@@ -1,8 +1,9 @@
 -- What a client's requests and the answers to them have to do with its asks, and with the ends of its links.
-use Rattle.std.specs.Prelude.{◌≡◌, ◌<◌, ◌≤◌, ℕ, ◌+◌, length, List, [], ◌∷◌, ◌++◌, slice_get, false, Option, None, Some}
+use Rattle.std.specs.Prelude.{◌≡◌, ◌==◌, if◌then◌else◌, ◌<◌, ◌≤◌, ℕ, ◌+◌, length, List, [], ◌∷◌, ◌++◌, slice_get, false, Option, None, Some}
 use Rattle.cq_base.specs.declared.ask.Ask.{Ask}
 use Rattle.cq_base.specs.declared.ask.Request.{Request}
 use Rattle.cq_base.specs.Relations.{Among}
+use Rattle.cq_nodes.specs.Ends.{listed}
 use Rattle.cq_chain.specs.Clients.{Client, StandsFor}
 use Rattle.cq_chain.specs.declared.client.Client as rust_client
 use Rattle.cq_chain.specs.declared.message.Answer.{Answer}
@@ -35,6 +36,11 @@ module _ {T : Type 0} (list : T → List Message) where
     pub end : T
     pub here : slice_get ins place ≡ Some end
     pub among : Among message (list end)
+
+-- At the place one message more was taken, if the call gives one, and nothing elsewhere.
+abbrev pub GrewAt : {T : Type 0} → (T → List Message) → List T → List T → ℕ → Option Message → Type 0
+GrewAt {T} list before after place taken = (link : ℕ) (end : T) → slice_get after link ≡ Some end
+    → (was : T) × (slice_get before link ≡ Some was) × (list end ≡ list was ++ (if link == place then listed taken else []))
 
 -- ---- asks one after another
 

@@ -1,5 +1,5 @@
 -- What a client's node did, and what it holds.
-use Rattle.std.specs.Prelude.{◌≡◌, ◌<◌, ◌≤◌, ℕ, ◌+◌, length, List, [], map, slice_get, Bool, true, false, Option, Some}
+use Rattle.std.specs.Prelude.{◌≡◌, ◌==◌, ◌<◌, ◌≤◌, ℕ, ◌+◌, length, List, [], ◌∷◌, ◌++◌, if◌then◌else◌, map, slice_get, Bool, true, false, Option, Some}
 use Rattle.std.specs.Option.{IfSome}
 use Rattle.cq_base.specs.declared.ask.Ask.{Ask}
 use Rattle.cq_base.specs.declared.ask.Request.{Request}
@@ -8,6 +8,7 @@ use Rattle.cq_chain.specs.declared.client.Client as rust_client
 use Rattle.cq_chain.specs.declared.message.Answer.{Answer}
 use Rattle.cq_chain.specs.declared.message.Message.{Message}
 use Rattle.cq_chain.specs.declared.message.Message.TheVariants as stored
+use Rattle.cq_nodes.specs.Moves.{Part}
 use Rattle.cq_nodes.specs.ClientMoves.{IsDueAsk, AreAsked, IsTaken, IsAlong}
 
 -- What callers see of a client's links: their ends, the one on which it puts and the one from which it takes, in the order
@@ -47,6 +48,18 @@ module _ {P T L M : Type 0} (put_link : P → L) (take_link : T → M) where
     pub closed : IsPrefix old.closed new.closed
     pub over : old.starved ≡ true → new ≡ old
 
+-- the answers that came by the link at a place, of those that came by the links at these places
+abbrev pub come_by : ℕ → List ℕ → List Answer → List Message
+come_by link [] answers = []
+come_by link (place ∷ places) [] = []
+come_by link (place ∷ places) (a ∷ answers) = (if link == place then stored.Answer a ∷ [] else []) ++ come_by link places answers
+
+-- Each answer came by one of the links, and those of one link closed asks in the order in which they were taken from it.
+pub record CameInOrder {T : Type 0} (taken : T → List Message) (ins : List T) (closed : List Answer) : Type 0 where
+  pub places : List ℕ
+  pub count : length places ≡ length closed
+  pub in_order : (link : ℕ) (end : T) → slice_get ins link ≡ Some end → Part (come_by link places closed) (taken end)
+
 module _ {P T : Type 0} (put : P → List Request) (taken : T → List Message) where
   -- on none of the links anything was put or taken
   pub record AreFresh (outs : List P) (ins : List T) : Type 0 where
@@ -67,6 +80,7 @@ module _ {P T : Type 0} (put : P → List Request) (taken : T → List Message) 
     pub asked : AreAsked put node.id node.asks (length node.closed) node.outs
     -- one answer closed each ask that is closed
     pub closed_by : (place : ℕ) (answer : Answer) → slice_get node.closed place ≡ Some answer → IsClosedBy node.id node.ins place answer
+    pub came : CameInOrder taken node.ins node.closed
     -- each is longer than those before
     pub rising : Pairwise (λ a b. a.length < b.length) node.closed
     pub few : length node.closed ≤ length node.asks

@@ -1,5 +1,5 @@
 -- The parties at the places of a node's ends, and the messages that wait there.
-use Rattle.std.specs.Prelude.{◌==◌, ℕ, List, [], ◌∷◌, ◌++◌, map, slice_get, Bool, true, false, if◌then◌else◌, Option, None, Some}
+use Rattle.std.specs.Prelude.{◌==◌, ◌+◌, ℕ, List, [], ◌∷◌, ◌++◌, length, map, slice_get, Bool, true, false, if◌then◌else◌, Option, None, Some}
 use Rattle.cq_base.specs.declared.party.Party.{Party}
 use Rattle.cq_base.specs.declared.party.Party.TheVariants as parties
 use Rattle.cq_chain.specs.declared.message.Message.{Message}
@@ -35,6 +35,11 @@ if_for false x = if is_for_second x then [] else x ∷ []
 abbrev pub of_client : Bool → List Message → List Message
 of_client second [] = []
 of_client second (x ∷ xs) = if_for second x ++ of_client second xs
+
+-- how many messages were taken at these ends and not read
+abbrev pub unread_in : {T : Type 0} → List (In T) → ℕ
+unread_in [] = 0
+unread_in (end ∷ ins) = length (listed end.unread) + unread_in ins
 
 -- the ends alone
 abbrev pub in_ends_of : {T : Type 0} → List (In T) → List T

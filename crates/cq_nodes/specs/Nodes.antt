@@ -1,5 +1,5 @@
 -- What a node did since the first world, and what it holds.
-use Rattle.std.specs.Prelude.{◌≡◌, ◌≤◌, ◌<◌, ℕ, length, List, [], ◌∷◌, ◌++◌, map, Bool, true, false, Option, None, Some, ⊤, ◌⊎◌}
+use Rattle.std.specs.Prelude.{◌≡◌, ◌≤◌, ◌<◌, ◌+◌, ℕ, length, List, [], ◌∷◌, ◌++◌, map, Bool, true, false, Option, None, Some, ⊤, ◌⊎◌}
 use Rattle.cq_base.specs.declared.ask.Request.{Request}
 use Rattle.cq_base.specs.declared.party.Party.{Party}
 use Rattle.cq_base.specs.declared.party.Party.TheVariants as parties
@@ -12,7 +12,7 @@ use Rattle.cq_nodes.specs.declared.ends.ToClients.{ToClients}
 use Rattle.cq_nodes.specs.declared.server_ends.ServerEnds.{ServerEnds}
 use Rattle.cq_nodes.specs.declared.server_ends.ServerParts.{ServerParts}
 use Rattle.cq_nodes.specs.Acts.{ServerActs}
-use Rattle.cq_nodes.specs.Ends.{party_at, back_of, of_client, ends_of, in_ends_of}
+use Rattle.cq_nodes.specs.Ends.{party_at, back_of, of_client, ends_of, in_ends_of, unread_in}
 use Rattle.cq_nodes.specs.Moves.{ArePut, AreTaken, Part}
 use Rattle.cq_events.specs.Actions.{Action, Arrived, Asked, Crashed, CoreState, StandsAs, event_of, put_to, taken_from}
 use Rattle.cq_events.specs.Worlds.{first_world}
@@ -91,8 +91,8 @@ pub record NotesCrash (id : ℕ) (trace : List Event) (starved ended : Bool) : T
   pub last : (before rest : List Event) → trace ≡ before ++ (events.Crash id ∷ rest) → rest ≡ []
   pub by_memory : starved ≡ true → ended ≡ true
 
--- What callers see of a server's node: what it was made with, its trace, the ends of its links, that of its inbox, whether
--- it found no memory, how many turns it had, and whether it has crashed.
+-- What callers see of a server's node: what it was made with, its trace, the ends of its links, how many messages it took of
+-- them and didn't read, the end of its inbox, whether it found no memory, how many turns it had, and whether it has crashed.
 pub record Held (P T I : Type 0) : Type 0 where
   pub size : ℕ
   pub id : ℕ
@@ -102,6 +102,7 @@ pub record Held (P T I : Type 0) : Type 0 where
   pub first : P
   pub second : P
   pub ins : List T
+  pub unread : ℕ
   pub inbox : I
   pub starved : Bool
   pub turns : ℕ
@@ -109,11 +110,11 @@ pub record Held (P T I : Type 0) : Type 0 where
 
 module _ {P T I : Type 0} where
   abbrev pub held : ℕ → ℕ → Option ℕ → List (Out P) → ToClients P → List (In T) → I → List Event → Bool → ℕ → Bool → Held P T I
-  held size id crash_after outs clients ins inbox trace starved turns ended = record { size = size; id = id; crash_after = crash_after; trace = trace; outs = ends_of outs; first = clients.first; second = clients.second; ins = in_ends_of ins; inbox = inbox; starved = starved; turns = turns; ended = ended }
+  held size id crash_after outs clients ins inbox trace starved turns ended = record { size = size; id = id; crash_after = crash_after; trace = trace; outs = ends_of outs; first = clients.first; second = clients.second; ins = in_ends_of ins; unread = unread_in ins; inbox = inbox; starved = starved; turns = turns; ended = ended }
 
 -- what callers see of a node that has done nothing
 abbrev pub begun : {P T I : Type 0} → ℕ → ℕ → Option ℕ → ServerEnds P T I → Held P T I
-begun size id crash_after ends = record { size = size; id = id; crash_after = crash_after; trace = []; outs = ends.links.outs; first = ends.first; second = ends.second; ins = ends.links.ins; inbox = ends.inbox; starved = false; turns = 0; ended = false }
+begun size id crash_after ends = record { size = size; id = id; crash_after = crash_after; trace = []; outs = ends.links.outs; first = ends.first; second = ends.second; ins = ends.links.ins; unread = 0; inbox = ends.inbox; starved = false; turns = 0; ended = false }
 
 -- what they see of it still, by its parts
 abbrev pub held_in : {P T I : Type 0} → ServerParts P T I → Held P T I
@@ -124,6 +125,14 @@ pub record Tells {P T I : Type 0} (put : P → List rust.Message) (taken : T →
   pub core : rust_server.Server
   pub ran : ServerRan put taken got parts.size parts.id core parts.outs.items parts.clients parts.ins.items parts.inbox parts.trace.items parts.crash_after parts.starved
   pub crash : NotesCrash parts.id parts.trace.items parts.starved parts.ended
+
+-- No message more is unread, but for one where the node found no memory and crashed.
+abbrev pub LeavesUnread : {P T I : Type 0} → Held P T I → Held P T I → Type 0
+LeavesUnread old new = (new.unread ≤ old.unread) ⊎ ((new.starved ≡ true) × (new.ended ≡ true) × (new.unread ≤ old.unread + 1))
+
+-- It has read all that it took, but for one message where it found no memory and crashed.
+abbrev pub HasRead : {P T I : Type 0} → Held P T I → Type 0
+HasRead node = (node.unread ≡ 0) ⊎ ((node.starved ≡ true) × (node.ended ≡ true) × (node.unread ≤ 1))
 
 module _ {P T I L M N : Type 0} (put : P → L) (taken : T → M) (got : I → N) where
   -- The node of the same server, made with the same: each end is still one of the same link.
@@ -137,7 +146,8 @@ module _ {P T I L M N : Type 0} (put : P → L) (taken : T → M) (got : I → N
     pub ins : map taken new.ins ≡ map taken old.ins
     pub inbox : got new.inbox ≡ got old.inbox
 
-  -- So it is after turns, by which its trace only grew. One that has crashed did nothing in them.
+  -- So it is after turns, by which its trace only grew. One that has crashed did nothing in them. They leave a message unread
+  -- only where it found no memory.
   pub record IsSameServer (old new : Held P T I) : Type 0 where
     pub size : new.size ≡ old.size
     pub id : new.id ≡ old.id
@@ -149,6 +159,7 @@ module _ {P T I L M N : Type 0} (put : P → L) (taken : T → M) (got : I → N
     pub inbox : got new.inbox ≡ got old.inbox
     pub trace : IsPrefix old.trace new.trace
     pub over : old.ended ≡ true → new ≡ record old { turns = new.turns }
+    pub unread : LeavesUnread old new
 
 -- It had no further turn, and neither crashed nor found that memory was wanting.
 pub record IsSameTurn {P T I : Type 0} (old new : Held P T I) : Type 0 where

@@ -17,6 +17,11 @@ abbrev pub is_done : {E : Type 0} → Result Bool E → Bool
 is_done (Ok done) = done
 is_done (Err fault) = false
 
+-- one if the call answers a fault
+abbrev pub faults_of : {X E : Type 0} → Result X E → ℕ
+faults_of (Ok done) = 0
+faults_of (Err fault) = 1
+
 -- the trace, with that event behind it if something was done
 abbrev pub noting : Bool → Event → List Event → List Event
 noting true event trace = trace ++ event ∷ []

@@ -6,7 +6,7 @@ ghost use Rattle.cq_base.specs.declared.ask.Ask as rust_ask;
 ghost use Rattle.cq_base.specs.declared.ask.Request as rust_request;
 ghost use Rattle.cq_chain.specs.declared.message.Answer as rust_answer;
 ghost use Rattle.cq_chain.specs.declared.message.Message as rust_message;
-ghost use Rattle.cq_nodes.specs.ClientMoves.{IsDueAsk, AreAsked, IsTaken, IsAlong, Closes, ClosesBy};
+ghost use Rattle.cq_nodes.specs.ClientMoves.{IsDueAsk, AreAsked, IsTaken, GrewAt, IsAlong, Closes, ClosesBy};
 
 use cq_base::{Ask, NoMemory, Request};
 use cq_chain::{Answer, Client, ClientFault, Message};
@@ -70,6 +70,7 @@ pub fn take_at<R: Wait, T: TakeEnd<Message> + Drop>(
     ensures links { map T.link ins.new.items ≡ map T.link ins.old.items }
     ensures taken { IfSome result (λ message. IsTaken T.list message ins.new.items) }
     ensures kept { (message : rust_message.Message) → IsTaken T.list message ins.old.items → IsTaken T.list message ins.new.items }
+    ensures grew { GrewAt T.list ins.old.items ins.new.items place result }
 {
     match ins.get_mut(place) {
         Some(end) => take_one(rt, end),

@@ -1,5 +1,6 @@
 //! The links of a node that hasn't begun.
 ghost use Rattle.std.specs.Prelude.{◌≡◌, ◌++◌, ◌∷◌, [], length, map, OnOk, OnErr};
+ghost use Rattle.cq_nodes.specs.Ends.{unread_in};
 ghost use Rattle.cq_nodes.specs.FreshLinks.{AreUnput, AreUntaken};
 
 use crate::ends::{In, Out};
@@ -75,6 +76,7 @@ impl<P: PutEnd<Message> + Drop, T: TakeEnd<Message> + Drop> Links<P, T> {
         ensures ins { map (λ end. end.end) result.1.items ≡ self.ins }
         ensures unput { AreUnput P.list result.0.items }
         ensures untaken { AreUntaken T.list result.1.items }
+        ensures read { unread_in result.1.items ≡ 0 }
     {
         let Links { outs, ins } = self;
         (outs, ins)

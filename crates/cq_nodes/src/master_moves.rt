@@ -1,5 +1,5 @@
 //! What the master's node does at one end of a link, or by its core alone, in one step.
-ghost use Rattle.std.specs.Prelude.{◌≡◌, ℕ, ◌+◌, ◌++◌, map, None, true, false, Ok, Option, List, OnOk, OnErr};
+ghost use Rattle.std.specs.Prelude.{◌≡◌, ◌≤◌, ℕ, ◌+◌, length, ◌++◌, map, None, true, false, Ok, Option, List, OnOk, OnErr};
 ghost use Rattle.cq_base.specs.declared.party.Party as rust_party;
 ghost use Rattle.cq_base.specs.declared.party.Party.TheVariants as parties;
 ghost use Rattle.cq_chain.specs.declared.message.Message as rust_message;
@@ -7,7 +7,8 @@ ghost use Rattle.cq_chain.specs.Masters as masters;
 ghost use Rattle.cq_chain.specs.Messages as sent;
 ghost use Rattle.cq_chain.specs.Stands.{KeepsMaster, MasterStandsFor};
 ghost use Rattle.cq_nodes.specs.Acts.{ActsMaster};
-ghost use Rattle.cq_nodes.specs.Ends.{listed};
+ghost use Rattle.cq_nodes.specs.Ends.{listed, unread_in};
+ghost use Rattle.cq_nodes.specs.Turns.{faults_of};
 ghost use Rattle.cq_nodes.specs.Moves.{waits, ArePut, AreTaken};
 ghost use Rattle.cq_nodes.specs.MasterMoves.{PassesFor, PutsOneFor, TakesOneOf, ReadsOf, back_of_servers, PutsFor, TakesOf};
 ghost use Rattle.cq_events.specs.Actions.{IsMasterAs, Keeps, Detected, Joined};
@@ -109,6 +110,7 @@ fn take_first<R: Wait, T: TakeEnd<Message> + Drop>(
     ensures list { (seen : List rust_message.Message) → T.list end.old.end ≡ seen ++ listed end.old.unread
         → (result ≡ Ok true → ⊥) → T.list end.new.end ≡ seen ++ listed end.new.unread }
     ensures idle { (result ≡ Ok true → ⊥) → KeepsMaster core.old core.new }
+    ensures unread { length (listed end.new.unread) ≤ faults_of result }
 {
     match next_message(rt, end) {
         Some(message) => match read(core, from, &message) {
@@ -136,6 +138,7 @@ fn take_one<R: Wait, T: TakeEnd<Message> + Drop>(
     ensures list { (seen : List rust_message.Message) → T.list end.old.end ≡ seen ++ listed end.old.unread
         → (result ≡ Ok true → ⊥) → T.list end.new.end ≡ seen ++ listed end.new.unread }
     ensures idle { (result ≡ Ok true → ⊥) → KeepsMaster core.old core.new }
+    ensures unread { length (listed end.new.unread) ≤ length (listed end.old.unread) + faults_of result }
 {
     if !is_there(end) {
         return Ok(false);
@@ -188,6 +191,7 @@ pub fn take_at<R: Wait, T: TakeEnd<Message> + Drop>(
     ensures lists { (seen : ℕ → List rust_message.Message)
         → AreTaken T.list ins.old.items seen → (result ≡ Ok true → ⊥) → AreTaken T.list ins.new.items seen }
     ensures idle { (result ≡ Ok true → ⊥) → KeepsMaster core.old core.new }
+    ensures unread { unread_in ins.new.items ≤ unread_in ins.old.items + faults_of result }
 {
     match ins.get_mut(place_of(from)) {
         Some(end) => take_one(rt, core, from, end),

@@ -1,10 +1,11 @@
 //! The master that runs between the ends of its links.
-ghost use Rattle.std.specs.Prelude.{◌≡◌, ◌+◌, min, [], Some, true, false, IfOk, IfSome, map, slice_get};
+ghost use Rattle.std.specs.Prelude.{◌≡◌, ◌≤◌, ◌+◌, min, [], Some, true, false, IfOk, IfSome, map, slice_get};
 ghost use Rattle.cq_base.specs.Relations.{Among};
 ghost use Rattle.cq_base.specs.declared.party.Party.TheVariants as parties;
 ghost use Rattle.cq_events.specs.declared.event.Event.TheVariants as events;
+ghost use Rattle.cq_nodes.specs.Ends.{unread_in};
 ghost use Rattle.cq_nodes.specs.MasterNodes.{KeepsNode, IsSameMoment, IsSameNode, MasterLived};
-ghost use Rattle.cq_nodes.specs.Turns.{is_done, noting, taken_at, detected_at, sent_at, due_of, joined_at, GrewBy, GrewByEach, GrewByOrders};
+ghost use Rattle.cq_nodes.specs.Turns.{is_done, faults_of, noting, taken_at, detected_at, sent_at, due_of, joined_at, GrewBy, GrewByEach, GrewByOrders};
 
 use crate::ends::{In, Out};
 use crate::flags::Flags;
@@ -114,7 +115,7 @@ impl<'a, P: PutEnd<Message> + Drop, T: TakeEnd<Message> + Drop> MasterNode<'a, P
         joins: Vec<Join>,
         flags: &'a Flags,
     ) -> Result<MasterNode<'a, P, T>, NoMemory>
-        ensures { IfOk result (λ node. node ≡ record { size = size; joins = joins.items; trace = []; outs = links.outs; ins = links.ins; turns = 0; starved = false }) }
+        ensures { IfOk result (λ node. node ≡ record { size = size; joins = joins.items; trace = []; outs = links.outs; ins = links.ins; unread = 0; turns = 0; starved = false }) }
     {
         let core = Master::new(alloc, size)?;
         let servers = u32::try_from(links.len()).unwrap_or(u32::MAX);
@@ -153,6 +154,7 @@ impl<'a, P: PutEnd<Message> + Drop, T: TakeEnd<Message> + Drop> MasterNode<'a, P
         ensures same { KeepsNode P.link T.link self.old self.new }
         ensures moment { IsSameMoment self.old self.new }
         ensures noted { self.new.trace ≡ noting (is_done result) (events.Put parties.Master (parties.Server to)) self.old.trace }
+        ensures unread { self.new.unread ≡ self.old.unread }
     {
         self.trace.reserve(1)?;
         let put = put_at(rt, &mut self.core, &mut self.outs, to);
@@ -174,6 +176,7 @@ impl<'a, P: PutEnd<Message> + Drop, T: TakeEnd<Message> + Drop> MasterNode<'a, P
         ensures same { KeepsNode P.link T.link self.old self.new }
         ensures moment { IsSameMoment self.old self.new }
         ensures noted { self.new.trace ≡ noting (is_done result) (events.Take (parties.Server from) parties.Master) self.old.trace }
+        ensures unread { self.new.unread ≤ self.old.unread + faults_of result }
     {
         self.trace.reserve(1)?;
         let taken = take_at(rt, &mut self.core, &mut self.ins, from)?;
@@ -193,6 +196,7 @@ impl<'a, P: PutEnd<Message> + Drop, T: TakeEnd<Message> + Drop> MasterNode<'a, P
         ensures same { KeepsNode P.link T.link self.old self.new }
         ensures moment { IsSameMoment self.old self.new }
         ensures noted { self.new.trace ≡ noting (is_done result) (events.Detect id) self.old.trace }
+        ensures unread { self.new.unread ≡ self.old.unread }
     {
         self.trace.reserve(1)?;
         let detected = detect_one(&mut self.core, id)?;
@@ -210,6 +214,7 @@ impl<'a, P: PutEnd<Message> + Drop, T: TakeEnd<Message> + Drop> MasterNode<'a, P
         ensures same { KeepsNode P.link T.link self.old self.new }
         ensures moment { IsSameMoment self.old self.new }
         ensures joined { GrewBy (joined_at self.old.joins self.old.turns place) self.old.trace self.new.trace }
+        ensures unread { self.new.unread ≡ self.old.unread }
     {
         self.trace.reserve(1)?;
         match due_at(&self.joins, place, self.turns) {
@@ -231,6 +236,7 @@ impl<'a, P: PutEnd<Message> + Drop, T: TakeEnd<Message> + Drop> MasterNode<'a, P
         ensures same { KeepsNode P.link T.link self.old self.new }
         ensures moment { IsSameMoment self.old self.new }
         ensures noted { self.new.trace ≡ noting (is_done result) (events.Put parties.Master (parties.Server number)) self.old.trace }
+        ensures unread { self.new.unread ≡ self.old.unread }
     {
         match ServerId::new(number) {
             Some(id) => self.put_on(rt, id),
@@ -243,6 +249,7 @@ impl<'a, P: PutEnd<Message> + Drop, T: TakeEnd<Message> + Drop> MasterNode<'a, P
         ensures same { KeepsNode P.link T.link self.old self.new }
         ensures moment { IsSameMoment self.old self.new }
         ensures noted { self.new.trace ≡ noting (is_done result) (events.Take (parties.Server number) parties.Master) self.old.trace }
+        ensures unread { self.new.unread ≤ self.old.unread + faults_of result }
     {
         match ServerId::new(number) {
             Some(id) => self.take_from(rt, id),
@@ -255,6 +262,7 @@ impl<'a, P: PutEnd<Message> + Drop, T: TakeEnd<Message> + Drop> MasterNode<'a, P
         ensures same { KeepsNode P.link T.link self.old self.new }
         ensures moment { IsSameMoment self.old self.new }
         ensures noted { self.new.trace ≡ noting (is_done result) (events.Detect number) self.old.trace }
+        ensures unread { self.new.unread ≡ self.old.unread }
     {
         match crashed(self.flags, number) {
             Some(id) => self.detect(id),
@@ -267,6 +275,7 @@ impl<'a, P: PutEnd<Message> + Drop, T: TakeEnd<Message> + Drop> MasterNode<'a, P
         ensures same { KeepsNode P.link T.link self.old self.new }
         ensures moment { IsSameMoment self.old self.new }
         ensures put { GrewByEach sent_at self.old.trace self.new.trace }
+        ensures unread { self.new.unread ≡ self.old.unread }
     {
         let mut any = false;
         for number in 0..self.servers {
@@ -280,6 +289,7 @@ impl<'a, P: PutEnd<Message> + Drop, T: TakeEnd<Message> + Drop> MasterNode<'a, P
         ensures same { KeepsNode P.link T.link self.old self.new }
         ensures moment { IsSameMoment self.old self.new }
         ensures taken { GrewByEach taken_at self.old.trace self.new.trace }
+        ensures unread { self.new.unread ≤ self.old.unread + faults_of result }
     {
         let mut any = false;
         for number in 0..self.servers {
@@ -293,6 +303,7 @@ impl<'a, P: PutEnd<Message> + Drop, T: TakeEnd<Message> + Drop> MasterNode<'a, P
         ensures same { KeepsNode P.link T.link self.old self.new }
         ensures moment { IsSameMoment self.old self.new }
         ensures detected { GrewByEach detected_at self.old.trace self.new.trace }
+        ensures unread { self.new.unread ≡ self.old.unread }
     {
         let mut any = false;
         for number in 0..self.servers {
@@ -306,6 +317,7 @@ impl<'a, P: PutEnd<Message> + Drop, T: TakeEnd<Message> + Drop> MasterNode<'a, P
         ensures same { KeepsNode P.link T.link self.old self.new }
         ensures moment { IsSameMoment self.old self.new }
         ensures joined { GrewByEach (joined_at self.old.joins self.old.turns) self.old.trace self.new.trace }
+        ensures unread { self.new.unread ≡ self.old.unread }
     {
         let mut any = false;
         for place in 0..self.joins.len() {
@@ -319,6 +331,7 @@ impl<'a, P: PutEnd<Message> + Drop, T: TakeEnd<Message> + Drop> MasterNode<'a, P
         ensures same { KeepsNode P.link T.link self.old self.new }
         ensures moment { IsSameMoment self.old self.new }
         ensures worked { GrewByOrders self.old.joins self.old.turns self.old.trace self.new.trace }
+        ensures unread { self.new.unread ≤ self.old.unread + faults_of result }
     {
         let taken = self.take_all(rt)?;
         let detected = self.detect_all()?;
@@ -411,6 +424,7 @@ impl<'a, P: PutEnd<Message> + Drop, T: TakeEnd<Message> + Drop> MasterNode<'a, P
         ensures trace { result.trace.items ≡ self.entry.trace }
         ensures outs { map (λ out. out.end) result.outs.items ≡ self.entry.outs }
         ensures ins { map (λ end. end.end) result.ins.items ≡ self.entry.ins }
+        ensures unread { unread_in result.ins.items ≡ self.entry.unread }
         ensures lived { MasterLived P.list T.list self.entry.size self.entry.joins result.outs.items result.ins.items self.entry.trace }
     {
         let MasterNode {

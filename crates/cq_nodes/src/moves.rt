@@ -1,11 +1,12 @@
 //! What a server's node does at one end of a link, in one step.
-ghost use Rattle.std.specs.Prelude.{◌≡◌, ℕ, ◌++◌, map, None, true, false, Ok, Option, List, OnOk, OnErr};
+ghost use Rattle.std.specs.Prelude.{◌≡◌, ◌≤◌, ◌+◌, ℕ, length, ◌++◌, map, None, true, false, Ok, Option, List, OnOk, OnErr};
 ghost use Rattle.cq_base.specs.declared.party.Party as rust_party;
 ghost use Rattle.cq_chain.specs.declared.message.Message as rust_message;
 ghost use Rattle.cq_chain.specs.Messages as sent;
 ghost use Rattle.cq_chain.specs.Servers as states;
 ghost use Rattle.cq_chain.specs.Stands.{Keeps, StandsFor};
-ghost use Rattle.cq_nodes.specs.Ends.{listed, back_of, ends_of, in_ends_of};
+ghost use Rattle.cq_nodes.specs.Ends.{listed, back_of, ends_of, in_ends_of, unread_in};
+ghost use Rattle.cq_nodes.specs.Turns.{faults_of};
 ghost use Rattle.cq_events.specs.Actions.{StandsAs, Keeps as RemainingKept};
 ghost use Rattle.cq_nodes.specs.Moves.{waits, Passes, PutsOne, TakesOne, Reads, ArePut, PutsAt, AreTaken, TakesAt};
 
@@ -130,6 +131,7 @@ fn take_first<R: Wait, T: TakeEnd<Message> + Drop>(
     ensures list { (seen : List rust_message.Message) → T.list end.old.end ≡ seen ++ listed end.old.unread
         → (result ≡ Ok true → ⊥) → T.list end.new.end ≡ seen ++ listed end.new.unread }
     ensures idle { (result ≡ Ok true → ⊥) → Keeps core.old core.new }
+    ensures unread { length (listed end.new.unread) ≤ faults_of result }
 {
     match next_message(rt, end) {
         Some(message) => match read(core, from, &message) {
@@ -157,6 +159,7 @@ pub fn take_one<R: Wait, T: TakeEnd<Message> + Drop>(
     ensures list { (seen : List rust_message.Message) → T.list end.old.end ≡ seen ++ listed end.old.unread
         → (result ≡ Ok true → ⊥) → T.list end.new.end ≡ seen ++ listed end.new.unread }
     ensures idle { (result ≡ Ok true → ⊥) → Keeps core.old core.new }
+    ensures unread { length (listed end.new.unread) ≤ length (listed end.old.unread) + faults_of result }
 {
     if !is_there(end) {
         return Ok(false);
@@ -202,6 +205,7 @@ pub fn take_at<R: Wait, T: TakeEnd<Message> + Drop>(
     ensures lists { (seen : ℕ → List rust_message.Message)
         → AreTaken T.list ins.old.items seen → (result ≡ Ok true → ⊥) → AreTaken T.list ins.new.items seen }
     ensures idle { (result ≡ Ok true → ⊥) → Keeps core.old core.new }
+    ensures unread { unread_in ins.new.items ≤ unread_in ins.old.items + faults_of result }
 {
     match ins.get_mut(place as usize) {
         Some(end) => take_one(rt, core, party_at(place), end),

@@ -89,13 +89,13 @@ impl<
     T: TakeEnd<Message> + Drop,
     I: TakeEnd<Request> + Drop,
 > ServerNode<'a, P, T, I> {
-    ghost use Rattle.std.specs.Prelude.{◌+◌, min, [], ◌∷◌, true, false, IfOk};
+    ghost use Rattle.std.specs.Prelude.{◌+◌, ◌≤◌, min, [], ◌∷◌, true, false, IfOk};
     ghost use Rattle.cq_base.specs.declared.limits.TheConstants.{MOMENT_LIMIT};
     ghost use Rattle.cq_base.specs.declared.party.Party.TheVariants as parties;
     ghost use Rattle.cq_events.specs.declared.event.Event.TheVariants as events;
     ghost use Rattle.cq_nodes.specs.Ends.{party_at};
     ghost use Rattle.cq_nodes.specs.Nodes.{KeepsLinks, IsSameTurn, IsSameServer, begun, held_in, Tells};
-    ghost use Rattle.cq_nodes.specs.Turns.{is_done, noting, take_of, put_of, GrewByEach, GrewByArrival, GrewByWork, HasJustCrashed, HadTurn};
+    ghost use Rattle.cq_nodes.specs.Turns.{is_done, faults_of, noting, take_of, put_of, GrewByEach, GrewByArrival, GrewByWork, HasJustCrashed, HadTurn};
 
     /// The node of that server in a chain that begins with so many, over ends that nobody used. It is a member of the
     /// chain, or may join later. It is to crash at its first turn with so many entries, if that is said. It keeps the
@@ -144,6 +144,7 @@ impl<
         ensures same { KeepsLinks P.link T.link I.link self.old self.new }
         ensures turn { IsSameTurn self.old self.new }
         ensures noted { self.new.trace ≡ noting (is_done result) (events.Put (parties.Server self.old.id) (party_at place)) self.old.trace }
+        ensures unread { self.new.unread ≡ self.old.unread }
     {
         self.trace.reserve(2)?;
         let put = put_at(rt, &mut self.core, &mut self.outs, place);
@@ -166,6 +167,7 @@ impl<
         ensures same { KeepsLinks P.link T.link I.link self.old self.new }
         ensures turn { IsSameTurn self.old self.new }
         ensures noted { self.new.trace ≡ noting (is_done result) (events.Take (party_at place) (parties.Server self.old.id)) self.old.trace }
+        ensures unread { self.new.unread ≤ self.old.unread + faults_of result }
     {
         self.trace.reserve(2)?;
         let taken = take_at(rt, &mut self.core, &mut self.ins, place)?;
@@ -187,6 +189,7 @@ impl<
         ensures same { KeepsLinks P.link T.link I.link self.old self.new }
         ensures turn { IsSameTurn self.old self.new }
         ensures noted { self.new.trace ≡ noting (is_done result) (events.Put (parties.Server self.old.id) parties.Clients) self.old.trace }
+        ensures unread { self.new.unread ≡ self.old.unread }
     {
         self.trace.reserve(2)?;
         let put = put_to_one(rt, &mut self.core, &mut self.clients, self.flags);
@@ -208,6 +211,7 @@ impl<
         ensures same { KeepsLinks P.link T.link I.link self.old self.new }
         ensures turn { IsSameTurn self.old self.new }
         ensures arrived { GrewByArrival self.old.id (min self.old.turns MOMENT_LIMIT) self.old.trace self.new.trace }
+        ensures unread { self.new.unread ≡ self.old.unread }
     {
         self.trace.reserve(2)?;
         let clock = moment_of(self.turns);
@@ -231,6 +235,7 @@ impl<
         ensures starved { self.new.starved ≡ self.old.starved }
         ensures turns { self.new.turns ≡ self.old.turns }
         ensures others { result ≡ false → self.new ≡ self.old }
+        ensures unread { self.new.unread ≡ self.old.unread }
     {
         if self.ended {
             return false;
@@ -252,6 +257,7 @@ impl<
         ensures crashed { self.old.ended ≡ false → HasJustCrashed self.old self.new self.old.trace }
         ensures starved { self.old.ended ≡ false → self.new.starved ≡ true }
         ensures others { self.old.ended ≡ true → self.new ≡ self.old }
+        ensures unread { self.new.unread ≡ self.old.unread }
     {
         let count = self.core.count();
         if self.ended {
@@ -269,6 +275,7 @@ impl<
         ensures same { KeepsLinks P.link T.link I.link self.old self.new }
         ensures turn { IsSameTurn self.old self.new }
         ensures taken { GrewByEach (take_of self.old.id) self.old.trace self.new.trace }
+        ensures unread { self.new.unread ≤ self.old.unread + faults_of result }
     {
         let mut any = false;
         for place in 0..u32::try_from(self.ins.len()).unwrap_or(u32::MAX) {
@@ -284,6 +291,7 @@ impl<
         ensures same { KeepsLinks P.link T.link I.link self.old self.new }
         ensures turn { IsSameTurn self.old self.new }
         ensures put { GrewByEach (put_of self.old.id) self.old.trace self.new.trace }
+        ensures unread { self.new.unread ≡ self.old.unread }
     {
         let mut any = false;
         for place in 0..u32::try_from(self.outs.len()).unwrap_or(u32::MAX) {
@@ -299,6 +307,7 @@ impl<
         ensures same { KeepsLinks P.link T.link I.link self.old self.new }
         ensures turn { IsSameTurn self.old self.new }
         ensures worked { GrewByWork self.old.id (min self.old.turns MOMENT_LIMIT) self.old.trace self.new.trace }
+        ensures unread { self.new.unread ≤ self.old.unread + faults_of result }
     {
         let taken = self.take_all(rt)?;
         let arrived = self.take_request(rt)?;

@@ -12,7 +12,7 @@ use Rattle.cq_link.specs.declared.link.Taker.{Taker}
 use Rattle.cq_link.specs.Inboxes.{put_in}
 use Rattle.cq_link.specs.Links.{put_on, taken_from}
 use Rattle.cq_nodes.specs.ClientNodes.{ClientHeld, ClientDid}
-use Rattle.cq_nodes.specs.Ends.{ends_of, in_ends_of}
+use Rattle.cq_nodes.specs.Ends.{ends_of, in_ends_of, unread_in}
 use Rattle.cq_nodes.specs.MasterNodes.{MasterLived}
 use Rattle.cq_nodes.specs.MasterNodes as masters
 use Rattle.cq_nodes.specs.Nodes.{Held, held_in, Tells}
@@ -64,6 +64,7 @@ pub record LeavesMaster (master : Master) (ends : Ends) : Type 0 where
   pub lived : MasterLived put_on taken_from master.size master.joins ends.outs.items ends.ins.items ends.trace.items
   pub outs : ends_of ends.outs.items ≡ master.outs
   pub ins : in_ends_of ends.ins.items ≡ master.ins
+  pub unread : unread_in ends.ins.items ≡ master.unread
   pub trace : ends.trace.items ≡ master.trace
 
 -- Each server tells what it did, and leaves its parts.

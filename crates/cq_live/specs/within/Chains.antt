@@ -1,6 +1,8 @@
 -- The nodes of a live chain, before its run and after it: which links their ends are of, and what each was made for.
 use Rattle.std.specs.Prelude.{◌≡◌, ℕ, ◌+◌, List, ◌∷◌, length, map, slice_get, true, false, Some}
 use Rattle.cq_live.specs.within.Aparts.{Server, Master, Client, Own}
+use Rattle.cq_nodes.specs.MasterNodes as masters
+use Rattle.cq_nodes.specs.Nodes.{HasRead}
 use Rattle.cq_link.specs.Inboxes.{take_inbox}
 use Rattle.cq_link.specs.Links.{putter_link, taker_link}
 use Rattle.cq_live_plan.specs.Steps.{joins_of}
@@ -39,6 +41,7 @@ pub record IsMasterOf (count members : ℕ) (steps : List LiveStep) (master : Ma
   pub ins : length master.ins ≡ count
   pub size : master.size ≡ members
   pub joins : master.joins ≡ joins_of steps
+  pub read : masters.HasRead master
 
 -- the server of that number, with a link to and from each party, crashes as the steps say
 pub record IsServerOf (count members : ℕ) (steps : List LiveStep) (number : ℕ) (s : Server) : Type 0 where
@@ -47,6 +50,7 @@ pub record IsServerOf (count members : ℕ) (steps : List LiveStep) (number : �
   pub size : s.size ≡ members
   pub id : s.id ≡ number
   pub crash_after : s.crash_after ≡ crash_of number steps
+  pub read : HasRead s
 
 -- the client of that number asks what the steps let it ask
 pub record IsClientOf (steps : List LiveStep) (number : ℕ) (client : Client) : Type 0 where

@@ -53,7 +53,7 @@ roles_of steps (suc n) = roles_of steps n ++ role_of steps (suc n) ∷ []
 
 -- the node of a server that has done nothing
 abbrev pub begun_as : ℕ → Role → Ports Message → ServerPorts Message → Server
-begun_as size role port w = record { size = size; id = role.id; crash_after = role.crash_after; trace = []; outs = port.outs.items; first = w.first; second = w.second; ins = port.ins.items; inbox = w.inbox; starved = false; turns = 0; ended = false }
+begun_as size role port w = record { size = size; id = role.id; crash_after = role.crash_after; trace = []; outs = port.outs.items; first = w.first; second = w.second; ins = port.ins.items; unread = 0; inbox = w.inbox; starved = false; turns = 0; ended = false }
 
 -- the nodes of servers, each with the ends at its place
 abbrev pub servers_of : ℕ → List Role → List (Ports Message) → List (ServerPorts Message) → List Server

@@ -14,11 +14,11 @@ use Rattle.cq_nodes.specs.ClientNodes.{IsSameClient}
 use Rattle.cq_nodes.specs.MasterNodes.{IsSameNode}
 use Rattle.cq_live.specs.declared.nodes.LiveNodes.{LiveNodes}
 use Rattle.cq_live.specs.declared.settle.Ended.{Ended}
-use Rattle.cq_live.specs.Ended.{Nodes, HaveEnded, AreOf, requests_in}
+use Rattle.cq_live.specs.Ended.{Nodes, HaveEnded, AreOf}
 use Rattle.cq_live_plan.specs.declared.step.LiveStep.{LiveStep}
 use Rattle.cq_threads.specs.SameNodes.{AreSame}
 use Rattle.cq_link.specs.Clients as clients
-use Rattle.cq_link.specs.Clients.{seat_of}
+use Rattle.cq_link.specs.Clients.{requests_in, seat_of}
 use Rattle.cq_link.specs.Wirings as links
 
 -- Nodes that came back from their threads, with ends of the same links, left this. It is known whether memory was wanting for

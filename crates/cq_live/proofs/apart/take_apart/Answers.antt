@@ -16,7 +16,7 @@ loop-server-init c =
       done = [];
       left = c.into_iter-server-iterator.ensures.into_iter_gives.0;
       apart = apart_none c.args.master c.args.own c.args.first c.args.second c.finish.result c.finish-2.result c.finish-3.result apart c.in_ok-apart.ensures
-          (leaves_master c.args.master c.finish.result master.lived master.outs master.ins master.trace)
+          (leaves_master c.args.master c.finish.result master.lived master.outs master.ins master.unread master.trace)
           (leaves_client c.args.first c.finish-2.result apart.wires.first apart.first.items first.did c.in_ok-apart.ensures.first_ends c.in_ok-apart.ensures.first_closed first.outs first.ins first.closed)
           (leaves_client c.args.second c.finish-3.result apart.wires.second apart.second.items second.did c.in_ok-apart.ensures.second_ends c.in_ok-apart.ensures.second_closed second.outs second.ins second.closed);
     }

@@ -36,7 +36,7 @@ returns c =
     let long = c.requires.wired.square.0 in
     let all = first_out c.args.wires.ports.items c.remove.result c.remove.new.self.items (omega (arith, long)) c.remove.ensures.value c.remove.ensures.by_index.2 in
     is_chain c.args.servers c.args.size c.args.steps.now c.args.wires c.remove.result c.remove.new.self.items c.requires.wired all
-    c.in_ok-own.own c.in_ok-own.master c.in_ok-own.ensures.outs c.in_ok-own.ensures.ins c.in_ok-own.ensures.size (c.in_ok-own.ensures.joins ∙ c.requires.joins)
+    c.in_ok-own.own c.in_ok-own.master c.in_ok-own.ensures.outs c.in_ok-own.ensures.ins c.in_ok-own.ensures.size (c.in_ok-own.ensures.joins ∙ c.requires.joins) c.in_ok-own.ensures.unread
     c.in_ok-servers.servers.items c.in_ok-first.first c.in_ok-first.second
     (c.in_ok-servers.ensures ∙ ap (λ roles. servers_of c.args.size roles c.remove.new.self.items c.args.wires.clients.servers.items) c.in_ok-roles.ensures)
     c.in_ok-first.ensures.first c.in_ok-first.ensures.second

@@ -2,6 +2,8 @@
 use Rattle.std.proofs.Common.{refl, length}
 use Rattle.std.proofs.lemmas.Option.{slice_get_read}
 use Rattle.cq_nodes.proofs.Places.{takes_at, takes_kept, ends_set}
+use Rattle.cq_nodes.proofs.Places.{unread_set}
+use Rattle.cq_nodes.specs.Turns.{faults_of}
 use Rattle.cq_nodes.proofs.moves.take_at.Goals as goal
 
 pub returns-in-Some-clause-links : goal.returns-in-Some-clause-links
@@ -23,3 +25,9 @@ returns-in-Some-clause-lists g c = λ seen taken is.
     let item = c.in-Some.ensures.item in
     takes_kept g.T.TakeEnd.list c.args.core.now c.take_one.new.core ins c.args.place c.in-Some.end.now c.take_one.new.end (slice_get_read ins (length ins) c.args.place c.in-Some.end.now refl item.3.0 item.1) seen c.party_at.result c.party_at.ensures
     (λ told. c.take_one.ensures.list (seen c.args.place) told is) taken
+
+pub returns-in-Some-clause-unread : goal.returns-in-Some-clause-unread
+returns-in-Some-clause-unread g c =
+    let ins = c.args.ins.now.items in
+    let item = c.in-Some.ensures.item in
+    unread_set ins c.args.place c.in-Some.end.now c.take_one.new.end (faults_of c.take_one.result) (slice_get_read ins (length ins) c.args.place c.in-Some.end.now refl item.3.0 item.1) c.take_one.ensures.unread

@@ -9,21 +9,21 @@ invariant_of-self-in_default g c =
     let old = c.self.inside in
     let was = c.self.invariant in
     ran_took g.P.PutEnd.list g.T.TakeEnd.list old.id old.asks.items old.core old.core old.handed_back old.outs.items old.ins.items old.closed.items c.reserve.new.self.items old.starved was
-    c.take_at.new.ins.items c.take_at.ensures.kept was.along c.in_ok-reserve.ensures.items
+    c.take_at.new.ins.items c.args.place c.take_at.result c.take_at.ensures.grew c.take_at.ensures.kept was.along c.in_ok-reserve.ensures.items
 
 pub invariant_of-self-in_default-closing : goal.invariant_of-self-in_default-closing
 invariant_of-self-in_default-closing g c =
     let old = c.self.inside in
     let was = c.self.invariant in
     ran_took g.P.PutEnd.list g.T.TakeEnd.list old.id old.asks.items old.core c.closing.new.core old.handed_back old.outs.items old.ins.items old.closed.items c.reserve.new.self.items old.starved was
-    c.take_at.new.ins.items c.take_at.ensures.kept (c.in_default-closing.ensures old.asks.items old.closed.items was.along) c.in_ok-reserve.ensures.items
+    c.take_at.new.ins.items c.args.place c.take_at.result c.take_at.ensures.grew c.take_at.ensures.kept (c.in_default-closing.ensures old.asks.items old.closed.items was.along) c.in_ok-reserve.ensures.items
 
 pub invariant_of-self-2 : goal.invariant_of-self-2
 invariant_of-self-2 g c =
     let old = c.self.inside in
     let was = c.self.invariant in
     ran_closed g.P.PutEnd.list g.T.TakeEnd.list old.id old.asks.items old.core c.closing.new.core old.handed_back old.outs.items old.ins.items old.closed.items c.push_reserved.new.self.items old.starved was
-    c.take_at.new.ins.items c.in-Some.message c.in-Some-closing.answer c.take_at.ensures.kept c.in-Some.ensures.taken (c.in-Some-closing.ensures old.asks.items old.closed.items was.along)
+    c.take_at.new.ins.items c.args.place c.take_at.result c.in-Some.message c.in-Some-closing.answer c.in-Some.is c.take_at.ensures.grew c.take_at.ensures.kept c.in-Some.ensures.taken (c.in-Some-closing.ensures old.asks.items old.closed.items was.along)
     c.reserve.new.self.items c.in_ok-reserve.ensures.items c.push_reserved.ensures.items
 
 pub returns-in_default-closing-clause-closed : goal.returns-in_default-closing-clause-closed

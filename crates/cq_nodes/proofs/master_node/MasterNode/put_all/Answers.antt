@@ -1,5 +1,5 @@
 -- At most one event more.
-use Rattle.std.proofs.Common.{◌+◌}
+use Rattle.std.proofs.Common.{◌+◌, ◌∙◌, refl}
 use Rattle.cq_base.specs.declared.party.Party.TheVariants as parties
 use Rattle.cq_events.specs.declared.event.Event.TheVariants as events
 use Rattle.cq_nodes.specs.Turns.{sent_at, each_of, is_done}
@@ -10,7 +10,7 @@ use Rattle.cq_nodes.proofs.master_node.MasterNode.put_all.Goals as goal
 pub loop-number-init : goal.loop-number-init
 loop-number-init g c =
     let old = c.args.self.now in
-    record { same = keeps_still g.P.PutEnd.link g.T.TakeEnd.link old; moment = moment_still old; grew = grew_none (each_of sent_at 0) old.trace }
+    record { same = keeps_still g.P.PutEnd.link g.T.TakeEnd.link old; moment = moment_still old; unread = refl; grew = grew_none (each_of sent_at 0) old.trace }
 
 pub loop-number-preserved : goal.loop-number-preserved
 loop-number-preserved g c =
@@ -20,6 +20,7 @@ loop-number-preserved g c =
     record {
       same = keeps_both g.P.PutEnd.link g.T.TakeEnd.link old at.self new at.invariant.same c.put_number.ensures.same;
       moment = moment_both old at.self new at.invariant.moment c.put_number.ensures.moment;
+      unread = c.put_number.ensures.unread ∙ at.invariant.unread;
       grew = each_more sent_at at.number old.trace at.self.trace new.trace at.invariant.grew (grew_noted (is_done c.put_number.result) (events.Put parties.Master (parties.Server (at.number + 1))) at.self.trace new.trace c.put_number.ensures.noted);
     }
 
@@ -32,3 +33,9 @@ returns-in_err-any-clause-put g c =
 
 pub returns-clause-put : goal.returns-clause-put
 returns-clause-put g c = record { places = c.loop-number.number; grew = c.loop-number.invariant.grew }
+
+pub returns-in_err-any-clause-unread : goal.returns-in_err-any-clause-unread
+returns-in_err-any-clause-unread g c = c.put_number.ensures.unread ∙ c.loop-number.invariant.unread
+
+pub returns-clause-unread : goal.returns-clause-unread
+returns-clause-unread g c = c.loop-number.invariant.unread

@@ -2,12 +2,14 @@
 use Rattle.std.proofs.Common.{arith, ◌∙◌, ◌++◌, ◌∷◌, [], ap, Ok}
 use Rattle.cq_base.specs.declared.party.Party.TheVariants as parties
 use Rattle.cq_nodes.specs.Ends.{party_at, back_of}
+use Rattle.std.proofs.lemmas.Result.{err_from_is_err_and}
+use Rattle.cq_nodes.specs.Turns.{faults_of}
 use Rattle.cq_nodes.proofs.Growing.{crash_kept, crash_more}
 use Rattle.cq_nodes.proofs.MasterSteps.{same_count}
 use Rattle.cq_nodes.proofs.NodeSteps.{ran_taken, ran_waiting, not_taken, none_taken, room_if}
 use Rattle.cq_events.specs.Actions.{taken_from}
 use Rattle.cq_events.specs.declared.event.Event.TheVariants as events
-use Rattle.cq_nodes.proofs.ServerTurns.{up_still}
+use Rattle.cq_nodes.proofs.ServerTurns.{up_still, seen_unread}
 use Rattle.cq_nodes.proofs.server_node.ServerNode.take_from.Goals as goal
 
 pub invariant_of-self-in_err-taken : goal.invariant_of-self-in_err-taken
@@ -40,3 +42,12 @@ invariant_of-self-else-taken g c =
       room_if old.ended _ _ (omega (arith, c.in_ok-reserve.ensures.ok)),
       crash_kept old.id old.trace.items c.reserve.new.self.items old.starved old.ended c.self.invariant.2 c.in_ok-reserve.ensures.items,
     )
+
+pub returns-in_err-taken-clause-unread : goal.returns-in_err-taken-clause-unread
+returns-in_err-taken-clause-unread g c = seen_unread _ c.args.self.now _ _ c.self.view_is (let fault = err_from_is_err_and c.from_residual-in_err-taken.result c.from_residual-in_err-taken.ensures.1 in let told = ap faults_of fault.1 in let few = c.take_at.ensures.unread in let was = ap faults_of c.in_err-taken.was in omega arith)
+
+pub returns-then-taken-clause-unread : goal.returns-then-taken-clause-unread
+returns-then-taken-clause-unread g c = seen_unread _ c.args.self.now _ _ c.self.view_is (let few = c.take_at.ensures.unread in let was = ap faults_of c.in_ok-taken.was in omega arith)
+
+pub returns-else-taken-clause-unread : goal.returns-else-taken-clause-unread
+returns-else-taken-clause-unread g c = seen_unread _ c.args.self.now _ _ c.self.view_is (let few = c.take_at.ensures.unread in let was = ap faults_of c.in_ok-taken.was in omega arith)

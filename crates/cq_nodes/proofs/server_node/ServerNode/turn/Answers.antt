@@ -1,5 +1,6 @@
 -- The node was over, or crashed since it was to, or worked, or found no memory.
-use Rattle.std.proofs.Common.{◌∙◌}
+use Rattle.std.proofs.Common.{◌∙◌, ap, arith}
+use Rattle.cq_nodes.specs.Turns.{faults_of}
 use Rattle.cq_nodes.proofs.ServerTurns.{not_over, up_still, had_none, had_crash, had_work, had_no_memory, over_turn, crash_turn, work_turn, starved_turn}
 use Rattle.cq_nodes.proofs.server_node.ServerNode.turn.Goals as goal
 
@@ -13,7 +14,7 @@ pub returns-then-crash_if_due-clause-same : goal.returns-then-crash_if_due-claus
 returns-then-crash_if_due-clause-same g c =
     let mid = c.count_turn.new.self in
     crash_turn g.P.PutEnd.link g.T.TakeEnd.link g.I.TakeEnd.link c.args.self.now mid c.crash_if_due.new.self _ c.count_turn.ensures (not_over mid.ended c.is_over.result c.is_over.ensures c.if-is_over.false)
-    c.crash_if_due.ensures.same (c.crash_if_due.ensures.crashed c.if-crash_if_due.true)
+    c.crash_if_due.ensures.same (c.crash_if_due.ensures.crashed c.if-crash_if_due.true) c.crash_if_due.ensures.unread
 
 pub returns-then-crash_if_due-clause-had : goal.returns-then-crash_if_due-clause-had
 returns-then-crash_if_due-clause-had g c = had_crash c.args.self.now c.count_turn.new.self c.crash_if_due.new.self _ c.count_turn.ensures (c.crash_if_due.ensures.crashed c.if-crash_if_due.true)
@@ -25,6 +26,7 @@ returns-in-Ok-true-clause-same g c =
     let still = c.crash_if_due.ensures.others c.if-crash_if_due.false in
     let up = not_over counted.ended c.is_over.result c.is_over.ensures c.if-is_over.false in
     work_turn g.P.PutEnd.link g.T.TakeEnd.link g.I.TakeEnd.link c.args.self.now mid c.work.new.self _ (still ∙ c.count_turn.ensures) (up_still mid counted still up) c.work.ensures.same c.work.ensures.worked c.work.ensures.turn
+    (let few = c.work.ensures.unread in let was = ap faults_of c.in-Ok-true.is in omega arith)
 
 pub returns-in-Ok-true-clause-had : goal.returns-in-Ok-true-clause-had
 returns-in-Ok-true-clause-had g c =
@@ -38,6 +40,7 @@ returns-in-Ok-false-clause-same g c =
     let still = c.crash_if_due.ensures.others c.if-crash_if_due.false in
     let up = not_over counted.ended c.is_over.result c.is_over.ensures c.if-is_over.false in
     work_turn g.P.PutEnd.link g.T.TakeEnd.link g.I.TakeEnd.link c.args.self.now mid c.work.new.self _ (still ∙ c.count_turn.ensures) (up_still mid counted still up) c.work.ensures.same c.work.ensures.worked c.work.ensures.turn
+    (let few = c.work.ensures.unread in let was = ap faults_of c.in-Ok-false.is in omega arith)
 
 pub returns-in-Ok-false-clause-had : goal.returns-in-Ok-false-clause-had
 returns-in-Ok-false-clause-had g c =
@@ -56,6 +59,7 @@ returns-in-Err-clause-same g c =
     let down = c.work.ensures.turn.ended ∙ up in
     starved_turn g.P.PutEnd.link g.T.TakeEnd.link g.I.TakeEnd.link old mid worked new _ (still ∙ c.count_turn.ensures) up c.work.ensures.same c.starve.ensures.same
     (had_no_memory old mid worked new _ (still ∙ c.count_turn.ensures) c.work.ensures.worked c.work.ensures.turn c.work.ensures.same.id (c.starve.ensures.crashed down) c.starve.ensures.turns (c.starve.ensures.starved down))
+    (c.starve.ensures.starved down) (c.starve.ensures.crashed down).ended (let few = c.work.ensures.unread in let was = ap faults_of c.in-Err.is in omega arith) c.starve.ensures.unread
 
 pub returns-in-Err-clause-had : goal.returns-in-Err-clause-had
 returns-in-Err-clause-had g c =
