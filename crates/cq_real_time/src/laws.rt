@@ -1,0 +1,16 @@
+//! Laws of orders in time. A function here does nothing: its contract is a law, which is proved with it.
+ghost use Rattle.cq_real_time.specs.Laws.{NothingGoesToUnknownServers};
+ghost use Rattle.cq_real_time.specs.Interleavings.{OrdersInTimeAreRuns};
+
+/// Nothing waits for a server that never joined and was no member of the first chain, and nothing stands in a link to it.
+pub fn nothing_goes_to_unknown_servers()
+    ensures { NothingGoesToUnknownServers }
+{}
+
+/// What servers and the master did, each by its own core, which refused none of it, happens in one order in time in which
+/// each message is put before it is taken, a detection comes behind the crash of its server, nothing of a server comes behind
+/// its crash or before its join, and a server crashes only where another one is full and lives. In each such order each event
+/// is enabled: so it is a run of the world, and the laws of the chain hold of it.
+pub fn orders_in_time_are_runs()
+    ensures { OrdersInTimeAreRuns }
+{}
