@@ -1,8 +1,11 @@
 //! Loaded into a program ahead of the C library, it lets one call fail: the one of the kind and number that the environment's
-//! `FAIL` says, as `memory:12` or `read:3`. Kinds are `memory`, an allocation that is refused; `read` and `write`, which fail;
+//! `FAIL` says, as `memory:12` or `read:3`. Kinds are `memory`, an allocation that is refused; `thread`, one that isn't started;
+//! `read` and `write`, which fail;
 //! `read-interrupted` and `write-interrupted`; `read-short` and `write-short`, which get one byte; and `write-none`, which gets
 //! none. Reads are those of standard input, writes those to standard output. It says on standard error that it did so. Where
 //! the environment's `PIECES` has a number, no other read or write gets more bytes than that.
+use std::ffi::c_void;
+use std::mem::transmute;
 use std::ptr::null_mut;
 use std::sync::atomic::{AtomicU64, Ordering};
 
@@ -11,6 +14,7 @@ extern "C" {
     fn __libc_calloc(count: usize, size: usize) -> *mut u8;
     fn __libc_realloc(old: *mut u8, size: usize) -> *mut u8;
     fn __errno_location() -> *mut i32;
+    fn dlsym(handle: *mut c_void, name: *const u8) -> *mut c_void;
     fn getenv(name: *const u8) -> *const u8;
     fn syscall(number: i64, file: i64, bytes: i64, len: i64) -> i64;
 }
@@ -20,10 +24,15 @@ const WRITE: i64 = 1;
 const INTERRUPTED: i32 = 4;
 const BROKEN: i32 = 5;
 const NO_MEMORY: i32 = 12;
+const TRY_AGAIN: i32 = 11;
+
+/// What `dlsym` takes for the next library that has the name: the C library's own function.
+const NEXT: *mut c_void = -1_isize as *mut c_void;
 
 const SAID: &[u8] = b"a call fails\n";
 
 static ALLOCATIONS: AtomicU64 = AtomicU64::new(0);
+static THREADS: AtomicU64 = AtomicU64::new(0);
 static READS: AtomicU64 = AtomicU64::new(0);
 static WRITES: AtomicU64 = AtomicU64::new(0);
 
@@ -97,6 +106,22 @@ pub unsafe extern "C" fn calloc(count: usize, size: usize) -> *mut u8 {
 #[no_mangle]
 pub unsafe extern "C" fn realloc(old: *mut u8, size: usize) -> *mut u8 {
     if is_refused() { null_mut() } else { __libc_realloc(old, size) }
+}
+
+type Create = unsafe extern "C" fn(*mut c_void, *const c_void, *const c_void, *mut c_void) -> i32;
+
+#[no_mangle]
+pub unsafe extern "C" fn pthread_create(
+    thread: *mut c_void,
+    attributes: *const c_void,
+    start: *const c_void,
+    argument: *mut c_void,
+) -> i32 {
+    if is_one(b"thread", THREADS.fetch_add(1, Ordering::Relaxed) + 1) {
+        return TRY_AGAIN;
+    }
+    let create: Create = transmute(dlsym(NEXT, b"pthread_create\0".as_ptr()));
+    create(thread, attributes, start, argument)
 }
 
 #[no_mangle]
