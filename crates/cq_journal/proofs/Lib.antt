@@ -1,3 +1,4 @@
+mod Appends
 mod Bases
 mod Changes
 mod Copies
@@ -5,6 +6,7 @@ mod Examples
 mod Halves
 mod Moves
 mod OtherRegions
+mod RegionLists
 mod Refreshed
 mod Regions
 mod Survival

@@ -1,13 +1,13 @@
 -- A journal on its device.
-use Rattle.std.specs.Prelude.{◌≡◌, Bool, ℕ, ◌+◌, ◌<◌, ◌≤◌, List, [], ◌∷◌, ◌++◌, length, Some, IsTrue}
+use Rattle.std.specs.Prelude.{◌≡◌, Bool, ℕ, ◌+◌, ◌<◌, ◌≤◌, List, [], ◌∷◌, ◌++◌, length, drop, get_or, Some, IsTrue}
 use Rattle.cq_disk.specs.Region.{part}
 use Rattle.cq_disk.specs.declared.device.Device.{Ghosts}
-use Rattle.cq_records.specs.Frames.{frames, all_sound}
+use Rattle.cq_records.specs.Frames.{frames, all_sound, IsDamaged}
 use Rattle.cq_records.specs.Layout.{IsLog}
 use Rattle.cq_journal.specs.declared.journal.Journal.{Journal}
 use Rattle.cq_journal.specs.declared.journal.TheConstants.{REGION_LIMIT}
 use Rattle.cq_journal.specs.declared.number.TheConstants.{NUMBER_LIMIT}
-use Rattle.cq_journal.specs.Regions.{Each, AreApart, places_text, records_at}
+use Rattle.cq_journal.specs.Regions.{Each, AreApart, places_text, records_at, regions_at}
 use Rattle.cq_journal.specs.Root.{IsRoot, root_device, root_half, root_number}
 use Rattle.cq_journal.specs.Roots.{root_of, numbered}
 
@@ -29,6 +29,10 @@ module _ {D : Type 0} {g : Ghosts D} where
   -- the journal's records, in order
   abbrev pub journal_records : Journal D g → List (List ℕ)
   journal_records j = records_at j.len (journal_places j) (g.seen (journal_device j))
+
+  -- the records of each of its regions, in order
+  abbrev pub journal_regions : Journal D g → List (List (List ℕ))
+  journal_regions j = regions_at j.len (journal_places j) (g.seen (journal_device j))
 
   -- each record of the region that grows has its checksum
   abbrev pub grows_soundly : Journal D g → Bool
@@ -56,3 +60,9 @@ module _ {D : Type 0} {g : Ghosts D} where
     pub small : place < NUMBER_LIMIT
     pub apart : Each (λ n. AreApart j.len n place) (journal_places j)
     pub few : length (journal_places j) < REGION_LIMIT
+
+  -- at this place of the device a frame of this region begins whose text has another checksum
+  pub record IsDamagedAt (j : Journal D g) (index place : ℕ) : Type 0 where
+    pub at : ℕ
+    pub is : place ≡ get_or (journal_places j) index 0 + at
+    pub damaged : IsDamaged (drop at (part (get_or (journal_places j) index 0) j.len (g.seen (journal_device j))))

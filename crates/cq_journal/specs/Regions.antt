@@ -21,6 +21,16 @@ abbrev pub records_at : ℕ → List ℕ → List ℕ → List (List ℕ)
 records_at len [] bytes = []
 records_at len (n ∷ ns) bytes = records (part n len bytes) ++ records_at len ns bytes
 
+-- the records of each of these regions, in order
+abbrev pub regions_at : ℕ → List ℕ → List ℕ → List (List (List ℕ))
+regions_at len [] bytes = []
+regions_at len (n ∷ ns) bytes = records (part n len bytes) ∷ regions_at len ns bytes
+
+-- all of their records
+abbrev pub all_records : List (List (List ℕ)) → List (List ℕ)
+all_records [] = []
+all_records (rs ∷ regions) = rs ++ all_records regions
+
 -- the records of the regions that a root's record names
 abbrev pub named_records : ℕ → List ℕ → Option (List ℕ) → Option (List (List ℕ))
 named_records len bytes None = None

@@ -1,14 +1,14 @@
 //! The calls of a journal as the changes of which its laws speak.
-ghost use Rattle.std.specs.Prelude.{◌≡◌, ◌+◌, ◌≤◌, ℕ, length, Some, IsTrue, OnOk};
+ghost use Rattle.std.specs.Prelude.{◌≡◌, ◌+◌, ◌<◌, ◌≤◌, ℕ, length, Some, IsTrue, OnOk};
 ghost use Rattle.cq_records.specs.Batch.{batch_bytes};
 ghost use Rattle.cq_records.specs.Frames.{records};
 ghost use Rattle.cq_journal.specs.Base.{IsBase, base_records};
 ghost use Rattle.cq_journal.specs.Changes.{adds, replaces, rests};
 ghost use Rattle.cq_journal.specs.Histories.{Tries, Makes, OpensTo};
-ghost use Rattle.cq_journal.specs.Journal.{HasRegions, IsJournal, journal_device, journal_half, journal_records, region_len};
+ghost use Rattle.cq_journal.specs.Journal.{HasRegions, IsJournal, journal_device, journal_half, journal_records, journal_regions, region_len};
 ghost use Rattle.cq_journal.specs.Regions.{kept};
 
-use crate::{Base, Found, Journal, OpenFault, read_root};
+use crate::{Base, Found, Journal, OpenFault, RegionFault, read_root};
 use cq_disk::{Device, Region};
 use cq_records::{Batch, LogFault, ReadFault};
 use std::alloc::Global;
@@ -20,6 +20,34 @@ pub fn commit_adds<D: Device>(journal: &mut Journal<D>, batch: &Batch) -> Result
     ensures makes { OnOk result (Makes (adds (records (batch_bytes batch.now))) journal.old journal.new) }
 {
     journal.commit(batch)
+}
+
+/// So does one that goes on in the next region where it has to.
+pub fn append_adds<D: Device>(
+    journal: &mut Journal<D>,
+    alloc: Global,
+    batch: &Batch,
+) -> Result<(), LogFault>
+    requires { IsJournal journal.old }
+    ensures tries { Tries (adds (records (batch_bytes batch.now))) journal.old journal.new }
+    ensures makes { OnOk result (Makes (adds (records (batch_bytes batch.now))) journal.old journal.new) }
+{
+    journal.append(alloc, batch)
+}
+
+/// What is read of a region changes no record.
+pub fn read_region_rests<D: Device>(
+    journal: &mut Journal<D>,
+    alloc: Global,
+    index: usize,
+    text: &mut Vec<u8>,
+) -> Result<(), RegionFault>
+    requires journal { IsJournal journal.old }
+    requires index { index < length (journal_regions journal.old) }
+    ensures tries { Tries rests journal.old journal.new }
+    ensures makes { Makes rests journal.old journal.new }
+{
+    journal.read_region(alloc, index, text)
 }
 
 /// Growth changes no record.

@@ -76,3 +76,15 @@ impl<T: Drop> From<AllocFailed<T>> for OpenFault {
         OpenFault::NoMemory
     }
 }
+
+/// Why a region wasn't read.
+#[derive(Clone, Copy, Debug, PartialEq, Eq, Error)]
+pub enum RegionFault {
+    /// Bytes changed behind the journal's back: the frame at this place of the device has a text that its checksum isn't of.
+    #[error("the record at byte {0} is damaged")]
+    Damaged(usize),
+    #[error("out of memory")]
+    NoMemory,
+    #[error("the device failed")]
+    Failed,
+}

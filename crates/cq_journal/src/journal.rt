@@ -81,6 +81,7 @@ impl<D: Device> Journal<D> {
         ensures honest { D.is_honest (journal_device self.new) ≡ D.is_honest (journal_device self.old) }
         ensures full { IsErrOf result LogFault.Full → IsJournal self.new × (journal_records self.new ≡ journal_records self.old) }
         ensures failed { IsErrOf result LogFault.Failed → D.faults (journal_device self.old) < D.faults (journal_device self.new) }
+        ensures later { D.faults (journal_device self.old) ≤ D.faults (journal_device self.new) }
 
         // A base under way stays as it is.
         ensures bases { (base : Base) → IsBase self.old base → IsBase self.new base × (base_records self.new base ≡ base_records self.old base) }
@@ -129,6 +130,7 @@ impl<D: Device> Journal<D> {
         ensures honest { IsTrue (D.is_honest (journal_device self.new)) → IsTrue (D.is_honest (journal_device self.old)) }
         ensures full { IsErrOf result LogFault.Full → IsJournal self.new × (journal_records self.new ≡ journal_records self.old) }
         ensures failed { IsErrOf result LogFault.Failed → D.faults (journal_device self.old) < D.faults (journal_device self.new) }
+        ensures later { D.faults (journal_device self.old) ≤ D.faults (journal_device self.new) }
     {
         if !self.is_free(place) {
             return Err(LogFault::Full);
@@ -149,6 +151,7 @@ impl<D: Device> Journal<D> {
         ensures honest { IsTrue (D.is_honest (journal_device self.new)) → IsTrue (D.is_honest (journal_device self.old)) }
         ensures full { IsErrOf result LogFault.Full → IsJournal self.new × (journal_records self.new ≡ journal_records self.old) }
         ensures failed { IsErrOf result LogFault.Failed → D.faults (journal_device self.old) < D.faults (journal_device self.new) }
+        ensures later { D.faults (journal_device self.old) ≤ D.faults (journal_device self.new) }
     {
         let (closed, text) = with_next(alloc, &self.closed, self.growing as u64, place as u64)?;
         if !self.root.has_room(&text) {

@@ -2,8 +2,8 @@
 ghost use Rattle.std.specs.Prelude.{◌≡◌, ℕ, List, Some, IsTrue};
 ghost use Rattle.cq_journal.specs.Changes.{Change, ChangeExamples};
 ghost use Rattle.cq_journal.specs.Histories.{Acknowledges, Rewrites, RewritesAtAnyMoment, Survives};
-ghost use Rattle.cq_journal.specs.Journal.{HasRegions, journal_device, journal_half, journal_records, region_len};
-ghost use Rattle.cq_journal.specs.Regions.{kept};
+ghost use Rattle.cq_journal.specs.Journal.{HasRegions, journal_device, journal_half, journal_records, journal_regions, region_len};
+ghost use Rattle.cq_journal.specs.Regions.{all_records, kept};
 
 use crate::Journal;
 use cq_disk::Device;
@@ -12,6 +12,11 @@ use cq_disk::Device;
 pub fn a_journal_keeps_its_records<D: Device>(_journal: &Journal<D>)
     requires { HasRegions _journal.now }
     ensures { IsTrue (D.is_honest (journal_device _journal.now)) → kept (journal_half _journal.now) (region_len _journal.now) (D.seen (journal_device _journal.now)) ≡ Some (journal_records _journal.now) }
+{}
+
+/// Its regions together have all of its records, in order.
+pub fn the_regions_of_a_journal_have_its_records<D: Device>(_journal: &Journal<D>)
+    ensures { all_records (journal_regions _journal.now) ≡ journal_records _journal.now }
 {}
 
 /// What changes make of records.

@@ -9,6 +9,7 @@ mod calls;
 mod commits;
 mod copying;
 mod fault;
+mod growing;
 mod journal;
 mod laws;
 mod making;
@@ -16,6 +17,7 @@ mod number;
 mod opening;
 mod outside;
 mod places;
+mod reading;
 mod reads;
 mod recovery;
 mod refresh;
@@ -24,14 +26,15 @@ mod root;
 
 pub use base::Base;
 pub use calls::{
-    add_to_base_rests, begin_base_rests, commit_adds, next_region_rests, read_root_opens,
-    recover_rests, rewrite_replaces, widen_base_rests,
+    add_to_base_rests, append_adds, begin_base_rests, commit_adds, next_region_rests,
+    read_region_rests, read_root_opens, recover_rests, rewrite_replaces, widen_base_rests,
 };
-pub use fault::OpenFault;
+pub use fault::{OpenFault, RegionFault};
 pub use journal::{Journal, REGION_LIMIT};
 pub use laws::{
     a_journal_keeps_its_records, changes_stand_for, rewrites_tell_the_same,
-    what_is_acknowledged_stays, what_is_left_outlives_openings,
+    the_regions_of_a_journal_have_its_records, what_is_acknowledged_stays,
+    what_is_left_outlives_openings,
 };
 pub use making::create;
 pub use number::NUMBER_LIMIT;

@@ -1,7 +1,7 @@
 -- Reading goes on behind a record.
 use Rattle.std.proofs.Common.{◌≡◌, ℕ, ◌+◌, List, [], ◌∷◌, ◌++◌, length, drop, sym, ◌∙◌, ap, arith, append_assoc, drop-drop}
 use Rattle.std.specs.Prelude.{Bool, false, ◌&&◌, map}
-use Rattle.cq_records.specs.Frames.{text_of, frames, records, all_sound, BeginsWith}
+use Rattle.cq_records.specs.Frames.{text_of, frames, records, joined, all_sound, BeginsWith}
 
 module _ (at behind : ℕ) (bytes text : List ℕ) (begins : BeginsWith text (drop at bytes)) (is : behind ≡ at + 9 + length text) where
   later : drop (9 + length text) (drop at bytes) ≡ drop behind bytes
@@ -21,3 +21,10 @@ module _ (at behind : ℕ) (bytes text : List ℕ) (begins : BeginsWith text (dr
       ap (λ (rs : List (List ℕ)). rs ++ records (drop behind bytes)) added_is
       ∙ append_assoc batch (text ∷ []) (records (drop behind bytes))
       ∙ ap (λ (rs : List (List ℕ)). batch ++ rs) (sym one_read) ∙ so_far
+
+  -- the texts that were added, and those that are left
+  pub text_added : (texts added all : List ℕ) → added ≡ texts ++ text → texts ++ joined (records (drop at bytes)) ≡ all → added ++ joined (records (drop behind bytes)) ≡ all
+  text_added texts added all added_is so_far =
+      ap (λ (read : List ℕ). read ++ joined (records (drop behind bytes))) added_is
+      ∙ append_assoc texts text (joined (records (drop behind bytes)))
+      ∙ ap (λ (rs : List (List ℕ)). texts ++ joined rs) (sym one_read) ∙ so_far

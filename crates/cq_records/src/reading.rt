@@ -2,7 +2,7 @@
 ghost use Rattle.std.specs.Prelude.{◌≡◌, ◌+◌, ◌<◌, ◌≤◌, ◌++◌, [], true, false, length, drop, IsTrue, IfOk, OnOk, IfSome, IsErrOf, MatchOption};
 ghost use Rattle.cq_disk.specs.Device.{LeavesOnly};
 ghost use Rattle.cq_records.specs.Batch.{batch_bytes};
-ghost use Rattle.cq_records.specs.Frames.{is_text, frames, records, all_sound, BeginsWith, IsDamaged};
+ghost use Rattle.cq_records.specs.Frames.{is_text, frames, records, joined, all_sound, BeginsWith, IsDamaged};
 
 use crate::frame::{HEAD_LENGTH, has_no_zero, read_head};
 use crate::{Batch, ReadFault, checksum};
@@ -83,6 +83,34 @@ pub fn read_into<D: Device>(
     while let Some(found) = read_record(alloc, device, at)? {
         batch.add(&found.text)?;
         at = found.behind;
+    }
+    Ok(())
+}
+
+/// Adds the texts of a log's records to a text, one behind the other, from the record at this place on up to the first that
+/// isn't whole. Afterwards the place is behind the last one that was added: after `Damaged`, where the damaged one begins.
+/// It takes memory for all of them. After a fault the text may have some of them.
+pub fn read_texts<D: Device>(
+    alloc: Global,
+    device: &mut D,
+    at: &mut usize,
+    text: &mut Vec<u8>,
+) -> Result<(), ReadFault>
+    requires { at.old ≤ length (D.seen device.old) }
+    ensures read { OnOk result (IsTrue (D.is_honest device.new) → text.new.items ≡ text.old.items ++ joined (records (drop at.old (D.seen device.old)))) }
+    ensures within { at.new ≤ length (D.seen device.old) }
+    ensures damaged { IsErrOf result ReadFault.Damaged → IsTrue (D.is_honest device.new) → IsDamaged (drop at.new (D.seen device.old)) }
+    ensures failed { IsErrOf result ReadFault.Failed → D.faults device.old < D.faults device.new }
+    ensures later { D.faults device.old ≤ D.faults device.new }
+
+    ensures seen { D.seen device.new ≡ D.seen device.old }
+    ensures honest { IsTrue (D.is_honest device.new) → IsTrue (D.is_honest device.old) }
+    ensures any_moment { LeavesOnly D.moment D.left_since device.old device.new (D.may_leave device.old) }
+    ensures keeps { D.keeps device.old device.new }
+{
+    while let Some(found) = read_record(alloc, device, *at)? {
+        text.extend_from_slice(&found.text)?;
+        *at = found.behind;
     }
     Ok(())
 }

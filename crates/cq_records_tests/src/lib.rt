@@ -31,6 +31,8 @@ mod journals;
 #[cfg(test)]
 mod recoveries;
 #[cfg(test)]
+mod regions;
+#[cfg(test)]
 mod rewrites;
 #[cfg(test)]
 mod roots;

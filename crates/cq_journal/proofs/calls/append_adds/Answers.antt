@@ -1,0 +1,14 @@
+-- What the clauses of the call say.
+use Rattle.std.specs.Prelude.{Result, Ok, Err, OnOk}
+use Rattle.cq_journal.proofs.calls.append_adds.Goals as goal
+
+if_ok : {T E P Q R : Type 0} (r : Result T E) → OnOk r P → OnOk r Q → (P → Q → R) → OnOk r R
+if_ok (Ok x) p q step = step p q
+if_ok (Err e) p q step = tt
+
+pub returns-clause-tries : goal.returns-clause-tries
+returns-clause-tries g c = record { honest = c.append.ensures.honest; moments = c.append.ensures.any_moment }
+
+pub returns-clause-makes : goal.returns-clause-makes
+returns-clause-makes g c =
+    if_ok c.append.result c.append.ensures.lengths c.append.ensures.acknowledged (λ lengths records. record { half = lengths.0; len = lengths.1; records = λ _. records; tries = record { honest = c.append.ensures.honest; moments = c.append.ensures.any_moment } })

@@ -1,0 +1,10 @@
+-- What the clauses of the call say.
+use Rattle.cq_journal.proofs.calls.read_region_rests.Goals as goal
+
+pub returns-clause-tries : goal.returns-clause-tries
+returns-clause-tries g c = record { honest = c.read_region.ensures.rests.honest; moments = c.read_region.ensures.rests.moments }
+
+pub returns-clause-makes : goal.returns-clause-makes
+returns-clause-makes g c =
+    let rests = c.read_region.ensures.rests in
+    record { half = rests.half; len = rests.len; records = λ _. rests.records; tries = record { honest = rests.honest; moments = rests.moments } }

@@ -1,0 +1,88 @@
+//! What the regions of a journal have, read one by one.
+ghost use Rattle.std.specs.Prelude.{◌≡◌, ◌++◌, ◌+◌, ◌<◌, ◌≤◌, ℕ, [], length, drop, get_or, Err, IsTrue, OnOk, IsErrOf};
+ghost use Rattle.cq_disk.specs.Region.{part};
+ghost use Rattle.cq_records.specs.Frames.{records, joined, IsDamaged};
+
+use crate::{Journal, RegionFault};
+use cq_disk::Device;
+use cq_records::ReadFault;
+use std::alloc::Global;
+
+impl<D: Device> Journal<D> {
+    ghost use Rattle.cq_journal.specs.Journal.{HasRegions, IsJournal, journal_device, journal_places, journal_regions, region_len, IsDamagedAt};
+    ghost use Rattle.cq_journal.specs.Rests.{Rests};
+
+    /// How many regions count.
+    pub fn region_count(&self) -> usize
+        ensures { result ≡ length (journal_regions self.now) }
+    {
+        self.closed.len() + 1
+    }
+
+    /// Adds the records of a region to a text, one behind the other: the first region is at 0. The journal is the same,
+    /// at each moment, also where a record is damaged. It takes memory for the region's records. After a fault the text may have
+    /// some of them.
+    pub fn read_region(
+        &mut self,
+        alloc: Global,
+        index: usize,
+        text: &mut Vec<u8>,
+    ) -> Result<(), RegionFault>
+        requires journal { IsJournal self.old }
+        requires index { index < length (journal_regions self.old) }
+
+        ensures journal { IsJournal self.new }
+        ensures rests { Rests self.old self.new }
+        ensures regions { journal_regions self.new ≡ journal_regions self.old }
+        ensures read { OnOk result (IsTrue (D.is_honest (journal_device self.new)) → text.new.items ≡ text.old.items ++ joined (get_or (journal_regions self.old) index [])) }
+        ensures damaged { (place : ℕ) → result ≡ Err (RegionFault.Damaged place) → IsTrue (D.is_honest (journal_device self.new)) → IsDamagedAt self.old index place }
+        ensures failed { result ≡ Err RegionFault.Failed → D.faults (journal_device self.old) < D.faults (journal_device self.new) }
+    {
+        let _whole = self.root.log.device.device.len();
+        let place = self.place_of(index);
+        let mut at = 0;
+        match self.read_place(alloc, place, &mut at, text) {
+            Ok(()) => Ok(()),
+            Err(ReadFault::Damaged) => Err(RegionFault::Damaged(place + at)),
+            Err(ReadFault::NoMemory) => Err(RegionFault::NoMemory),
+            Err(ReadFault::Failed) => Err(RegionFault::Failed),
+        }
+    }
+
+    /// Adds the records of the region at this place. After `Damaged` the damaged one begins so many bytes behind it.
+    fn read_place(
+        &mut self,
+        alloc: Global,
+        place: usize,
+        at: &mut usize,
+        text: &mut Vec<u8>,
+    ) -> Result<(), ReadFault>
+        requires journal { IsJournal self.old }
+        requires within { place + region_len self.old ≤ length (D.seen (journal_device self.old)) }
+        requires start { at.old ≡ 0 }
+
+        ensures journal { IsJournal self.new }
+        ensures rests { Rests self.old self.new }
+        ensures regions { journal_regions self.new ≡ journal_regions self.old }
+        ensures read { OnOk result (IsTrue (D.is_honest (journal_device self.new)) → text.new.items ≡ text.old.items ++ joined (records (part place (region_len self.old) (D.seen (journal_device self.old))))) }
+        ensures at { at.new ≤ region_len self.old }
+        ensures damaged { IsErrOf result ReadFault.Damaged → IsTrue (D.is_honest (journal_device self.new)) → IsDamaged (drop at.new (part place (region_len self.old) (D.seen (journal_device self.old)))) }
+        ensures failed { IsErrOf result ReadFault.Failed → D.faults (journal_device self.old) < D.faults (journal_device self.new) }
+    {
+        self.root.read_texts_at(alloc, place, self.len, at, text)
+    }
+
+    /// Where a region lies.
+    fn place_of(&self, index: usize) -> usize
+        requires regions { HasRegions self.now }
+        requires index { index < length (journal_places self.now) }
+        ensures place { result ≡ get_or (journal_places self.now) index 0 }
+        ensures within { result + region_len self.now ≤ length (D.seen (journal_device self.now)) }
+    {
+        if index < self.closed.len() {
+            self.closed[index] as usize
+        } else {
+            self.growing
+        }
+    }
+}
