@@ -1,12 +1,12 @@
-mod Appends
+pub mod Appends
 mod Bases
 mod Changes
-mod Copies
+pub mod Copies
 mod Examples
 mod Halves
 mod Moves
 mod OtherRegions
-mod RegionLists
+pub mod RegionLists
 mod Refreshed
 mod Regions
 mod Survival

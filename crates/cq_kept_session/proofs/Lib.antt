@@ -1,0 +1,4 @@
+mod Chunks
+mod Runs
+mod Histories
+mod Mending

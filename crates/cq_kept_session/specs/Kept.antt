@@ -1,0 +1,41 @@
+-- A session and the lines that its journal has.
+use Rattle.std.specs.Prelude.{◌≡◌, ℕ, List, IsTrue}
+use Rattle.cq_disk.specs.declared.device.Device.{Ghosts}
+use Rattle.cq_records.specs.Frames.{joined}
+use Rattle.cq_journal.specs.declared.journal.Journal.{Journal}
+use Rattle.cq_journal.specs.Journal.{IsJournal, journal_device, journal_records}
+use Rattle.cq_lines.specs.Lines.{ended_part}
+use Rattle.cq_script.specs.Resumed.{HasRun}
+use Rattle.cq_script.specs.Sessions.{session_text}
+use Rattle.cq_kept_session.specs.Texts.{is_ended}
+use Rattle.cq_kept_session.specs.declared.kept.KeptSession.{KeptSession}
+
+module _ {D : Type 0} {g : Ghosts D} where
+  abbrev pub session_journal : KeptSession D g → Journal D g
+  session_journal k = k.journal
+
+  abbrev pub session_device : KeptSession D g → D
+  session_device k = journal_device k.journal
+
+  -- on so many servers
+  abbrev pub session_size : KeptSession D g → ℕ
+  session_size k = k.size
+
+  -- the records that it has kept, in order
+  abbrev pub kept_records : KeptSession D g → List (List ℕ)
+  kept_records k = journal_records k.journal
+
+  -- the bytes of its lines, one record behind the other
+  abbrev pub kept_bytes : KeptSession D g → List ℕ
+  kept_bytes k = joined (kept_records k)
+
+  -- what one session writes on these lines
+  abbrev pub kept_text : KeptSession D g → List ℕ
+  kept_text k = session_text k.size (ended_part (kept_bytes k))
+
+  -- All that it has run is in its journal, and all of that was run. A journal has its records on the medium. It knows whether the last
+  -- line has ended.
+  pub record IsKept (k : KeptSession D g) : Type 0 where
+    pub journal : IsJournal k.journal
+    pub run : IsTrue (g.is_honest (session_device k)) → HasRun k.size (kept_bytes k) k.session
+    pub ended : IsTrue (g.is_honest (session_device k)) → k.ended ≡ is_ended (kept_bytes k)

@@ -1,0 +1,5 @@
+pub mod Kept
+pub mod Outcomes
+pub mod Takes
+pub mod Texts
+pub mod within

@@ -1,0 +1,26 @@
+//! The call that takes a chunk, as the law of kept sessions has it.
+ghost use Rattle.std.specs.Prelude.{◌≡◌, ◌≤◌, length, IsTrue, OnOk};
+ghost use Rattle.std.specs.Io.KnownBytes.{Appends};
+ghost use Rattle.cq_kept_session.specs.Kept.{IsKept, session_device};
+ghost use Rattle.cq_kept_session.specs.Takes.{Taken, Takes};
+ghost use Rattle.cq_kept_session.specs.Texts.{without_zeros};
+
+use crate::{KeptSession, TakeFault};
+use cq_disk::Device;
+use cq_records::TEXT_LIMIT;
+use cq_script::Sink;
+
+/// A chunk that was taken is kept, and what was written is the text of it.
+pub fn take_takes<D: Device, W: Sink>(
+    session: &mut KeptSession<D>,
+    chunk: &[u8],
+    writer: &mut W,
+) -> Result<(), TakeFault>
+    requires kept { IsKept session.old }
+    requires short { length chunk.now ≤ TEXT_LIMIT }
+    ensures kept { OnOk result (IsKept session.new) }
+    ensures takes { OnOk result (IsTrue (D.is_honest (session_device session.new)) → (taken : Taken) × (taken.chunk ≡ without_zeros chunk.now)
+        × Appends (W.contents writer.old) (W.contents writer.new) taken.output × Takes taken session.old session.new) }
+{
+    session.take(chunk, writer)
+}

@@ -1,0 +1,15 @@
+//! A session that keeps its lines on a device before it answers them, and goes on behind them after any crash.
+//! `specs/` holds the rules.
+#![tactic(auto)]
+
+mod calls;
+mod fault;
+mod kept;
+mod laws;
+mod starting;
+mod text;
+
+pub use calls::take_takes;
+pub use fault::{StartFault, TakeFault};
+pub use kept::KeptSession;
+pub use laws::what_is_told_is_of_what_is_kept;

@@ -1,0 +1,142 @@
+//! How a kept session begins, and goes on behind what was kept.
+ghost use Rattle.std.specs.Prelude.{◌≡◌, ◌⊎◌, ◌≤◌, ◌<◌, ◌+◌, ◌++◌, [], ◌∷◌, ℕ, List, true, length, Some, IsTrue, IfOk, OnOk};
+ghost use Rattle.cq_disk.specs.Device.{LeavesOnly};
+ghost use Rattle.cq_journal.specs.Base.{HasEitherRecords};
+ghost use Rattle.cq_journal.specs.Changes.{adds};
+ghost use Rattle.cq_journal.specs.Histories.{Tries};
+ghost use Rattle.cq_journal.specs.Journal.{IsJournal, journal_device, journal_half, region_len};
+ghost use Rattle.cq_journal.specs.Regions.{kept};
+ghost use Rattle.cq_journal.specs.Rests.{Rests};
+ghost use Rattle.cq_script.specs.Resumed.{HasRun};
+ghost use Rattle.cq_kept_session.specs.Texts.{mended};
+
+use crate::text::has_ended;
+use crate::{KeptSession, StartFault};
+use cq_base::{ChainSize, NoMemory};
+use cq_disk::Device;
+use cq_journal::{Journal, NUMBER_LIMIT};
+use cq_script::ResumedSession;
+use std::alloc::Global;
+
+impl<D: Device> KeptSession<D> {
+    ghost use Rattle.cq_kept_session.specs.Kept.{IsKept, kept_records, session_device, session_journal, session_size};
+
+    /// Begins a session on so many servers, and makes its journal on a device: a root of two halves of this length, and behind it
+    /// one region of this length. Whatever the device has is lost. `Write(Full)`: it is too short.
+    pub fn create(
+        alloc: Global,
+        size: ChainSize,
+        device: D,
+        half: usize,
+        len: usize,
+    ) -> Result<KeptSession<D>, StartFault>
+        requires root { half + half ≤ length (D.seen device) }
+        requires small { half + half < NUMBER_LIMIT }
+        ensures kept { IfOk result IsKept }
+        ensures empty { IfOk result (λ session. kept_records session ≡ []) }
+        ensures size { IfOk result (λ session. session_size session ≡ size) }
+        ensures lengths { IfOk result (λ session. (journal_half (session_journal session) ≡ half) × (region_len (session_journal session) ≡ len)) }
+    {
+        let journal = Journal::create(alloc, device, half, len)?;
+        Ok(KeptSession::begin(alloc, size, journal)?)
+    }
+
+    /// Goes on with the session whose journal a device has, with halves of the root and regions of these lengths: its lines are
+    /// run, in order, on so many servers, and nothing is written of them. If the last one was cut off, a line feed is kept behind
+    /// it first, so that what comes then is a line of its own. It takes memory for the records of a region, beside what the
+    /// session takes. `Open(NoJournal)`: the device has none.
+    pub fn open(
+        alloc: Global,
+        size: ChainSize,
+        device: D,
+        half: usize,
+        len: usize,
+    ) -> Result<KeptSession<D>, StartFault>
+        requires { half + half ≤ length (D.seen device) }
+        ensures kept { IfOk result IsKept }
+        ensures records { IfOk result (λ session. IsTrue (D.is_honest (session_device session)) → (rs : List (List ℕ)) × (kept half len (D.seen device) ≡ Some rs) × (kept_records session ≡ mended rs)) }
+        ensures size { IfOk result (λ session. session_size session ≡ size) }
+
+        // A crash at any moment leaves what it might have left before, or the records that were seen, or these with the line feed.
+        ensures any_moment { IfOk result (λ session. IsTrue (D.is_honest (session_device session)) → (rs : List (List ℕ)) → kept half len (D.seen device) ≡ Some rs
+            → LeavesOnly D.moment D.left_since device (session_device session) (λ c. D.may_leave device c ⊎ HasEitherRecords half len rs (mended rs) c)) }
+    {
+        let journal = Journal::open(alloc, device, half, len)?;
+        let mut session = KeptSession::begin(alloc, size, journal)?;
+        session.restore()?;
+        Ok(session)
+    }
+
+    /// A session that has run nothing, over a journal.
+    fn begin(
+        alloc: Global,
+        size: ChainSize,
+        journal: Journal<D>,
+    ) -> Result<KeptSession<D>, NoMemory>
+        ensures journal { IfOk result (λ begun. session_journal begun ≡ journal) }
+        ensures size { IfOk result (λ begun. session_size begun ≡ size) }
+        ensures run { IfOk result (λ begun. HasRun (session_size begun) [] begun.session) }
+        ensures ended { IfOk result (λ begun. begun.ended ≡ true) }
+    {
+        let session = ResumedSession::new(alloc, size)?;
+        Ok(KeptSession {
+            alloc,
+            size,
+            journal,
+            session,
+            ended: true,
+        })
+    }
+
+    /// Runs what is kept, and ends the last line if it was cut off.
+    fn restore(&mut self) -> Result<(), StartFault>
+        requires journal { IsJournal (session_journal self.old) }
+        requires run { HasRun (session_size self.old) [] self.old.session }
+        requires ended { self.old.ended ≡ true }
+        ensures kept { OnOk result (IsKept self.new) }
+        ensures size { session_size self.new ≡ session_size self.old }
+        ensures honest { IsTrue (D.is_honest (session_device self.new)) → IsTrue (D.is_honest (session_device self.old)) }
+        ensures records { OnOk result (IsTrue (D.is_honest (session_device self.new)) → kept_records self.new ≡ mended (kept_records self.old)) }
+        ensures any_moment { OnOk result (IsTrue (D.is_honest (session_device self.new)) → LeavesOnly D.moment D.left_since (session_device self.old) (session_device self.new)
+            (HasEitherRecords (journal_half (session_journal self.old)) (region_len (session_journal self.old)) (kept_records self.old) (mended (kept_records self.old)))) }
+    {
+        self.run_kept()?;
+        if self.ended { Ok(()) } else { self.end_line() }
+    }
+
+    /// Runs what is kept, region by region.
+    fn run_kept(&mut self) -> Result<(), StartFault>
+        requires journal { IsJournal (session_journal self.old) }
+        requires run { HasRun (session_size self.old) [] self.old.session }
+        requires ended { self.old.ended ≡ true }
+        ensures kept { OnOk result (IsKept self.new) }
+        ensures size { session_size self.new ≡ session_size self.old }
+        ensures rests { Rests (session_journal self.old) (session_journal self.new) }
+    {
+        let mut text = Vec::new(self.alloc);
+        let mut index = 0;
+        while index < self.journal.region_count() {
+            text.clear();
+            self.journal.read_region(self.alloc, index, &mut text)?;
+            self.session.restore(&text)?;
+            self.ended = has_ended(self.ended, &text);
+            index += 1;
+        }
+        Ok(())
+    }
+
+    /// Keeps and runs a line feed.
+    fn end_line(&mut self) -> Result<(), StartFault>
+        requires { IsKept self.old }
+        ensures kept { OnOk result (IsKept self.new) }
+        ensures size { session_size self.new ≡ session_size self.old }
+        ensures honest { IsTrue (D.is_honest (session_device self.new)) → IsTrue (D.is_honest (session_device self.old)) }
+        ensures records { OnOk result (kept_records self.new ≡ kept_records self.old ++ (10 ∷ []) ∷ []) }
+        ensures tries { Tries (adds ((10 ∷ []) ∷ [])) (session_journal self.old) (session_journal self.new) }
+    {
+        self.keep(b"\n")?;
+        self.session.restore(b"\n")?;
+        self.ended = has_ended(self.ended, b"\n");
+        Ok(())
+    }
+}
