@@ -218,7 +218,7 @@ pub async fn prepare(store: &Store, queue: &Arc<Queue>) -> Result<(), SqsError> 
 pub async fn create_beside(store: &Store, queue: &Arc<Queue>) -> Result<(), SqsError> {
     let (name, removed) = {
         let state = queue.state();
-        (state.store, state.removed)
+        (state.entry.store, state.removed)
     };
     match queue.delays() {
         _ if removed => Err(SqsError::QueueDoesNotExist),

@@ -8,6 +8,7 @@ pub mod access;
 pub mod actions;
 pub mod admin;
 pub mod attributes;
+pub mod book;
 pub mod budget;
 pub mod clock;
 pub mod command_line;

@@ -8,6 +8,7 @@ use thiserror::Error;
 
 use crate::handles::Receipt;
 use crate::queues::ask::{Ask, PartsAsk, StoreName};
+use crate::texts::hex;
 
 /// The kinds of asks.
 #[derive(Clone, Copy, Debug, PartialEq, Eq, Serialize, Deserialize)]
@@ -61,7 +62,13 @@ impl<'a> AskFields<'a> {
             Ask::Create { store, visibility, .. } => {
                 AskFields { visibility: Some(*visibility), ..AskFields::new(AskKind::Create, *store) }
             }
-            Ask::Remove { store, .. } => AskFields::new(AskKind::Remove, *store),
+            Ask::Remove { store } => AskFields::new(AskKind::Remove, *store),
+            Ask::Say { book, text, .. } => AskFields {
+                group: Some(BOOK_GROUP.into()),
+                dedup: Some(hex(&rand::random::<[u8; 16]>()).into()),
+                body: Some(text.into()),
+                ..AskFields::new(AskKind::Send, StoreName::of_book(*book))
+            },
             Ask::Send { group, dedup, envelope, .. } => AskFields {
                 group: Some(group.as_str().into()),
                 dedup: Some(dedup.as_str().into()),
@@ -85,8 +92,9 @@ impl<'a> AskFields<'a> {
     }
 }
 
-/// The group of all parts.
+/// The group of all parts, and that of all entries of a book.
 const PARTS_GROUP: &str = "parts";
+const BOOK_GROUP: &str = "book";
 
 /// The most messages that a receive is handed.
 const MOST_HANDED: u8 = 10;

@@ -79,6 +79,8 @@ pub fn merge(tasks: &mut Vec<MoveTask>, task: &MoveTask) {
         }
         None => tasks.push(task.clone()),
     }
+    // A book that is begun anew may say them in another order.
+    tasks.sort_by_key(|task| task.started);
     let excess = tasks.len().saturating_sub(MOST);
     tasks.drain(..excess);
 }

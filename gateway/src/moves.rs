@@ -85,7 +85,7 @@ pub async fn move_to_target(store: &Store, queue: &Arc<Queue>, dead: Vec<Handed>
             return Err(error);
         }
     };
-    let created = target.state().created;
+    let created = target.state().entry.created;
     let (own, others): (Vec<_>, Vec<_>) = dead.into_iter().partition(|handed| {
         let (state, receipt) = (queue.state(), handed.receipt);
         // Other receives may have set it aside as well.
@@ -340,7 +340,7 @@ const SEEN_TO_AT_ONCE: usize = 32;
 pub async fn finish(store: &Store) {
     delete_copied(store).await;
     for queue in store.queues().all() {
-        let created = store.queues().target_of(&queue).map(|(target, _)| target.state().created);
+        let created = store.queues().target_of(&queue).map(|(target, _)| target.state().entry.created);
         let cut_off = queue.state().cut_off(created, store.queues().jumps(), store.clock().now());
         let asks = cut_off.into_iter().map(|(receipt, fate)| match fate {
             Fate::Old => Ask::Delete { receipt, by_client: false },

@@ -7,9 +7,9 @@ use std::time::{Duration, Instant};
 use crate::delays::create_beside;
 use crate::errors::SqsError;
 use crate::handles::Mark;
-use crate::queues::ask::{Ask, Before, Creation};
-use crate::queues::{Queue, State};
-use crate::store::{Held, Store};
+use crate::queues::ask::{Ask, TableChange};
+use crate::queues::Queue;
+use crate::store::Store;
 
 /// So often queues are looked at.
 const PAUSE: Duration = Duration::from_secs(10);
@@ -66,7 +66,7 @@ pub async fn keep_rolling(store: Store) {
     }
 }
 
-/// Empty, no deduplication id that counts, and at least so many records to gain; or a name is left that should be gone.
+/// Empty, no deduplication id that counts, and at least so many records to gain.
 fn is_due(queue: &Queue, least: u64, now: u64) -> bool {
     let delays = queue.delays();
     let (is_at_rest, records) = delays.map_or((true, 0), |delays| {
@@ -74,62 +74,29 @@ fn is_due(queue: &Queue, least: u64, now: u64) -> bool {
         (state.is_at_rest(now), state.records())
     });
     let state = queue.state();
-    let is_worth = is_at_rest && state.is_at_rest(now) && state.purging().is_none();
-    !state.removed && (!state.earlier.is_empty() || (is_worth && state.records() + records >= least))
+    let is_quiet = is_at_rest && state.is_at_rest(now) && state.purging().is_none();
+    !state.removed && is_quiet && state.records() + records >= least
 }
 
-/// Gives a queue a fresh name, while nobody else has it, and removes the old one. If this ends half way, the old one is
-/// removed at the next time, before the queue itself is removed, or by the next start.
+/// Gives a queue a fresh name, while nobody else has it. It goes by that once the book says so; the other one is removed from
+/// the store, which also the next start does where this ends half way.
 async fn roll(store: &Store, queue: &Arc<Queue>, least: u64) -> Result<(), SqsError> {
     let (held_delays, held) = store.hold_all(queue).await?;
-    remove_earlier(queue, &held).await?;
-    let is_due = is_due(queue, least, store.clock().now());
-    let (visibility, creation) = {
-        let state = queue.state();
-        if state.removed || !is_due {
-            return Ok(());
-        }
-        (state.attributes.visibility_timeout(), creation_of(queue, &state))
-    };
-    let fresh = store.queues().next_store_name();
-    held.ask(Ask::Create { store: fresh, visibility, creation: Arc::new(creation) }).await?;
+    if !is_due(queue, least, store.clock().now()) {
+        return Ok(());
+    }
+    let visibility = queue.state().entry.attributes.visibility_timeout();
+    let fresh = store.next_store_name(&queue.name);
+    held.ask(Ask::Create { store: fresh, visibility, bytes: 0 }).await?;
+    if let Err(error) = held.change(TableChange::GoneOver(fresh)).await {
+        store.queues().left_over().add(store.place_of(&queue.name), [fresh]);
+        return Err(error);
+    }
     if held_delays.is_some() {
         // Who waits to send something with a delay finds one.
         create_beside(store, queue).await?;
     }
-    remove_earlier(queue, &held).await
-}
-
-/// Removes the names from the store that the queue had before. A queue that is removed while one of them is there would
-/// be back after the next start.
-pub async fn remove_earlier(queue: &Arc<Queue>, held: &Held) -> Result<(), SqsError> {
-    let earlier = queue.state().earlier.clone();
-    for name in earlier {
-        match held.ask(Ask::Remove { store: name, name: None }).await {
-            Ok(_) => {}
-            // The store hasn't got it.
-            Err(SqsError::QueueDoesNotExist) => queue.state().earlier.retain(|other| *other != name),
-            Err(error) => return Err(error),
-        }
-    }
     Ok(())
-}
-
-fn creation_of(queue: &Queue, state: &State) -> Creation {
-    let before = Before {
-        base: state.last_sequence,
-        created: state.created,
-        modified: state.modified,
-        purged: state.purged,
-        tasks: state.tasks().to_vec(),
-    };
-    Creation {
-        name: queue.name.clone(),
-        mark: queue.mark.0,
-        attributes: state.attributes.clone(),
-        tags: state.tags.clone(),
-        before: Some(before),
-    }
 }
 
 #[cfg(test)]

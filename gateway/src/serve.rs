@@ -15,6 +15,7 @@ use tokio::task::JoinHandle;
 use crate::access::Keys;
 use crate::actions::{Actions, Owner, Pauses};
 use crate::admin::{Admin, Health};
+use crate::book;
 use crate::budget::Budget;
 use crate::clock::Clock;
 use crate::config::{Address, DeclaredQueue, Misuse};
@@ -30,7 +31,6 @@ use crate::moves;
 use crate::parts;
 use crate::peek::Peeks;
 use crate::purges;
-use crate::queues::ask::Ask;
 use crate::queues::shards::Shards;
 use crate::queues::Queues;
 use crate::retention;
@@ -163,6 +163,7 @@ async fn start(settings: Arc<Settings>, prepared: Prepared, cqs: Vec<Cq>) -> Res
     tokio::spawn(retention::keep_sweeping(running.store.clone()));
     tokio::spawn(parts::keep_removing(running.store.clone()));
     tokio::spawn(delays::keep_moving(running.store.clone()));
+    tokio::spawn(book::keep(running.store.clone()));
     if running.journal.is_some() {
         tokio::spawn(crate::rolling::keep_rolling(running.store.clone()));
     }
@@ -259,7 +260,7 @@ async fn begin(settings: &Settings, health: &Health, mut cqs: Vec<Cq>) -> Result
     let journals = journal.clone();
     let (store, ended) =
         store::start(Start { program, patience, shards, cqs, queues, clock, journal: journals, bounds });
-    remove_left_over(&store, &replayed).await;
+    book::prepare(&store).await;
     store.queues().parts().settle_all();
     moves::finish(&store).await;
     purges::finish(&store).await;
@@ -283,16 +284,6 @@ async fn lock_journal(settings: &Settings) -> Result<Option<LockedJournal>> {
     let locked = LockedJournal::new(path)?;
     journal::convert(&settings.program, path, settings.shards).await?;
     Ok(Some(locked))
-}
-
-/// What a queue left in the store that was going over to another name when the gateway ended. What can't be removed now,
-/// since the disk is full, goes later.
-async fn remove_left_over(store: &Store, replayed: &Replayed) {
-    for (name, queue) in &replayed.left_over {
-        if let Err(error) = store.ask(queue, Ask::Remove { store: *name, name: None }).await {
-            tracing::warn!("an earlier name of {} stays in the store for now: {error}", queue.name);
-        }
-    }
 }
 
 async fn answer(settings: &Settings, started: Started, signals: &mut Signals) -> Result<()> {

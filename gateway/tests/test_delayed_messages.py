@@ -150,11 +150,12 @@ def test_the_first_delayed_send_that_is_cut_off_can_be_repeated(delayed, passing
     assert {message["MessageId"]} == ids
 
 
-@pytest.mark.parametrize("passing", range(3))
+@pytest.mark.parametrize("passing", range(4))
 def test_a_removal_that_is_cut_off_takes_all_or_nothing(delayed, passing):
     delayed.send("old", 5)
     delayed.send("now", 0)
-    delayed.cq.tell(each=['"kind":"remove"'], **{"pass": passing})
+    # The book says it, and then the store is asked for each of the two.
+    delayed.cq.tell(each=["removed", '"kind":"remove"'], **{"pass": passing})
 
     def remove() -> None:
         try:
@@ -357,7 +358,7 @@ def test_two_sends_of_a_call_that_are_open_at_once_are_one_message(delayed):
     delayed.cq.tell(hold='"kind":"create"')
     first = begin(lambda: told.append(sent_by_call(delayed.gateway.url, "q", "call", 1)))
     change = begin(lambda: delayed.call("SetQueueAttributes", QueueUrl="q", Attributes={"DelaySeconds": "0"}))
-    delayed.cq.tell(hold='"kind":"send"')
+    delayed.cq.tell(hold='"kind":"send","queue":"1')
     change.join()
     second = begin(lambda: told.append(sent_by_call(delayed.gateway.url, "q", "call", 2)))
     assert told == []

@@ -250,7 +250,7 @@ def test_messages_of_an_older_journal_keep_their_ids(tmp_path):
     journaled.gateway.set_clock(START + 20_000)
     assert answers(journaled) == json.loads(here.with_name("version3.answers.json").read_text())
     assert path.with_name("journal.1").read_bytes()[: len(old)] == old
-    assert path.with_name("journal.2").read_bytes().startswith(b"hobbychair journal 7\n")
+    assert path.with_name("journal.2").read_bytes().startswith(b"hobbychair journal 8\n")
     ids = stored_ids(journaled)
     assert [len(one) for one in ids] == [1, 1, 2, 3, 6]
     for _ in range(2):

@@ -123,8 +123,9 @@ def test_a_dump_is_a_script(journal):
     script = subprocess.run(command("dump", str(journal)), env=environment(), capture_output=True, check=True).stdout
     answers = subprocess.run([program(), "replay"], input=script, capture_output=True, check=True).stdout
     replies = [json.loads(line)["reply"] for line in answers.splitlines()]
-    assert replies == [{"incarnation": 1, "kind": "created"}] + [
-        {"kind": "sent", "sequence": place} for place in (1, 2, 3)]
+    # The book, and the queue, of which the book says what it is.
+    assert replies == [{"incarnation": 1, "kind": "created"}] * 2 + [
+        {"kind": "sent", "sequence": place} for place in (1, 1, 2, 3)]
 
 
 def test_a_dump_of_no_journal_fails(tmp_path):

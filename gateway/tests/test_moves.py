@@ -16,7 +16,8 @@ from started import ByJson, Refused, Started, program
 from steered import SteeredCq
 
 COUNT = 3
-ASKS = ['"kind":"send"', '"kind":"delete"']
+# The sends of copies, and not those to the book.
+ASKS = ['\\"of\\":', '"kind":"delete"']
 
 
 def arn(name: str) -> str:

@@ -1,5 +1,5 @@
-"""Journals of version 5, in which sweeps handed young messages to the gateway and a record has a large body whole, and of
-version 6, which has delayed messages in records beside the store."""
+"""Journals of version 5, in which sweeps handed young messages to the gateway and a record has a large body whole, of
+version 6, which has delayed messages in records beside the store, and of version 7, which says there what queues are."""
 
 from __future__ import annotations
 
@@ -92,11 +92,11 @@ def test_a_body_that_an_older_journal_has_whole_is_in_parts_once_it_moves(older)
         (message,) = (one for one in older.receive("dead.fifo") if len(one["Body"]) > 1)
         assert message["Body"] == LARGE
         lines = run("dump", str(older.journal)).stdout.splitlines()
-        assert sum('"queue":"b' in line and '"kind":"create"' in line for line in lines) == 1
+        assert sum('"queue":"b1' in line and '"kind":"create"' in line for line in lines) == 1
         older.gateway.kill()
         older.gateway.start()
     assert older.journal.with_name("journal.1").read_bytes()[: len(older.old)] == older.old
-    assert older.journal.with_name("journal.2").read_bytes().startswith(b"hobbychair journal 7\n")
+    assert older.journal.with_name("journal.2").read_bytes().startswith(b"hobbychair journal 8\n")
 
 
 class Delayed:
@@ -146,7 +146,7 @@ def test_delayed_messages_of_an_older_journal_come_as_they_are_due(tmp_path):
         assert sent_by_call(delayed.gateway.url, "q", "call", 2, DelaySeconds=60, body="called") == [delayed.ids["called"]]
         delayed.gateway.kill()
         delayed.start()
-    assert delayed.journal.with_name("journal.2").read_bytes().startswith(b"hobbychair journal 7\n")
+    assert delayed.journal.with_name("journal.2").read_bytes().startswith(b"hobbychair journal 8\n")
     found: dict[str, str] = {}
     for moment, bodies in ((0, ["stored", "was due"]), (5000, ["good", "good too", "largelarge"]), (60_000, ["called"]),
                            (900_000, ["late"])):
@@ -193,3 +193,76 @@ def test_a_start_that_is_cut_off_takes_delayed_messages_over_once(tmp_path, word
     found = delayed.take("q")
     assert {**found, **delayed.take("purged"), "purged": "", "removed": ""} == {**delayed.ids, "purged": "", "removed": ""}
     assert delayed.gateway.stop() == 0
+
+
+class BesideTheStore:
+    """A gateway with a journal of version 7 of two programs, which says of queues beside the asks what they are: one that went
+    over to another name in the store, one with tasks, one that was being purged when the gateway ended, and one that was
+    removed. What the gateway that wrote it tells of them is kept beside it."""
+
+    def __init__(self, room: Path) -> None:
+        here = Path(__file__)
+        self.journal, self.cq, self.room = room / "journal", SteeredCq(room), room
+        self.old = gzip.decompress(here.with_name("version7.journal.gz").read_bytes())
+        self.told = json.loads(here.with_name("version7.answers.json").read_text())
+        self.journal.with_name("journal.1").write_bytes(self.old)
+        assert self.old.startswith(b"hobbychair journal 7\n") and "undamaged" in run("verify", str(self.journal)).stdout
+        (room / "clock").write_text(str(self.told["moment"]))
+        self.words = ["--journal", str(self.journal), "--shards", "2", "--clock-file", str(room / "clock"), *self.cq.words()]
+
+    def start(self) -> None:
+        self.gateway = Started(*self.words)
+
+    def call(self, action: str, **members):
+        return ByJson(self.gateway.url)(action, **members)
+
+    def compare(self) -> None:
+        assert [url.rsplit("/", 1)[-1] for url in self.call("ListQueues")["QueueUrls"]] == self.told["names"]
+        for name in self.told["names"]:
+            told, arn = self.told[name], f"arn:aws:sqs:us-east-1:000000000000:{name}"
+            attributes = self.call("GetQueueAttributes", QueueUrl=name, AttributeNames=["All"])["Attributes"]
+            tasks = self.call("ListMessageMoveTasks", SourceArn=arn, MaxResults=10).get("Results", [])
+            assert attributes == told["attributes"] and tasks == told["tasks"]
+            assert self.call("ListQueueTags", QueueUrl=name).get("Tags", {}) == told["tags"]
+
+    def names(self) -> set[str]:
+        lines = map(json.loads, run("dump", str(self.journal)).stdout.splitlines())
+        return {line["ask"]["queue"] for line in lines if line.get("ask", {}).get("kind") == "create"}
+
+
+@pytest.mark.parametrize("passing", [None, 0, 1, 3, 5])
+def test_what_an_older_journal_says_of_queues_goes_to_the_store(tmp_path, passing):
+    """The first start may be killed on the way."""
+    older = BesideTheStore(tmp_path)
+    if passing is not None:
+        older.cq.tell(each=['"queue":"book'], **{"pass": passing})
+        starting = subprocess.Popen(command("--port", "0", *older.words), stdout=subprocess.PIPE, env=environment())
+        latest = time.monotonic() + 20
+        while not older.cq.ends() and not select.select([starting.stdout], [], [], 0.01)[0]:
+            assert time.monotonic() < latest
+        time.sleep(0.1)
+        starting.kill()
+        starting.wait()
+        older.cq.tell()
+    for _ in range(3):
+        older.start()
+        older.compare()
+        with pytest.raises(Refused, match="QueueDeletedRecently"):
+            older.call("CreateQueue", QueueName="gone")
+        books = sum(name.startswith("book") for name in older.names())
+        assert books == 2
+        older.gateway.kill()
+    assert older.journal.with_name("journal.2").read_bytes().startswith(b"hobbychair journal 8\n")
+    older.start()
+    older.call("DeleteMessage", QueueUrl="plain", ReceiptHandle=older.told["handle"])
+    for name in older.told["names"]:
+        found = older.call("ReceiveMessage", QueueUrl=name, MaxNumberOfMessages=10, VisibilityTimeout=3,
+                           AttributeNames=["All"]).get("Messages", [])
+        assert [[one["MessageId"], one["Body"][:40], one["Attributes"]] for one in found] == older.told[name]["messages"]
+    older.call("TagQueue", QueueUrl="plain", Tags={"b": "2"})
+    older.call("DeleteQueue", QueueUrl="again")
+    older.gateway.kill()
+    older.start()
+    assert older.call("ListQueueTags", QueueUrl="plain")["Tags"] == {"a": "1", "b": "2"}
+    assert "again" not in str(older.call("ListQueues"))
+    assert older.gateway.stop() == 0

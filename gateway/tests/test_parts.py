@@ -56,7 +56,7 @@ class Kept:
         """How many queues with parts the journal has that aren't removed."""
         lines = [json.loads(line) for line in run("dump", str(self.journal)).stdout.splitlines()]
         names = [line["ask"]["queue"] for line in lines if line.get("ask", {}).get("kind") == "create"]
-        return sum(name.startswith("b") for name in names)
+        return sum(name.startswith("b") and not name.startswith("book") for name in names)
 
     def restart(self) -> None:
         self.gateway.kill()

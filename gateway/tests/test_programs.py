@@ -112,10 +112,10 @@ def test_without_a_journal_a_program_that_hangs_ends_the_gateway(stand_in):
     assert gateway.process.wait(20) == 1
 
 
-@pytest.mark.parametrize("what, said", [("garbage 3", "can't be read"), ("hang 1", "it didn't answer for 3 s"),
-                                        ("hang 3", "it didn't answer for 3 s"), ("close 1", "went on")])
+@pytest.mark.parametrize("what, said", [("garbage 5", "can't be read"), ("hang 1", "it didn't answer for 3 s"),
+                                        ("hang 5", "it didn't answer for 3 s"), ("close 1", "went on")])
 def test_a_start_with_such_a_program_ends_and_says_why(tmp_path, stand_in, what, said):
-    """The journal has two records, so the third answer is the one behind them."""
+    """The journal has four records, so the fifth answer is the one behind them."""
     journal = ["--journal", str(tmp_path / "journal")]
     gateway = Started("--cq", str(stand_in.path), *journal)
     call = ByJson(gateway.url)
@@ -129,12 +129,12 @@ def test_a_start_with_such_a_program_ends_and_says_why(tmp_path, stand_in, what,
 
 
 def test_a_program_that_ends_at_whatever_it_is_asked_ends_the_gateway(tmp_path):
-    """The journal has one record, and so the first four lines are of its replay."""
+    """The journal has three records, and so the first eight lines are of its replay."""
     cq = SteeredCq(tmp_path)
     gateway = Started("--journal", str(tmp_path / "journal"), *cq.words())
     call = ByJson(gateway.url)
     call("CreateQueue", QueueName="q.fifo", Attributes=FIFO)
-    cq.tell(end='"op"', behind=4)
+    cq.tell(end='"op"', behind=8)
     with pytest.raises((OSError, Refused)):
         for number in range(5):
             send(call, number)

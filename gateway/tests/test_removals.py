@@ -60,7 +60,7 @@ def rolled(gateway: Started, journal: Path) -> None:
         call("DeleteMessageBatch", QueueUrl="q.fifo", Entries=[
             {"Id": str(place), "ReceiptHandle": message["ReceiptHandle"]} for place, message in enumerate(messages)])
     gateway.set_clock(gateway.moment + WINDOW)
-    wait_for(lambda: any(b'"before"' in segment.read_bytes() for segment in journal.parent.glob("journal.[0-9]*")))
+    wait_for(lambda: any(b'\\"base\\"' in segment.read_bytes() for segment in journal.parent.glob("journal.[0-9]*")))
 
 
 def test_a_removed_queue_stays_so_where_an_earlier_name_of_it_could_not_be_removed(tmp_path):

@@ -152,6 +152,10 @@ def test_a_dump_is_one_script_that_one_store_takes(tmp_path):
     assert gateway.stop() == 0
     script = subprocess.run(command("dump", str(journal)), env=environment(), timeout=60, capture_output=True).stdout
     answers = subprocess.run([program(), "session"], input=script, timeout=60, capture_output=True).stdout
+    asks = [line["ask"] for line in map(json.loads, script.splitlines()) if "ask" in line]
     replies = [json.loads(line)["reply"] for line in answers.splitlines()]
+    assert len(asks) == len(replies) and all(reply["kind"] in ("created", "sent") for reply in replies)
+    # Each program has a book.
+    replies = [reply for ask, reply in zip(asks, replies) if not ask["queue"].startswith("book")]
     assert [reply["kind"] for reply in replies] == ["created"] * len(NAMES) + ["sent"] * 3 * len(NAMES)
     assert [reply["sequence"] for reply in replies[len(NAMES):]] == [1] * 12 + [2] * 12 + [3] * 12

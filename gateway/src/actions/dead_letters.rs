@@ -33,7 +33,7 @@ impl Actions {
             return Err(refusal(REDRIVE_POLICY, text, reason));
         }
         let source = QueueArn { account, name: name.clone() };
-        let allows = found.state().attributes.text(REDRIVE_ALLOW_POLICY).map(RedriveAllowPolicy::parse);
+        let allows = found.state().entry.attributes.text(REDRIVE_ALLOW_POLICY).map(RedriveAllowPolicy::parse);
         if allows.transpose()?.map_or(true, |policy| policy.allows(&source)) {
             return Ok(());
         }

@@ -57,7 +57,7 @@ impl Actions {
         message: &NewMessage,
         caller: &Caller,
     ) -> Result<Operation, SqsError> {
-        let limit = queue.state().attributes.maximum_message_size();
+        let limit = queue.state().entry.attributes.maximum_message_size();
         if message.size() > limit {
             return Err(SqsError::InvalidParameterValue(format!(
                 "One or more parameters are invalid. Reason: Message must be shorter than {limit} bytes."
@@ -68,7 +68,7 @@ impl Actions {
             Sending::Standard { group, delay } => {
                 let call = caller.call.map(|call| DedupId::of_call(&call, entry));
                 let metadata = Metadata { group: group.clone(), ..self.metadata(message, caller) };
-                let own_delay = queue.state().attributes.delay();
+                let own_delay = queue.state().entry.attributes.delay();
                 let delay = delay.map_or(own_delay, |seconds| 1000 * u64::from(seconds));
                 standard_send(metadata, call, delay, &message.body)
             }
@@ -84,7 +84,7 @@ impl Actions {
         caller: &Caller,
     ) -> Result<Operation, SqsError> {
         let (by_content, by_group) = {
-            let attributes = &queue.state().attributes;
+            let attributes = &queue.state().entry.attributes;
             (attributes.dedups_by_content(), attributes.dedups_by_group())
         };
         let dedup = match dedup {
@@ -231,7 +231,7 @@ fn delete_ask(queue: &Queue, handle: &str) -> Result<Ask, SqsError> {
 
 fn change_ask(queue: &Queue, change: &VisibilityChange) -> Result<Ask, SqsError> {
     let receipt = queue.receipt_of(&change.handle)?;
-    let visibility = change.visibility.unwrap_or_else(|| queue.state().attributes.visibility_timeout());
+    let visibility = change.visibility.unwrap_or_else(|| queue.state().entry.attributes.visibility_timeout());
     Ok(Ask::ChangeVisibility { receipt, visibility, by: Changer::Client })
 }
 

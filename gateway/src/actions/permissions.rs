@@ -29,7 +29,7 @@ impl Actions {
     ) -> Result<Performed, SqsError> {
         let _locked = self.lock_of(name).lock().await;
         let queue = self.queue(name)?;
-        let mut policy = Policy::of_queue(queue.state().attributes.policy())?;
+        let mut policy = Policy::of_queue(queue.state().entry.attributes.policy())?;
         change(&mut policy)?;
         let given = GivenAttributes::read(name.kind(), &[("Policy".into(), policy.text())])?;
         self.store.change(&queue, TableChange::Attributes(given)).await?;

@@ -4,12 +4,13 @@ use std::sync::Arc;
 
 use super::{Actions, Caller, Pauses, Performed, LONGEST_PAGE};
 use crate::attributes::{GivenAttributes, QueueAttributes, WantedAttributes, COUNTS};
+use crate::book;
 use crate::delays::bring_up_to_date;
 use crate::errors::SqsError;
 use crate::purges::purge;
-use crate::queues::ask::{Ask, Creation, Outcome, TableChange};
+use crate::queues::ask::{Outcome, TableChange};
+use crate::queues::book::QueueEntry;
 use crate::queues::Queue;
-use crate::rolling::remove_earlier;
 use crate::store::Answer;
 use crate::texts::QueueName;
 use crate::wire::requests::{test_count_of_tags, Tags};
@@ -29,7 +30,7 @@ impl Actions {
         let _locked = self.lock_of(&name).lock().await;
         let url = Response::QueueUrl(self.url(&name, caller));
         if let Some(queue) = self.store.queues().find(&name) {
-            queue.state().attributes.test_same(&given)?;
+            queue.state().entry.attributes.test_same(&given)?;
             return Ok(Performed::of_tables(url));
         }
         let attributes = QueueAttributes::for_creation(name.kind(), &given)?;
@@ -38,24 +39,23 @@ impl Actions {
         if self.pauses == Pauses::AsSqs {
             self.store.queues().test_pause(&name, now)?;
         }
-        let visibility = attributes.visibility_timeout();
-        let creation = Arc::new(Creation { name, mark: rand::random(), attributes, tags, before: None });
-        let store = self.store.queues().next_store_name();
-        let queue = Arc::new(Queue::new(store, &creation, now));
-        self.store.ask(&queue, Ask::Create { store, visibility, creation }).await?;
+        let store = self.store.next_store_name(&name);
+        let queue = Queue::new(&QueueEntry::new(store, name, rand::random(), attributes, tags, now));
+        self.store.create(Arc::new(queue)).await?;
         Ok(url.into())
     }
 
     pub(super) async fn remove(&self, name: &QueueName) -> Result<Performed, SqsError> {
         let _locked = self.lock_of(name).lock().await;
         let queue = self.queue(name)?;
-        let (held_delays, held) = self.store.hold_all(&queue).await?;
-        remove_earlier(&queue, &held).await?;
-        let store = queue.state().store;
-        held.ask(Ask::Remove { store, name: Some(name.clone()) }).await?;
-        if let Some(delays) = held_delays {
-            // It is gone with the queue. Where the store has it still, that is until the program is started again.
-            let _ = delays.ask(Ask::Remove { store: store.of_delays(), name: None }).await;
+        let (_held_delays, held) = self.store.hold_all(&queue).await?;
+        held.change(TableChange::Removed).await?;
+        // It is gone by what the book says. What the store doesn't let go now goes later.
+        let place = self.store.place_of(name);
+        for earlier in queue.store_names() {
+            if let Err(error) = book::remove_left_over(&self.store, place, earlier).await {
+                tracing::warn!("what the store has of {name} goes later: {error}");
+            }
         }
         Ok(Response::Nothing.into())
     }
@@ -100,10 +100,10 @@ impl Actions {
 
     fn attributes_of(&self, queue: &Queue) -> Vec<(String, String)> {
         let state = queue.state();
-        let own = state.attributes.iter().map(|(name, value)| (name.to_string(), value.to_string()));
+        let own = state.entry.attributes.iter().map(|(name, value)| (name.to_string(), value.to_string()));
         let mut attributes: Vec<_> = own.collect();
-        attributes.push(("CreatedTimestamp".into(), (state.created / 1000).to_string()));
-        attributes.push(("LastModifiedTimestamp".into(), (state.modified / 1000).to_string()));
+        attributes.push(("CreatedTimestamp".into(), (state.entry.created / 1000).to_string()));
+        attributes.push(("LastModifiedTimestamp".into(), (state.entry.modified / 1000).to_string()));
         attributes.push(("QueueArn".into(), self.owner.arn(queue.name.as_str())));
         attributes
     }
@@ -116,7 +116,7 @@ impl Actions {
     ) -> Result<Performed, SqsError> {
         let _locked = self.lock_of(name).lock().await;
         let queue = self.queue(name)?;
-        queue.state().attributes.test_change(&given)?;
+        queue.state().entry.attributes.test_change(&given)?;
         self.test_redrive(name, &given, caller)?;
         self.store.change(&queue, TableChange::Attributes(given.with_what_it_ends())).await?;
         Ok(Response::Nothing.into())
@@ -125,7 +125,7 @@ impl Actions {
     pub(super) async fn tag(&self, name: &QueueName, tags: Tags) -> Result<Performed, SqsError> {
         let _locked = self.lock_of(name).lock().await;
         let queue = self.queue(name)?;
-        let mut whole = queue.state().tags.clone();
+        let mut whole = queue.state().entry.tags.clone();
         whole.extend(tags.clone());
         test_count_of_tags(&whole)?;
         self.store.change(&queue, TableChange::Tag(tags)).await?;
@@ -139,7 +139,7 @@ impl Actions {
     }
 
     pub(super) fn list_tags(&self, name: &QueueName) -> Result<Performed, SqsError> {
-        let tags = self.queue(name)?.state().tags.clone();
+        let tags = self.queue(name)?.state().entry.tags.clone();
         Ok(Performed::of_tables(Response::Tags(tags.into_iter().collect())))
     }
 
@@ -150,7 +150,7 @@ impl Actions {
         let now = self.store.clock().now();
         let (purged, removed, last) = {
             let state = queue.state();
-            (state.purged, state.removed, state.last_sequence)
+            (state.entry.purged, state.removed, state.last_sequence)
         };
         if removed {
             return Err(SqsError::QueueDoesNotExist);

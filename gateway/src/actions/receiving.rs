@@ -31,7 +31,7 @@ impl Actions {
     ) -> Result<Performed, SqsError> {
         let queue = self.queue(name)?;
         let (own_visibility, own_wait) = {
-            let attributes = &queue.state().attributes;
+            let attributes = &queue.state().entry.attributes;
             (attributes.visibility_timeout(), attributes.wait_time())
         };
         let visibility = receive.visibility.unwrap_or(own_visibility);

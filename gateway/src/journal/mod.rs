@@ -31,7 +31,7 @@ pub use backup::back_up;
 pub use disk::Files;
 use disk::{open_file, Folder};
 use log::{Log, Sizes};
-pub use record::{digest_of_reply, Record};
+pub use record::{digest_of_reply, Creation, Record};
 pub use segments::JournalError;
 use segments::{frames, lines_in, scan_all, Scanned, Span};
 pub use version1::{convert, count as count_version1, dump as dump_version1};

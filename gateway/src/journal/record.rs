@@ -1,18 +1,57 @@
 //! The records of a journal: one for each request that changed something, a line of JSON each.
 
 use std::borrow::Cow;
-use std::sync::Arc;
+use std::collections::BTreeMap;
 
 use serde::{Deserialize, Serialize};
 use serde_json::value::RawValue;
 use sha2::{Digest, Sha256};
 
+use crate::attributes::QueueAttributes;
 use crate::clock::Moment;
 use crate::lines::{read_receipt, AskFields, AskKind};
 use crate::messages::{origin_in, Envelope};
+use crate::move_tasks::MoveTask;
 use crate::moves::Origin;
-use crate::queues::ask::{Ask, Cause, Changer, Creation, PartsAsk, PartsCause, Reach, StoreName, TableChange};
+use crate::queues::ask::{Ask, Cause, Changer, PartsAsk, PartsCause, Reach, StoreName, TableChange};
+use crate::queues::book::QueueEntry;
 use crate::texts::{hex, AttemptId, DedupId, GroupId, QueueName};
+
+/// What a journal up to version 7 has beside a creation.
+#[derive(Debug, Serialize, Deserialize)]
+pub struct Creation {
+    pub name: QueueName,
+    pub mark: u64,
+    pub attributes: QueueAttributes,
+    pub tags: BTreeMap<String, String>,
+    /// Of a queue that was there before under another name of the store.
+    #[serde(default, skip_serializing_if = "Option::is_none")]
+    pub before: Option<Before>,
+}
+
+/// What such a queue was before.
+#[derive(Debug, Serialize, Deserialize)]
+pub struct Before {
+    base: u64,
+    created: Moment,
+    modified: Moment,
+    purged: Option<Moment>,
+    #[serde(default)]
+    tasks: Vec<MoveTask>,
+}
+
+impl Creation {
+    /// What a book would say of the queue, and of its tasks.
+    pub fn into_entries(self, store: StoreName, clock: Moment) -> (QueueEntry, Vec<MoveTask>) {
+        let fresh = QueueEntry::new(store, self.name, self.mark, self.attributes, self.tags, clock);
+        match self.before {
+            None => (fresh, Vec::new()),
+            Some(Before { base, created, modified, purged, tasks }) => {
+                (QueueEntry { base, created, modified, purged, ..fresh }, tasks)
+            }
+        }
+    }
+}
 
 /// A record as it stands in the journal.
 #[derive(Debug, Serialize, Deserialize)]
@@ -24,10 +63,10 @@ pub struct Record<'a> {
     /// Of the store's reply, to compare it with the one that a replay gives.
     #[serde(borrow, default, skip_serializing_if = "Option::is_none")]
     pub digest: Option<Cow<'a, str>>,
-    /// Of a creation.
+    /// Of a creation, in journals up to version 7. Since then a book says what is said of queues.
     #[serde(default, skip_serializing_if = "Option::is_none")]
-    pub creation: Option<Arc<Creation>>,
-    /// Of a removal that a client asked for.
+    pub creation: Option<Box<Creation>>,
+    /// Of a removal that a client asked for, in such journals.
     #[serde(default, skip_serializing_if = "Option::is_none")]
     pub removed: Option<QueueName>,
     /// Of a send whose envelope the store can't take, in journals up to version 5.
@@ -48,7 +87,7 @@ pub struct Record<'a> {
     /// Of a change for which no client asked.
     #[serde(default, skip_serializing_if = "std::ops::Not::not")]
     pub by_attempt: bool,
-    /// Of a change of which the store knows nothing: the queue's name in the store, and what changed.
+    /// Of a change of which the store knows nothing, in such journals: the queue's name in the store, and what changed.
     #[serde(borrow, default, skip_serializing_if = "Option::is_none")]
     pub queue: Option<Cow<'a, str>>,
     #[serde(rename = "note", default, skip_serializing_if = "Option::is_none")]
@@ -84,10 +123,6 @@ impl<'a> Record<'a> {
         record.ask = Some(raw);
         record.digest = Some(digest_of_reply(reply).into());
         match ask {
-            // That of a queue beside another one follows from the name.
-            Ask::Create { store, .. } if store.main().is_some() => {}
-            Ask::Create { creation, .. } => record.creation = Some(creation.clone()),
-            Ask::Remove { name, .. } => record.removed = name.clone(),
             Ask::Send { envelope, .. } => {
                 if let Envelope::Split { whole, .. } = envelope {
                     record.envelope = Some(whole.into());
@@ -98,7 +133,7 @@ impl<'a> Record<'a> {
                 record.most = *most;
             }
             Ask::ChangeVisibility { by, .. } => record.by_attempt = *by == Changer::Attempt,
-            Ask::Delete { .. } | Ask::Parts { .. } => {}
+            Ask::Create { .. } | Ask::Remove { .. } | Ask::Say { .. } | Ask::Delete { .. } | Ask::Parts { .. } => {}
         }
         record
     }
@@ -154,8 +189,12 @@ impl<'a> Record<'a> {
         let store = StoreName::parse(&fields.queue)?;
         let receipt = || read_receipt(fields.receipt.as_deref()?, base);
         Some(match fields.kind {
-            AskKind::Create => Ask::Create { store, visibility: fields.visibility?, creation: self.creation.clone()? },
-            AskKind::Remove => Ask::Remove { store, name: self.removed.clone() },
+            AskKind::Create => Ask::Create { store, visibility: fields.visibility?, bytes: 0 },
+            AskKind::Remove => Ask::Remove { store },
+            AskKind::Send if store.book().is_some() => {
+                let text = fields.body?.into_owned();
+                Ask::Say { book: store.book()?, entry: serde_json::from_str(&text).ok()?, text }
+            }
             AskKind::Send => Ask::Send {
                 group: GroupId::parse(fields.group.as_deref()?).ok()?,
                 dedup: DedupId::parse(fields.dedup.as_deref()?).ok()?,
@@ -225,6 +264,8 @@ pub fn digest_of_reply(reply: &str) -> String {
 mod tests {
     use super::*;
     use crate::handles::Receipt;
+    use std::sync::Arc;
+
     use crate::queues::ask::Delayed;
 
     #[test]
@@ -250,7 +291,7 @@ mod tests {
                 reach: Reach::All,
             },
             Ask::ChangeVisibility { receipt, visibility: 5, by: Changer::Attempt },
-            Ask::Remove { store: StoreName(7), name: QueueName::parse("q.fifo") },
+            Ask::Remove { store: StoreName(7) },
         ] {
             let raw = serde_json::value::to_raw_value(&AskFields::of(StoreName(7), 10, &ask)).unwrap();
             let mut line = Vec::new();

@@ -25,7 +25,7 @@ pub enum JournalError {
     InUse(String),
     #[error("{0} is no journal: it doesn't begin as one")]
     NoJournal(String),
-    #[error("{0} is a journal of version {1}, and this gateway reads versions 1 to 7")]
+    #[error("{0} is a journal of version {1}, and this gateway reads versions 1 to 8")]
     NewerVersion(String, u32),
     #[error("segment {segment} of the journal is damaged at byte {place}, and there are good commits behind it")]
     Damaged { segment: u64, place: u64 },
@@ -60,14 +60,15 @@ impl From<io::Error> for JournalError {
 }
 
 /// A segment begins with these bytes, which name the version.
-pub const MAGIC: &[u8] = b"hobbychair journal 7\n";
+pub const MAGIC: &[u8] = b"hobbychair journal 8\n";
 
-/// The version that a gateway writes. The others have the same frames. Up to version 6 a delayed message of a standard
+/// The version that a gateway writes. The others have the same frames. Up to version 7 what is said of queues stands in
+/// records beside the asks; since then a book says it. Up to version 6 a delayed message of a standard
 /// queue is a record of its own. Up to version 5 there are receives that count as no
 /// handings, and a purge has no record before its end. Up to version 4 a record says of which message a send is a copy, and
 /// which one is due; since then envelopes do. In version 3 the envelope of each message has its id, and a gateway of that
 /// version can't do without. In version 2 there are no records of standard queues.
-const VERSION: u32 = 7;
+const VERSION: u32 = 8;
 const OLDEST: u32 = 2;
 
 fn oldest() -> u32 {
@@ -372,10 +373,10 @@ mod tests {
     use std::sync::Arc;
 
     use super::*;
-    use crate::attributes::{GivenAttributes, QueueAttributes};
     use crate::lines::AskFields;
-    use crate::queues::ask::{Ask, Creation, TableChange};
-    use crate::texts::{QueueKind, QueueName};
+    use crate::queues::ask::{Ask, TableChange};
+    use crate::queues::book::{Entry, QueueEntry};
+    use crate::texts::QueueName;
 
     fn append(payload: &mut Vec<u8>, ask: &Ask) {
         let raw = serde_json::value::to_raw_value(&AskFields::of(StoreName(8), 0, ask)).unwrap();
@@ -387,13 +388,12 @@ mod tests {
         let tags = BTreeMap::from([("kind".to_string(), "remove".to_string())]);
         let mut payload = Vec::new();
         Record::of_change(1, StoreName(7), &TableChange::Tag(tags.clone())).append(&mut payload).unwrap();
-        let given = GivenAttributes::read(QueueKind::Standard, &[]).unwrap();
-        let attributes = QueueAttributes::for_creation(QueueKind::Standard, &given).unwrap();
-        let name = QueueName::parse("q").unwrap();
-        let creation = Arc::new(Creation { name: name.clone(), mark: 1, attributes, tags, before: None });
-        append(&mut payload, &Ask::Create { store: StoreName(8), visibility: 30, creation });
+        let entry = QueueEntry::plain(StoreName(8), QueueName::parse("q").unwrap(), 1);
+        let entry = Arc::new(Entry::Queue(QueueEntry { tags, ..entry }));
+        let text = serde_json::to_string(entry.as_ref()).unwrap();
+        append(&mut payload, &Ask::Say { book: 1, entry, text });
         assert_eq!(removed_by(&payload), Some(Vec::new()));
-        append(&mut payload, &Ask::Remove { store: StoreName(9), name: Some(name) });
+        append(&mut payload, &Ask::Remove { store: StoreName(9) });
         assert_eq!(removed_by(&payload), Some(vec![StoreName(9)]));
         payload.extend_from_slice(b"{\"kind\":\"remove\"\n");
         assert_eq!(removed_by(&payload), None, "this can't be read");

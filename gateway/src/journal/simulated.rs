@@ -593,7 +593,7 @@ fn a_full_disk_gets_no_record_into_a_segment_that_older_gateways_read() {
         drop(log);
         let (_, scanned) = Log::open(Arc::new(disk.clone()), SIZES, Shards::ONE).unwrap();
         assert_eq!(Model::read(&disk, &scanned).texts, BTreeSet::from([(1, 1), (1, 2)]));
-        assert_eq!(scanned.spans.iter().map(|span| span.head.version).collect::<Vec<_>>(), [2, 7]);
+        assert_eq!(scanned.spans.iter().map(|span| span.head.version).collect::<Vec<_>>(), [2, 8]);
     }
 }
 

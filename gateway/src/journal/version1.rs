@@ -7,7 +7,6 @@ use std::borrow::Cow;
 use std::collections::{BTreeMap, HashMap};
 use std::io::{self, Write};
 use std::path::Path;
-use std::sync::Arc;
 
 use serde::{Deserialize, Serialize};
 use serde_json::value::RawValue;
@@ -17,13 +16,13 @@ use uuid::Uuid;
 
 use super::disk::{open_file, read_file, Files, Folder, Segment};
 use super::frame::{self, MARK};
-use super::record::Record;
+use super::record::{Creation, Record};
 use super::segments::{JournalError, SegmentHead};
 use crate::attributes::{GivenAttributes, QueueAttributes};
 use crate::cq::{Cq, CqError};
 use crate::lines::{self, read_receipt, AskFields, AskKind, OutputLine, StoreReply};
 use crate::messages::{read_envelope, AttributeValue, Envelope, MessageAttributes, Metadata};
-use crate::queues::ask::{Ask, Cause, Changer, Creation, Reach, StoreName, TableChange};
+use crate::queues::ask::{Ask, Cause, Changer, Reach, StoreName, TableChange};
 use crate::queues::shards::Shards;
 use crate::store::ReplayError;
 use crate::texts::{hex, AttemptId, Body, DedupId, GroupId, QueueName};
@@ -203,7 +202,15 @@ struct Converted {
 }
 
 enum ConvertedKind {
-    Ask { ask: Ask, raw: Box<RawValue>, number: u64, digest: String, incarnation: u64 },
+    Ask {
+        ask: Ask,
+        raw: Box<RawValue>,
+        number: u64,
+        digest: String,
+        incarnation: u64,
+        creation: Option<Box<Creation>>,
+        removed: Option<QueueName>,
+    },
     Change(TableChange),
 }
 
@@ -236,30 +243,32 @@ impl Conversion {
         let fields: AskFields<'_> = serde_json::from_str(old.ask?.get()).ok()?;
         let kept = old.kept.map_or("{}", RawValue::get);
         let name = QueueName::parse(&fields.queue)?;
-        let ask = self.translate(&fields, &name, kept, clock)?;
+        let (ask, creation) = match fields.kind {
+            AskKind::Create => self.translate_creation(&fields, &name, kept)?,
+            _ => (self.translate(&fields, &name, kept, clock)?, None),
+        };
         let queue = self.queues.get(&name)?;
         let (store, incarnation) = (queue.store, queue.incarnation);
-        if fields.kind == AskKind::Remove {
+        let is_removal = fields.kind == AskKind::Remove;
+        if is_removal {
             self.queues.remove(&name);
         }
         let raw = serde_json::value::to_raw_value(&AskFields::of(store, 0, &ask)).ok()?;
         self.number += 1;
         let digest = old.digest?.into_owned();
-        let kind = ConvertedKind::Ask { ask, raw, number: self.number, digest, incarnation };
+        let removed = is_removal.then_some(name);
+        let kind = ConvertedKind::Ask { ask, raw, number: self.number, digest, incarnation, creation, removed };
         self.converted.push(Converted { clock, store, kind });
         Some(())
     }
 
     fn translate(&mut self, fields: &AskFields<'_>, name: &QueueName, kept: &str, clock: u64) -> Option<Ask> {
-        if fields.kind == AskKind::Create {
-            return self.translate_creation(fields, name, kept);
-        }
         let beside: OldBeside = serde_json::from_str(kept).ok()?;
         let queue = self.queues.get_mut(name)?;
         let receipt = || read_receipt(fields.receipt.as_deref()?, 0);
         Some(match fields.kind {
             AskKind::Create => return None,
-            AskKind::Remove => Ask::Remove { store: queue.store, name: Some(name.clone()) },
+            AskKind::Remove => Ask::Remove { store: queue.store },
             AskKind::Send => {
                 queue.sends += 1;
                 let message: OldMessage = serde_json::from_str(kept).ok()?;
@@ -303,7 +312,12 @@ impl Conversion {
         })
     }
 
-    fn translate_creation(&mut self, fields: &AskFields<'_>, name: &QueueName, kept: &str) -> Option<Ask> {
+    fn translate_creation(
+        &mut self,
+        fields: &AskFields<'_>,
+        name: &QueueName,
+        kept: &str,
+    ) -> Option<(Ask, Option<Box<Creation>>)> {
         let old: OldCreation = serde_json::from_str(kept).ok()?;
         self.last_store += 1;
         let store = StoreName(self.last_store);
@@ -314,7 +328,8 @@ impl Conversion {
         self.queues.insert(name.clone(), queue);
         let (attributes, tags) = (old.attributes, old.tags);
         let creation = Creation { name: name.clone(), mark, attributes, tags, before: None };
-        Some(Ask::Create { store, visibility: fields.visibility.unwrap_or(30), creation: Arc::new(creation) })
+        let visibility = fields.visibility.unwrap_or(30);
+        Some((Ask::Create { store, visibility, bytes: 0 }, Some(Box::new(creation))))
     }
 
     fn take_change(&mut self, change: OldChange) -> Option<()> {
@@ -347,21 +362,22 @@ impl Conversion {
         written.and(Ok(())).map_err(|error| CqError::Gone(error.to_string()))?;
         let mut answers = read.map_err(|error| CqError::Gone(error.to_string()))?.into_iter();
         for one in converted {
-            match &one.kind {
+            match one.kind {
                 ConvertedKind::Change(change) => {
-                    self.append_record(&Record::of_change(one.clock, one.store, change))?
+                    self.append_record(&Record::of_change(one.clock, one.store, &change))?
                 }
-                ConvertedKind::Ask { ask, raw, number, digest, incarnation } => {
+                ConvertedKind::Ask { ask, raw, number, digest, incarnation, creation, removed } => {
                     let line = answers.next().unwrap_or_default();
                     let OutputLine::Answer { reply, text, .. } = lines::read_output(line.trim_end().as_bytes())? else {
-                        return Err(ReplayError::OtherReply(*number));
+                        return Err(ReplayError::OtherReply(number));
                     };
-                    let old = old_reply(&reply, *incarnation, &self.split).ok_or(ReplayError::OtherReply(*number))?;
-                    if old_digest(&old) != *digest {
-                        return Err(ReplayError::OtherReply(*number));
+                    let old = old_reply(&reply, incarnation, &self.split).ok_or(ReplayError::OtherReply(number))?;
+                    if old_digest(&old) != digest {
+                        return Err(ReplayError::OtherReply(number));
                     }
                     drop(old);
-                    self.append_record(&Record::of_ask(one.clock, ask, raw, text))?;
+                    let record = Record::of_ask(one.clock, &ask, &raw, text);
+                    self.append_record(&Record { creation, removed, ..record })?;
                 }
             }
         }

@@ -6,18 +6,20 @@ use std::sync::Arc;
 use serde::{Deserialize, Serialize};
 use uuid::Uuid;
 
-use crate::attributes::{GivenAttributes, QueueAttributes};
+use super::book::Entry;
+use crate::attributes::GivenAttributes;
 use crate::clock::Moment;
 use crate::handles::Receipt;
 use crate::messages::Envelope;
 use crate::move_tasks::MoveTask;
 use crate::moves::Origin;
-use crate::texts::{AttemptId, DedupId, GroupId, QueueName};
+use crate::texts::{AttemptId, DedupId, GroupId};
 
 /// The name under which a queue stands in the store: a number, and another one each time. Queues that have the parts of
-/// large messages have numbers of their own, and one that has what is delayed has that of the queue beside which it
-/// stands.
-#[derive(Clone, Copy, Debug, PartialEq, Eq, Hash, PartialOrd, Ord)]
+/// large messages have numbers of their own, and so have books. One that has what is delayed has that of the queue beside
+/// which it stands.
+#[derive(Clone, Copy, Debug, PartialEq, Eq, Hash, PartialOrd, Ord, Serialize, Deserialize)]
+#[serde(try_from = "String", into = "String")]
 pub struct StoreName(pub u64);
 
 /// Of the numbers of names that are for parts.
@@ -25,6 +27,9 @@ const PARTS: u64 = 1 << 63;
 
 /// Of those that are for what is delayed.
 const DELAYS: u64 = 1 << 62;
+
+/// Of those of books.
+const BOOKS: u64 = 1 << 61;
 
 impl StoreName {
     /// The name of a queue that has the parts of one message, by its number.
@@ -42,6 +47,16 @@ impl StoreName {
         StoreName(DELAYS | self.0)
     }
 
+    /// The name of the book of this number.
+    pub fn of_book(number: u64) -> StoreName {
+        StoreName(BOOKS | number)
+    }
+
+    /// Its number, if it is that of a book.
+    pub fn book(self) -> Option<u64> {
+        (self.0 & (PARTS | DELAYS | BOOKS) == BOOKS).then_some(self.0 & !BOOKS)
+    }
+
     /// The name of the queue of which it has what is delayed, if it has that of one.
     pub fn main(self) -> Option<StoreName> {
         (self.0 & (PARTS | DELAYS) == DELAYS).then_some(StoreName(self.0 & !DELAYS))
@@ -54,36 +69,60 @@ impl StoreName {
 
     /// The name as the store's rules want it.
     pub fn text(self) -> String {
-        match (self.parts(), self.main()) {
-            (Some(number), _) => format!("b{number}.fifo"),
-            (None, Some(main)) => format!("{}d.fifo", main.0),
-            (None, None) => format!("{}.fifo", self.0),
+        match (self.parts(), self.main(), self.book()) {
+            (Some(number), ..) => format!("b{number}.fifo"),
+            (_, Some(main), _) => format!("{}d.fifo", main.0),
+            (.., Some(number)) => format!("book{number}.fifo"),
+            (None, None, None) => format!("{}.fifo", self.0),
         }
     }
 
     pub fn parse(text: &str) -> Option<StoreName> {
         let number = text.strip_suffix(".fifo")?;
-        let name = match (number.strip_prefix('b'), number.strip_suffix('d')) {
-            (Some(number), _) => StoreName::of_parts(number.parse().ok()?),
-            (None, Some(number)) => StoreName(number.parse().ok()?).of_delays(),
-            (None, None) => StoreName(number.parse().ok()?),
+        let name = if let Some(number) = number.strip_prefix("book") {
+            StoreName::of_book(number.parse().ok()?)
+        } else if let Some(number) = number.strip_prefix('b') {
+            StoreName::of_parts(number.parse().ok()?)
+        } else if let Some(number) = number.strip_suffix('d') {
+            StoreName(number.parse().ok()?).of_delays()
+        } else {
+            StoreName(number.parse().ok()?)
         };
         Some(name).filter(|name| name.text() == text)
+    }
+}
+
+impl TryFrom<String> for StoreName {
+    type Error = &'static str;
+
+    fn try_from(text: String) -> Result<StoreName, &'static str> {
+        StoreName::parse(&text).ok_or("no name of the store")
+    }
+}
+
+impl From<StoreName> for String {
+    fn from(name: StoreName) -> String {
+        name.text()
     }
 }
 
 /// One thing to ask of a queue.
 #[derive(Clone, Debug)]
 pub enum Ask {
+    /// `bytes` is what it adds to memory, of a queue that a client creates.
     Create {
         store: StoreName,
         visibility: u32,
-        creation: Arc<Creation>,
+        bytes: u64,
     },
-    /// `name` is the name that goes with it; none where the queue goes on under another name of the store.
     Remove {
         store: StoreName,
-        name: Option<QueueName>,
+    },
+    /// Has an entry stand in the book of this number. `text` is what stands there.
+    Say {
+        book: u64,
+        entry: Arc<Entry>,
+        text: String,
     },
     Send {
         group: GroupId,
@@ -220,42 +259,13 @@ pub struct Delayed {
     pub envelope: String,
 }
 
-/// What the gateway keeps of a queue that is created.
-#[derive(Clone, Debug, PartialEq, Eq, Serialize, Deserialize)]
-pub struct Creation {
-    pub name: QueueName,
-    pub mark: u64,
-    pub attributes: QueueAttributes,
-    pub tags: BTreeMap<String, String>,
-    /// Of a queue that was there before under another name of the store.
-    #[serde(default, skip_serializing_if = "Option::is_none")]
-    pub before: Option<Before>,
-}
-
-impl Creation {
-    /// That of a queue of which nothing is said.
-    pub fn plain(name: QueueName, mark: u64) -> Creation {
-        let attributes = QueueAttributes::defaults(name.kind());
-        Creation { name, mark, attributes, tags: BTreeMap::new(), before: None }
-    }
-}
-
-/// What a queue was before it went over to another name of the store.
-#[derive(Clone, Debug, PartialEq, Eq, Serialize, Deserialize)]
-pub struct Before {
-    /// How many messages it had been sent. The store counts from 1 again.
-    pub base: u64,
-    pub created: Moment,
-    pub modified: Moment,
-    pub purged: Option<Moment>,
-    #[serde(default, skip_serializing_if = "Vec::is_empty")]
-    pub tasks: Vec<MoveTask>,
-}
-
-/// A change of what the gateway keeps of a queue, of which the store knows nothing.
+/// A change of what is said of a queue. Records of journals up to version 7 have those with names.
 #[derive(Clone, Debug, PartialEq, Eq, Serialize, Deserialize)]
 #[serde(rename_all = "lowercase")]
 pub enum TableChange {
+    /// The store has its name, and from now on it is there.
+    #[serde(skip)]
+    Created,
     Attributes(GivenAttributes),
     Tag(BTreeMap<String, String>),
     Untag(Vec<String>),
@@ -265,7 +275,15 @@ pub enum TableChange {
     Purged,
     /// How a task stands that moves messages.
     Task(MoveTask),
-    /// A message was sent with a delay, in journals up to version 6.
+    /// It goes by another name in the store from now on. It is empty.
+    #[serde(skip)]
+    GoneOver(StoreName),
+    #[serde(skip)]
+    Removed,
+    /// Nothing is new, and it is said once more.
+    #[serde(skip)]
+    Nothing,
+    /// A message was sent with a delay, in journals up to version 6. No book says it.
     Delayed(Arc<Delayed>),
 }
 

@@ -1,6 +1,7 @@
 //! The tables: what the gateway keeps of each queue that lives. They follow the answers of the store.
 
 pub mod ask;
+pub mod book;
 mod groups;
 mod parts;
 pub mod shards;
@@ -24,9 +25,11 @@ use crate::moves::Copies;
 use crate::polling::Polls;
 use crate::retention::Jumps;
 use crate::texts::{QueueKind, QueueName};
-use ask::{Ask, Cause, Creation, Outcome, StoreName, TableChange};
+use ask::{Ask, Cause, Outcome, StoreName, TableChange};
+use book::{Books, Entry, LeftOver, QueueEntry, Removal};
 pub use parts::Parts;
-pub use state::{bytes_of_queue, Chunk, Cursor, Peeked, State, Visibility, WINDOW};
+use shards::Shards;
+pub use state::{bytes_of_queue, Chunk, Cursor, Peeked, Said, State, Visibility, WINDOW};
 
 /// So long a name isn't free after its queue was removed, in milliseconds
 /// (API Reference, CreateQueue, `QueueDeletedRecently`).
@@ -47,12 +50,12 @@ pub struct Queue {
 }
 
 impl Queue {
-    /// A queue that is to be created under this name of the store.
-    pub fn new(store: StoreName, creation: &Creation, now: Moment) -> Queue {
+    /// A queue of which the book is to say this.
+    pub fn new(entry: &QueueEntry) -> Queue {
         Queue {
-            name: creation.name.clone(),
-            mark: Mark(creation.mark),
-            state: Mutex::new(State::new(store, creation, now)),
+            name: entry.name.clone(),
+            mark: Mark(entry.mark),
+            state: Mutex::new(State::new(entry)),
             opened: Notify::new(),
             polls: Polls::default(),
             delays: Mutex::new(None),
@@ -66,9 +69,9 @@ impl Queue {
     pub fn beside(main: &Arc<Queue>, store: StoreName) -> (Queue, Ask) {
         let store = store.of_delays();
         let (mark, _) = message_id(main.mark, store.0).as_u64_pair();
-        let creation = Creation::plain(main.name.clone(), mark);
-        let queue = Queue { main: Some(Arc::downgrade(main)), ..Queue::new(store, &creation, 0) };
-        (queue, Ask::Create { store, visibility: 0, creation: Arc::new(creation) })
+        let entry = QueueEntry::plain(store, main.name.clone(), mark);
+        let queue = Queue { main: Some(Arc::downgrade(main)), ..Queue::new(&entry) };
+        (queue, Ask::Create { store, visibility: 0, bytes: 0 })
     }
 
     fn delays_slot(&self) -> MutexGuard<'_, Option<Arc<Queue>>> {
@@ -85,10 +88,16 @@ impl Queue {
         self.main.as_ref()?.upgrade()
     }
 
-    /// Whether it has what is delayed of a queue that goes without it.
-    pub fn is_left_over(&self) -> bool {
-        let is_of = |main: Arc<Queue>| main.delays().is_some_and(|delays| delays.mark == self.mark);
-        self.main.is_some() && (self.state().removed || !self.main().is_some_and(is_of))
+    /// The names by which it stands in the store: its own, and that of the queue beside it.
+    pub fn store_names(&self) -> Vec<StoreName> {
+        let of_delays = self.delays().map(|delays| delays.state().entry.store);
+        [self.state().entry.store].into_iter().chain(of_delays).collect()
+    }
+
+    /// What the book has to say once something has changed, at this moment; none where nothing changes.
+    pub fn entry_after(&self, change: &TableChange, moment: Moment) -> Option<Entry> {
+        let delayed_up_to = self.delays().map_or(0, |delays| delays.state().last_sequence);
+        self.state().entry_after(change, delayed_up_to, moment)
     }
 
     /// How many messages are visible, in flight and delayed, by the counts of the store.
@@ -126,9 +135,12 @@ impl Queue {
 #[derive(Default)]
 pub struct Queues {
     by_name: RwLock<BTreeMap<QueueName, Arc<Queue>>>,
-    /// When the queue of a name was removed, of names whose pause may not be over.
-    removed: Mutex<HashMap<QueueName, Moment>>,
+    /// The removals of names whose pause may not be over.
+    removed: Mutex<HashMap<QueueName, Removal>>,
     last_store_name: AtomicU64,
+    last_book: AtomicU64,
+    books: Books,
+    left_over: LeftOver,
     /// What all queues take of memory, in bytes.
     bytes_in_use: AtomicU64,
     jumps: Jumps,
@@ -137,8 +149,9 @@ pub struct Queues {
     alarms: Alarms,
     /// Operators look at messages, so these are kept here as well.
     keeps_copies: bool,
-    /// Stands for all queues that have parts. It isn't among those that have names.
-    of_parts: OnceLock<Arc<Queue>>,
+    /// Stands for all queues that have parts, for books, and for those that aren't there. It isn't among those that have
+    /// names.
+    nameless: OnceLock<Arc<Queue>>,
 }
 
 impl Queues {
@@ -147,13 +160,22 @@ impl Queues {
         Queues { keeps_copies, ..Queues::default() }
     }
 
-    /// The queue of which parts are asked.
-    pub fn of_parts(&self) -> Option<Arc<Queue>> {
-        if let Some(queue) = self.of_parts.get() {
+    /// The queue of which is asked what concerns none that has a name.
+    pub fn nameless(&self) -> Option<Arc<Queue>> {
+        if let Some(queue) = self.nameless.get() {
             return Some(queue.clone());
         }
-        let creation = Creation::plain(QueueName::parse("parts.fifo")?, 0);
-        Some(self.of_parts.get_or_init(|| Arc::new(Queue::new(StoreName(0), &creation, 0))).clone())
+        let entry = QueueEntry::plain(StoreName(0), QueueName::parse("nameless.fifo")?, 0);
+        Some(self.nameless.get_or_init(|| Arc::new(Queue::new(&entry))).clone())
+    }
+
+    pub fn books(&self) -> &Books {
+        &self.books
+    }
+
+    /// Names that go from the store.
+    pub fn left_over(&self) -> &LeftOver {
+        &self.left_over
     }
 
     pub fn find(&self, name: &QueueName) -> Option<Arc<Queue>> {
@@ -221,36 +243,122 @@ impl Queues {
     pub fn test_pause(&self, name: &QueueName, now: Moment) -> Result<(), SqsError> {
         let removed = self.removed.lock().unwrap_or_else(PoisonError::into_inner);
         match removed.get(name) {
-            Some(moment) if now < moment + REMOVAL_PAUSE => Err(SqsError::QueueDeletedRecently),
+            Some(removal) if now < removal.at + REMOVAL_PAUSE => Err(SqsError::QueueDeletedRecently),
             _ => Ok(()),
         }
     }
 
-    /// A name of the store that no queue has had.
-    pub fn next_store_name(&self) -> StoreName {
-        StoreName(1 + self.last_store_name.fetch_add(1, Ordering::Relaxed))
+    /// The removals whose pause isn't over.
+    pub fn removals(&self, now: Moment) -> Vec<Removal> {
+        let removed = self.removed.lock().unwrap_or_else(PoisonError::into_inner);
+        removed.values().filter(|removal| now < removal.at + REMOVAL_PAUSE).cloned().collect()
+    }
+
+    /// A name of the store that no queue has had, for the program at this place.
+    pub fn next_store_name(&self, shards: Shards, place: usize) -> StoreName {
+        StoreName(next_number(&self.last_store_name, shards, place))
+    }
+
+    /// The same for a book.
+    pub fn next_book(&self, shards: Shards, place: usize) -> u64 {
+        next_number(&self.last_book, shards, place)
     }
 
     /// From now on this name of the store counts as used.
     pub fn saw_store_name(&self, name: StoreName) {
         let name = name.main().unwrap_or(name);
-        match name.parts() {
-            Some(number) => self.parts.saw_number(number),
-            None => drop(self.last_store_name.fetch_max(name.0, Ordering::Relaxed)),
+        match (name.parts(), name.book()) {
+            (Some(number), _) => self.parts.saw_number(number),
+            (None, Some(number)) => drop(self.last_book.fetch_max(number, Ordering::Relaxed)),
+            (None, None) => drop(self.last_store_name.fetch_max(name.0, Ordering::Relaxed)),
         }
     }
 
-    /// Applies the store's reply to an ask of this queue. The second value says whether the journal has to know.
+    /// Applies the reply of the program at this place to an ask of this queue. The second value says whether the journal
+    /// has to know.
     pub fn apply_reply(
+        &self,
+        place: usize,
+        queue: &Arc<Queue>,
+        ask: &Ask,
+        reply: StoreReply,
+        moment: Moment,
+    ) -> Result<(Outcome, bool), SqsError> {
+        match (ask, reply) {
+            (Ask::Parts { number, ask }, reply) => self.parts.apply_reply(*number, ask, reply),
+            (_, StoreReply::Refused(code)) if !matches!(ask, Ask::ChangeVisibility { .. }) => {
+                Err(SqsError::of_refusal(code))
+            }
+            (Ask::Create { store, .. }, StoreReply::Created) => {
+                self.created(place, queue, *store);
+                Ok((Outcome::Done, true))
+            }
+            (Ask::Remove { store }, StoreReply::Removed) => {
+                if let Some(number) = store.book() {
+                    let bytes = self.books.remove(place, number);
+                    self.bytes_in_use.fetch_sub(bytes, Ordering::Relaxed);
+                }
+                Ok((Outcome::Done, true))
+            }
+            (Ask::Say { book, entry, text }, StoreReply::Sent(_)) => {
+                let bytes = self.books.count(place, *book, text.len() as u64);
+                self.bytes_in_use.fetch_add(bytes, Ordering::Relaxed);
+                self.said(place, queue, entry, *book);
+                Ok((Outcome::Done, true))
+            }
+            (_, reply) => self.apply_to_messages(queue, ask, reply, moment),
+        }
+    }
+
+    /// The store has this name. Of a queue the book says so later.
+    fn created(&self, place: usize, queue: &Arc<Queue>, store: StoreName) {
+        if let Some(number) = store.book() {
+            self.books.add(place, number);
+        }
+        if let Some(main) = queue.main() {
+            *main.delays_slot() = Some(queue.clone());
+            self.bytes_in_use.fetch_add(queue.state().bytes_of_all(), Ordering::Relaxed);
+        }
+    }
+
+    /// The book of this number, of the program at this place, has this entry, about this queue.
+    pub fn said(&self, place: usize, queue: &Arc<Queue>, entry: &Entry, book: u64) {
+        match entry {
+            Entry::Queue(entry) => self.said_of_queue(place, queue, entry, book),
+            Entry::Removed(removal) => self.remove(place, queue, removal),
+            Entry::Task(_, task) => queue.state().said_of_task(task, book),
+        }
+    }
+
+    fn said_of_queue(&self, place: usize, queue: &Arc<Queue>, entry: &QueueEntry, book: u64) {
+        let earlier = queue.store_names();
+        let is_new = !self.find(&queue.name).is_some_and(|found| Arc::ptr_eq(&found, queue));
+        let said = if is_new {
+            let said = queue.state().said(entry, book);
+            self.insert(queue);
+            said
+        } else {
+            self.counted(queue, |state| state.said(entry, book))
+        };
+        if said.has_gone_over {
+            self.let_delays_go(queue);
+            self.left_over.add(place, earlier);
+        }
+        if let (Some(purging), Some(delays)) = (said.purging, queue.delays()) {
+            delays.state().purge_with(purging);
+        }
+        if said.has_opened {
+            queue.opened.notify_one();
+        }
+    }
+
+    fn apply_to_messages(
         &self,
         queue: &Arc<Queue>,
         ask: &Ask,
         reply: StoreReply,
         moment: Moment,
     ) -> Result<(Outcome, bool), SqsError> {
-        if let Ask::Parts { number, ask } = ask {
-            return self.parts.apply_reply(*number, ask, reply);
-        }
         let applied = self.counted(queue, |state| {
             let applied = state.apply_reply(ask, reply, moment, &self.jumps)?;
             if self.keeps_copies {
@@ -258,16 +366,11 @@ impl Queues {
             }
             Ok(applied)
         })?;
-        match ask {
-            Ask::Create { .. } => self.insert(queue),
-            Ask::Remove { name: Some(name), .. } => self.remove(queue, name, moment),
-            Ask::Send { cause: Cause::Move(origin), .. } => {
-                self.copies.mark_copied(*origin);
-                if let Some(delays) = queue.delays().filter(|delays| delays.mark.0 == origin.mark) {
-                    delays.state().has_copy(origin.sequence);
-                }
+        if let Ask::Send { cause: Cause::Move(origin), .. } = ask {
+            self.copies.mark_copied(*origin);
+            if let Some(delays) = queue.delays().filter(|delays| delays.mark.0 == origin.mark) {
+                delays.state().has_copy(origin.sequence);
             }
-            _ => {}
         }
         match (ask, applied.parts) {
             (Ask::Send { .. }, Some(number)) => self.parts.name(number),
@@ -303,16 +406,12 @@ impl Queues {
         Outcome::Sent { sequence: *sequence, id: Some(told) }
     }
 
-    /// Applies a change of which the store knows nothing. The second value says whether the journal has to know.
-    pub fn apply_change(&self, queue: &Arc<Queue>, change: &TableChange, moment: Moment) -> (Outcome, bool) {
-        let applied = self.counted(queue, |state| state.apply_change(change, moment));
-        if let (TableChange::Purging(_) | TableChange::Purged, Some(delays)) = (change, queue.delays()) {
-            delays.state().purge_with(matches!(change, TableChange::Purging(_)));
+    /// Applies a record of a journal up to version 7, of which the store knows nothing.
+    pub fn apply_older(&self, place: usize, queue: &Arc<Queue>, change: &TableChange, moment: Moment) {
+        match queue.entry_after(change, moment) {
+            Some(entry) => self.said(place, queue, &entry, 0),
+            None => self.counted(queue, |state| state.add_older(change, moment)),
         }
-        if applied.opened {
-            queue.opened.notify_one();
-        }
-        (applied.outcome, applied.changed)
     }
 
     /// Does something to a queue, and counts what it takes of memory from then on.
@@ -343,26 +442,20 @@ impl Queues {
     }
 
     fn insert(&self, queue: &Arc<Queue>) {
-        if let Some(main) = queue.main() {
-            *main.delays_slot() = Some(queue.clone());
-            self.bytes_in_use.fetch_add(queue.state().bytes_of_all(), Ordering::Relaxed);
-            return;
-        }
-        self.let_delays_go(queue);
         let mut queues = self.by_name.write().unwrap_or_else(PoisonError::into_inner);
-        let earlier = queues.insert(queue.name.clone(), queue.clone());
-        // One that goes over to another name in the store is counted already.
-        if !earlier.is_some_and(|earlier| Arc::ptr_eq(&earlier, queue)) {
-            self.bytes_in_use.fetch_add(queue.state().bytes_of_all(), Ordering::Relaxed);
-        }
+        queues.insert(queue.name.clone(), queue.clone());
+        // In a replay it may have messages, which are counted by now.
+        self.bytes_in_use.fetch_add(queue.state().own_bytes(), Ordering::Relaxed);
     }
 
-    fn remove(&self, queue: &Arc<Queue>, name: &QueueName, moment: Moment) {
-        self.take_out(queue);
-        let mut queues = self.by_name.write().unwrap_or_else(PoisonError::into_inner);
-        queues.remove(name);
-        drop(queues);
-        self.remember_removal(name, moment);
+    fn remove(&self, place: usize, queue: &Arc<Queue>, removal: &Removal) {
+        let is_nameless = self.nameless.get().is_some_and(|nameless| Arc::ptr_eq(nameless, queue));
+        if !is_nameless && queue.mark.0 == removal.mark {
+            self.left_over.add(place, queue.store_names());
+            self.forget(queue);
+            queue.opened.notify_one();
+        }
+        self.remember_removal(removal);
     }
 
     /// This queue isn't there, whatever has the name by now.
@@ -382,23 +475,23 @@ impl Queues {
         }
     }
 
-    /// A queue that goes over to another name in the store leaves the one beside it behind: nothing is in that one, and
-    /// it goes with the earlier name.
+    /// A queue that goes over to another name in the store leaves the one beside it behind: nothing is in that one.
     fn let_delays_go(&self, queue: &Queue) {
-        let own = queue.state().store.of_delays();
-        let Some(delays) = queue.delays() else { return };
-        let store = delays.state().store;
-        if store != own {
-            *queue.delays_slot() = None;
+        if let Some(delays) = queue.delays_slot().take() {
             self.counted(&delays, State::take_out);
-            queue.state().earlier.push(store);
         }
     }
 
-    /// A queue of this name was removed at this moment.
-    pub fn remember_removal(&self, name: &QueueName, moment: Moment) {
+    /// A queue was removed.
+    pub fn remember_removal(&self, removal: &Removal) {
         let mut removed = self.removed.lock().unwrap_or_else(PoisonError::into_inner);
-        removed.retain(|_, earlier| moment < *earlier + REMOVAL_PAUSE);
-        removed.insert(name.clone(), moment);
+        removed.retain(|_, earlier| removal.at < earlier.at + REMOVAL_PAUSE);
+        removed.insert(removal.name.clone(), removal.clone());
     }
+}
+
+fn next_number(last: &AtomicU64, shards: Shards, place: usize) -> u64 {
+    let above = |number: u64| Some(shards.number_above(number, place));
+    let before = last.fetch_update(Ordering::Relaxed, Ordering::Relaxed, above);
+    shards.number_above(before.unwrap_or_else(|last| last), place)
 }

@@ -49,8 +49,8 @@ impl Parts {
 
     /// A number that no parts have had, for the program at this place.
     pub fn next_number(&self, shards: Shards, place: usize) -> u64 {
-        let (mut entries, count) = (self.entries(), u64::from(shards.count()));
-        entries.last_number = (entries.last_number / count + 1) * count + place as u64;
+        let mut entries = self.entries();
+        entries.last_number = shards.number_above(entries.last_number, place);
         entries.last_number
     }
 
@@ -203,7 +203,7 @@ mod tests {
             let mut last = 100;
             for place in (0..count as usize).chain(0..count as usize) {
                 let number = parts.next_number(shards, place);
-                assert!(number > last && shards.place_of_parts(number) == place, "{number} of {count}");
+                assert!(number > last && shards.place_of_number(number) == place, "{number} of {count}");
                 last = number;
             }
         }

@@ -31,9 +31,16 @@ impl Shards {
         (0..self.0).map(move |place| Shard { shards: self, place })
     }
 
-    /// The place of the program that has the parts of this number.
-    pub fn place_of_parts(self, number: u64) -> usize {
+    /// The place of the program that has what goes by this number: parts, a book, and since version 8 of the journal the name
+    /// of a queue in the store.
+    pub fn place_of_number(self, number: u64) -> usize {
         (number % u64::from(self.0)) as usize
+    }
+
+    /// The next number of the program at this place.
+    pub fn number_above(self, last: u64, place: usize) -> u64 {
+        let count = u64::from(self.0);
+        (last / count + 1) * count + place as u64
     }
 
     /// The place of the program that has the queue of this name.
@@ -57,8 +64,12 @@ impl Shard {
         self.shards.place_of(name) == self.place as usize
     }
 
-    pub fn has_parts(self, number: u64) -> bool {
-        self.shards.place_of_parts(number) == self.place as usize
+    pub fn has_number(self, number: u64) -> bool {
+        self.shards.place_of_number(number) == self.place as usize
+    }
+
+    pub fn place(self) -> usize {
+        self.place as usize
     }
 }
 

@@ -7,7 +7,8 @@ use proptest::prelude::*;
 use proptest::sample::Index;
 use proptest::test_runner::TestCaseResult;
 
-use super::ask::{Ask, Cause, Changer, Creation, Outcome, Reach, StoreName, TableChange};
+use super::ask::{Ask, Cause, Changer, Outcome, Reach, StoreName, TableChange};
+use super::book::{Entry, QueueEntry};
 use super::State;
 use crate::attributes::{GivenAttributes, QueueAttributes};
 use crate::clock::Moment;
@@ -114,7 +115,7 @@ struct Both {
 /// What a journal keeps of what changed something.
 enum Record {
     Ask(Ask, StoreReply),
-    Change(TableChange),
+    Entry(QueueEntry),
 }
 
 /// In the store each message of a standard queue has a group of its own.
@@ -129,8 +130,7 @@ fn state_at_start(kind: QueueKind) -> State {
     let given = [("MessageRetentionPeriod".to_string(), (PERIOD / 1000).to_string())];
     let attributes = QueueAttributes::for_creation(kind, &GivenAttributes::read(kind, &given).unwrap()).unwrap();
     let name = QueueName::parse(if kind == QueueKind::Fifo { "q.fifo" } else { "q" }).unwrap();
-    let creation = Creation { name, mark: 1, attributes, tags: BTreeMap::new(), before: None };
-    State::new(StoreName(1), &creation, START)
+    State::new(&QueueEntry::new(StoreName(1), name, 1, attributes, BTreeMap::new(), START))
 }
 
 /// The ask as its record tells it: who was handed messages isn't in it.
@@ -164,7 +164,7 @@ impl Both {
                 Record::Ask(ask, reply) => {
                     drop(again.apply_reply(ask, reply.clone(), *moment, &Jumps::default()).unwrap());
                 }
-                Record::Change(change) => drop(again.apply_change(change, *moment)),
+                Record::Entry(entry) => drop(again.said(entry, 1)),
             }
         }
         prop_assert_eq!(again.messages_told(), self.state.messages_told());
@@ -305,9 +305,11 @@ impl Both {
                 self.list.delay = 1000 * u64::from(*seconds);
                 let given =
                     GivenAttributes::read(QueueKind::Fifo, &[("DelaySeconds".into(), seconds.to_string())]).unwrap();
-                let change = TableChange::Attributes(given);
-                self.state.apply_change(&change, self.now);
-                self.records.push((self.now, Record::Change(change)));
+                if let Some(Entry::Queue(entry)) = self.state.entry_after(&TableChange::Attributes(given), 0, self.now)
+                {
+                    self.state.said(&entry, 1);
+                    self.records.push((self.now, Record::Entry(entry)));
+                }
             }
         }
         Ok(())
@@ -345,6 +347,7 @@ fn names_of_the_store_come_back() {
         (StoreName(7), "7.fifo", None, None),
         (StoreName::of_parts(7), "b7.fifo", Some(7), None),
         (StoreName(7).of_delays(), "7d.fifo", None, Some(StoreName(7))),
+        (StoreName::of_book(7), "book7.fifo", None, None),
     ];
     for (name, text, parts, main) in names {
         assert_eq!((name.text().as_str(), StoreName::parse(text)), (text, Some(name)));
@@ -364,6 +367,10 @@ fn names_of_the_store_come_back() {
         "7dd.fifo",
         "4611686018427387911.fifo",
         "4611686018427387911d.fifo",
+        "2305843009213693959.fifo",
+        "book.fifo",
+        "book07.fifo",
+        "book7d.fifo",
     ] {
         assert_eq!(StoreName::parse(bad), None, "{bad}");
     }

@@ -6,8 +6,9 @@ use std::sync::Arc;
 use crate::clock::Moment;
 use crate::errors::SqsError;
 use crate::limits::{Bound, MESSAGE_BYTES, QUEUE_BYTES};
-use crate::queues::ask::{Ask, Cause, PartsAsk, PartsCause, TableChange};
-use crate::queues::{bytes_of_queue, Queue, Queues};
+use crate::queues::ask::{Ask, Cause, PartsAsk, PartsCause};
+use crate::queues::book::Entry;
+use crate::queues::{Queue, Queues};
 
 /// A queue that takes no more without its messages gets attributes and tags also where the bound is full.
 const ORDINARY: u64 = QUEUE_BYTES + 4_096;
@@ -45,24 +46,20 @@ impl Admission {
             // What is moved goes from where it was, and what is due was counted before.
             Ask::Send { .. } => return Ok(0),
             Ask::Parts { ask: PartsAsk::Add(PartsCause::Client, _, text), .. } => text.len() as u64,
-            Ask::Create { store, creation, .. } if creation.before.is_none() && store.main().is_none() => {
-                bytes_of_queue(&creation.attributes, &creation.tags)
-            }
+            Ask::Create { bytes, .. } if *bytes > 0 => *bytes,
             _ => return Ok(0),
         };
         self.admit_bytes(bytes, now)
     }
 
-    /// Lets a change pass that the gateway alone keeps, as `admit` does an ask.
-    pub fn admit_change(&self, queue: &Queue, change: &TableChange, now: Moment) -> Result<u64, SqsError> {
-        match change {
+    /// Lets an entry of the book pass, as `admit` does an ask.
+    pub fn admit_entry(&self, queue: &Queue, entry: &Entry, now: Moment) -> Result<u64, SqsError> {
+        let Entry::Queue(entry) = entry else { return Ok(0) };
+        match queue.state().growth(entry) {
             // A queue of ordinary size stays what operators can change, so that memory comes free by other attributes.
-            TableChange::Tag(_) | TableChange::Attributes(_) => match queue.state().growth(change) {
-                (_, whole) if whole <= ORDINARY => Ok(0),
-                (0, _) => Ok(0),
-                (more, _) => self.admit_bytes(more, now),
-            },
-            _ => Ok(0),
+            (_, whole) if whole <= ORDINARY => Ok(0),
+            (0, _) => Ok(0),
+            (more, _) => self.admit_bytes(more, now),
         }
     }
 

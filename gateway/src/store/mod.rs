@@ -15,7 +15,8 @@ use crate::clock::Clock;
 use crate::errors::SqsError;
 use crate::handles::{Mark, Receipt};
 use crate::journal::{Journal, Need};
-use crate::queues::ask::{Ask, Cause, Handed, Outcome, PartsAsk, Reach, TableChange};
+use crate::queues::ask::{Ask, Cause, Handed, Outcome, PartsAsk, Reach, StoreName, TableChange};
+use crate::queues::book::Entry;
 use crate::queues::shards::Shards;
 use crate::queues::{Queue, Queues};
 use crate::texts::QueueName;
@@ -60,8 +61,10 @@ pub enum Operation {
     Ask(Ask),
     /// The program does it to the queue beside this one, which has what is delayed.
     AskBeside(Ask),
-    /// A change of what the gateway alone keeps.
+    /// The book says what changes.
     Change(TableChange),
+    /// The book says this, which is about no queue that is there.
+    Say(Entry),
     /// Counts visible messages and those in flight.
     Count,
     /// Moves the store's moment on.
@@ -142,6 +145,11 @@ impl Store {
         self.journal.as_ref().is_some_and(Journal::wants_space)
     }
 
+    /// Whether the bound of memory is full.
+    pub fn is_memory_full(&self) -> bool {
+        self.admission.memory.is_full(self.admission.bytes_in_use())
+    }
+
     /// Refuses to move messages of so many bytes where their copies would be refused, since the journal's disk is full.
     pub fn test_room_to_move(&self, bytes: u64) -> Result<(), SqsError> {
         if self.has_room(Need::Same, bytes)? {
@@ -166,6 +174,26 @@ impl Store {
         Ok(room.is_some())
     }
 
+    /// The place of the program that has the queue of this name.
+    pub fn place_of(&self, name: &QueueName) -> usize {
+        self.shards.place_of(name)
+    }
+
+    /// The places of all programs.
+    pub fn places(&self) -> std::ops::Range<usize> {
+        0..self.jobs.len()
+    }
+
+    /// A name of the store for a queue of this name.
+    pub fn next_store_name(&self, name: &QueueName) -> StoreName {
+        self.queues.next_store_name(self.shards, self.place_of(name))
+    }
+
+    /// A name of the store for a book of the program at this place.
+    pub fn next_book(&self, place: usize) -> StoreName {
+        StoreName::of_book(self.queues.next_book(self.shards, place))
+    }
+
     /// A number for the parts of a message of this queue.
     pub fn next_parts(&self, queue: &Queue) -> u64 {
         self.queues.parts().next_number(self.shards, self.shards.place_of(&queue.name))
@@ -175,13 +203,53 @@ impl Store {
     ///
     /// They are asked when this is called, whenever their answers are waited for.
     pub fn ask_parts(&self, number: u64, asks: Vec<PartsAsk>) -> impl Future<Output = Vec<Answer>> + Send {
-        let count = asks.len();
-        let (sender, answers) = oneshot::channel();
         let operations = asks.into_iter().map(|ask| Operation::Ask(Ask::Parts { number, ask })).collect();
-        let job = Job { queue: self.queues.of_parts(), operations, ignores_hold: true, sender: sender.into() };
+        self.begin(self.shards.place_of_number(number), self.queues.nameless(), operations)
+    }
+
+    /// Hands operations to the program at this place at once, whenever their answers are waited for.
+    fn begin(
+        &self,
+        place: usize,
+        queue: Option<Arc<Queue>>,
+        operations: Vec<Operation>,
+    ) -> impl Future<Output = Answers> + Send {
+        let count = operations.len();
+        let (sender, answers) = oneshot::channel();
         // Where the task is gone, no answer comes.
-        let _ = self.jobs[self.shards.place_of_parts(number)].send(job);
+        let _ = self.jobs[place].send(Job { queue, operations, ignores_hold: true, sender: sender.into() });
         async move { answers.await.unwrap_or_else(|_| (0..count).map(|_| Err(SqsError::store_is_gone())).collect()) }
+    }
+
+    /// The answers of the program at this place to operations that are about no queue with a name.
+    pub async fn perform_nameless(&self, place: usize, operations: Vec<Operation>) -> Result<(), SqsError> {
+        self.begin(place, self.queues.nameless(), operations).await.into_iter().try_for_each(|answer| answer.map(drop))
+    }
+
+    /// Has the book say of a queue what changes. It is asked for at once.
+    pub fn begin_changes(&self, queue: &Arc<Queue>, changes: Vec<TableChange>) -> impl Future<Output = Answers> + Send {
+        let operations = changes.into_iter().map(Operation::Change).collect();
+        self.begin(self.place_of(&queue.name), Some(queue.clone()), operations)
+    }
+
+    /// Creates a queue. Its name in the store comes first, and with what the book says the queue is there. Where the book
+    /// doesn't say it, the name goes again.
+    pub async fn create(&self, queue: Arc<Queue>) -> Answer {
+        let store = self.clone();
+        // It goes on where its client goes.
+        let creating = tokio::spawn(async move {
+            let (name, visibility, bytes) = {
+                let state = queue.state();
+                (state.entry.store, state.entry.attributes.visibility_timeout(), state.own_bytes())
+            };
+            store.ask(&queue, Ask::Create { store: name, visibility, bytes }).await?;
+            let said = store.change(&queue, TableChange::Created).await;
+            if said.is_err() {
+                store.queues.left_over().add(store.place_of(&queue.name), [name]);
+            }
+            said
+        });
+        creating.await.unwrap_or_else(|_| Err(SqsError::store_is_gone()))
     }
 
     fn jobs_of(&self, name: &QueueName) -> &mpsc::UnboundedSender<Job> {
@@ -240,7 +308,7 @@ impl Store {
         self.submit_one(queue, Operation::Count).await
     }
 
-    /// A change of what the gateway alone keeps.
+    /// Has the book say what changes.
     pub async fn change(&self, queue: &Arc<Queue>, change: TableChange) -> Answer {
         self.submit_one(queue, change.into()).await
     }
@@ -269,7 +337,13 @@ impl Store {
 
     /// Waits until all that the tables show of the queues of this name is on disk. False if it never will be.
     pub async fn wait_until_durable(&self, name: &QueueName) -> bool {
-        submit_beside(self.jobs_of(name), Vec::new()).await.is_ok()
+        self.wait_for(self.place_of(name)).await
+    }
+
+    /// Waits until the program at this place has answered all that it was asked, and that is on disk. False if it never
+    /// will be.
+    pub async fn wait_for(&self, place: usize) -> bool {
+        submit_beside(&self.jobs[place], Vec::new()).await.is_ok()
     }
 
     /// Keeps all others from the queue until what this gives is dropped. Whoever begins this brings it to its end, or

@@ -19,7 +19,9 @@ use crate::clock::{Clock, Moment};
 use crate::cq::{Cq, CqError};
 use crate::journal::{digest_of_reply, JournalError, Opened, Record, Records};
 use crate::lines::{self, AskFields, AskKind, BadOutput, OutputLine};
+use crate::move_tasks::MoveTask;
 use crate::queues::ask::{Ask, StoreName, TableChange};
+use crate::queues::book::{Entry, QueueEntry, Removal};
 use crate::queues::shards::{Shard, Shards};
 use crate::queues::{Queue, Queues};
 
@@ -45,8 +47,6 @@ pub struct Replayed {
     pub records: u64,
     /// The latest clock of these.
     pub latest: Moment,
-    /// Names that the store has and that no queue goes by any more, with the queues that went by them.
-    pub left_over: Vec<(StoreName, Arc<Queue>)>,
 }
 
 /// What the records are taken into, beside the store.
@@ -58,7 +58,13 @@ pub struct Tables {
     pub progress: Arc<AtomicU64>,
 }
 
-/// An ask that is with the program, or a change that waits for the asks before it.
+/// What a journal up to version 7 says of a queue beside the asks.
+enum Older {
+    Entry(Entry),
+    Change(TableChange),
+}
+
+/// An ask that is with the program, or what waits for the asks before it.
 enum Unanswered {
     Ask {
         number: u64,
@@ -67,9 +73,9 @@ enum Unanswered {
         /// The queue and its ask, where there are tables.
         subject: Option<(Arc<Queue>, Ask)>,
     },
-    Change {
+    Older {
         queue: Arc<Queue>,
-        change: TableChange,
+        older: Older,
         clock: Moment,
     },
     /// The request behind all others.
@@ -79,10 +85,16 @@ enum Unanswered {
 struct Replay {
     shard: Shard,
     tables: Option<Tables>,
+    known: Arc<Known>,
     skipped: HashSet<StoreName>,
     /// Whether the shard has the queue of a name of the store.
     own: HashMap<StoreName, bool>,
     queues: HashMap<StoreName, Arc<Queue>>,
+    by_mark: HashMap<u64, Arc<Queue>>,
+    /// Tasks of queues that aren't there yet: where a book was begun anew, they stand before their queue.
+    tasks: HashMap<u64, Vec<(MoveTask, u64)>>,
+    /// The names that the store has.
+    there: HashSet<StoreName>,
     /// The marks of the queues that went by names that are passed over, and of those of them that were removed.
     passed: HashMap<StoreName, u64>,
     gone: HashSet<u64>,
@@ -99,6 +111,9 @@ struct Replay {
     is_done: bool,
 }
 
+#[cfg(test)]
+mod tests;
+
 const CLIENTS: u64 = 256;
 const PIECE: usize = 256 * 1024;
 
@@ -109,11 +124,12 @@ pub async fn replay_all(
     opened: &Opened,
     tables: &Tables,
 ) -> Result<(Vec<Cq>, Replayed), ReplayError> {
+    let known = Arc::new(read_books(opened.records()?)?);
     let mut begun = Vec::new();
     for (mut cq, shard) in cqs.into_iter().zip(shards.all()) {
-        let (records, tables) = (opened.records()?, tables.clone());
+        let (records, tables, known) = (opened.records()?, tables.clone(), known.clone());
         begun.push(tokio::spawn(async move {
-            let replayed = replay(&mut cq, records, shard, Some(tables)).await?;
+            let replayed = replay(&mut cq, records, shard, Some((tables, known))).await?;
             Ok::<_, ReplayError>((cq, replayed))
         }));
     }
@@ -124,9 +140,40 @@ pub async fn replay_all(
         // Each of them has seen all records.
         all.records = replayed.records;
         all.latest = replayed.latest;
-        all.left_over.extend(replayed.left_over);
     }
     Ok((ready, all))
+}
+
+/// What the books that are there say first of each name of the store. The entries may stand behind records of its queue.
+type Known = HashMap<StoreName, QueueEntry>;
+
+/// The record of an entry has these bytes, and others may have them too: clients choose the keys and values of tags.
+const PERHAPS_ENTRY: &[u8] = b"\"queue\":\"book";
+
+fn read_books(records: Records) -> Result<Known, JournalError> {
+    let (mut known, removed) = (Known::new(), records.removed().clone());
+    records.read(|payload| {
+        if memchr::memmem::find(&payload, PERHAPS_ENTRY).is_some() {
+            let lines = payload.split(|byte| *byte == b'\n');
+            lines.for_each(|line| remember_entry(line, &removed, &mut known));
+        }
+        true
+    })?;
+    Ok(known)
+}
+
+fn remember_entry(line: &[u8], removed: &HashSet<StoreName>, known: &mut Known) {
+    if memchr::memmem::find(line, PERHAPS_ENTRY).is_none() {
+        return;
+    }
+    let Some(record) = Record::read(line) else { return };
+    let is_there = record.store_name().is_some_and(|name| !removed.contains(&name));
+    let ask = record.fields().filter(|_| is_there).and_then(|fields| record.to_ask(fields, 0));
+    if let Some(Ask::Say { entry, .. }) = ask {
+        if let Entry::Queue(entry) = entry.as_ref() {
+            known.entry(entry.store).or_insert_with(|| entry.clone());
+        }
+    }
 }
 
 /// Feeds the records of a shard to its program, and to the tables where there are any.
@@ -134,37 +181,20 @@ pub async fn replay(
     cq: &mut Cq,
     records: Records,
     shard: Shard,
-    tables: Option<Tables>,
+    tables: Option<(Tables, Arc<Known>)>,
 ) -> Result<Replayed, ReplayError> {
-    if let Some(tables) = &tables {
+    if let Some((tables, _)) = &tables {
         // A name that counts as removed is never used again: the records that gave it may be gone, and its removal stand in
         // a segment that another one took the place of.
         records.removed().iter().for_each(|name| tables.queues.saw_store_name(*name));
     }
-    let mut replay = Replay {
-        shard,
-        tables,
-        skipped: records.removed().clone(),
-        own: HashMap::new(),
-        queues: HashMap::new(),
-        passed: HashMap::new(),
-        gone: HashSet::new(),
-        bases: HashMap::new(),
-        waiting: VecDeque::new(),
-        out: BytesMut::new(),
-        records: 0,
-        asked: 0,
-        last_clock: 0,
-        latest: 0,
-        is_read: false,
-        is_done: false,
-    };
+    let mut replay = Replay::new(shard, tables, records.removed().clone());
     // The file is read by a thread of its own, a little ahead.
     let (payloads, mut payload) = mpsc::channel(4);
     let reader = tokio::task::spawn_blocking(move || records.read(|read| payloads.blocking_send(read).is_ok()));
     let mut incoming = BytesMut::new();
     while !replay.is_done {
-        replay.apply_changes();
+        replay.apply_older();
         let may_read = !replay.is_read && replay.out.len() < PIECE;
         tokio::select! {
             biased;
@@ -186,10 +216,37 @@ pub async fn replay(
     }
     reader.await.map_err(|error| JournalError::Io(error.to_string()))??;
     let (records, latest) = (replay.records, replay.latest);
-    Ok(Replayed { records, latest, left_over: replay.left_over() })
+    replay.leave_over();
+    Ok(Replayed { records, latest })
 }
 
 impl Replay {
+    fn new(shard: Shard, tables: Option<(Tables, Arc<Known>)>, skipped: HashSet<StoreName>) -> Replay {
+        let (tables, known) = tables.unzip();
+        Replay {
+            shard,
+            tables,
+            known: known.unwrap_or_default(),
+            skipped,
+            own: HashMap::new(),
+            queues: HashMap::new(),
+            by_mark: HashMap::new(),
+            tasks: HashMap::new(),
+            there: HashSet::new(),
+            passed: HashMap::new(),
+            gone: HashSet::new(),
+            bases: HashMap::new(),
+            waiting: VecDeque::new(),
+            out: BytesMut::new(),
+            records: 0,
+            asked: 0,
+            last_clock: 0,
+            latest: 0,
+            is_read: false,
+            is_done: false,
+        }
+    }
+
     /// Asks for one more answer, which doesn't come if the program is gone.
     fn end(&mut self) -> Result<(), ReplayError> {
         self.is_read = true;
@@ -232,7 +289,8 @@ impl Replay {
             self.remember_passed(&record, store);
             if let (Some(tables), Some(name)) = (&self.tables, &record.removed) {
                 if self.shard.has(name) {
-                    tables.queues.remember_removal(name, record.clock);
+                    let mark = self.passed.get(&store).copied().unwrap_or(0);
+                    tables.queues.remember_removal(&Removal { name: name.clone(), mark, at: record.clock });
                 }
             }
             return Some(());
@@ -242,9 +300,10 @@ impl Replay {
         }
         match (record.ask, &record.change) {
             (Some(raw), None) => {
+                let fields = record.fields()?;
                 let subject = match self.tables {
-                    Some(_) => Some(self.ask_of(&record, record.fields()?, store)?),
-                    None => None,
+                    Some(_) if self.has_subject(&fields, store) => Some(self.ask_of(&record, fields, store)?),
+                    _ => None,
                 };
                 // Only asks move the program's clock. An ask that is still open may be earlier than a change.
                 self.last_clock = self.last_clock.max(record.clock);
@@ -256,17 +315,50 @@ impl Replay {
                 lines::append_request(&mut lines, record.clock, client, number, raw).ok()?;
                 self.out.extend_from_slice(&lines);
                 self.waiting.push_back(Unanswered::Ask { number, digest, clock: record.clock, subject });
+                self.take_older(record, store);
             }
             (None, Some(change)) => {
                 if self.tables.is_some() {
                     let queue = self.queues.get(&store)?.clone();
-                    let change = change.clone();
-                    self.waiting.push_back(Unanswered::Change { queue, change, clock: record.clock });
+                    self.wait_with(queue, Older::Change(change.clone()), record.clock);
                 }
             }
             _ => return None,
         }
         Some(())
+    }
+
+    fn wait_with(&mut self, queue: Arc<Queue>, older: Older, clock: Moment) {
+        self.waiting.push_back(Unanswered::Older { queue, older, clock });
+    }
+
+    /// Takes up what a journal up to version 7 has beside a creation, or a removal that a client asked for.
+    fn take_older(&mut self, record: Record<'_>, store: StoreName) {
+        if self.tables.is_none() {
+            return;
+        }
+        if let Some(creation) = record.creation {
+            let (entry, tasks) = creation.into_entries(store, record.clock);
+            let (mark, queue) = (entry.mark, self.queue_of(&entry));
+            self.wait_with(queue.clone(), Older::Entry(Entry::Queue(entry)), record.clock);
+            tasks.into_iter().for_each(|task| {
+                self.wait_with(queue.clone(), Older::Entry(Entry::Task(mark, task)), record.clock);
+            });
+        }
+        if let (Some(_), Some(queue)) = (record.removed, self.queues.get(&store).cloned()) {
+            self.wait_with(queue, Older::Change(TableChange::Removed), record.clock);
+        }
+    }
+
+    /// The queue of an entry. It goes by this name in the store from now on.
+    fn queue_of(&mut self, entry: &QueueEntry) -> Arc<Queue> {
+        let queue = self.by_mark.entry(entry.mark).or_insert_with(|| Arc::new(Queue::new(entry))).clone();
+        for (task, book) in self.tasks.remove(&entry.mark).unwrap_or_default() {
+            queue.state().said_of_task(&task, book);
+        }
+        self.queues.insert(entry.store, queue.clone());
+        self.bases.insert(entry.store, entry.base);
+        queue
     }
 
     /// Finds out which queues are gone by records that are passed over.
@@ -281,13 +373,17 @@ impl Replay {
 
     /// Whether the record is of a queue of this shard. None if nobody can know, which is damage.
     fn is_own(&mut self, record: &Record<'_>, store: StoreName) -> Option<bool> {
-        if let Some(number) = store.parts() {
-            return Some(self.shard.has_parts(number));
+        if let Some(number) = store.parts().or(store.book()) {
+            return Some(self.shard.has_number(number));
+        }
+        if store.main().is_none() && record.creates() {
+            let is_own = match &record.creation {
+                Some(creation) => self.shard.has(&creation.name),
+                None => self.shard.has_number(store.0),
+            };
+            self.own.insert(store, is_own);
         }
         let store = store.main().unwrap_or(store);
-        if let Some(creation) = &record.creation {
-            self.own.insert(store, self.shard.has(&creation.name));
-        }
         match (self.own.get(&store), &self.tables) {
             (Some(is_own), _) => Some(*is_own),
             // Others go on meanwhile: a queue of theirs was removed, and its first records have gone.
@@ -296,35 +392,75 @@ impl Replay {
         }
     }
 
+    /// Whether the tables have to know. Of messages of a queue that isn't there any more they don't.
+    fn has_subject(&self, fields: &AskFields<'_>, store: StoreName) -> bool {
+        let is_of_name = matches!(fields.kind, AskKind::Create | AskKind::Remove);
+        is_of_name || store.parts().is_some() || store.book().is_some() || self.queues.contains_key(&store)
+    }
+
     fn ask_of(&mut self, record: &Record<'_>, fields: AskFields<'_>, store: StoreName) -> Option<(Arc<Queue>, Ask)> {
-        if let (Some(number), Some(tables)) = (store.parts(), &self.tables) {
-            return Some((tables.queues.of_parts()?, record.to_parts_ask(&fields, number)?));
+        let nameless = self.tables.as_ref()?.queues.nameless()?;
+        if let Some(number) = store.parts() {
+            return Some((nameless, record.to_parts_ask(&fields, number)?));
         }
-        if let (AskKind::Create, Some(main)) = (fields.kind, store.main()) {
-            let (queue, ask) = Queue::beside(self.queues.get(&main)?, main);
+        match fields.kind {
+            AskKind::Create => drop(self.there.insert(store)),
+            AskKind::Remove => drop(self.there.remove(&store)),
+            _ => {}
+        }
+        let main = store.main().and_then(|main| Some((main, self.queues.get(&main)?)));
+        if let (AskKind::Create, Some((main, queue))) = (fields.kind, main) {
+            let (queue, ask) = Queue::beside(queue, main);
             let queue = Arc::new(queue);
             self.queues.insert(store, queue.clone());
             self.bases.insert(store, 0);
             return Some((queue, ask));
         }
         if fields.kind == AskKind::Create {
-            let creation = record.creation.as_ref()?;
-            let base = creation.before.as_ref().map_or(0, |before| before.base);
-            self.bases.insert(store, base);
-            let is_same = |queue: &&Arc<Queue>| queue.mark.0 == creation.mark;
-            let same = creation.before.as_ref().and_then(|_| self.queues.values().find(is_same).cloned());
-            let queue = same.unwrap_or_else(|| Arc::new(Queue::new(store, creation, record.clock)));
-            self.queues.insert(store, queue);
+            self.begin_queue(store);
+        }
+        let is_of_name = matches!(fields.kind, AskKind::Create | AskKind::Remove);
+        if is_of_name || store.book().is_some() {
+            let ask = record.to_ask(fields, 0)?;
+            let queue = match &ask {
+                Ask::Say { entry, book, .. } => self.queue_said_of(entry, *book),
+                _ => None,
+            };
+            return Some((queue.unwrap_or(nameless), ask));
         }
         let ask = record.to_ask(fields, *self.bases.get(&store)?)?;
         Some((self.queues.get(&store)?.clone(), ask))
+    }
+
+    /// Has a queue that goes by this name, if a book says later of the first time that it does. It is there from then on.
+    fn begin_queue(&mut self, store: StoreName) {
+        let known = self.known.clone();
+        if let Some(entry) = known.get(&store).filter(|entry| !self.by_mark.contains_key(&entry.mark)) {
+            // Purges begin when the book says so.
+            self.queue_of(&QueueEntry { purged: None, purging: None, ..entry.clone() });
+        }
+    }
+
+    /// The queue that an entry is about, if it is there.
+    fn queue_said_of(&mut self, entry: &Entry, book: u64) -> Option<Arc<Queue>> {
+        match entry {
+            Entry::Queue(entry) => Some(self.queue_of(entry)),
+            Entry::Removed(removal) => self.by_mark.get(&removal.mark).cloned(),
+            Entry::Task(mark, task) => {
+                let queue = self.by_mark.get(mark).cloned();
+                if queue.is_none() {
+                    self.tasks.entry(*mark).or_default().push((task.clone(), book));
+                }
+                queue
+            }
+        }
     }
 
     fn take_answers(&mut self, incoming: &mut BytesMut) -> Result<(), ReplayError> {
         let Some(end) = memchr::memrchr(b'\n', incoming) else { return Ok(()) };
         let whole = incoming.split_to(end + 1);
         for line in lines::split_lines(&whole[..end]) {
-            self.apply_changes();
+            self.apply_older();
             let number = match self.waiting.front() {
                 Some(Unanswered::Ask { number, .. }) => *number,
                 _ => 0,
@@ -345,35 +481,34 @@ impl Replay {
                 return Err(ReplayError::OtherReply(number));
             }
             if let (Some((queue, ask)), Some(tables)) = (subject, &self.tables) {
-                let applied = tables.queues.apply_reply(&queue, &ask, reply, clock);
+                let applied = tables.queues.apply_reply(self.shard.place(), &queue, &ask, reply, clock);
                 applied.map_err(|_| ReplayError::OtherReply(number))?;
             }
         }
         Ok(())
     }
 
-    fn apply_changes(&mut self) {
-        while let Some(Unanswered::Change { .. }) = self.waiting.front() {
-            if let Some(Unanswered::Change { queue, change, clock }) = self.waiting.pop_front() {
-                if let Some(tables) = &self.tables {
-                    tables.queues.apply_change(&queue, &change, clock);
-                }
+    fn apply_older(&mut self) {
+        while let Some(Unanswered::Older { .. }) = self.waiting.front() {
+            let Some(Unanswered::Older { queue, older, clock }) = self.waiting.pop_front() else { return };
+            let Some(tables) = &self.tables else { return };
+            match older {
+                Older::Entry(entry) => tables.queues.said(self.shard.place(), &queue, &entry, 0),
+                Older::Change(change) => tables.queues.apply_older(self.shard.place(), &queue, &change, clock),
             }
         }
     }
 
-    /// Names of the store that go: earlier ones of the queues, and all of a queue that was removed by a later one.
-    fn left_over(&self) -> Vec<(StoreName, Arc<Queue>)> {
-        let mut left = Vec::new();
-        for (name, queue) in &self.queues {
-            let is_gone = self.gone.contains(&queue.mark.0);
-            if let (true, Some(tables)) = (is_gone, &self.tables) {
-                tables.queues.forget(queue);
-            }
-            if is_gone || queue.is_left_over() || queue.state().earlier.contains(name) {
-                left.push((*name, queue.clone()));
+    /// Names that the store has and that no queue goes by are to go: what is there is what the book says.
+    fn leave_over(&mut self) {
+        let Some(Tables { queues, .. }) = &self.tables else { return };
+        for mark in &self.gone {
+            if let Some(queue) = self.by_mark.get(mark) {
+                queues.forget(queue);
             }
         }
-        left
+        let used: HashSet<_> = queues.all().iter().flat_map(|queue| queue.store_names()).collect();
+        let left = self.there.drain().filter(|name| !used.contains(name) && name.book().is_none());
+        queues.left_over().set(self.shard.place(), left);
     }
 }

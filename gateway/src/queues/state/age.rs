@@ -6,7 +6,7 @@ use crate::retention::Jumps;
 
 impl State {
     pub(super) fn horizon(&self, jumps: &Jumps, now: Moment) -> Option<Moment> {
-        jumps.horizon(now, self.attributes.retention())
+        jumps.horizon(now, self.entry.attributes.retention())
     }
 
     /// Whether the first message is older than the queue keeps messages.

@@ -114,6 +114,12 @@ impl DueMessages {
         self.in_order.is_empty() && self.set_aside.is_empty()
     }
 
+    /// Those up to this one aren't moved any more.
+    pub(super) fn remove_up_to(&mut self, last: u64) {
+        let going: Vec<_> = self.moments.keys().chain(&self.set_aside).filter(|own| **own <= last).copied().collect();
+        going.into_iter().for_each(|sequence| self.remove(sequence));
+    }
+
     /// None of them is moved any more.
     pub(super) fn clear(&mut self) {
         *self = DueMessages { alarm: self.alarm, ..DueMessages::default() };

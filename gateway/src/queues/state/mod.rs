@@ -9,25 +9,27 @@ mod next;
 mod numbers;
 mod peek;
 mod receipts;
+mod said;
 #[cfg(test)]
 mod tests;
 mod uncounted;
 
-use std::collections::{BTreeMap, BTreeSet, VecDeque};
+use std::collections::{HashMap, VecDeque};
 use std::sync::Arc;
 
 use uuid::Uuid;
 
-use super::ask::{Ask, Before, Cause, Changer, Creation, Fate, Handed, Outcome, Reach, StoreName, TableChange};
+use super::ask::{Ask, Cause, Changer, Fate, Handed, Outcome, Reach, TableChange};
+use super::book::QueueEntry;
 use super::groups::{Group, Groups};
 use crate::attributes::QueueAttributes;
 use crate::clock::Moment;
 use crate::errors::SqsError;
 use crate::handles::Receipt;
-use crate::limits::{ID_BYTES, MESSAGE_BYTES, QUEUE_BYTES};
+use crate::limits::{ID_BYTES, MESSAGE_BYTES};
 use crate::lines::{read_receipt, StoreMessage, StoreReply};
 use crate::messages::{has_parts, own_id, Envelope, EnvelopeHead};
-use crate::move_tasks::{self, MoveTask, Status};
+use crate::move_tasks::{MoveTask, Status};
 use crate::redrive::RedrivePolicy;
 use crate::retention::Jumps;
 use crate::texts::{AttemptId, GroupId, QueueKind};
@@ -35,6 +37,7 @@ use attempts::{Attempt, Attempts};
 use delayed::{Calls, DueMessages, First, OlderDelayed};
 use message::{Handing, Message, Messages};
 pub use peek::{Chunk, Cursor, Peeked, Visibility};
+pub use said::{bytes_of_queue, Said};
 use uncounted::UncountedHandings;
 
 /// So long a deduplication id counts, in milliseconds. A repeated attempt id is given the same messages as long.
@@ -59,23 +62,16 @@ struct Receiving<'a> {
 #[derive(Debug)]
 pub struct State {
     kind: QueueKind,
-    pub store: StoreName,
-    /// Names that it had in the store before, and that the store has still.
-    pub earlier: Vec<StoreName>,
-    /// The store counts from the message behind this one.
-    pub base: u64,
-    pub attributes: QueueAttributes,
-    pub tags: BTreeMap<String, String>,
-    pub created: Moment,
-    pub modified: Moment,
-    pub purged: Option<Moment>,
+    /// What the book says of it.
+    pub entry: QueueEntry,
+    /// The number of the book that says it, and those of the books that say how its tasks stand.
+    pub said_in: u64,
+    tasks_said_in: HashMap<Uuid, u64>,
     /// What the queue takes without its messages.
     own_bytes: u64,
     tasks: Vec<MoveTask>,
     pub removed: bool,
     pub last_sequence: u64,
-    /// How many changes were applied since the queue has its name in the store.
-    change_count: u64,
     pub last_send: Moment,
     /// How often something happened that can open a group.
     pub openings: u64,
@@ -101,8 +97,6 @@ pub struct State {
     /// When somebody did so the last time.
     groups_needed: Moment,
     uncounted: UncountedHandings,
-    /// All messages up to this one are being deleted.
-    purging: Option<u64>,
     /// Of a queue beside a standard one.
     due: DueMessages,
     /// Of a standard queue.
@@ -142,26 +136,18 @@ fn misfit() -> SqsError {
 }
 
 impl State {
-    pub fn new(store: StoreName, creation: &Creation, now: Moment) -> State {
-        let fresh = Before { base: 0, created: now, modified: now, purged: None, tasks: Vec::new() };
-        let before = creation.before.clone().unwrap_or(fresh);
-        let kind = creation.name.kind();
-        let delay = delay_of_all(kind, &creation.attributes);
+    pub fn new(entry: &QueueEntry) -> State {
+        let kind = entry.name.kind();
+        let delay = delay_of_all(kind, &entry.attributes);
         State {
             kind,
-            store,
-            earlier: Vec::new(),
-            base: before.base,
-            attributes: creation.attributes.clone(),
-            tags: creation.tags.clone(),
-            created: before.created,
-            modified: before.modified,
-            purged: before.purged,
-            own_bytes: bytes_of_queue(&creation.attributes, &creation.tags),
-            tasks: before.tasks,
+            entry: entry.clone(),
+            said_in: 0,
+            tasks_said_in: HashMap::new(),
+            own_bytes: bytes_of_queue(&entry.attributes, &entry.tags),
+            tasks: Vec::new(),
             removed: false,
-            last_sequence: before.base,
-            change_count: 0,
+            last_sequence: entry.base,
             last_send: 0,
             openings: 0,
             messages: Messages::default(),
@@ -171,12 +157,11 @@ impl State {
             envelope_bytes: 0,
             longest_envelope: 0,
             attempts: Attempts::default(),
-            redrive: creation.attributes.redrive(),
+            redrive: entry.attributes.redrive(),
             delay,
             groups: (delay > 0).then(Groups::default),
             groups_needed: 0,
             uncounted: UncountedHandings::default(),
-            purging: None,
             due: DueMessages::default(),
             older: OlderDelayed::default(),
             calls: Calls::default(),
@@ -199,23 +184,10 @@ impl State {
                 Err(SqsError::of_no_message())
             }
             (_, StoreReply::Refused(code)) => Err(SqsError::of_refusal(code)),
-            (Ask::Create { store, creation, .. }, StoreReply::Created) => {
-                if *store != self.store {
-                    self.go_over(*store);
-                }
-                if creation.before.is_none() {
-                    (self.created, self.modified) = (moment, moment);
-                }
-                Ok(Applied::done(false))
-            }
-            (Ask::Remove { store, .. }, StoreReply::Removed) => {
-                self.earlier.retain(|name| name != store);
-                Ok(Applied::done(true))
-            }
             (Ask::Send { group, dedup, envelope, cause }, StoreReply::Sent(place)) => {
                 let applied = self.sent(group, envelope, *cause, place, moment)?;
-                if *cause == Cause::Client && self.kind == QueueKind::Standard && self.store.main().is_none() {
-                    self.calls.remember(dedup, First::Stored(self.base + place), moment);
+                if *cause == Cause::Client && self.kind == QueueKind::Standard && self.entry.store.main().is_none() {
+                    self.calls.remember(dedup, First::Stored(self.entry.base + place), moment);
                 }
                 Ok(applied)
             }
@@ -245,7 +217,7 @@ impl State {
         place: u64,
         moment: Moment,
     ) -> Result<Applied, SqsError> {
-        let sequence = self.base + place;
+        let sequence = self.entry.base + place;
         if sequence <= self.last_sequence {
             return Ok(Applied::unchanged(Outcome::Sent { sequence, id: self.own_id(sequence) }));
         }
@@ -353,7 +325,7 @@ impl State {
 
     fn hand(&mut self, given: StoreMessage, receiving: &Receiving<'_>) -> Result<(Handed, Option<Fate>), SqsError> {
         let moment = receiving.moment;
-        let receipt = read_receipt(&given.receipt, self.base).ok_or_else(misfit)?;
+        let receipt = read_receipt(&given.receipt, self.entry.base).ok_or_else(misfit)?;
         self.hide(receipt.sequence, receiving.until);
         let message = self.messages.get_mut(receipt.sequence).ok_or_else(misfit)?;
         let first = message.last.map_or(moment, |last| last.first);
@@ -425,84 +397,14 @@ impl State {
         Applied::done(true)
     }
 
-    /// What of a change changes anything; none if nothing does.
-    pub fn effect_of(&self, change: TableChange) -> Option<TableChange> {
-        match change {
-            TableChange::Attributes(given) => {
-                let given = self.attributes.news_of(&given);
-                (!given.is_empty()).then_some(TableChange::Attributes(given))
-            }
-            TableChange::Tag(mut tags) => {
-                tags.retain(|key, value| self.tags.get(key) != Some(value));
-                (!tags.is_empty()).then_some(TableChange::Tag(tags))
-            }
-            TableChange::Untag(keys) => {
-                let there: BTreeSet<_> = keys.into_iter().filter(|key| self.tags.contains_key(key)).collect();
-                (!there.is_empty()).then(|| TableChange::Untag(there.into_iter().collect()))
-            }
-            other => Some(other),
+    /// Takes up a delayed message that a record of an older journal has.
+    pub fn add_older(&mut self, change: &TableChange, moment: Moment) {
+        let TableChange::Delayed(message) = change else { return };
+        if let Some(call) = &message.call {
+            self.remember_delayed(call, message.id, moment);
         }
-    }
-
-    /// Applies a change of which the store knows nothing.
-    pub fn apply_change(&mut self, change: &TableChange, moment: Moment) -> Applied {
-        let applied = match change {
-            TableChange::Delayed(message) => {
-                if let Some(call) = &message.call {
-                    self.remember_delayed(call, message.id, moment);
-                }
-                self.older.add(message);
-                self.last_send = moment;
-                Applied::done(false)
-            }
-            TableChange::Attributes(given) if !self.attributes.news_of(given).is_empty() => {
-                self.attributes.set(given);
-                self.redrive = self.attributes.redrive();
-                self.set_delay(delay_of_all(self.kind, &self.attributes));
-                self.modified = moment;
-                // What was delayed may be due by other attributes.
-                Applied::done(true)
-            }
-            TableChange::Attributes(_) => Applied::unchanged(Outcome::Done),
-            TableChange::Tag(tags) => {
-                let new = tags.iter().filter(|(key, value)| {
-                    self.tags.insert(key.to_string(), value.to_string()).as_ref() != Some(value)
-                });
-                let count = new.count();
-                Applied { changed: count > 0, ..Applied::done(false) }
-            }
-            TableChange::Untag(keys) => {
-                let count = keys.iter().filter(|key| self.tags.remove(*key).is_some()).count();
-                Applied { changed: count > 0, ..Applied::done(false) }
-            }
-            TableChange::Purging(last) => {
-                (self.purging, self.purged) = (Some(*last), Some(moment));
-                self.older.clear();
-                Applied::done(false)
-            }
-            TableChange::Purged => {
-                self.purged = Some(moment);
-                if self.purging.take().is_none() {
-                    self.older.clear();
-                }
-                Applied::done(false)
-            }
-            TableChange::Task(task) => {
-                move_tasks::merge(&mut self.tasks, task);
-                Applied::done(false)
-            }
-        };
-        self.own_bytes = bytes_of_queue(&self.attributes, &self.tags);
-        self.change_count += u64::from(applied.changed);
-        applied
-    }
-
-    /// All messages of this queue, which stands beside one that is being purged, are being deleted, or are by now.
-    pub fn purge_with(&mut self, purging: bool) {
-        self.purging = purging.then_some(self.last_sequence);
-        if purging {
-            self.due.clear();
-        }
+        self.older.add(message);
+        self.last_send = moment;
     }
 
     /// Hides a message, if it is there.
@@ -537,25 +439,6 @@ impl State {
             return 0;
         }
         self.own_bytes + self.bytes_in_use()
-    }
-
-    /// By how many bytes a change of attributes or tags makes the queue larger without its messages, and how large it is
-    /// then.
-    pub fn growth(&self, change: &TableChange) -> (u64, u64) {
-        let more = |earlier: Option<&str>, name: &str, value: &str| match earlier {
-            Some(earlier) => value.len().saturating_sub(earlier.len()),
-            None => name.len() + value.len(),
-        };
-        let more: usize = match change {
-            TableChange::Attributes(given) => {
-                given.iter().map(|(name, value)| more(self.attributes.text(name), name, value)).sum()
-            }
-            TableChange::Tag(tags) => {
-                tags.iter().map(|(key, value)| more(self.tags.get(key).map(String::as_str), key, value)).sum()
-            }
-            _ => 0,
-        };
-        (more as u64, self.own_bytes + more as u64)
     }
 
     /// What its messages take of memory, in bytes: envelopes, and estimates for messages and ids that outlive theirs.
@@ -596,11 +479,6 @@ impl State {
         self.tasks.iter().find(|task| task.status == Status::Running)
     }
 
-    /// The last of the messages that are being deleted, if a purge has begun.
-    pub fn purging(&self) -> Option<u64> {
-        self.purging
-    }
-
     /// How many messages there are.
     pub fn count(&self) -> u64 {
         self.messages.len() as u64
@@ -616,17 +494,14 @@ impl State {
         self.messages.is_empty() && self.older.count() == 0 && self.last_send + WINDOW <= now
     }
 
-    /// How many records the queue has since it has its name in the store, at least.
+    /// How many messages were sent since the queue has its name in the store.
     pub fn records(&self) -> u64 {
-        self.last_sequence - self.base + self.change_count
+        self.last_sequence - self.entry.base
     }
 
-    /// Goes over to another name of the store, which counts from 1 again.
-    fn go_over(&mut self, store: StoreName) {
-        self.earlier.push(self.store);
-        self.store = store;
-        self.base = self.last_sequence;
-        self.change_count = 0;
+    /// Has gone over to another name of the store, which counts from 1 again.
+    fn go_over(&mut self) {
+        self.last_sequence = self.entry.base;
         self.recent = VecDeque::new();
         self.left_ids = 0;
         self.own_ids = VecDeque::new();
@@ -646,11 +521,4 @@ fn delay_of_all(kind: QueueKind, attributes: &QueueAttributes) -> u64 {
         QueueKind::Fifo => attributes.delay(),
         QueueKind::Standard => 0,
     }
-}
-
-/// What a queue takes of memory without its messages, in bytes.
-pub fn bytes_of_queue(attributes: &QueueAttributes, tags: &BTreeMap<String, String>) -> u64 {
-    let of_attributes = attributes.iter().map(|(name, value)| name.len() + value.len());
-    let of_tags = tags.iter().map(|(key, value)| key.len() + value.len());
-    QUEUE_BYTES + of_attributes.chain(of_tags).sum::<usize>() as u64
 }

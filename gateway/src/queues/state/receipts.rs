@@ -89,7 +89,7 @@ impl State {
         let Some(message) = self.messages.get(sequence) else { return false };
         let count = message.ordinal.saturating_sub(self.uncounted.count(sequence));
         let is_dead = self.redrive().is_some_and(|policy| count > u64::from(policy.most));
-        is_dead && message.last.is_some_and(|last| last.moment > self.modified.max(created))
+        is_dead && message.last.is_some_and(|last| last.moment > self.entry.modified.max(created))
     }
 
     /// The receipts of those messages in flight that no client has, with what was to become of them. `created` is since
@@ -113,7 +113,7 @@ impl State {
         if self.uncounted.count_since(sequence) > 0 {
             return Some(Fate::Early);
         }
-        let handed = message.last.map(|last| last.moment).filter(|handed| *handed > self.modified)?;
+        let handed = message.last.map(|last| last.moment).filter(|handed| *handed > self.entry.modified)?;
         let is_old = self.horizon(jumps, handed).is_some_and(|horizon| message.sent <= horizon);
         let is_dead = created.is_some_and(|created| self.is_set_aside(sequence, created));
         let fates = [(Fate::Old, is_old), (Fate::Dead, is_dead)];

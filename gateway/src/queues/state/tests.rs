@@ -1,9 +1,13 @@
 //! The tables of a queue by themselves.
 
+use std::collections::BTreeMap;
+use std::sync::Arc;
+
 use super::*;
 use crate::attributes::GivenAttributes;
 use crate::handles::Handle;
-use crate::queues::ask::Delayed;
+use crate::queues::ask::{Delayed, StoreName};
+use crate::queues::book::{Entry, Purging};
 use crate::queues::{Queue, Queues};
 use crate::texts::{DedupId, QueueName};
 
@@ -15,7 +19,18 @@ fn state_of(name: &str) -> State {
     let name = QueueName::parse(name).unwrap();
     let given = GivenAttributes::read(name.kind(), &[]).unwrap();
     let attributes = QueueAttributes::for_creation(name.kind(), &given).unwrap();
-    State::new(StoreName(1), &Creation { name, mark: 1, attributes, tags: BTreeMap::new(), before: None }, 0)
+    State::new(&QueueEntry::new(StoreName(1), name, 1, attributes, BTreeMap::new(), 0))
+}
+
+/// Tells whether the book has anything to say.
+fn change(state: &mut State, change: &TableChange, moment: Moment) -> bool {
+    match state.entry_after(change, 0, moment) {
+        Some(Entry::Queue(entry)) => {
+            state.said(&entry, 1);
+            true
+        }
+        _ => false,
+    }
 }
 
 fn send(state: &mut State, place: u64, moment: Moment) {
@@ -121,7 +136,7 @@ fn what_no_client_has_is_told_by_its_last_handing_alone() {
     let jumps = Jumps::default();
     let change =
         TableChange::Attributes(GivenAttributes::read(state.kind, &[("RedrivePolicy".into(), policy.into())]).unwrap());
-    state.apply_change(&change, 25_000);
+    assert!(self::change(&mut state, &change, 25_000));
     receive(&mut state, 1, 10_000);
     receive(&mut state, 2, 20_000);
     assert!(state.cut_off(Some(0), &jumps, 20_000).is_empty(), "two handings are as many as there may be");
@@ -182,9 +197,12 @@ fn a_delayed_message_is_due_until_it_has_a_copy() {
     assert_eq!((due(&state), state.count_due(6000)), ([vec![], vec![], vec![2]], [2, 1]));
     delete(&mut state, 2, 6000);
     assert_eq!((due(&state), state.count_due(9000), state.count()), ([vec![], vec![], vec![]], [1, 1], 2));
-    state.purge_with(true);
+    state.purge_with(Some(Purging { up_to: 9, delayed_up_to: 3 }));
     assert_eq!((state.purging(), state.count_due(9000), state.next_up_to(3, 9, 9000)), (Some(3), [0, 0], vec![1, 3]));
-    state.purge_with(false);
+    delay(&mut state, 4, 8000, 7000);
+    state.purge_with(Some(Purging { up_to: 9, delayed_up_to: 3 }));
+    assert_eq!((state.purging(), state.count_due(9000)), (Some(3), [1, 1]), "it was sent since");
+    state.purge_with(None);
     assert_eq!(state.purging(), None);
 }
 
@@ -197,7 +215,7 @@ fn a_delayed_message_of_an_older_journal_is_there_until_the_store_has_it() {
         let envelope = envelope(id, 1000).into_whole();
         let call = (id == 3).then(|| call.clone());
         let message = Delayed { id: Uuid::from_u128(id), due: 5000, call, envelope };
-        assert!(state.apply_change(&TableChange::Delayed(Arc::new(message)), 1000).changed);
+        state.add_older(&TableChange::Delayed(Arc::new(message)), 1000);
     }
     let ids = |state: &State| state.older_delayed().iter().map(|one| one.id.as_u128()).collect::<Vec<_>>();
     assert_eq!((ids(&state), state.is_at_rest(WINDOW + 5000)), (vec![1, 2, 3], false));
@@ -212,7 +230,7 @@ fn a_delayed_message_of_an_older_journal_is_there_until_the_store_has_it() {
         _ => None,
     };
     assert_eq!(id_of_call(&mut state, 999 + WINDOW), Some(Uuid::from_u128(3)));
-    state.apply_change(&TableChange::Purging(1), 5500);
+    assert!(change(&mut state, &TableChange::Purging(1), 5500));
     assert_eq!((ids(&state), id_of_call(&mut state, 1000 + WINDOW)), (vec![], None));
     delete(&mut state, 1, 6000);
     state.look_at_ages(5001 + WINDOW);
@@ -261,7 +279,7 @@ fn in_flight(name: &str, count: u64, end: Moment) -> State {
 
 fn set(state: &mut State, name: &str, value: &str) -> bool {
     let given = GivenAttributes::read(state.kind, &[(name.into(), value.into())]).unwrap();
-    state.apply_change(&TableChange::Attributes(given), 0).changed
+    change(state, &TableChange::Attributes(given), 0)
 }
 
 /// How long 300 calls take behind a first one. Walks of a whole queue would take seconds.
@@ -313,10 +331,10 @@ fn a_sweep_is_found_worth_it_without_a_walk_of_what_was_deleted() {
 fn what_changes_nothing_is_no_change() {
     let mut state = state();
     let tags = |value: &str| TableChange::Tag(BTreeMap::from([("a".to_string(), value.to_string())]));
-    let changes = [tags("1"), tags("1"), tags("2"), tags("2")].map(|change| state.apply_change(&change, 5).changed);
+    let changes = [tags("1"), tags("1"), tags("2"), tags("2")].map(|one| change(&mut state, &one, 5));
     assert_eq!(changes, [true, false, true, false]);
     let untag = |key: &str| TableChange::Untag(vec![key.into()]);
-    let changes = [untag("b"), untag("a"), untag("a")].map(|change| state.apply_change(&change, 5).changed);
+    let changes = [untag("b"), untag("a"), untag("a")].map(|one| change(&mut state, &one, 5));
     assert_eq!(changes, [false, true, false]);
     let values = ["30", "31", "31"].map(|value| set(&mut state, "VisibilityTimeout", value));
     assert_eq!(values, [false, true, false]);
@@ -342,10 +360,11 @@ fn peek_at_all(state: &State, at_once: usize, now: Moment) -> Vec<Peeked> {
 
 #[test]
 fn looks_come_to_each_message_once_and_change_nothing() {
-    let queue = Arc::new(Queue::new(StoreName(1), &Creation::plain(QueueName::parse("standard").unwrap(), 1), 0));
+    let entry = QueueEntry::plain(StoreName(1), QueueName::parse("standard").unwrap(), 1);
+    let queue = Arc::new(Queue::new(&entry));
     let (delays, create) = Queue::beside(&queue, StoreName(1));
     let delays = Arc::new(delays);
-    Queues::default().apply_reply(&delays, &create, StoreReply::Created, 0).unwrap();
+    Queues::default().apply_reply(0, &delays, &create, StoreReply::Created, 0).unwrap();
     (1..=5).for_each(|place| send_and_keep(&mut queue.state(), place, 10));
     [(1, 60), (2, 50), (3, 60)].into_iter().for_each(|(place, due)| delay(&mut delays.state(), place, due, 10));
     let refused = [70, 80, 90].map(|next| delays.state().refused_due(3, next));

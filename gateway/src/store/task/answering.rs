@@ -1,6 +1,6 @@
 //! Answers: what the program said, what the journal keeps of it, and who is told.
 
-use super::entries::{Entry, Open, OpenAsk, OpenChange};
+use super::entries::{Entry, Open, OpenAsk};
 use super::{Ended, Task};
 use crate::errors::SqsError;
 use crate::journal::Record;
@@ -18,7 +18,7 @@ impl Task {
                 OutputLine::Refused(code) => self.refused(code)?,
                 OutputLine::Answer { client, number, reply, text } => self.answered(client, number, reply, text)?,
             }
-            self.finish_ready()?;
+            self.finish_ready();
         }
         Ok(())
     }
@@ -52,7 +52,7 @@ impl Task {
             Entry::Ask(asked) => (asked.client, asked.number) == (client, number),
             Entry::Moment => number == 0,
             Entry::Probe { tag, .. } | Entry::Count { tag, .. } => *tag == number,
-            Entry::Change(_) | Entry::Ready(_) => false,
+            Entry::Ready(_) => false,
         };
         let Some(Open { entry, sender }) = self.take_next(is_answered) else {
             return Err(Ended::NotNext { client, number });
@@ -87,7 +87,7 @@ impl Task {
                 self.finish(answer, sender);
                 Ok(())
             }
-            Entry::Change(_) | Entry::Ready(_) => Ok(()),
+            Entry::Ready(_) => Ok(()),
         }
     }
 
@@ -107,7 +107,7 @@ impl Task {
 
     /// Applies the reply to the tables, and appends its record where something changed.
     fn apply_and_record(&mut self, asked: &OpenAsk, reply: StoreReply, text: &str) -> Result<Answer, Ended> {
-        let applied = self.queues.apply_reply(&asked.queue, &asked.ask, reply, asked.moment);
+        let applied = self.queues.apply_reply(self.shard.place(), &asked.queue, &asked.ask, reply, asked.moment);
         self.give_room_back(asked);
         Ok(match applied {
             Ok((outcome, changed)) => {
@@ -151,43 +151,13 @@ impl Task {
     }
 
     /// Finishes the entries at the front that need no answer of the store.
-    pub(super) fn finish_ready(&mut self) -> Result<(), Ended> {
-        loop {
-            match self.open.front() {
-                Some(Open { entry: Entry::Change(_) | Entry::Ready(_), .. }) => {}
-                _ => return Ok(()),
-            }
-            let Some(Open { entry, sender }) = self.open.pop_front() else { return Ok(()) };
+    pub(super) fn finish_ready(&mut self) {
+        while let Some(Open { entry, sender }) = self.take_next(|entry| matches!(entry, Entry::Ready(_))) {
             match entry {
-                Entry::Change(change) => {
-                    let answer = self.apply_change(&change)?;
-                    self.finish(answer, sender);
-                }
                 Entry::Ready(Some(answer)) => self.finish(answer, sender),
                 _ => self.finish_job(sender),
             }
         }
-    }
-
-    fn apply_change(&mut self, change: &OpenChange) -> Result<Answer, Ended> {
-        let OpenChange { queue, change, room, weight } = change;
-        self.admission.answered(*weight);
-        if let Some(journal) = &self.journal {
-            journal.give_back(*room);
-        }
-        let moment = self.clock.now();
-        let (store, removed) = {
-            let state = queue.state();
-            (state.store, state.removed)
-        };
-        if removed {
-            return Ok(Err(SqsError::QueueDoesNotExist));
-        }
-        let (outcome, changed) = self.queues.apply_change(queue, change, moment);
-        if changed {
-            self.append_record(|| Record::of_change(moment, store, change))?;
-        }
-        Ok(Ok(outcome))
     }
 
     fn finish(&mut self, answer: Answer, sender: Option<AnswerSender>) {

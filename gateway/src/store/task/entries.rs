@@ -6,7 +6,7 @@ use serde_json::value::RawValue;
 
 use super::moving::Original;
 use crate::clock::Moment;
-use crate::queues::ask::{Ask, TableChange};
+use crate::queues::ask::Ask;
 use crate::queues::Queue;
 use crate::store::{Answer, AnswerSender, Operation};
 
@@ -30,18 +30,7 @@ pub(super) enum Entry {
         tag: u64,
         queue: Arc<Queue>,
     },
-    Change(OpenChange),
     Ready(Option<Answer>),
-}
-
-/// A change of which the program isn't told, and which is applied when all before it is answered.
-pub(super) struct OpenChange {
-    pub(super) queue: Arc<Queue>,
-    pub(super) change: TableChange,
-    /// Bytes that were set aside for its record.
-    pub(super) room: u64,
-    /// Bytes of memory that it was counted with.
-    pub(super) weight: u64,
 }
 
 /// An ask that is with the program.

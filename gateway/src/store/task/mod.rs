@@ -200,7 +200,7 @@ impl Task {
     /// Waits for one thing to happen, and does what follows from it.
     async fn turn(&mut self, jobs: &mut mpsc::UnboundedReceiver<Job>) -> Result<(), Ended> {
         self.start_pending()?;
-        self.finish_ready()?;
+        self.finish_ready();
         self.hand_over();
         self.count_open();
         self.cq.output.is_awaited = !self.open.is_empty();

@@ -54,7 +54,7 @@ impl Task {
         }
         let (store, base, removed) = {
             let state = target.state();
-            (state.store, state.base, state.removed)
+            (state.entry.store, state.entry.base, state.removed)
         };
         if removed || copies.is_empty() {
             return Ok(StartOutcome::ready(Err(SqsError::QueueDoesNotExist)));
@@ -63,7 +63,7 @@ impl Task {
         let mut asked = Vec::with_capacity(copies.len());
         for copy in &copies {
             let raw = serde_json::value::to_raw_value(&AskFields::of(store, base, &copy.ask))?;
-            let rooms = match self.set_aside(&copy.ask, bytes_of(&copy.ask, &raw)) {
+            let rooms = match self.set_aside(&copy.ask, bytes_of(&raw)) {
                 Ok(Some(rooms)) => rooms,
                 refused => {
                     self.give_all_back(&asked);
@@ -142,7 +142,7 @@ impl Task {
         let moment = self.clock.now();
         let (store, base) = {
             let state = source.state();
-            (state.store, state.base)
+            (state.entry.store, state.entry.base)
         };
         let mut is_begun = false;
         for original in copied {

@@ -4,17 +4,19 @@ use std::sync::Arc;
 
 use serde_json::value::RawValue;
 
-use super::entries::{Entry, Open, OpenAsk, OpenChange, Pending, StartOutcome};
-use super::room::{bytes_of, bytes_of_change, need_of, need_of_change};
+use super::entries::{Entry, Open, OpenAsk, Pending, StartOutcome};
+use super::room::{bytes_of, need_of, need_of_change};
 use super::{Ended, Task, PIECE};
 use crate::clock::Moment;
 use crate::errors::SqsError;
 use crate::handles::Receipt;
+use crate::journal::Need;
 use crate::lines::{self, AskFields};
-use crate::queues::ask::{Ask, Cause, Outcome, TableChange};
+use crate::queues::ask::{Ask, Cause, Outcome, StoreName, TableChange};
+use crate::queues::book;
 use crate::queues::{Queue, State};
 use crate::store::{Answer, AnswerSender, Operation};
-use crate::texts::QueueKind;
+use crate::texts::{QueueKind, STORE_LIMIT};
 
 impl Task {
     /// Starts the operations that wait, as long as there are free clients.
@@ -29,7 +31,8 @@ impl Task {
                     // It went meanwhile, or its queue goes over to another name.
                     _ => StartOutcome::ready(Err(without_delays(&queue))),
                 },
-                (Some(queue), Some(Operation::Change(change))) => self.start_change(queue, change),
+                (Some(queue), Some(Operation::Change(change))) => self.start_change(queue, change)?,
+                (Some(queue), Some(Operation::Say(entry))) => self.start_saying(queue, entry, Need::Same, 0)?,
                 (Some(queue), Some(Operation::Count)) => StartOutcome::Open(self.count(queue)?),
                 (Some(queue), Some(Operation::Move { target, copies })) => {
                     self.start_move(queue, target, copies, &mut sender)?
@@ -67,10 +70,14 @@ impl Task {
 
     fn start_ask(&mut self, queue: Arc<Queue>, ask: Ask) -> Result<StartOutcome, Ended> {
         let ready = |answer| Ok(StartOutcome::ready(answer));
-        let (store, base, ask) = {
+        let (store, base, removed, ask) = {
             let state = queue.state();
-            (state.store, state.base, with_last_receipt(ask, &state))
+            (state.entry.store, state.entry.base, state.removed, with_last_receipt(ask, &state))
         };
+        // The store may have it for a while.
+        if removed {
+            return ready(Err(SqsError::QueueDoesNotExist));
+        }
         if let Some(answer) = answer_about_earlier(&ask, base) {
             return ready(answer);
         }
@@ -101,7 +108,20 @@ impl Task {
             Err(error) => return ready(Err(error)),
         };
         let raw = serde_json::value::to_raw_value(&AskFields::of(store, base, &ask))?;
-        match self.ask_admitted(queue, ask, raw, moment, weight)? {
+        let need = need_of(&ask);
+        self.ask_admitted(queue, ask, raw, need, moment, weight)
+    }
+
+    fn ask_admitted(
+        &mut self,
+        queue: Arc<Queue>,
+        ask: Ask,
+        raw: Box<RawValue>,
+        need: Need,
+        moment: Moment,
+        weight: u64,
+    ) -> Result<StartOutcome, Ended> {
+        match self.ask_with_room(queue, ask, raw, need, moment, weight)? {
             started @ StartOutcome::Open(Entry::Ask(_)) => Ok(started),
             other => {
                 self.admission.answered(weight);
@@ -110,11 +130,12 @@ impl Task {
         }
     }
 
-    fn ask_admitted(
+    fn ask_with_room(
         &mut self,
         queue: Arc<Queue>,
         ask: Ask,
         raw: Box<RawValue>,
+        need: Need,
         moment: Moment,
         weight: u64,
     ) -> Result<StartOutcome, Ended> {
@@ -126,7 +147,7 @@ impl Task {
             None => 0,
             // It has no record.
             Some(_) if ask.reads_parts() => 0,
-            Some(journal) => match journal.set_aside(need_of(&ask), bytes_of(&ask, &raw)) {
+            Some(journal) => match journal.set_aside(need, bytes_of(&raw)) {
                 Ok(Some(room)) => room,
                 Ok(None) => return Ok(StartOutcome::LacksRoom(queue, ask.into())),
                 Err(error) => return ready(Err(error)),
@@ -199,7 +220,7 @@ impl Task {
     }
 
     pub(super) fn write_count(&mut self, tag: u64, queue: &Queue) -> Result<(), Ended> {
-        Ok(lines::append_count(&mut self.out.bytes, tag, queue.state().store)?)
+        Ok(lines::append_count(&mut self.out.bytes, tag, queue.state().entry.store)?)
     }
 
     /// Whether a change or a delete of this message isn't answered yet. Takes time in proportion to the open requests,
@@ -217,32 +238,69 @@ impl Task {
         (has_expired || self.open_visibility_changes > 0) && self.open.iter().any(is_of_message)
     }
 
-    /// Sets space of the journal and memory aside for a change, which is applied when all before it is answered.
-    fn start_change(&self, queue: Arc<Queue>, change: TableChange) -> StartOutcome {
-        let (effect, removed) = {
-            let state = queue.state();
-            (state.effect_of(change), state.removed)
-        };
-        let change = match effect {
-            _ if removed => return StartOutcome::ready(Err(SqsError::QueueDoesNotExist)),
-            Some(change) => change,
-            None => return StartOutcome::ready(Ok(Outcome::Done)),
-        };
-        let weight = match self.admission.admit_change(&queue, &change, self.clock.now()) {
-            Ok(weight) => weight,
-            Err(error) => return StartOutcome::ready(Err(error)),
-        };
-        let room = match &self.journal {
-            None => Ok(Some(0)),
-            Some(journal) => journal.set_aside(need_of_change(&change), bytes_of_change(&change)),
-        };
-        if let Ok(Some(room)) = room {
-            return StartOutcome::Open(Entry::Change(OpenChange { queue, change, room, weight }));
+    /// Has the book say what changes, when it has said all that was to be said of the queue before.
+    fn start_change(&mut self, queue: Arc<Queue>, change: TableChange) -> Result<StartOutcome, Ended> {
+        if queue.state().removed {
+            return Ok(StartOutcome::ready(Err(SqsError::QueueDoesNotExist)));
         }
-        self.admission.answered(weight);
-        room.err()
-            .map_or_else(|| StartOutcome::LacksRoom(queue, change.into()), |error| StartOutcome::ready(Err(error)))
+        if self.is_being_said(&queue) {
+            return Ok(StartOutcome::WaitsForAnswer(queue, change.into()));
+        }
+        if change == TableChange::Created && self.queues.find(&queue.name).is_some() {
+            let message = "The queue was created by another request meanwhile.";
+            return Ok(StartOutcome::ready(Err(SqsError::ServiceUnavailable(message.into()))));
+        }
+        let moment = self.clock.now();
+        let Some(entry) = queue.entry_after(&change, moment) else {
+            return Ok(StartOutcome::ready(Ok(Outcome::Done)));
+        };
+        let weight = match self.admission.admit_entry(&queue, &entry, moment) {
+            Ok(weight) => weight,
+            Err(error) => return Ok(StartOutcome::ready(Err(error))),
+        };
+        Ok(match self.start_saying(queue, entry, need_of_change(&change), weight)? {
+            StartOutcome::LacksRoom(queue, _) => StartOutcome::LacksRoom(queue, change.into()),
+            StartOutcome::WaitsForAnswer(queue, _) => StartOutcome::WaitsForAnswer(queue, change.into()),
+            other => other,
+        })
     }
+
+    /// Whether an entry about a queue of this name isn't answered yet. Takes time in proportion to the open requests.
+    fn is_being_said(&self, queue: &Queue) -> bool {
+        self.open.iter().any(|open| match &open.entry {
+            Entry::Ask(asked) => matches!(asked.ask, Ask::Say { .. }) && asked.queue.name == queue.name,
+            _ => false,
+        })
+    }
+
+    fn start_saying(
+        &mut self,
+        queue: Arc<Queue>,
+        entry: book::Entry,
+        need: Need,
+        weight: u64,
+    ) -> Result<StartOutcome, Ended> {
+        let Some(book) = self.queues.books().current(self.shard.place()) else {
+            self.admission.answered(weight);
+            let message = "The journal's disk is being asked for space.";
+            return Ok(StartOutcome::ready(Err(SqsError::ServiceUnavailable(message.into()))));
+        };
+        let text = text_of(&entry)?;
+        if text.len() > STORE_LIMIT {
+            // So long may be what an older journal has, which keeps it.
+            self.admission.answered(weight);
+            let message = "The queue's attributes and tags are too long.";
+            return Ok(StartOutcome::ready(Err(SqsError::InvalidParameterValue(message.into()))));
+        }
+        let ask = Ask::Say { book, entry: Arc::new(entry), text };
+        let raw = serde_json::value::to_raw_value(&AskFields::of(StoreName::of_book(book), 0, &ask))?;
+        self.ask_admitted(queue, ask, raw, need, self.clock.now(), weight)
+    }
+}
+
+/// What stands in a book. Older journals have tags with the two characters that JSON leaves as they are and no body may have.
+fn text_of(entry: &book::Entry) -> serde_json::Result<String> {
+    Ok(serde_json::to_string(entry)?.replace('\u{fffe}', "\\ufffe").replace('\u{ffff}', "\\uffff"))
 }
 
 /// What the call sent that this repeats, with a delay or without: meanwhile the queue may have got another one.

@@ -1,0 +1,174 @@
+//! Keeps the book of each program: a queue of the gateway's own in the store, in which stands what is said of queues.
+//!
+//! Entries that others took the place of are old. Once they take more than those that count, a fresh book is begun, all that
+//! counts is said there once more, and the earlier one is removed with what is old.
+
+use std::sync::Arc;
+use std::time::Duration;
+
+use crate::errors::SqsError;
+use crate::limits::{MESSAGE_BYTES, QUEUE_BYTES};
+use crate::queues::ask::{Ask, StoreName};
+use crate::queues::book::Entry;
+use crate::queues::Queue;
+use crate::store::{Operation, Store};
+
+/// So often books are looked at.
+const PAUSE: Duration = Duration::from_millis(250);
+
+/// What couldn't be done is tried again after this, and later each time up to [`LONGEST_REST`].
+const LONGEST_REST: Duration = Duration::from_secs(10);
+
+/// A book isn't begun anew for less than so many bytes, or so many while memory or space of the journal is wanted back.
+const WORTH_IT: u64 = 1 << 20;
+const WORTH_IT_IF_FULL: u64 = 64 << 10;
+
+/// So many queues are said once more at once.
+const AT_ONCE: usize = 64;
+
+/// Has a book for each program, with all that counts, before anybody is served, and removes what no queue goes by. What can't
+/// be done now, since the disk is full, is done later.
+pub async fn prepare(store: &Store) {
+    for place in store.places() {
+        match bring_up_to_date(store, place).await {
+            Err(error) if error != SqsError::store_is_gone() => {
+                tracing::warn!("the book is brought up to date later: {error}");
+            }
+            // Why a store is gone is told where it ends.
+            _ => {}
+        }
+    }
+}
+
+/// Keeps the books for as long as the gateway serves.
+pub async fn keep(store: Store) {
+    let keeping: Vec<_> = store.places().map(|place| tokio::spawn(keep_one(store.clone(), place))).collect();
+    for one in keeping {
+        // It doesn't end.
+        let _ = one.await;
+    }
+}
+
+async fn keep_one(store: Store, place: usize) {
+    // A start may have left something to do.
+    let (mut is_due, mut rest, mut looked) = (true, PAUSE, 0);
+    loop {
+        tokio::time::sleep(rest).await;
+        let bytes = store.queues().books().bytes_of_current(place);
+        let has_changed = bytes != looked || is_space_wanted(&store);
+        looked = bytes;
+        is_due |= has_changed && is_worth_beginning_anew(&store, place);
+        if !is_due && store.queues().left_over().of(place).is_empty() {
+            continue;
+        }
+        match bring_up_to_date(&store, place).await {
+            Ok(()) => (is_due, rest) = (false, PAUSE),
+            Err(error) => {
+                rest = LONGEST_REST.min(2 * rest);
+                tracing::warn!("the book is brought up to date later: {error}");
+            }
+        }
+    }
+}
+
+fn is_space_wanted(store: &Store) -> bool {
+    store.wants_space() || store.is_memory_full()
+}
+
+/// Whether old entries take more than those that count.
+fn is_worth_beginning_anew(store: &Store, place: usize) -> bool {
+    let bytes = store.queues().books().bytes_of_current(place);
+    let least = if is_space_wanted(store) { WORTH_IT_IF_FULL } else { WORTH_IT };
+    bytes > least && bytes > least + 2 * bytes_that_count(store, place)
+}
+
+/// What an entry takes beside its message and the texts of attributes and tags.
+const ENTRY_BYTES: u64 = 512;
+
+/// What the entries that count take.
+fn bytes_that_count(store: &Store, place: usize) -> u64 {
+    let bytes = |queue: Arc<Queue>| {
+        let state = queue.state();
+        let entries = 1 + state.tasks().len() as u64;
+        entries * (MESSAGE_BYTES + ENTRY_BYTES) + state.own_bytes() - QUEUE_BYTES
+    };
+    of_place(store, place).map(bytes).sum()
+}
+
+fn of_place(store: &Store, place: usize) -> impl Iterator<Item = Arc<Queue>> + '_ {
+    store.queues().all().into_iter().filter(move |queue| store.place_of(&queue.name) == place)
+}
+
+async fn bring_up_to_date(store: &Store, place: usize) -> Result<(), SqsError> {
+    let books = store.queues().books();
+    if books.current(place).is_none() || is_worth_beginning_anew(store, place) {
+        let create = Ask::Create { store: store.next_book(place), visibility: 0, bytes: 0 };
+        store.perform_nameless(place, vec![create.into()]).await?;
+    }
+    // From now on nothing is said in an earlier one.
+    if !store.wait_for(place).await {
+        return Err(SqsError::store_is_gone());
+    }
+    let earlier = books.earlier(place);
+    say_all(store, place).await?;
+    if !earlier.is_empty() {
+        say_removals(store, place).await?;
+    }
+    for number in earlier {
+        remove(store, place, StoreName::of_book(number)).await?;
+    }
+    for name in store.queues().left_over().of(place) {
+        remove_left_over(store, place, name).await?;
+    }
+    Ok(())
+}
+
+/// Has the current book say of each queue what it doesn't yet.
+async fn say_all(store: &Store, place: usize) -> Result<(), SqsError> {
+    let Some(current) = store.queues().books().current(place) else { return Ok(()) };
+    let all: Vec<_> = of_place(store, place).collect();
+    for some in all.chunks(AT_ONCE) {
+        let unsaid = some.iter().map(|queue| (queue, queue.state().unsaid_in(current)));
+        let unsaid = unsaid.filter(|(_, changes)| !changes.is_empty());
+        let asked: Vec<_> = unsaid.map(|(queue, changes)| store.begin_changes(queue, changes)).collect();
+        for answers in asked {
+            for answer in answers.await {
+                match answer {
+                    Err(error) if is_for_now(&error) => return Err(error),
+                    // It was removed meanwhile, or is too long for a book, and then an older journal has it.
+                    _ => {}
+                }
+            }
+        }
+    }
+    Ok(())
+}
+
+fn is_for_now(error: &SqsError) -> bool {
+    matches!(error, SqsError::ServiceUnavailable(_) | SqsError::OverLimit(_) | SqsError::InternalFailure(_))
+}
+
+async fn say_removals(store: &Store, place: usize) -> Result<(), SqsError> {
+    let removals = store.queues().removals(store.clock().now()).into_iter();
+    let own = removals.filter(|removal| store.place_of(&removal.name) == place);
+    let operations: Vec<_> = own.map(|removal| Operation::Say(Entry::Removed(removal))).collect();
+    if operations.is_empty() {
+        return Ok(());
+    }
+    store.perform_nameless(place, operations).await
+}
+
+/// Removes a name from the store by which no queue goes.
+pub async fn remove_left_over(store: &Store, place: usize, name: StoreName) -> Result<(), SqsError> {
+    remove(store, place, name).await?;
+    store.queues().left_over().remove(place, name);
+    Ok(())
+}
+
+async fn remove(store: &Store, place: usize, name: StoreName) -> Result<(), SqsError> {
+    match store.perform_nameless(place, vec![Ask::Remove { store: name }.into()]).await {
+        // The store hasn't got it.
+        Err(SqsError::QueueDoesNotExist) => Ok(()),
+        other => other,
+    }
+}

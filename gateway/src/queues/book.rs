@@ -1,0 +1,219 @@
+//! The book: a queue of the gateway's own in the store, in which stands what is said of queues. Each program has one.
+//!
+//! A message of it is an entry, one line of JSON. Of several entries about one thing the last counts.
+
+use std::collections::{BTreeMap, BTreeSet};
+use std::sync::{Mutex, MutexGuard, PoisonError};
+
+use serde::{Deserialize, Serialize};
+
+use super::ask::StoreName;
+use crate::attributes::QueueAttributes;
+use crate::clock::Moment;
+use crate::limits::MESSAGE_BYTES;
+use crate::move_tasks::MoveTask;
+use crate::texts::QueueName;
+
+/// What an entry says.
+#[derive(Clone, Debug, PartialEq, Eq, Serialize, Deserialize)]
+#[serde(rename_all = "lowercase")]
+pub enum Entry {
+    Queue(QueueEntry),
+    Removed(Removal),
+    /// How a task stands that moves messages out of the queue of this mark.
+    Task(u64, MoveTask),
+}
+
+/// How a queue stands. A queue is there from its first entry on; its name in the store is created before.
+#[derive(Clone, Debug, PartialEq, Eq, Serialize, Deserialize)]
+pub struct QueueEntry {
+    pub store: StoreName,
+    pub name: QueueName,
+    pub mark: u64,
+    /// How many messages it had been sent when it got this name in the store, which counts from 1.
+    #[serde(default, skip_serializing_if = "is_zero")]
+    pub base: u64,
+    pub attributes: QueueAttributes,
+    #[serde(default, skip_serializing_if = "BTreeMap::is_empty")]
+    pub tags: BTreeMap<String, String>,
+    pub created: Moment,
+    pub modified: Moment,
+    #[serde(default, skip_serializing_if = "Option::is_none")]
+    pub purged: Option<Moment>,
+    #[serde(default, skip_serializing_if = "Option::is_none")]
+    pub purging: Option<Purging>,
+}
+
+/// A purge that goes on: all messages up to these are being deleted.
+#[derive(Clone, Copy, Debug, PartialEq, Eq, Serialize, Deserialize)]
+pub struct Purging {
+    pub up_to: u64,
+    /// Of the queue beside a standard one, which has what is delayed.
+    #[serde(default, skip_serializing_if = "is_zero")]
+    pub delayed_up_to: u64,
+}
+
+/// A queue was removed at this moment. What the store has of it still goes after that.
+#[derive(Clone, Debug, PartialEq, Eq, Serialize, Deserialize)]
+pub struct Removal {
+    pub name: QueueName,
+    pub mark: u64,
+    pub at: Moment,
+}
+
+fn is_zero(number: &u64) -> bool {
+    *number == 0
+}
+
+impl QueueEntry {
+    /// That of a queue of which nothing is said.
+    pub fn plain(store: StoreName, name: QueueName, mark: u64) -> QueueEntry {
+        let attributes = QueueAttributes::defaults(name.kind());
+        QueueEntry::new(store, name, mark, attributes, BTreeMap::new(), 0)
+    }
+
+    /// That of a queue that is created at this moment.
+    pub fn new(
+        store: StoreName,
+        name: QueueName,
+        mark: u64,
+        attributes: QueueAttributes,
+        tags: BTreeMap<String, String>,
+        created: Moment,
+    ) -> QueueEntry {
+        let modified = created;
+        QueueEntry { store, name, mark, base: 0, attributes, tags, created, modified, purged: None, purging: None }
+    }
+}
+
+/// One that the store has.
+#[derive(Clone, Copy, Debug)]
+struct Book {
+    number: u64,
+    /// What its entries take of memory.
+    bytes: u64,
+}
+
+/// The books of all programs, by their places: the last of each is the one that is written to, and the others are to be
+/// removed once all that counts stands in it.
+#[derive(Debug, Default)]
+pub struct Books(Mutex<BTreeMap<usize, Vec<Book>>>);
+
+impl Books {
+    fn books(&self) -> MutexGuard<'_, BTreeMap<usize, Vec<Book>>> {
+        self.0.lock().unwrap_or_else(PoisonError::into_inner)
+    }
+
+    /// The store has this one, and from now on it is written to.
+    pub fn add(&self, place: usize, number: u64) {
+        self.books().entry(place).or_default().push(Book { number, bytes: 0 });
+    }
+
+    /// The store hasn't got it any more. Tells what its entries took of memory.
+    pub fn remove(&self, place: usize, number: u64) -> u64 {
+        let mut books = self.books();
+        let books = books.entry(place).or_default();
+        let removed: u64 = books.iter().filter(|book| book.number == number).map(|book| book.bytes).sum();
+        books.retain(|book| book.number != number);
+        removed
+    }
+
+    /// An entry of so many bytes stands in it. Tells what it takes of memory.
+    pub fn count(&self, place: usize, number: u64, bytes: u64) -> u64 {
+        let taken = bytes + MESSAGE_BYTES;
+        if let Some(book) = self.books().entry(place).or_default().iter_mut().find(|book| book.number == number) {
+            book.bytes += taken;
+            return taken;
+        }
+        0
+    }
+
+    /// The number of the one that is written to.
+    pub fn current(&self, place: usize) -> Option<u64> {
+        self.books().get(&place)?.last().map(|book| book.number)
+    }
+
+    /// What its entries take of memory.
+    pub fn bytes_of_current(&self, place: usize) -> u64 {
+        self.books().get(&place).and_then(|books| books.last()).map_or(0, |book| book.bytes)
+    }
+
+    /// The numbers of those before it.
+    pub fn earlier(&self, place: usize) -> Vec<u64> {
+        let books = self.books();
+        let books = books.get(&place).map_or(&[][..], Vec::as_slice);
+        books.iter().rev().skip(1).map(|book| book.number).collect()
+    }
+}
+
+/// Names that the store has and that no queue goes by, and the places of the programs that have them. They are to go.
+#[derive(Debug, Default)]
+pub struct LeftOver(Mutex<BTreeSet<(usize, StoreName)>>);
+
+impl LeftOver {
+    fn names(&self) -> MutexGuard<'_, BTreeSet<(usize, StoreName)>> {
+        self.0.lock().unwrap_or_else(PoisonError::into_inner)
+    }
+
+    pub fn add(&self, place: usize, names: impl IntoIterator<Item = StoreName>) {
+        self.names().extend(names.into_iter().map(|name| (place, name)));
+    }
+
+    /// These, and no others, are to go of this program.
+    pub fn set(&self, place: usize, names: impl IntoIterator<Item = StoreName>) {
+        self.names().retain(|(own, _)| *own != place);
+        self.add(place, names);
+    }
+
+    /// This one has gone.
+    pub fn remove(&self, place: usize, name: StoreName) {
+        self.names().remove(&(place, name));
+    }
+
+    pub fn of(&self, place: usize) -> Vec<StoreName> {
+        self.names().iter().filter(|(own, _)| *own == place).map(|(_, name)| *name).collect()
+    }
+}
+
+#[cfg(test)]
+mod tests {
+    use super::*;
+    use crate::texts::{QueueKind, STORE_LIMIT};
+
+    #[test]
+    fn the_longest_entry_of_a_queue_fits_into_the_store() {
+        let padded = |rest: &str| format!("{{{}{rest}}}", "\n".repeat(8_190 - rest.len()));
+        let target = "\"deadLetterTargetArn\":\"arn:aws:sqs:x:000000000000:dead.fifo\"";
+        let given = [
+            ("Policy", padded("\"Statement\":{}")),
+            ("RedrivePolicy", padded(target)),
+            ("RedriveAllowPolicy", padded("\"redrivePermission\":\"allowAll\"")),
+            ("FifoQueue", "true".into()),
+            ("KmsMasterKeyId", "k".repeat(2_048)),
+        ];
+        let given: Vec<_> = given.into_iter().map(|(name, value)| (name.to_string(), value)).collect();
+        let given = crate::attributes::GivenAttributes::read(QueueKind::Fifo, &given).unwrap();
+        let attributes = QueueAttributes::for_creation(QueueKind::Fifo, &given).unwrap();
+        let tags = (0..50).map(|place| (format!("{place:0>2}{}", "\u{10400}".repeat(126)), "\u{10400}".repeat(256)));
+        let name = QueueName::parse(&format!("{}.fifo", "q".repeat(75))).unwrap();
+        let entry = QueueEntry::new(StoreName(u64::MAX >> 3), name, u64::MAX, attributes, tags.collect(), u64::MAX);
+        let text = serde_json::to_string(&Entry::Queue(entry.clone())).unwrap();
+        assert!((120_000..STORE_LIMIT).contains(&text.len()), "{}", text.len());
+        assert_eq!(serde_json::from_str::<Entry>(&text).unwrap(), Entry::Queue(entry));
+    }
+
+    #[test]
+    fn the_last_book_is_written_to_and_each_is_counted_until_it_goes() {
+        let books = Books::default();
+        assert_eq!((books.current(0), books.earlier(0)), (None, vec![]));
+        books.add(0, 2);
+        books.add(1, 3);
+        assert_eq!((books.count(0, 2, 10), books.count(0, 4, 10)), (10 + MESSAGE_BYTES, 0));
+        books.add(0, 4);
+        assert_eq!((books.current(0), books.earlier(0), books.current(1)), (Some(4), vec![2], Some(3)));
+        // One that was asked before.
+        assert_eq!(books.count(0, 2, 20), 20 + MESSAGE_BYTES);
+        assert_eq!((books.bytes_of_current(0), books.remove(0, 2)), (0, 30 + 2 * MESSAGE_BYTES));
+        assert_eq!((books.current(0), books.earlier(0), books.remove(0, 2)), (Some(4), vec![], 0));
+    }
+}

@@ -1,0 +1,129 @@
+//! What the book says of a queue.
+
+use std::collections::BTreeMap;
+
+use super::{delay_of_all, State};
+use crate::attributes::QueueAttributes;
+use crate::clock::Moment;
+use crate::limits::QUEUE_BYTES;
+use crate::move_tasks::{self, MoveTask};
+use crate::queues::ask::TableChange;
+use crate::queues::book::{Entry, Purging, QueueEntry, Removal};
+
+/// What an entry changed.
+#[derive(Clone, Copy, Debug, Default, PartialEq, Eq)]
+pub struct Said {
+    /// Something that can open a group.
+    pub has_opened: bool,
+    /// The name in the store.
+    pub has_gone_over: bool,
+    /// Which messages are being deleted.
+    pub purging: Option<Option<Purging>>,
+}
+
+impl State {
+    /// What the book has to say once this has changed, at this moment; none where nothing changes. `delayed_up_to` is the
+    /// last message of the queue beside this one.
+    pub fn entry_after(&self, change: &TableChange, delayed_up_to: u64, moment: Moment) -> Option<Entry> {
+        let mut entry = self.entry.clone();
+        match change {
+            TableChange::Created => {
+                (entry.created, entry.modified) = (moment, moment);
+                return Some(Entry::Queue(entry));
+            }
+            TableChange::Attributes(given) => {
+                let given = entry.attributes.news_of(given);
+                if !given.is_empty() {
+                    entry.attributes.set(&given);
+                    entry.modified = moment;
+                }
+            }
+            TableChange::Tag(tags) => entry.tags.extend(tags.clone()),
+            TableChange::Untag(keys) => entry.tags.retain(|key, _| !keys.contains(key)),
+            TableChange::Purging(last) => {
+                (entry.purged, entry.purging) = (Some(moment), Some(Purging { up_to: *last, delayed_up_to }));
+            }
+            TableChange::Purged => (entry.purged, entry.purging) = (Some(moment), None),
+            TableChange::Task(task) => return Some(Entry::Task(entry.mark, task.clone())),
+            TableChange::GoneOver(store) => (entry.store, entry.base) = (*store, self.last_sequence),
+            TableChange::Removed => {
+                return Some(Entry::Removed(Removal { name: entry.name, mark: entry.mark, at: moment }));
+            }
+            TableChange::Nothing => return Some(Entry::Queue(entry)),
+            TableChange::Delayed(_) => {}
+        }
+        (entry != self.entry).then_some(Entry::Queue(entry))
+    }
+
+    /// The book of this number says how the queue stands; 0 stands for records of a journal up to version 7.
+    pub fn said(&mut self, entry: &QueueEntry, book: u64) -> Said {
+        let before = std::mem::replace(&mut self.entry, entry.clone());
+        self.said_in = book;
+        let said = Said {
+            has_opened: before.attributes != entry.attributes,
+            has_gone_over: before.store != entry.store,
+            purging: (before.purging != entry.purging).then_some(entry.purging),
+        };
+        if said.has_gone_over {
+            self.go_over();
+        }
+        if said.has_opened {
+            self.redrive = entry.attributes.redrive();
+            self.set_delay(delay_of_all(self.kind, &entry.attributes));
+        }
+        let begins = matches!(said.purging, Some(Some(_)));
+        // In journals up to version 5 nothing says that a purge begins.
+        let is_whole = before.purging.is_none() && entry.purging.is_none() && before.purged != entry.purged;
+        if begins || is_whole {
+            self.older.clear();
+        }
+        self.own_bytes = bytes_of_queue(&entry.attributes, &entry.tags);
+        said
+    }
+
+    /// The book of this number says how a task stands.
+    pub fn said_of_task(&mut self, task: &MoveTask, book: u64) {
+        move_tasks::merge(&mut self.tasks, task);
+        self.tasks_said_in.insert(task.id, book);
+        let tasks = &self.tasks;
+        self.tasks_said_in.retain(|id, _| tasks.iter().any(|task| task.id == *id));
+    }
+
+    /// What the book of this number doesn't say yet.
+    pub fn unsaid_in(&self, book: u64) -> Vec<TableChange> {
+        let is_unsaid = |task: &&MoveTask| self.tasks_said_in.get(&task.id) != Some(&book);
+        let tasks = self.tasks.iter().filter(is_unsaid).cloned().map(TableChange::Task);
+        tasks.chain((self.said_in != book).then_some(TableChange::Nothing)).collect()
+    }
+
+    /// Of a queue beside one that is being purged: which of its messages are being deleted, if any still are.
+    pub fn purge_with(&mut self, purging: Option<Purging>) {
+        self.entry.purging = purging.map(|main| Purging { up_to: main.delayed_up_to, delayed_up_to: 0 });
+        if let Some(last) = self.purging() {
+            self.due.remove_up_to(last);
+        }
+    }
+
+    /// The last of the messages that are being deleted, if a purge has begun.
+    pub fn purging(&self) -> Option<u64> {
+        self.entry.purging.map(|purging| purging.up_to)
+    }
+
+    /// What the queue takes of memory without its messages, in bytes.
+    pub fn own_bytes(&self) -> u64 {
+        self.own_bytes
+    }
+
+    /// By how many bytes an entry makes the queue larger without its messages, and how large it is then.
+    pub fn growth(&self, entry: &QueueEntry) -> (u64, u64) {
+        let whole = bytes_of_queue(&entry.attributes, &entry.tags);
+        (whole.saturating_sub(self.own_bytes), whole)
+    }
+}
+
+/// What a queue takes of memory without its messages, in bytes.
+pub fn bytes_of_queue(attributes: &QueueAttributes, tags: &BTreeMap<String, String>) -> u64 {
+    let of_attributes = attributes.iter().map(|(name, value)| name.len() + value.len());
+    let of_tags = tags.iter().map(|(key, value)| key.len() + value.len());
+    QUEUE_BYTES + of_attributes.chain(of_tags).sum::<usize>() as u64
+}

@@ -1,0 +1,292 @@
+"""What is said of queues stands in the store: creations and removals that are cut off, changes, and books begun anew."""
+
+from __future__ import annotations
+
+import json
+import re
+import threading
+import time
+from collections.abc import Callable
+from pathlib import Path
+
+import pytest
+
+from started import ByJson, Refused, Started, run
+from steered import SteeredCq
+
+TAGS = {"team": "shop", "kind": "remove"}
+MOMENTS = ["CreatedTimestamp", "LastModifiedTimestamp"]
+
+
+class Kept:
+    """A gateway whose `cq` waits or ends where it is told to."""
+
+    def __init__(self, room: Path, *words: str) -> None:
+        self.cq, self.journal = SteeredCq(room), room / "journal"
+        self.gateway = Started("--journal", str(self.journal), "--no-pauses", *words, *self.cq.words(), room=room)
+        self.ending = ""
+
+    def call(self, action: str, **members):
+        return ByJson(self.gateway.url)(action, **members)
+
+    def create(self, name: str = "q", timeout: int = 7) -> None:
+        self.call("CreateQueue", QueueName=name, Attributes={"VisibilityTimeout": str(timeout)}, tags=TAGS)
+
+    def send(self, body: str, name: str = "q", **more) -> None:
+        self.call("SendMessage", QueueUrl=name, MessageBody=body, **more)
+
+    def bodies(self, name: str = "q") -> list[str]:
+        told = self.call("ReceiveMessage", QueueUrl=name, MaxNumberOfMessages=10, VisibilityTimeout=0)
+        return [message["Body"] for message in told.get("Messages", [])]
+
+    def names(self) -> list[str]:
+        return [url.rsplit("/", 1)[-1] for url in self.call("ListQueues").get("QueueUrls", [])]
+
+    def shown(self, name: str = "q") -> tuple[dict, dict]:
+        attributes = self.call("GetQueueAttributes", QueueUrl=name, AttributeNames=["All"])["Attributes"]
+        return attributes, self.call("ListQueueTags", QueueUrl=name).get("Tags", {})
+
+    def restart(self) -> None:
+        self.gateway.kill()
+        self.gateway.start()
+
+    def cut(self, passing: int, what: Callable[[], None]) -> bool:
+        """Does something, and kills the gateway before `cq` has the creation, entry or removal behind so many. False if there
+        were no more, and then it was done."""
+        self.cq.tell(each=['"kind":"create"', '"queue":"book', '"kind":"remove"'], **{"pass": passing})
+        done = []
+
+        def act() -> None:
+            try:
+                what()
+                done.append(True)
+            except OSError:
+                pass
+
+        acting, ends, latest = threading.Thread(target=act), self.cq.ends(), time.monotonic() + 20
+        acting.start()
+        while acting.is_alive() and self.cq.ends() == ends:
+            assert time.monotonic() < latest
+            time.sleep(0.005)
+        # What was answered by then is on disk.
+        time.sleep(0.05)
+        self.gateway.kill()
+        self.cq.tell()
+        acting.join()
+        self.gateway.start()
+        return not done
+
+    def store_names(self) -> set[str]:
+        """The names that the store has by the journal."""
+        names = set()
+        for line in run("dump", str(self.journal)).stdout.splitlines():
+            ask = json.loads(line).get("ask", {})
+            if ask.get("kind") == "create":
+                names.add(ask["queue"])
+            elif ask.get("kind") == "remove":
+                names.discard(ask["queue"])
+        return names
+
+
+@pytest.fixture
+def kept(tmp_path):
+    kept = Kept(tmp_path)
+    yield kept
+    assert kept.gateway.stop() == 0
+
+
+def wait_for(what: Callable[[], bool]) -> None:
+    latest = time.monotonic() + 20
+    while not what():
+        assert time.monotonic() < latest
+        time.sleep(0.02)
+
+
+def test_a_creation_that_is_cut_off_is_there_whole_or_not_at_all(kept):
+    kept.create("other", 9)
+    kept.send("another's", "other")
+    before, passing, found = kept.store_names(), 0, []
+    while kept.cut(passing, kept.create):
+        found.append(kept.names())
+        assert found[-1] in (["other"], ["other", "q"])
+        if "q" in found[-1]:
+            assert kept.shown()[0]["VisibilityTimeout"] == "7" and kept.shown()[1] == TAGS
+            kept.call("DeleteQueue", QueueUrl="q")
+        # Nothing is left of it in the store.
+        wait_for(lambda: kept.store_names() == before)
+        passing += 1
+    assert found[:2] == [["other"], ["other"]] and kept.names() == ["other", "q"]
+    assert kept.bodies() == [] and kept.bodies("other") == ["another's"]
+    assert kept.shown()[1] == TAGS and kept.shown("other")[0]["VisibilityTimeout"] == "9"
+
+
+@pytest.mark.parametrize("delayed", [False, True])
+def test_a_removal_that_is_cut_off_is_finished_or_not_begun(kept, delayed):
+    kept.create()
+    kept.send("m")
+    if delayed:
+        kept.send("late", DelaySeconds=600)
+    before, passing, found = kept.shown(), 0, []
+    while kept.cut(passing, lambda: kept.call("DeleteQueue", QueueUrl="q")):
+        found.append(kept.names())
+        if found[-1] == ["q"]:
+            assert kept.shown() == before and kept.bodies() == ["m"]
+        else:
+            wait_for(lambda: all(name.startswith("book") for name in kept.store_names()))
+            kept.create()
+            assert kept.bodies() == [] and kept.shown()[0]["ApproximateNumberOfMessagesDelayed"] == "0"
+            kept.send("m")
+            if delayed:
+                kept.send("late", DelaySeconds=600)
+            before = kept.shown()
+        passing += 1
+    assert found == [["q"], [], []][: 2 + delayed] and kept.names() == []
+    kept.restart()
+    assert kept.names() == []
+
+
+@pytest.mark.parametrize("passing", range(3))
+def test_a_program_that_ends_at_a_creation_or_a_removal_is_asked_again(kept, passing):
+    for action in (kept.create, lambda: kept.call("DeleteQueue", QueueUrl="q")):
+        kept.cq.tell(each=['"kind":"create"', '"queue":"book', '"kind":"remove"'], kill=True, **{"pass": passing})
+        action()
+        kept.cq.tell()
+    assert kept.names() == []
+    kept.restart()
+    assert kept.names() == []
+
+
+def test_a_change_that_ends_the_program_each_time_changes_nothing(kept):
+    kept.create()
+    before = kept.shown()
+    for action, end, more in (
+            ("TagQueue", "poison", {"QueueUrl": "q", "Tags": {"a": "poison"}}), ("DeleteQueue", "removed", {"QueueUrl": "q"}),
+            ("SetQueueAttributes", "8765", {"QueueUrl": "q", "Attributes": {"VisibilityTimeout": "8765"}}),
+            ("CreateQueue", "poison", {"QueueName": "r", "tags": {"a": "poison"}})):
+        kept.cq.tell(end=end)
+        with pytest.raises(Refused, match="InternalFailure"):
+            kept.call(action, **more)
+    kept.cq.tell()
+    wait_for(lambda: kept.store_names() == {"1.fifo", "book1.fifo"})
+    for _ in range(2):
+        assert kept.shown() == before and kept.names() == ["q"]
+        kept.restart()
+
+
+def test_no_record_says_anything_of_queues_beside_what_is_asked(kept):
+    kept.create()
+    kept.call("TagQueue", QueueUrl="q", Tags={"a": "b"})
+    kept.call("SetQueueAttributes", QueueUrl="q", Attributes={"VisibilityTimeout": "8"})
+    kept.send("late", DelaySeconds=60)
+    kept.call("PurgeQueue", QueueUrl="q")
+    kept.call("UntagQueue", QueueUrl="q", TagKeys=["team"])
+    kept.create("gone")
+    kept.call("DeleteQueue", QueueUrl="gone")
+    before = kept.shown()
+    data = b"".join(segment.read_bytes() for segment in kept.journal.parent.glob("journal.[0-9]*"))
+    records = [json.loads(line) for line in re.findall(rb'\{"clock":.*\}(?=\n)', data)]
+    assert {name for record in records for name in record} == {"clock", "ask", "digest"}
+    entries = [json.loads(record["ask"]["body"]) for record in records if record["ask"]["queue"] == "book1.fifo"
+               and record["ask"]["kind"] == "send"]
+    assert [next(iter(entry)) for entry in entries] == ["queue"] * 6 + ["queue", "removed"]
+    assert entries[3]["queue"]["purging"] == {"up_to": 0, "delayed_up_to": 1} and "purging" not in entries[4]["queue"]
+    kept.restart()
+    assert kept.shown() == before and kept.names() == ["q"]
+
+
+def test_changes_at_once_are_all_there(kept):
+    kept.create()
+    keys = [f"key{number}" for number in range(40)]
+    kept.call("TagQueue", QueueUrl="q", Tags={key: key for key in keys})
+    threads = [threading.Thread(target=kept.call, args=("UntagQueue",), kwargs={"QueueUrl": "q", "TagKeys": [key]})
+               for key in keys]
+    kept.cq.tell(hold='"queue":"book')
+    for thread in threads:
+        thread.start()
+    time.sleep(0.5)
+    kept.cq.tell()
+    for thread in threads:
+        thread.join()
+    for _ in range(2):
+        assert kept.shown()[1] == TAGS
+        kept.restart()
+
+
+def test_creations_of_one_name_at_once_are_one(kept):
+    answers: list[str] = []
+
+    def create() -> None:
+        answers.append(kept.call("CreateQueue", QueueName="q")["QueueUrl"])
+
+    threads = [threading.Thread(target=create) for _ in range(20)]
+    for thread in threads:
+        thread.start()
+    for thread in threads:
+        thread.join()
+    assert len(answers) == 20 and len(set(answers)) == 1 and kept.store_names() == {"1.fifo", "book1.fifo"}
+
+
+@pytest.mark.parametrize("passing", [None, 0, 1, 4, 6])
+def test_a_book_is_begun_anew_when_most_of_it_is_old(tmp_path, passing):
+    """The gateway is killed while that is done, and goes on with it."""
+    kept = Kept(tmp_path)
+    for name in ("q", "r", "s"):
+        kept.create(name)
+        kept.send(f"m of {name}", name)
+    kept.create("gone")
+    kept.call("DeleteQueue", QueueUrl="gone")
+    large = {f"{number:03}": "v" * 250 for number in range(40)}
+    for turn in range(80):
+        kept.call("TagQueue", QueueUrl="q", Tags={**large, "turn": str(turn)})
+    assert kept.store_names() == {"1.fifo", "2.fifo", "3.fifo", "book1.fifo"}
+
+    def fill() -> None:
+        try:
+            for turn in range(80, 120):
+                kept.call("TagQueue", QueueUrl="q", Tags={"turn": str(turn)})
+                time.sleep(0.05)
+        except OSError:
+            pass
+
+    if passing is None:
+        fill()
+    else:
+        before = kept.cq.ends()
+        kept.cq.tell(each=['"queue":"book2', '"queue":"book1.fifo"}'], **{"pass": passing})
+        filling = threading.Thread(target=fill)
+        filling.start()
+        wait_for(lambda: kept.cq.ends() > before)
+        time.sleep(0.05)
+        kept.gateway.kill()
+        kept.cq.tell()
+        filling.join()
+        kept.gateway.start()
+    wait_for(lambda: "book1.fifo" not in kept.store_names())
+    assert kept.store_names() == {"1.fifo", "2.fifo", "3.fifo", "book2.fifo"}
+    shown = [kept.shown(name) for name in ("q", "r", "s")]
+    assert shown[0][1].keys() == {*TAGS, *large, "turn"} and int(shown[0][1]["turn"]) >= 79 and shown[1][1] == TAGS
+    for _ in range(2):
+        kept.restart()
+        assert [kept.shown(name) for name in ("q", "r", "s")] == shown and kept.names() == ["q", "r", "s"]
+        assert [kept.bodies(name) for name in ("q", "r", "s")] == [["m of q"], ["m of r"], ["m of s"]]
+    assert kept.gateway.stop() == 0
+
+
+def test_a_removal_is_told_in_a_book_that_was_begun_anew(tmp_path):
+    gateway = Started("--journal", str(tmp_path / "journal"), room=tmp_path)
+    call = ByJson(gateway.url)
+    for name in ("q", "gone"):
+        call("CreateQueue", QueueName=name)
+    call("DeleteQueue", QueueUrl="gone")
+    large = {f"{number:03}": "v" * 250 for number in range(40)}
+    for turn in range(120):
+        call("TagQueue", QueueUrl="q", Tags={**large, "turn": str(turn)})
+    data = lambda: b"".join(segment.read_bytes() for segment in tmp_path.glob("journal.[0-9]*"))
+    wait_for(lambda: b'{"kind":"remove","queue":"book1.fifo"}' in data())
+    gateway.kill()
+    gateway.start()
+    with pytest.raises(Refused, match="QueueDeletedRecently"):
+        ByJson(gateway.url)("CreateQueue", QueueName="gone")
+    gateway.set_clock(gateway.moment + 60_000)
+    ByJson(gateway.url)("CreateQueue", QueueName="gone")
+    assert gateway.stop() == 0
