@@ -55,12 +55,13 @@ impl Admission {
     /// Lets an entry of the book pass, as `admit` does an ask.
     pub fn admit_entry(&self, queue: &Queue, entry: &Entry, now: Moment) -> Result<u64, SqsError> {
         let Entry::Queue(entry) = entry else { return Ok(0) };
-        match queue.state().growth(entry) {
-            // A queue of ordinary size stays what operators can change, so that memory comes free by other attributes.
-            (_, whole) if whole <= ORDINARY => Ok(0),
-            (0, _) => Ok(0),
-            (more, _) => self.admit_bytes(more, now),
+        // Whoever looks at ages locks the queue's state, so nobody holds it meanwhile.
+        let (more, whole) = queue.state().growth(entry);
+        // A queue of ordinary size stays what operators can change, so that memory comes free by other attributes.
+        if more == 0 || whole <= ORDINARY {
+            return Ok(0);
         }
+        self.admit_bytes(more, now)
     }
 
     /// Refuses what would be refused as a message of so many bytes.
@@ -101,10 +102,33 @@ impl Admission {
 
 #[cfg(test)]
 mod tests {
+    use std::collections::BTreeMap;
+
     use super::*;
     use crate::messages::Envelope;
-    use crate::queues::ask::Reach;
-    use crate::texts::{DedupId, GroupId};
+    use crate::queues::ask::{Reach, StoreName};
+    use crate::queues::book::QueueEntry;
+    use crate::texts::{DedupId, GroupId, QueueName};
+
+    #[test]
+    fn a_large_queue_gets_no_tags_where_memory_is_full_and_nobody_waits_for_himself() {
+        let name = QueueName::parse("q").unwrap();
+        let tags = |length: usize| BTreeMap::from([("a".to_string(), "v".repeat(length))]);
+        let entry = QueueEntry { tags: tags(10_000), ..QueueEntry::plain(StoreName(1), name, 1) };
+        let queues = Arc::<Queues>::default();
+        let queue = Arc::new(Queue::new(&entry));
+        queues.said(0, &queue, &Entry::Queue(entry.clone()), 1);
+        let admission = Admission::new(queues, Some(10_000));
+        let (sender, answer) = std::sync::mpsc::channel();
+        std::thread::spawn(move || {
+            let admitted = [9_000, 11_000].map(|length| {
+                let entry = Entry::Queue(QueueEntry { tags: tags(length), ..entry.clone() });
+                admission.admit_entry(&queue, &entry, LOOK_AGAIN).is_ok()
+            });
+            sender.send(admitted)
+        });
+        assert_eq!(answer.recv_timeout(std::time::Duration::from_secs(20)), Ok([true, false]));
+    }
 
     #[test]
     fn sends_that_are_on_their_way_count_and_those_that_were_answered_do_not() {
