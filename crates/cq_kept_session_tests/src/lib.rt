@@ -1,7 +1,9 @@
-//! The tests of sessions that keep their lines: opened again at each byte, ended, and without space. They stand here since a crate
-//! that has tests is proved twice.
+//! The tests of sessions that keep their lines: opened again at each byte, without space, and on a file whose machine loses its
+//! power. They stand here since a crate that has tests is proved twice.
 #![tactic(auto)]
 
+#[cfg(test)]
+mod crashes;
 #[cfg(test)]
 mod openings;
 #[cfg(test)]
