@@ -13,7 +13,8 @@ use Rattle.cq_messages.specs.Slots.{live, gone, IsAscending, in_group, busy, wai
 use Rattle.cq_min_index.specs.Firsts.{AreAbove, IsFirst}
 use Rattle.cq_messages.specs.within.Indexed.{AreWaits}
 use Rattle.cq_messages.specs.within.Passing.{NonePasses, IsNext}
-use Rattle.cq_messages.proofs.Rising.{IsRising, rising-filter, rising-above, live-rising, live-among}
+use Rattle.cq_messages.specs.Ordered.{IsRising}
+use Rattle.cq_messages.proofs.Rising.{rising-filter, rising-above, live-rising, live-among}
 
 any_step : (a b c : Bool) {X : Type 0} (q : X → Bool) (x : X) (xs : List X) → q x ≡ b → list_any q xs ≡ c → (a && b || c) ≡ list_any q (cond a (x ∷ xs) xs)
 any_step true b c q x xs e h = ap (λ d. d || c) (sym e) ∙ ap (λ d. q x || d) (sym h)

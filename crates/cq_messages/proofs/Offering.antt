@@ -9,7 +9,8 @@ use Rattle.cq_base.specs.Relations.{Among}
 use Rattle.cq_base.proofs.Among.{among-filter, among-flat_map, among-take}
 use Rattle.cq_messages.specs.Changes.{numbers_of}
 use Rattle.cq_messages.specs.within.Offered.{numbered}
-use Rattle.cq_messages.proofs.Rising.{IsRising, rising-above}
+use Rattle.cq_messages.specs.Ordered.{IsRising}
+use Rattle.cq_messages.proofs.Rising.{rising-above}
 
 -- what is handed out is among the messages
 pub handed-among : (size moment : ℕ) (ms : List Message) (m : Message) → Among m (to_hand size moment ms) → Among m ms

@@ -15,7 +15,8 @@ use Rattle.cq_messages.specs.Changes.{numbers_of}
 use Rattle.cq_messages.specs.Slots.{live, kept_before, gone, IsAscending, in_group, busy}
 use Rattle.cq_messages.specs.within.Touched.{IsHead}
 use Rattle.cq_messages.proofs.Ascending.{ascending-order}
-use Rattle.cq_messages.proofs.Rising.{IsRising, rising-above, own-number}
+use Rattle.cq_messages.specs.Ordered.{IsRising}
+use Rattle.cq_messages.proofs.Rising.{rising-above, own-number}
 
 -- the message stands at that place
 pub record StandsAt (ss : List Slot) (m : Message) (k : ℕ) : Type 0 where

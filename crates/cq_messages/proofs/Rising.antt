@@ -4,12 +4,8 @@ use Rattle.std.specs.List.{filter}
 use Rattle.cq_base.specs.queue.Messages.{Message}
 use Rattle.cq_base.specs.Relations.{Among}
 use Rattle.cq_messages.specs.declared.slot.Slot.{Slot}
+use Rattle.cq_messages.specs.Ordered.{IsRising}
 use Rattle.cq_messages.specs.Slots.{live, kept_before, IsOwn, IsAscending, gone}
-
--- the messages are in order of sequence numbers, which are all above b
-abbrev pub IsRising : ℕ → List Message → Type 0
-IsRising b [] = Unit {0}
-IsRising b (m ∷ ms) = (b < m.sequence) × IsRising m.sequence ms
 
 pub rising-lower : (a b : ℕ) (ms : List Message) → a ≤ b → IsRising b ms → IsRising a ms
 rising-lower a b [] l h = tt

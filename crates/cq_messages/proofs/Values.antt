@@ -12,7 +12,8 @@ use Rattle.std.specs.Option.{option_map, option_copied}
 use Rattle.std.proofs.Common.{Bor}
 use Rattle.std.specs.List.{All}
 use Rattle.std.proofs.lemmas.List.Elements.{All-head, All-tail}
-use Rattle.cq_messages.proofs.Rising.{IsRising, rising-above, live-rising, own-number, live-among}
+use Rattle.cq_messages.specs.Ordered.{IsRising}
+use Rattle.cq_messages.proofs.Rising.{rising-above, live-rising, own-number, live-among}
 use Rattle.cq_messages.proofs.Remaining.{live-place, same-place}
 use Rattle.std.proofs.lemmas.List.{get_or_read}
 

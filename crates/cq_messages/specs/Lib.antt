@@ -1,3 +1,4 @@
 pub mod Changes
 pub mod Slots
+pub mod Ordered
 pub mod within

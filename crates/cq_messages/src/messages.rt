@@ -14,6 +14,8 @@ ghost use Rattle.cq_messages.specs.declared.slot.TheConstants.{NEVER};
 ghost use Rattle.cq_messages.specs.Slots.{live, gone, IsAscending};
 ghost use Rattle.cq_messages.specs.within.Touched.{retimed};
 
+mod restore;
+
 use crate::append::{append, make_place};
 use crate::compact::compact;
 use crate::copies::copies;

@@ -49,13 +49,13 @@ fn latest(slots: &[Slot], sequence: u64) -> usize
     }
 }
 
-/// The place of the slot of that sequence number: O(1) where no slot was taken out between slots that stand, or else
+/// How many slots have a smaller sequence number: O(1) where no slot was taken out between slots that stand, or else
 /// O(log slots).
-pub fn place_of(slots: &[Slot], sequence: u64) -> Option<usize>
+pub fn count_below(slots: &[Slot], sequence: u64) -> usize
     requires { IsAscending 0 slots.now }
-    ensures within { IfSome result (λ k. k < length slots.now) }
-    ensures found { IfSome result (λ k. (get_or slots.now k gone).sequence ≡ sequence) }
-    ensures none { IsNone result → (k : ℕ) → k < length slots.now → (get_or slots.now k gone).sequence ≢ sequence }
+    ensures within { result ≤ length slots.now }
+    ensures below { (k : ℕ) → k < result → (get_or slots.now k gone).sequence < sequence }
+    ensures above { (k : ℕ) → result ≤ k → k < length slots.now → sequence ≤ (get_or slots.now k gone).sequence }
 {
     let mut low = earliest(slots, sequence);
     let mut high = latest(slots, sequence);
@@ -67,8 +67,19 @@ pub fn place_of(slots: &[Slot], sequence: u64) -> Option<usize>
             high = middle;
         }
     }
-    if low < slots.len() && slots[low].sequence == sequence {
-        Some(low)
+    low
+}
+
+/// The place of the slot of that sequence number: as `count_below`.
+pub fn place_of(slots: &[Slot], sequence: u64) -> Option<usize>
+    requires { IsAscending 0 slots.now }
+    ensures within { IfSome result (λ k. k < length slots.now) }
+    ensures found { IfSome result (λ k. (get_or slots.now k gone).sequence ≡ sequence) }
+    ensures none { IsNone result → (k : ℕ) → k < length slots.now → (get_or slots.now k gone).sequence ≢ sequence }
+{
+    let place = count_below(slots, sequence);
+    if place < slots.len() && slots[place].sequence == sequence {
+        Some(place)
     } else {
         None
     }

@@ -1,7 +1,7 @@
 -- The slots below `low` have smaller sequence numbers, those from `high` on don't.
 use Rattle.std.proofs.Common.{ℕ, ◌-◌, ◌<◌, ◌≤◌, length, get_or}
 use Rattle.cq_messages.specs.Slots.{gone}
-use Rattle.cq_messages.proofs.places.place_of.Given as goal
+use Rattle.cq_messages.proofs.places.count_below.Given as goal
 
 abbrev pub invariant-loop-low : goal.invariant-loop-low
 invariant-loop-low l = record {
