@@ -12,3 +12,4 @@ pub mod Remaining
 pub mod Stands
 pub mod Told
 pub mod Windows
+pub mod Parts

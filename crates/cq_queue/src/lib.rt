@@ -7,4 +7,5 @@ mod delete;
 mod queue;
 mod window;
 
+pub use accepted::Accepted;
 pub use queue::Queue;

@@ -9,6 +9,7 @@ ghost use Rattle.cq_queue.specs.within.Answers.{send_reply, delete_reply, is_del
 ghost use Rattle.cq_queue.specs.Entries.{IsSend, IsSendAs, IsReceive, IsDelete, IsChange, StandsAfter, IsAnswered, IsNoRepeat, KeepsIds, IsSameQueue};
 ghost use Rattle.cq_queue.specs.within.Kept.{used_at, repeated_at, with_message, handed_out, is_receipt_of, without_message, deletion, with_timeout, alteration};
 
+mod parts;
 mod reads;
 
 use crate::accepted::Accepted;

@@ -1,11 +1,13 @@
 //! The window: the accepted sends in order, and what is known of each of their deduplication ids.
-ghost use Rattle.std.specs.Prelude.{◌≡◌, ℕ, ◌+◌, ◌<◌, ◌≤◌, ◌++◌, List, [], ◌∷◌, filter, length, drop, if◌then◌else◌, Some, None, IfOk, OnOk};
+ghost use Rattle.std.specs.Prelude.{◌≡◌, ℕ, ◌+◌, ◌<◌, ◌≤◌, ◌++◌, List, [], ◌∷◌, true, false, filter, length, drop, slice_get, if◌then◌else◌, Some, None, IfOk, OnOk, OnErr};
+ghost use Rattle.std.specs.Option.{option_map};
 ghost use Rattle.std.specs.Str.{bytes_eq};
 ghost use Rattle.std.specs.List.{find, All};
 ghost use Rattle.std.specs.HashMap.{spare};
 ghost use Rattle.std.specs.VecDeque.{deque_len, deque_capacity};
 ghost use Rattle.cq_base.specs.queue.Incarnations.{is_recent, repeated};
-ghost use Rattle.cq_queue.specs.within.Windows.{has_id, IsBy, known_of, known_at, IsWindow};
+ghost use Rattle.cq_queue.specs.Parts.{AreInOrder};
+ghost use Rattle.cq_queue.specs.within.Windows.{has_id, IsBy, known_of, known_at, IsRising, IsWindow};
 
 use crate::accepted::{Accepted, Known};
 use cq_base::{DedupId, Moment, NoMemory};
@@ -102,6 +104,16 @@ fn push(
     accepted.push_back_reserved(one);
 }
 
+/// Whether none came after that moment. O(1).
+fn is_latest(accepted: &VecDeque<Accepted>, moment: Moment) -> bool
+    requires { IsRising 0 accepted.now.items }
+    ensures latest { result ≡ true → All (IsBy moment) accepted.now.items }
+    ensures only { result ≡ false → All (IsBy moment) accepted.now.items → ⊥ }
+{
+    let len = accepted.len();
+    len == 0 || accepted[len - 1].moment.get() <= moment.get()
+}
+
 /// Accepted sends in order of their moments, and what is known of each of their ids. Contracts see the list of
 /// them, and for how many more there is room.
 pub struct Window {
@@ -193,6 +205,38 @@ impl Window {
     {
         forget_old(&mut self.accepted, &mut self.known, one.moment);
         push(&mut self.accepted, &mut self.known, one, id);
+    }
+
+    /// The accepted send at that place. O(1).
+    pub fn get(&self, index: usize) -> Option<&Accepted>
+        ensures item { option_map (λ a. a.now) result ≡ slice_get self.now.items index }
+        ensures order { AreInOrder self.now.items }
+    {
+        self.accepted.get(index)
+    }
+
+    /// Whether no accepted send has the same id, and none came after this one. O(1) expected.
+    pub fn is_next(&self, one: &Accepted) -> bool
+        ensures new { result ≡ true → find (has_id one.now.dedup) self.now.items ≡ None }
+        ensures latest { result ≡ true → All (IsBy one.now.moment) self.now.items }
+        ensures only { result ≡ false → find (has_id one.now.dedup) self.now.items ≡ None
+            → All (IsBy one.now.moment) self.now.items → ⊥ }
+    {
+        self.known.get(&one.dedup).is_none() && is_latest(&self.accepted, one.moment)
+    }
+
+    /// Adds one more, that has an id of its own and is as late as any. `id` is a copy of its id. After `NoMemory` they are
+    /// as before. O(1) expected and amortized.
+    pub fn restore(&mut self, one: Accepted, id: DedupId) -> Result<(), NoMemory>
+        requires same { id ≡ one.dedup }
+        requires new { find (has_id one.dedup) self.old.items ≡ None }
+        requires latest { All (IsBy one.moment) self.old.items }
+        ensures ok { OnOk result (self.new.items ≡ self.old.items ++ one ∷ []) }
+        ensures err { OnErr result (self.new.items ≡ self.old.items) }
+    {
+        reserve(&mut self.accepted, &mut self.known)?;
+        push(&mut self.accepted, &mut self.known, one, id);
+        Ok(())
     }
 
     /// The same accepted sends. It shares the ids: O(n) expected.

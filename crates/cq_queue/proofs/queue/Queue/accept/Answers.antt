@@ -1,5 +1,5 @@
 -- The new message is the last that was sent and wasn't handed out, and the accepted sends that are left came no later.
-use Rattle.std.proofs.Common.{◌<◌, ◌≤◌, ◌+◌, ◌≡◌, ap, subst, sym, refl, arith}
+use Rattle.std.proofs.Common.{◌<◌, ◌≤◌, ap, subst, sym, refl, arith}
 use Rattle.cq_base.specs.declared.limits.TheConstants.{HISTORY_LIMIT}
 use Rattle.cq_messages.proofs.Values.{all-among}
 use Rattle.cq_queue.specs.within.Sound.{IsNumberedUpTo}
