@@ -21,7 +21,7 @@ use Rattle.cq_base.specs.queue.Receiving.{to_hand, delivery_of}
 use Rattle.cq_queue.specs.Entries.{StandsAfter, IsAnswered, IsSameQueue, IsReceive, AreOffered, AreCounted, IsCreate}
 use Rattle.cq_queue.proofs.Creates.{stands-created, reply-created}
 use Rattle.cq_store.specs.within.Asked.{own_outcomes, IsAnswer, IsCount}
-use Rattle.cq_store.specs.within.Rooms.{IsWithin, IsQueueWithin}
+use Rattle.cq_store.specs.Parts.{IsWithin, IsQueueWithin}
 use Rattle.cq_store.specs.Stands.{unknown, or_unknown, QueueRecord, NameStandsFor, LivesAs, IsLiving, AreIdsKept, ids_of, sent_of, is_resting}
 use Rattle.cq_store.proofs.OfLaws.Alone.{alone, IsAlone}
 use Rattle.cq_store.proofs.QueuesStand.{entry-fresh, name-dead, with_creation, name-created, with_removal, name-removed, with_incarnation, told-on, comes-to, name-living}

@@ -2,6 +2,7 @@ pub mod AsksStand
 pub mod ClientsStand
 pub mod Copies
 pub mod Lookups
+pub mod Parts
 pub mod QueuesStand
 mod Examples
 pub mod FreshOutcomes

@@ -4,7 +4,7 @@ use Rattle.std.specs.Prelude.{Result, Ok, Err, IfOk}
 use Rattle.cq_base.specs.declared.ask.Ask.{Ask}
 use Rattle.cq_base.specs.declared.reply.Reply.{Reply}
 use Rattle.cq_store.specs.within.Asked.{IsAnswer}
-use Rattle.cq_store.specs.within.Rooms.{IsWithin}
+use Rattle.cq_store.specs.Parts.{IsWithin}
 use Rattle.cq_store.specs.Stands.{QueueRecord, name_at, or_unknown}
 
 -- what is found in a map is found under the name

@@ -18,7 +18,8 @@ use Rattle.cq_store.specs.within.Asked.{IsAnswer, IsCount}
 use Rattle.cq_base.specs.queue.Effects.{counts_by}
 use Rattle.cq_base.specs.queue.Incarnations.{Incarnation}
 use Rattle.cq_base.specs.queue.Lifetimes.{live, creations, removed_lately}
-use Rattle.cq_store.specs.within.Rooms.{again_of, CameBy, IsWithin, IsQueueWithin}
+use Rattle.cq_store.specs.within.Rooms.{again_of, CameBy}
+use Rattle.cq_store.specs.Parts.{IsWithin, IsQueueWithin}
 use Rattle.cq_store.proofs.AsksStand.{within-later}
 use Rattle.cq_store.specs.Stands.{ClientRecord, ClientKnown, ClientStands, QueueRecord, NameStandsFor, StoreKept, StandsFor, client_at, name_at, or_unknown, unknown}
 use Rattle.cq_store.proofs.ClientsStand.{latest, client-fresh, client-other, client-idle, none_fresh, stale-reply, repeat-reply, idle-reply}

@@ -1,5 +1,7 @@
 //! What is kept of each client: its largest number, and the reply to it.
-ghost use Rattle.std.specs.Prelude.{◌≡◌, ◌<◌, ◌==◌, None, Some, ℕ, option_map, cond, IfOk, OnOk, OnErr};
+ghost use Rattle.std.specs.Prelude.{◌≡◌, ◌<◌, ◌==◌, ◌++◌, [], ◌∷◌, true, false, length, slice_get, nat_eq, None, Some, ℕ, option_map, cond, IfOk, IfSome, IfNone, OnOk, OnErr};
+ghost use Rattle.std.specs.List.{IsDistinct};
+ghost use Rattle.std.specs.Map.{keys_of};
 ghost use Rattle.indexmap.specs.IndexMap.{get};
 ghost use Rattle.cq_store.specs.within.Rooms.{again_of};
 ghost use Rattle.cq_store.specs.Stands.{client_at};
@@ -83,7 +85,8 @@ impl Model for ClientTable {
 impl ClientTable {
     /// No client is kept yet.
     pub fn new(alloc: Global) -> ClientTable
-        ensures { (client : ℕ) → client_at result.kept client ≡ None }
+        ensures none { (client : ℕ) → client_at result.kept client ≡ None }
+        ensures empty { result.kept ≡ [] }
     {
         ClientTable {
             kept: IndexMap::new(alloc),
@@ -95,6 +98,37 @@ impl ClientTable {
         ensures { option_map (λ kept. kept.now) result ≡ client_at self.now.kept client }
     {
         self.kept.get(&client)
+    }
+
+    /// How many clients there are: O(1).
+    pub fn len(&self) -> usize
+        ensures len { result ≡ length self.now.kept }
+        ensures distinct { IsDistinct nat_eq (keys_of self.now.kept) }
+    {
+        self.kept.len()
+    }
+
+    /// The client at that place, and what is kept of it: O(1).
+    pub fn get_index(&self, index: usize) -> Option<(&u32, &ClientRecord)>
+        ensures some { IfSome result (λ c. slice_get self.now.kept index ≡ Some (c.0.now, c.1.now)) }
+        ensures none { IfNone result (slice_get self.now.kept index ≡ None) }
+    {
+        self.kept.get_index(index)
+    }
+
+    /// Puts that of a client behind all others, and answers whether it did: not where the client is there. After
+    /// `NoMemory` nothing has changed. O(1) expected and amortized.
+    pub fn restore(&mut self, client: u32, one: ClientRecord) -> Result<bool, NoMemory>
+        ensures put { IfOk result (λ is. is ≡ true → self.new.kept ≡ self.old.kept ++ (client, one) ∷ []) }
+        ensures refused { IfOk result (λ is. is ≡ false → self.new.kept ≡ self.old.kept) }
+        ensures only { IfOk result (λ is. is ≡ false → client_at self.old.kept client ≡ None → ⊥) }
+        ensures err { OnErr result (self.new.kept ≡ self.old.kept) }
+    {
+        if self.kept.get(&client).is_some() {
+            return Ok(false);
+        }
+        self.kept.insert(client, one)?;
+        Ok(true)
     }
 
     /// Makes room for one more client.

@@ -9,4 +9,6 @@ mod queue_record;
 mod queues;
 mod store;
 
+pub use clients::ClientRecord;
+pub use queue_record::QueueRecord;
 pub use store::Store;

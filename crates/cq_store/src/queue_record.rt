@@ -1,11 +1,12 @@
 //! What is kept of one name of queues, and what each ask does to it.
-ghost use Rattle.std.specs.Prelude.{◌≡◌, ◌<◌, ◌≤◌, ◌+◌, ◌-◌, ℕ, List, None, Some, IfOk, OnErr};
-ghost use Rattle.std.specs.Option.{option_copied};
+ghost use Rattle.std.specs.Prelude.{◌≡◌, ◌<◌, ◌≤◌, ◌+◌, ◌-◌, true, false, ℕ, List, None, Some, IfOk, OnErr};
+ghost use Rattle.std.specs.Option.{option_copied, option_map};
 ghost use Rattle.cq_base.specs.declared.limits.TheConstants.{HISTORY_LIMIT};
 ghost use Rattle.cq_base.specs.declared.ask.Ask.TheVariants as asks;
 ghost use Rattle.cq_base.specs.queue.Effects.{create_again};
 ghost use Rattle.cq_store.specs.within.Asked.{IsAnswer, IsCount};
-ghost use Rattle.cq_store.specs.within.Rooms.{IsWithin, CameBy};
+ghost use Rattle.cq_store.specs.within.Rooms.{CameBy};
+ghost use Rattle.cq_store.specs.Parts.{IsWithin};
 ghost use Rattle.cq_store.specs.Stands.{is_resting, unknown, ids_of, sent_of};
 
 use crate::answered::ReplyPair;
@@ -55,6 +56,51 @@ impl QueueRecord {
             creations: 0,
             removed: None,
             living: None,
+        }
+    }
+
+    /// What is kept of a name with so many creations, that last removal, and that incarnation as which it lives.
+    pub fn restored(creations: u64, removed: Option<Moment>, living: Option<Queue>) -> QueueRecord
+        ensures { result ≡ record { creations = creations; removed = removed; living = living } }
+    {
+        QueueRecord {
+            creations,
+            removed,
+            living,
+        }
+    }
+
+    /// How many creations took effect.
+    pub fn creations(&self) -> u64
+        ensures { result ≡ self.now.creations }
+    {
+        self.creations
+    }
+
+    /// When the last removal took effect.
+    pub fn removed(&self) -> Option<Moment>
+        ensures { result ≡ self.now.removed }
+    {
+        self.removed
+    }
+
+    /// The incarnation as which the queue lives.
+    pub fn living(&self) -> Option<&Queue>
+        ensures { option_map (λ q. q.now) result ≡ self.now.living }
+    {
+        self.living.as_ref()
+    }
+
+    /// Whether it has no more creations, and its queue no more uses than `count`, nor a later moment than `last`.
+    pub fn is_within(&self, count: u64, last: Moment) -> bool
+        ensures is { result ≡ true → IsWithin count last self.now }
+        ensures only { result ≡ false → IsWithin count last self.now → ⊥ }
+    {
+        match &self.living {
+            Some(queue) => {
+                self.creations <= count && queue.used() <= count && queue.last().get() <= last.get()
+            }
+            None => self.creations <= count,
         }
     }
 

@@ -1,10 +1,13 @@
 //! What is kept of all names.
-ghost use Rattle.std.specs.Prelude.{◌≡◌, ◌≤◌, ◌+◌, ◌-◌, ℕ, List, None, false, IfOk, OnErr};
+ghost use Rattle.std.specs.Prelude.{◌≡◌, ◌≤◌, ◌+◌, ◌-◌, ◌++◌, [], ◌∷◌, ℕ, List, None, Some, true, false, length, slice_get, IfOk, IfSome, IfNone, OnErr};
+ghost use Rattle.std.specs.List.{IsDistinct};
+ghost use Rattle.std.specs.Map.{keys_of};
 ghost use Rattle.std.specs.Str.{bytes_eq};
 ghost use Rattle.cq_base.specs.declared.limits.TheConstants.{HISTORY_LIMIT};
 ghost use Rattle.cq_base.specs.queue.Asks.{queue_of};
 ghost use Rattle.cq_store.specs.within.Asked.{IsAnswer, IsCount};
-ghost use Rattle.cq_store.specs.within.Rooms.{IsWithin, CameBy};
+ghost use Rattle.cq_store.specs.within.Rooms.{CameBy};
+ghost use Rattle.cq_store.specs.Parts.{IsWithin};
 ghost use Rattle.cq_store.specs.Stands.{name_at, or_unknown, ids_of, sent_of};
 
 use crate::answered::ReplyPair;
@@ -38,11 +41,44 @@ impl Model for Queues {
 impl Queues {
     /// No name is known yet.
     pub fn new(alloc: Global) -> Queues
-        ensures { (queue : List ℕ) → name_at result queue ≡ None }
+        ensures none { (queue : List ℕ) → name_at result queue ≡ None }
+        ensures empty { result ≡ [] }
     {
         Queues {
             kept: IndexMap::new(alloc),
         }
+    }
+
+    /// How many names there are: O(1).
+    pub fn len(&self) -> usize
+        ensures len { result ≡ length self.now }
+        ensures distinct { IsDistinct bytes_eq (keys_of self.now) }
+    {
+        self.kept.len()
+    }
+
+    /// The name at that place, and what is kept of it: O(1).
+    pub fn get_index(&self, index: usize) -> Option<(&QueueName, &QueueRecord)>
+        ensures some { IfSome result (λ q. slice_get self.now index ≡ Some (q.0.now, q.1.now)) }
+        ensures none { IfNone result (slice_get self.now index ≡ None) }
+    {
+        self.kept.get_index(index)
+    }
+
+    /// Puts that of a name behind all others, and answers whether it did: not where the name is there. After `NoMemory`
+    /// nothing has changed. O(1) expected and amortized.
+    pub fn restore(&mut self, queue: QueueName, one: QueueRecord) -> Result<bool, NoMemory>
+        ensures put { IfOk result (λ is. is ≡ true → self.new ≡ self.old ++ (queue, one) ∷ []) }
+        ensures new { IfOk result (λ is. is ≡ true → name_at self.old queue ≡ None) }
+        ensures refused { IfOk result (λ is. is ≡ false → self.new ≡ self.old) }
+        ensures only { IfOk result (λ is. is ≡ false → name_at self.old queue ≡ None → ⊥) }
+        ensures err { OnErr result (self.new ≡ self.old) }
+    {
+        if self.kept.get(&queue).is_some() {
+            return Ok(false);
+        }
+        self.kept.insert(queue, one)?;
+        Ok(true)
     }
 
     /// An ask about a name for which no creation took effect.

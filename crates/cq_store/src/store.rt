@@ -6,6 +6,7 @@ ghost use Rattle.cq_base.specs.queue.Clients.{is_fresh};
 ghost use Rattle.cq_base.specs.queue.History as object;
 ghost use Rattle.cq_store.specs.Stands.{StandsFor, count_of, last_of};
 
+mod parts;
 mod reads;
 
 use crate::clients::ClientTable;
@@ -39,7 +40,7 @@ impl Drop for Store {
 
 impl Model for Store {
     ghost use Rattle.std.specs.Prelude.{ℕ, List};
-    ghost use Rattle.cq_store.specs.within.Rooms.{IsWithin};
+    ghost use Rattle.cq_store.specs.Parts.{IsWithin};
     ghost use Rattle.cq_store.specs.Stands as spec;
     ghost use Rattle.cq_store.specs.Stands.{name_at, or_unknown};
 

@@ -1,26 +1,16 @@
--- What is kept beside what stands for the entries: room, and bounds on the numbers that are kept.
+-- What is kept beside what stands for the entries: room, and a bound on the moments that are kept.
 use Rattle.std.specs.Prelude.{ℕ, ◌≤◌, List, Option, None, Some, ⊤, nat_lt, if◌then◌else◌}
 use Rattle.cq_base.specs.declared.reply.Reply.{Reply}
 use Rattle.cq_base.specs.declared.reply.Reply.TheVariants.{Refused}
 use Rattle.cq_base.specs.declared.reply.Refusal.TheVariants.{StaleNumber}
 use Rattle.cq_base.specs.queue.Incarnations.{Incarnation}
-use Rattle.cq_store.specs.Stands.{ClientRecord, QueueRecord}
+use Rattle.cq_store.specs.Stands.{ClientRecord}
 
 -- what is kept of clients
 pub record ClientTable : Type 0 where
   pub kept : List (ℕ × ClientRecord)
   -- how many more clients can be kept without memory
   pub room : ℕ
-
--- the queue has come to no more than so many uses, and to no later moment
-abbrev pub IsQueueWithin : ℕ → ℕ → Option Incarnation → Type 0
-IsQueueWithin count last None = ⊤
-IsQueueWithin count last (Some q) = (q.used ≤ count) × (q.last ≤ last)
-
--- the name has no more creations than so many, and its queue is within the same
-pub record IsWithin (count last : ℕ) (kept : QueueRecord) : Type 0 where
-  pub creations : kept.creations ≤ count
-  pub living : IsQueueWithin count last kept.living
 
 -- nothing came to the queue after that moment
 abbrev pub CameBy : ℕ → Option Incarnation → Type 0

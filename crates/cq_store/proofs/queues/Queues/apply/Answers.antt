@@ -5,7 +5,7 @@ use Rattle.std.specs.Str.{bytes_eq}
 use Rattle.cq_base.specs.declared.limits.TheConstants.{HISTORY_LIMIT}
 use Rattle.cq_base.specs.queue.Asks.{queue_of}
 use Rattle.cq_store.specs.within.Asked.{IsAnswer}
-use Rattle.cq_store.specs.within.Rooms.{IsWithin}
+use Rattle.cq_store.specs.Parts.{IsWithin}
 use Rattle.cq_store.specs.Stands.{name_at, or_unknown}
 use Rattle.cq_store.proofs.Lookups.{found, written, bounded, if_ok}
 use Rattle.cq_store.proofs.queues.Queues.apply.Goals as goal

@@ -3,7 +3,7 @@ use Rattle.std.proofs.Common.{◌≡◌, ◌+◌, ◌∙◌, ap, sym, subst, Som
 use Rattle.std.specs.Str.{bytes_eq}
 use Rattle.cq_base.specs.queue.Asks.{queue_of}
 use Rattle.cq_store.specs.Stands.{name_at, or_unknown}
-use Rattle.cq_store.specs.within.Rooms.{IsWithin}
+use Rattle.cq_store.specs.Parts.{IsWithin}
 use Rattle.cq_store.proofs.AsksStand.{first_kept, unknown_refused, not_create, within-later}
 use Rattle.cq_store.proofs.queues.Queues.apply_unknown.Goals as goal
 
