@@ -38,6 +38,13 @@ impl fmt::Debug for Snapshot {
 }
 
 impl Snapshot {
+    /// The state of a server that keeps that store: O(1).
+    pub fn from_store(store: Store) -> Snapshot
+        ensures { result ≡ store }
+    {
+        Snapshot { store }
+    }
+
     /// A copy of that store. It takes what a copy of the store takes.
     pub(crate) fn of(store: &Store) -> Result<Snapshot, NoMemory>
         ensures { (entries : List rust_entry.Entry) → StandsFor store.now entries
@@ -56,7 +63,7 @@ impl Snapshot {
     }
 
     /// Its store: O(1).
-    pub(crate) fn store(&self) -> &Store
+    pub fn store(&self) -> &Store
         ensures { result.now ≡ self.now }
     {
         &self.store
