@@ -4,3 +4,4 @@ pub mod Events
 pub mod Runs
 pub mod Orders
 pub mod Actions
+pub mod Acts

@@ -15,7 +15,7 @@ use Rattle.cq_chain.specs.Steps.{arrived, takes, crashed}
 use Rattle.cq_events.specs.Actions.{Action, Arrived, Asked, Put, Took, Crashed, Detected, Joined, CoreState, behind, StandsAs, IsMasterAs, Keeps, Does, DoesMaster, Run, ServerRun, MasterRun, put_in, put_to, taken_in, taken_from}
 use Rattle.cq_events.specs.Worlds.{is_in, numbers_from, first_world}
 use Rattle.cq_chain.specs.Refusals.{refusal_of_arrival, refusal_of_taking}
-use Rattle.cq_nodes.specs.Acts.{Admits, AdmitsOrder, Acts, ActsMaster, ServerActs, MasterActs}
+use Rattle.cq_events.specs.Acts.{Admits, AdmitsOrder, Acts, ActsMaster, ServerActs, MasterActs}
 use Rattle.cq_nodes.proofs.CoreStates.{set_back, as-first, as-put, as-drawn, server-step}
 
 -- ---- runs

@@ -9,7 +9,7 @@ use Rattle.cq_nodes.specs.declared.ends.ToClients.{ToClients}
 use Rattle.cq_nodes.specs.Ends.{with_back, back_of, if_for}
 use Rattle.cq_nodes.specs.Moves.{Passes, PutsToOne}
 use Rattle.cq_nodes.proofs.Moving.{put-done}
-use Rattle.cq_nodes.specs.Acts.{Acts}
+use Rattle.cq_events.specs.Acts.{Acts}
 use Rattle.cq_events.specs.Actions.{Put, StandsAs, Keeps}
 
 -- what is kept for the clients takes the place of what was

@@ -8,7 +8,7 @@ use Rattle.cq_base.specs.declared.party.Party.TheVariants as parties
 use Rattle.cq_chain.specs.declared.master.Master as rust_master
 use Rattle.cq_chain.specs.declared.message.Message as rust
 use Rattle.cq_chain.specs.Masters.{Master, hears, hears_from, detected, joined, refusal_of_detection, refusal_of_join}
-use Rattle.cq_nodes.specs.Acts.{ActsMaster}
+use Rattle.cq_events.specs.Acts.{ActsMaster}
 use Rattle.cq_chain.specs.Messages.{Message}
 use Rattle.cq_chain.specs.Parties.{same}
 use Rattle.cq_chain.specs.Stands as chain

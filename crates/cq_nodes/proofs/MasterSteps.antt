@@ -21,7 +21,7 @@ use Rattle.cq_nodes.specs.MasterMoves.{back_for, back_of_servers, PutsFor, Takes
 use Rattle.cq_nodes.specs.MasterNodes.{MasterDid, AreToJoin, HasNoPlace, MasterRan, MasterLived}
 use Rattle.cq_nodes.specs.Moves.{ArePut, AreTaken}
 use Rattle.cq_nodes.specs.Turns.{due_of}
-use Rattle.cq_nodes.specs.Acts.{ActsMaster}
+use Rattle.cq_events.specs.Acts.{ActsMaster}
 use Rattle.cq_nodes.proofs.ActionRuns.{master-more, master-plain, run-kept, put-more, taken-more, first-of-all}
 use Rattle.cq_nodes.proofs.NodeSteps.{events_more}
 use Rattle.cq_nodes.proofs.Places.{empty_end, is_apart}

@@ -11,7 +11,7 @@ use Rattle.cq_chain.specs.Stands.{Means, IsFirst, IsRefusedBy, drained}
 use Rattle.cq_chain.specs.Refusals.{refusal_of_taking}
 use Rattle.cq_chain.specs.Steps.{takes}
 use Rattle.cq_chain.specs.declared.fault.WorldFault.{WorldFault}
-use Rattle.cq_nodes.specs.Acts.{Acts}
+use Rattle.cq_events.specs.Acts.{Acts}
 use Rattle.cq_nodes.specs.Ends.{with_back}
 use Rattle.cq_nodes.specs.Moves.{Passes, TakesOne}
 use Rattle.cq_events.specs.Actions.{Put, StandsAs, Keeps, Does, behind}

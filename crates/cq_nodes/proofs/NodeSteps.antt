@@ -13,7 +13,7 @@ use Rattle.cq_nodes.specs.declared.ends.Out.{Out}
 use Rattle.cq_nodes.specs.declared.ends.ToClients.{ToClients}
 use Rattle.cq_nodes.specs.Ends.{party_at, back_of, listed, if_for, of_client}
 use Rattle.cq_nodes.specs.Moves.{ArePut, PutsAt, AreTaken, TakesAt, PutsToOne, Part, Arrives}
-use Rattle.cq_nodes.specs.Acts.{Acts}
+use Rattle.cq_events.specs.Acts.{Acts}
 use Rattle.cq_nodes.specs.Nodes.{ServerDid, ServerRan, IsBound, MayDo, HasRoom, HasNoLink, HasNoWay, request_in, requests_in}
 use Rattle.cq_nodes.proofs.Bounds.{bound_more, bound_starved, part_both}
 use Rattle.cq_nodes.proofs.ActionRuns.{server-more, run-kept, put-more, taken-more}

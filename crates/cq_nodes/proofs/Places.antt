@@ -11,7 +11,7 @@ use Rattle.cq_nodes.specs.declared.ends.In.{In}
 use Rattle.cq_nodes.specs.declared.ends.Out.{Out}
 use Rattle.cq_nodes.specs.Ends.{party_at, listed, with_back, kept_at, back_of, unread_in}
 use Rattle.cq_nodes.specs.Moves.{Passes, PutsOne, Reads, ArePut, PutsAt, AreTaken, TakesAt}
-use Rattle.cq_nodes.specs.Acts.{Acts}
+use Rattle.cq_events.specs.Acts.{Acts}
 use Rattle.cq_events.specs.Actions.{Put, StandsAs, Keeps}
 use Rattle.cq_events.proofs.Parties.{same-refl}
 

@@ -1,4 +1,3 @@
-pub mod Acts
 pub mod Ends
 pub mod FreshLinks
 pub mod MasterMoves

@@ -6,7 +6,7 @@ use Rattle.cq_chain.specs.declared.message.Message.{Message}
 use Rattle.cq_chain.specs.declared.master.Master.{Master}
 use Rattle.cq_nodes.specs.declared.ends.In.{In}
 use Rattle.cq_nodes.specs.declared.ends.Out.{Out}
-use Rattle.cq_nodes.specs.Acts.{ActsMaster}
+use Rattle.cq_events.specs.Acts.{ActsMaster}
 use Rattle.cq_nodes.specs.Ends.{listed, with_back, kept_at}
 use Rattle.cq_nodes.specs.Moves.{ArePut, AreTaken}
 use Rattle.cq_events.specs.Actions.{Put, Took, IsMasterAs, Keeps}

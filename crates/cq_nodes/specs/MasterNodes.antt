@@ -8,7 +8,7 @@ use Rattle.cq_chain.specs.declared.message.Message as rust
 use Rattle.cq_nodes.specs.declared.ends.In.{In}
 use Rattle.cq_nodes.specs.declared.ends.Out.{Out}
 use Rattle.cq_live_plan.specs.declared.joins.Join.{Join}
-use Rattle.cq_nodes.specs.Acts.{MasterActs}
+use Rattle.cq_events.specs.Acts.{MasterActs}
 use Rattle.cq_nodes.specs.MasterMoves.{back_of_servers}
 use Rattle.cq_nodes.specs.Ends.{unread_in}
 use Rattle.cq_nodes.specs.Moves.{ArePut, AreTaken}

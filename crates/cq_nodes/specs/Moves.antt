@@ -9,7 +9,7 @@ use Rattle.cq_chain.specs.Messages as messages
 use Rattle.cq_nodes.specs.declared.ends.In.{In}
 use Rattle.cq_nodes.specs.declared.ends.Out.{Out}
 use Rattle.cq_nodes.specs.declared.ends.ToClients.{ToClients}
-use Rattle.cq_nodes.specs.Acts.{Acts}
+use Rattle.cq_events.specs.Acts.{Acts}
 use Rattle.cq_nodes.specs.Ends.{party_at, listed, with_back, back_of, if_for}
 use Rattle.cq_events.specs.Actions.{Put, Took, Arrived, StandsAs, Keeps}
 

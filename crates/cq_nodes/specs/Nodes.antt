@@ -11,7 +11,7 @@ use Rattle.cq_nodes.specs.declared.ends.Out.{Out}
 use Rattle.cq_nodes.specs.declared.ends.ToClients.{ToClients}
 use Rattle.cq_nodes.specs.declared.server_ends.ServerEnds.{ServerEnds}
 use Rattle.cq_nodes.specs.declared.server_ends.ServerParts.{ServerParts}
-use Rattle.cq_nodes.specs.Acts.{ServerActs}
+use Rattle.cq_events.specs.Acts.{ServerActs}
 use Rattle.cq_nodes.specs.Ends.{party_at, back_of, of_client, ends_of, in_ends_of, unread_in}
 use Rattle.cq_nodes.specs.Moves.{ArePut, AreTaken, Part}
 use Rattle.cq_events.specs.Actions.{Action, Arrived, Asked, Crashed, CoreState, StandsAs, event_of, put_to, taken_from}

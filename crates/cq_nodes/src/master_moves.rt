@@ -6,7 +6,7 @@ ghost use Rattle.cq_chain.specs.declared.message.Message as rust_message;
 ghost use Rattle.cq_chain.specs.Masters as masters;
 ghost use Rattle.cq_chain.specs.Messages as sent;
 ghost use Rattle.cq_chain.specs.Stands.{KeepsMaster, MasterStandsFor};
-ghost use Rattle.cq_nodes.specs.Acts.{ActsMaster};
+ghost use Rattle.cq_events.specs.Acts.{ActsMaster};
 ghost use Rattle.cq_nodes.specs.Ends.{listed, unread_in};
 ghost use Rattle.cq_nodes.specs.Turns.{faults_of};
 ghost use Rattle.cq_nodes.specs.Moves.{waits, ArePut, AreTaken};

@@ -17,7 +17,7 @@ use Rattle.cq_events.specs.Actions.{Action, Arrived, Asked, Put, Took, Crashed, 
 use Rattle.cq_events.specs.Events.{refusal_of, next, after_take, first_of, put_on}
 use Rattle.cq_events.specs.Worlds.{World, set_pair, stepped, ordered}
 use Rattle.cq_events.specs.declared.event.Event.TheVariants as events
-use Rattle.cq_nodes.specs.Acts.{Acts, ActsMaster, ServerActs, MasterActs}
+use Rattle.cq_events.specs.Acts.{Acts, ActsMaster, ServerActs, MasterActs}
 use Rattle.cq_trace.proofs.OfLaws.ActionLists.{left}
 use Rattle.cq_trace.proofs.OfLaws.Casts.{Cast}
 use Rattle.cq_world.proofs.Eaches.{cons_nil}

@@ -17,7 +17,7 @@ use Rattle.cq_events.specs.Runs.{world_after}
 use Rattle.cq_events.specs.Worlds.{World, first_world, is_in}
 use Rattle.cq_events.specs.declared.event.Event.{Event}
 use Rattle.cq_events.specs.declared.event.Event.TheVariants as events
-use Rattle.cq_nodes.specs.Acts.{ServerActs, MasterActs}
+use Rattle.cq_events.specs.Acts.{ServerActs, MasterActs}
 
 -- ---- what was done
 

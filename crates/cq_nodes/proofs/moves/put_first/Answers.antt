@@ -3,7 +3,7 @@ use Rattle.std.proofs.Common.{sym, subst}
 use Rattle.cq_nodes.specs.Ends.{with_back}
 use Rattle.cq_nodes.proofs.Moving.{put-done}
 use Rattle.cq_events.specs.Actions.{Put}
-use Rattle.cq_nodes.specs.Acts.{Acts}
+use Rattle.cq_events.specs.Acts.{Acts}
 use Rattle.cq_nodes.proofs.moves.put_first.Goals as goal
 
 pub returns-in-Ok-clause-put : goal.returns-in-Ok-clause-put
