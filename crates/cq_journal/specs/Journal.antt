@@ -22,6 +22,10 @@ module _ {D : Type 0} {g : Ghosts D} where
   abbrev pub region_len : Journal D g → ℕ
   region_len j = j.len
 
+  -- where the log of the region that grows ends in it
+  abbrev pub journal_end : Journal D g → ℕ
+  journal_end j = j.end
+
   -- the places of all regions that count, in order
   abbrev pub journal_places : Journal D g → List ℕ
   journal_places j = j.closed.items ++ j.growing ∷ []
@@ -60,6 +64,13 @@ module _ {D : Type 0} {g : Ghosts D} where
     pub small : place < NUMBER_LIMIT
     pub apart : Each (λ n. AreApart j.len n place) (journal_places j)
     pub few : length (journal_places j) < REGION_LIMIT
+
+  -- two regions that share no byte are free
+  pub record HasSpare (j : Journal D g) : Type 0 where
+    pub first : ℕ
+    pub second : ℕ
+    pub free : IsFree j first × IsFree j second
+    pub apart : first + j.len ≤ second
 
   -- at this place of the device a frame of this region begins whose text has another checksum
   pub record IsDamagedAt (j : Journal D g) (index place : ℕ) : Type 0 where

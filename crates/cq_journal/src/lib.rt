@@ -22,6 +22,7 @@ mod reads;
 mod recovery;
 mod refresh;
 mod rewriting;
+mod room;
 mod root;
 
 pub use base::Base;
