@@ -2,3 +2,4 @@ mod Chunks
 mod Runs
 mod Histories
 mod Mending
+mod Pieces

@@ -83,3 +83,19 @@ impl From<AllocError> for TakeFault {
         TakeFault::NotKept(LogFault::NoMemory)
     }
 }
+
+impl From<NoMemory> for TakeFault {
+    ghost from_gives = { λ _ it. it ≡ take.NotKept log.NoMemory };
+
+    fn from(_fault: NoMemory) -> TakeFault {
+        TakeFault::NotKept(LogFault::NoMemory)
+    }
+}
+
+impl From<ScriptFault> for TakeFault {
+    ghost from_gives = { λ fault it. it ≡ take.NotTold fault };
+
+    fn from(fault: ScriptFault) -> TakeFault {
+        TakeFault::NotTold(fault)
+    }
+}

@@ -16,7 +16,7 @@ ghost use Rattle.cq_kept_session.specs.Texts.{is_ended, mended, without_zeros};
 ghost use Rattle.cq_kept_session.specs.declared.fault.TakeFault.TheVariants.{NotKept, NotTold};
 
 use crate::TakeFault;
-use crate::text::{has_ended, without_zeros};
+use crate::text::{has_ended, line_feeds, without_zeros};
 use cq_base::ChainSize;
 use cq_disk::Device;
 use cq_journal::Journal;
@@ -33,6 +33,8 @@ pub struct KeptSession<D: Device> {
     pub(crate) session: ResumedSession,
     /// Whether the last line that is kept has ended.
     pub(crate) ended: bool,
+    /// How many lines have ended.
+    pub(crate) lines: u64,
 }
 
 impl<D: Device> KeptSession<D> {
@@ -155,6 +157,7 @@ impl<D: Device> KeptSession<D> {
         ensures write_failed { result ≡ Err WriteFailed → W.has_failed writer.new ≡ true }
     {
         self.ended = has_ended(self.ended, chunk);
+        self.lines = self.lines.saturating_add(line_feeds(chunk));
         self.session.feed(chunk, writer)
     }
 }

@@ -3,13 +3,18 @@
 #![tactic(auto)]
 
 mod calls;
+mod class;
 mod fault;
 mod kept;
 mod laws;
+mod room;
+mod serving;
 mod starting;
 mod text;
 
 pub use calls::take_takes;
+pub use class::{LineClass, class_of_line};
 pub use fault::{StartFault, TakeFault};
 pub use kept::KeptSession;
 pub use laws::what_is_told_is_of_what_is_kept;
+pub use serving::NO_ROOM;

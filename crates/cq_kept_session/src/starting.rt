@@ -10,7 +10,7 @@ ghost use Rattle.cq_journal.specs.Rests.{Rests};
 ghost use Rattle.cq_script.specs.Resumed.{HasRun};
 ghost use Rattle.cq_kept_session.specs.Texts.{mended};
 
-use crate::text::has_ended;
+use crate::text::{has_ended, line_feeds};
 use crate::{KeptSession, StartFault};
 use cq_base::{ChainSize, NoMemory};
 use cq_disk::Device;
@@ -85,6 +85,7 @@ impl<D: Device> KeptSession<D> {
             journal,
             session,
             ended: true,
+            lines: 0,
         })
     }
 
@@ -120,6 +121,7 @@ impl<D: Device> KeptSession<D> {
             self.journal.read_region(self.alloc, index, &mut text)?;
             self.session.restore(&text)?;
             self.ended = has_ended(self.ended, &text);
+            self.lines = self.lines.saturating_add(line_feeds(&text));
             index += 1;
         }
         Ok(())
@@ -137,6 +139,7 @@ impl<D: Device> KeptSession<D> {
         self.keep(b"\n")?;
         self.session.restore(b"\n")?;
         self.ended = has_ended(self.ended, b"\n");
+        self.lines = self.lines.saturating_add(1);
         Ok(())
     }
 }

@@ -28,3 +28,8 @@ pub(crate) fn has_ended(had_ended: bool, bytes: &[u8]) -> bool
         None => had_ended,
     }
 }
+
+/// How many lines end in these bytes.
+pub(crate) fn line_feeds(bytes: &[u8]) -> u64 {
+    bytes.iter().filter(|byte| **byte == b'\n').count() as u64
+}

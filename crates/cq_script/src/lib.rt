@@ -26,3 +26,4 @@ pub use fault::LineRefusal;
 pub use resumed::ResumedSession;
 pub use run::replay;
 pub use sessions::session;
+pub use writing::{finish_writing, write_text};

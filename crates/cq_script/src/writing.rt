@@ -7,7 +7,7 @@ ghost use Rattle.cq_script.specs.Runs.{Takes, EndsWriting};
 use cq_lines::{ScriptFault, Sink};
 
 /// Flushes all that was written, and asks whether all of its calls went well.
-pub(crate) fn finish_writing<W: Sink>(writer: &mut W) -> Result<(), ScriptFault>
+pub fn finish_writing<W: Sink>(writer: &mut W) -> Result<(), ScriptFault>
     ensures kept { Keeps (W.contents writer.old) (W.contents writer.new) }
     ensures answer { EndsWriting result (W.has_failed writer.new) }
     ensures flushed { OnOk result (W.has_flushed writer.new ≡ true) }
@@ -22,7 +22,7 @@ pub(crate) fn finish_writing<W: Sink>(writer: &mut W) -> Result<(), ScriptFault>
 }
 
 /// Writes all of `text`, or a prefix of it where a write fails.
-pub(crate) fn write_text<W: Sink>(writer: &mut W, text: &[u8]) -> Result<(), ScriptFault>
+pub fn write_text<W: Sink>(writer: &mut W, text: &[u8]) -> Result<(), ScriptFault>
     ensures takes { Takes result text.now (W.contents writer.old) (W.contents writer.new) }
     ensures failed { result ≡ Err WriteFailed → W.has_failed writer.new ≡ true }
 {

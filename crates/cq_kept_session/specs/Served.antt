@@ -1,0 +1,41 @@
+-- What is written of lines, of which some are kept and some refused.
+use Rattle.std.specs.Prelude.{◌≡◌, ℕ, List, [], ◌∷◌, ◌++◌, Option, codes}
+use Rattle.std.specs.Io.KnownBytes.{Appends}
+use Rattle.cq_disk.specs.declared.device.Device.{Ghosts}
+use Rattle.cq_answers.specs.Answers.{refused_text}
+use Rattle.cq_kept_session.specs.declared.kept.KeptSession.{KeptSession}
+use Rattle.cq_kept_session.specs.Takes.{Continues, Taken}
+
+-- lines that were kept, or a line that was refused, and the number that its refusal has
+pub data Piece : Type 0 where
+  took : Taken → Piece
+  refused : ℕ → List ℕ → Piece
+
+-- all lines, in order
+abbrev pub texts : List Piece → List ℕ
+texts [] = []
+texts (took t ∷ ps) = t.chunk ++ texts ps
+texts (refused n line ∷ ps) = line ++ texts ps
+
+-- the line that tells that there is no room for a line
+abbrev pub no_room_text : ℕ → List ℕ
+no_room_text n = refused_text n 70 (codes "NoRoom")
+
+-- what is written of them, each in its place
+abbrev pub written : List Piece → List ℕ
+written [] = []
+written (took t ∷ ps) = t.output ++ written ps
+written (refused n line ∷ ps) = no_room_text n ++ written ps
+
+-- those that were kept
+abbrev pub taken : List Piece → List Taken
+taken [] = []
+taken (took t ∷ ps) = t ∷ taken ps
+taken (refused n line ∷ ps) = taken ps
+
+-- These lines were kept and answered, or refused: those that were refused change nothing, and nothing of them is kept.
+pub record Serves {D : Type 0} {g : Ghosts D} (old new : KeptSession D g) (before after : Option (List ℕ)) (lines : List ℕ) : Type 0 where
+  pub pieces : List Piece
+  pub are : texts pieces ≡ lines
+  pub appends : Appends before after (written pieces)
+  pub continues : Continues (taken pieces) old new

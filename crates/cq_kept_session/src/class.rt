@@ -1,0 +1,47 @@
+//! Which lines find room when little is left.
+ghost use Rattle.std.specs.Prelude.{◌≡◌, IfOk};
+ghost use Rattle.cq_kept_session.specs.Classes.{class_of_event, class_of_line};
+ghost use Rattle.cq_script.specs.Line.{line_of};
+
+use cq_base::{Ask, NoMemory};
+use cq_events::Event;
+use cq_script::{Line, LineFault, event_of};
+use std::alloc::Global;
+
+/// What a line does to what a session holds.
+#[derive(Clone, Copy, Debug, PartialEq, Eq)]
+pub enum LineClass {
+    /// It may add a queue or a message, or says no event. It is the first to be refused.
+    Adds,
+    /// It changes what is there.
+    Changes,
+    /// It deletes or removes, or moves messages between parties. It is the last to be refused.
+    Frees,
+}
+
+/// The class of a line, its line feed left out.
+pub fn class_of_line(alloc: Global, line: &[u8]) -> Result<LineClass, NoMemory>
+    ensures { IfOk result (λ class. class ≡ class_of_line (line_of line.now)) }
+{
+    match event_of(alloc, line) {
+        Ok(Line::Event(event)) => Ok(class_of_event(&event)),
+        Ok(_) | Err(LineFault::Bad) => Ok(LineClass::Adds),
+        Err(LineFault::NoMemory) => Err(NoMemory),
+    }
+}
+
+fn class_of_event(event: &Event) -> LineClass
+    ensures { result ≡ class_of_event event.now }
+{
+    match event {
+        Event::Arrive { request, .. } => match &request.ask {
+            Ask::Create { .. } | Ask::Send { .. } => LineClass::Adds,
+            Ask::Receive { .. } | Ask::Change { .. } => LineClass::Changes,
+            Ask::Remove { .. } | Ask::Delete { .. } => LineClass::Frees,
+        },
+        Event::Ask { .. } | Event::Crash { .. } | Event::Detect { .. } | Event::Join { .. } => {
+            LineClass::Changes
+        }
+        Event::Put { .. } | Event::Take { .. } => LineClass::Frees,
+    }
+}

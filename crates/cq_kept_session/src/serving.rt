@@ -1,0 +1,115 @@
+//! How a session takes lines while there is room, and refuses them where there is none.
+ghost use Rattle.std.specs.Prelude.{◌≡◌, ◌≤◌, ◌++◌, [], ◌∷◌, ℕ, List, true, length, Err, IfOk, IsTrue, OnOk, if◌then◌else◌};
+ghost use Rattle.std.specs.Io.KnownBytes.{Appends};
+ghost use Rattle.cq_lines.specs.declared.fault.ScriptFault.TheVariants.{WriteFailed};
+ghost use Rattle.cq_records.specs.declared.frame.TheConstants.{TEXT_LIMIT};
+ghost use Rattle.cq_kept_session.specs.Served.{Serves, no_room_text};
+ghost use Rattle.cq_kept_session.specs.Texts.{without_zeros};
+
+use crate::class::{LineClass, class_of_line};
+use crate::{KeptSession, TakeFault};
+use cq_disk::Device;
+use cq_records::LogFault;
+use cq_script::{ScriptFault, Sink, cut_line, finish_writing, refused_line, write_text};
+
+/// The number of the refusal that tells that there is no room.
+pub const NO_ROOM: u16 = 70;
+
+impl<D: Device> KeptSession<D> {
+    ghost use Rattle.cq_kept_session.specs.Kept.{IsKept, kept_records, session_device, session_journal, session_size};
+
+    /// Takes whole lines, as `take` does, while there is room for them. Where there is little, each line is taken by itself, or refused
+    /// by a line such as `{"line":3,"name":"NoRoom","refused":70}`: first those that may add a queue or a message, then those that change
+    /// what is there, and last those that delete. A refused line changes nothing, nothing of it is kept, and it isn't counted: the next
+    /// line that is taken has its number. After a fault the session is to be opened anew.
+    pub fn take_lines<W: Sink>(&mut self, lines: &[u8], writer: &mut W) -> Result<(), TakeFault>
+        requires kept { IsKept self.old }
+        requires short { length lines.now ≤ TEXT_LIMIT }
+
+        ensures kept { OnOk result (IsKept self.new) }
+        ensures size { session_size self.new ≡ session_size self.old }
+        ensures serves { OnOk result (IsTrue (D.is_honest (session_device self.new)) → Serves self.old self.new (W.contents writer.old) (W.contents writer.new) (without_zeros lines.now)) }
+    {
+        if self.take_if_room(LineClass::Adds, lines, writer)? {
+            return Ok(());
+        }
+        self.take_each(lines, writer)
+    }
+
+    /// Takes or refuses each of these lines.
+    fn take_each<W: Sink>(&mut self, lines: &[u8], writer: &mut W) -> Result<(), TakeFault>
+        requires kept { IsKept self.old }
+        requires short { length lines.now ≤ TEXT_LIMIT }
+
+        ensures kept { OnOk result (IsKept self.new) }
+        ensures size { session_size self.new ≡ session_size self.old }
+        ensures serves { OnOk result (IsTrue (D.is_honest (session_device self.new)) → Serves self.old self.new (W.contents writer.old) (W.contents writer.new) (without_zeros lines.now)) }
+    {
+        let mut rest = lines;
+        while let Some((line, _)) = cut_line(rest) {
+            let (whole, later) = rest.split_at(line.len() + 1);
+            self.take_or_refuse(line, whole, writer)?;
+            rest = later;
+        }
+        if rest.is_empty() {
+            return Ok(());
+        }
+        self.take_or_refuse(rest, rest, writer)
+    }
+
+    /// Takes a line where there is room for it, and else refuses it. `whole` is the line with its line feed.
+    fn take_or_refuse<W: Sink>(
+        &mut self,
+        line: &[u8],
+        whole: &[u8],
+        writer: &mut W,
+    ) -> Result<(), TakeFault>
+        requires kept { IsKept self.old }
+        requires short { length whole.now ≤ TEXT_LIMIT }
+
+        ensures kept { OnOk result (IsKept self.new) }
+        ensures size { session_size self.new ≡ session_size self.old }
+        ensures serves { OnOk result (IsTrue (D.is_honest (session_device self.new)) → Serves self.old self.new (W.contents writer.old) (W.contents writer.new) (without_zeros whole.now)) }
+    {
+        let class = class_of_line(self.alloc, line)?;
+        if self.take_if_room(class, whole, writer)? {
+            return Ok(());
+        }
+        self.refuse(writer)?;
+        Ok(())
+    }
+
+    /// Takes lines of this class where there is room for them. `false`: there is none, and nothing has changed.
+    fn take_if_room<W: Sink>(
+        &mut self,
+        class: LineClass,
+        chunk: &[u8],
+        writer: &mut W,
+    ) -> Result<bool, TakeFault>
+        requires kept { IsKept self.old }
+        requires short { length chunk.now ≤ TEXT_LIMIT }
+
+        ensures kept { OnOk result (IsKept self.new) }
+        ensures size { session_size self.new ≡ session_size self.old }
+        ensures serves { IfOk result (λ is_taken. IsTrue (D.is_honest (session_device self.new)) → Serves self.old self.new (W.contents writer.old) (W.contents writer.new) (if is_taken then without_zeros chunk.now else [])) }
+    {
+        if !self.has_room(class, chunk.len()) {
+            return Ok(false);
+        }
+        match self.take(chunk, writer) {
+            Ok(()) => Ok(true),
+            Err(TakeFault::NotKept(LogFault::Full)) => Ok(false),
+            Err(fault) => Err(fault),
+        }
+    }
+
+    /// Tells that there is no room for a line, and flushes that.
+    fn refuse<W: Sink>(&self, writer: &mut W) -> Result<(), ScriptFault>
+        ensures told { OnOk result ((number : ℕ) × Appends (W.contents writer.old) (W.contents writer.new) (no_room_text number)) }
+        ensures flushed { OnOk result (W.has_flushed writer.new ≡ true) }
+    {
+        let text = refused_line(self.alloc, self.lines.saturating_add(1), NO_ROOM, "NoRoom")?;
+        write_text(writer, &text)?;
+        finish_writing(writer)
+    }
+}
