@@ -1,7 +1,8 @@
 -- Lines that are kept or refused, one behind the other.
-use Rattle.std.proofs.Common.{◌≡◌, ℕ, zero, suc, ◌+◌, ◌≤◌, List, [], ◌∷◌, ◌++◌, length, Option, refl, sym, ◌∙◌, ap, subst, append_assoc, append-nil}
-use Rattle.std.specs.Prelude.{IsTrue, Result, Ok, Err, OnOk}
+use Rattle.std.proofs.Common.{◌≡◌, ℕ, zero, suc, ◌+◌, ◌≤◌, List, [], ◌∷◌, ◌++◌, length, Option, refl, sym, ◌∙◌, ap, subst, append_assoc, append-nil, arith}
+use Rattle.std.specs.Prelude.{◌==◌, true, IsTrue, Result, Ok, Err, OnOk}
 use Rattle.std.specs.Io.KnownBytes.{Appends}
+use Rattle.std.proofs.lemmas.Bool.{eqb-true}
 use Rattle.std.proofs.KnownBytes.{Appends-nil, Appends-trans}
 use Rattle.cq_disk.specs.declared.device.Device.{Ghosts}
 use Rattle.cq_records.specs.Frames.{joined}
@@ -17,6 +18,12 @@ use Rattle.cq_kept_session.proofs.Histories.{continues}
 pub if_ok : {T E P Q : Type 0} (r : Result T E) → OnOk r P → (P → Q) → OnOk r Q
 if_ok (Ok x) p step = step p
 if_ok (Err e) p step = tt
+
+pub no_bytes : (bytes : List ℕ) → (length bytes == 0) ≡ true → bytes ≡ []
+no_bytes [] is = refl
+no_bytes (b ∷ bytes) is =
+    let none : length (b ∷ bytes) ≡ 0 = eqb-true _ _ is in
+    absurd (omega (arith, none))
 
 -- ---- pieces
 

@@ -1,5 +1,5 @@
 -- What is written of lines, of which some are kept and some refused.
-use Rattle.std.specs.Prelude.{◌≡◌, ℕ, List, [], ◌∷◌, ◌++◌, Option, codes}
+use Rattle.std.specs.Prelude.{◌≡◌, ◌⊎◌, ℕ, List, [], ◌∷◌, ◌++◌, Option, codes}
 use Rattle.std.specs.Io.KnownBytes.{Appends}
 use Rattle.cq_disk.specs.declared.device.Device.{Ghosts}
 use Rattle.cq_answers.specs.Answers.{refused_text}
@@ -39,3 +39,7 @@ pub record Serves {D : Type 0} {g : Ghosts D} (old new : KeptSession D g) (befor
   pub are : texts pieces ≡ lines
   pub appends : Appends before after (written pieces)
   pub continues : Continues (taken pieces) old new
+
+-- nothing, or a line feed
+abbrev pub IsEnd : List ℕ → Type 0
+IsEnd end = (end ≡ []) ⊎ (end ≡ 10 ∷ [])

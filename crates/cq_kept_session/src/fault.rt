@@ -7,7 +7,7 @@ use cq_base::NoMemory;
 use cq_journal::{OpenFault, RegionFault};
 use cq_records::LogFault;
 use cq_script::ScriptFault;
-use std::alloc::AllocError;
+use std::alloc::{AllocError, AllocFailed};
 use thiserror::Error;
 
 /// Why a session wasn't begun.
@@ -84,6 +84,14 @@ impl From<AllocError> for TakeFault {
     }
 }
 
+impl<T: Drop> From<AllocFailed<T>> for TakeFault {
+    ghost from_gives = { λ _ it. it ≡ take.NotKept log.NoMemory };
+
+    fn from(_error: AllocFailed<T>) -> TakeFault {
+        TakeFault::NotKept(LogFault::NoMemory)
+    }
+}
+
 impl From<NoMemory> for TakeFault {
     ghost from_gives = { λ _ it. it ≡ take.NotKept log.NoMemory };
 
@@ -97,5 +105,22 @@ impl From<ScriptFault> for TakeFault {
 
     fn from(fault: ScriptFault) -> TakeFault {
         TakeFault::NotTold(fault)
+    }
+}
+
+/// Why a session ended before its reader did.
+#[derive(Clone, Copy, Debug, PartialEq, Eq, Error)]
+pub enum ServeFault {
+    /// The reader failed, or gave more than can be counted. All that came before is answered.
+    #[error("{0}")]
+    Read(ScriptFault),
+    /// Lines weren't taken.
+    #[error("{0}")]
+    Take(TakeFault),
+}
+
+impl From<TakeFault> for ServeFault {
+    fn from(fault: TakeFault) -> ServeFault {
+        ServeFault::Take(fault)
     }
 }

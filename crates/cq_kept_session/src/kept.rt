@@ -15,8 +15,8 @@ ghost use Rattle.cq_kept_session.specs.Outcomes.{OnKept, OnNotKept};
 ghost use Rattle.cq_kept_session.specs.Texts.{is_ended, mended, without_zeros};
 ghost use Rattle.cq_kept_session.specs.declared.fault.TakeFault.TheVariants.{NotKept, NotTold};
 
-use crate::TakeFault;
 use crate::text::{has_ended, line_feeds, without_zeros};
+use crate::{Highest, TakeFault};
 use cq_base::ChainSize;
 use cq_disk::Device;
 use cq_journal::Journal;
@@ -35,6 +35,8 @@ pub struct KeptSession<D: Device> {
     pub(crate) ended: bool,
     /// How many lines have ended.
     pub(crate) lines: u64,
+    /// The highest numbers of clients that it had as it was opened.
+    pub(crate) highest: Highest,
 }
 
 impl<D: Device> KeptSession<D> {
@@ -92,6 +94,16 @@ impl<D: Device> KeptSession<D> {
             return Ok(());
         }
         self.take_text(b"\n", writer)
+    }
+
+    /// How many lines have ended in all that is kept.
+    pub fn line_count(&self) -> u64 {
+        self.lines
+    }
+
+    /// The highest numbers of clients in the lines that were kept as the session was opened.
+    pub fn highest(&self) -> Highest {
+        self.highest
     }
 
     /// The journal, to be handed on.

@@ -4,17 +4,20 @@
 
 mod calls;
 mod class;
+mod clients;
 mod fault;
 mod kept;
 mod laws;
 mod room;
+mod serve;
 mod serving;
 mod starting;
 mod text;
 
 pub use calls::take_takes;
 pub use class::{LineClass, class_of_line};
-pub use fault::{StartFault, TakeFault};
+pub use clients::Highest;
+pub use fault::{ServeFault, StartFault, TakeFault};
 pub use kept::KeptSession;
 pub use laws::what_is_told_is_of_what_is_kept;
 pub use serving::NO_ROOM;

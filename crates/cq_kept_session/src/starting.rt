@@ -11,7 +11,7 @@ ghost use Rattle.cq_script.specs.Resumed.{HasRun};
 ghost use Rattle.cq_kept_session.specs.Texts.{mended};
 
 use crate::text::{has_ended, line_feeds};
-use crate::{KeptSession, StartFault};
+use crate::{Highest, KeptSession, StartFault};
 use cq_base::{ChainSize, NoMemory};
 use cq_disk::Device;
 use cq_journal::{Journal, NUMBER_LIMIT};
@@ -86,6 +86,7 @@ impl<D: Device> KeptSession<D> {
             session,
             ended: true,
             lines: 0,
+            highest: Highest::none(),
         })
     }
 
@@ -122,6 +123,7 @@ impl<D: Device> KeptSession<D> {
             self.session.restore(&text)?;
             self.ended = has_ended(self.ended, &text);
             self.lines = self.lines.saturating_add(line_feeds(&text));
+            self.highest = self.highest.with_lines(self.alloc, &text)?;
             index += 1;
         }
         Ok(())

@@ -69,3 +69,6 @@ returns-clause-kept g c =
       run = λ honest. subst (λ (n : ℕ). HasRun n (kept_bytes new) new.session) (sym i.size) (subst (λ (b : List ℕ). HasRun c.args.self.now.size b new.session) all (i.run honest));
       ended = λ honest. i.ended honest ∙ ap is_ended all;
     }
+
+pub returns-in_err-self-clause-rests : goal.returns-in_err-self-clause-rests
+returns-in_err-self-clause-rests g c = rests_on c.args.self.now.journal c.loop-index.self.journal c.read_region.new.self c.loop-index.invariant.rests c.read_region.ensures.rests

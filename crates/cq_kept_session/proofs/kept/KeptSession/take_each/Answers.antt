@@ -1,12 +1,10 @@
 -- One line more was taken or refused.
-use Rattle.std.proofs.lemmas.Bool.{eqb-true}
 use Rattle.std.proofs.lemmas.List.{length-append}
 use Rattle.std.proofs.Common.{◌≡◌, ◌≤◌, ◌+◌, ℕ, List, [], ◌++◌, length, take, drop, refl, sym, ◌∙◌, ap, subst, arith, append_assoc, append-nil, take-append-drop}
-use Rattle.std.specs.Prelude.{◌==◌, ◌∷◌, true}
 use Rattle.cq_records.specs.declared.frame.TheConstants.{TEXT_LIMIT}
 use Rattle.cq_kept_session.specs.Served.{Serves}
 use Rattle.cq_kept_session.specs.Texts.{without_zeros}
-use Rattle.cq_kept_session.proofs.Pieces.{if_ok, serves_both, serves_none, zeros_both}
+use Rattle.cq_kept_session.proofs.Pieces.{if_ok, no_bytes, serves_both, serves_none, zeros_both}
 use Rattle.cq_kept_session.proofs.kept.KeptSession.take_each.Goals as goal
 
 both_parts : (first later rest : List ℕ) (n : ℕ) → first ≡ take n rest → later ≡ drop n rest → first ++ later ≡ rest
@@ -14,12 +12,6 @@ both_parts first later rest n is are = (λ i. (is i) ++ (are i)) ∙ take-append
 
 shorter : (first later rest : List ℕ) → first ++ later ≡ rest → length rest ≤ TEXT_LIMIT → length later ≤ TEXT_LIMIT
 shorter first later rest is short = omega (arith, ap length is, length-append first later, short)
-
-no_bytes : (bytes : List ℕ) → (length bytes == 0) ≡ true → bytes ≡ []
-no_bytes [] is = refl
-no_bytes (b ∷ bytes) is =
-    let none : length (b ∷ bytes) ≡ 0 = eqb-true _ _ is in
-    absurd (omega (arith, none))
 
 pub loop-line-init : goal.loop-line-init
 loop-line-init g c = (c.requires.kept, c.requires.short, refl, λ honest. ([], refl, serves_none c.args.self.now (g.W.Write.contents c.args.writer.now)))
