@@ -1,0 +1,155 @@
+//! Why a session with a journal ends.
+ghost use Rattle.std.specs.Prelude.{◌≡◌};
+ghost use Rattle.cq_kept_run.specs.Faults.{code_of, name_of};
+
+use cq_base::NoMemory;
+use cq_disk::{DeviceFault, OpenFault as FileFault};
+use cq_journal::{OpenFault, RegionFault};
+use cq_kept_session::{ServeFault, StartFault, TakeFault};
+use cq_lines::ScriptFault;
+use cq_records::LogFault;
+use std::io;
+use thiserror::Error;
+
+/// What is wrong with the journal.
+#[derive(Clone, Copy, Debug, PartialEq, Eq, Error)]
+pub enum JournalFault {
+    /// The file can't be opened or made, or a read, a write or a sync failed. Nothing is answered that wasn't kept.
+    #[error("the journal failed")]
+    Failed,
+    /// Bytes changed behind its back: at this place of the file, if that is known.
+    #[error("the journal is damaged")]
+    Damaged(Option<usize>),
+    /// Another program has it.
+    #[error("the journal is in use")]
+    Busy,
+    /// The file is none.
+    #[error("there is no journal in the file")]
+    NotAJournal,
+}
+
+impl JournalFault {
+    /// The number that stands for the fault in what the program reports.
+    pub fn code(&self) -> u16
+        ensures { result ≡ code_of self.now }
+    {
+        match self {
+            JournalFault::Failed => 66,
+            JournalFault::Damaged(_) => 67,
+            JournalFault::Busy => 68,
+            JournalFault::NotAJournal => 69,
+        }
+    }
+
+    /// The fault's name.
+    pub fn name(&self) -> &'static str
+        ensures { result.now ≡ name_of self.now }
+    {
+        match self {
+            JournalFault::Failed => "JournalFailed",
+            JournalFault::Damaged(_) => "JournalDamaged",
+            JournalFault::Busy => "JournalBusy",
+            JournalFault::NotAJournal => "NotAJournal",
+        }
+    }
+}
+
+/// Why a session with a journal ends before its reader does.
+#[derive(Clone, Copy, Debug, PartialEq, Eq, Error)]
+pub enum KeptFault {
+    #[error("{0}")]
+    Script(ScriptFault),
+    #[error("{0}")]
+    Journal(JournalFault),
+}
+
+impl From<ScriptFault> for KeptFault {
+    fn from(fault: ScriptFault) -> KeptFault {
+        KeptFault::Script(fault)
+    }
+}
+
+impl From<JournalFault> for KeptFault {
+    fn from(fault: JournalFault) -> KeptFault {
+        KeptFault::Journal(fault)
+    }
+}
+
+impl From<NoMemory> for KeptFault {
+    fn from(_fault: NoMemory) -> KeptFault {
+        KeptFault::Script(ScriptFault::NoMemory)
+    }
+}
+
+impl From<DeviceFault> for KeptFault {
+    fn from(fault: DeviceFault) -> KeptFault {
+        match fault {
+            DeviceFault::NoMemory => KeptFault::Script(ScriptFault::NoMemory),
+            DeviceFault::Failed => KeptFault::Journal(JournalFault::Failed),
+        }
+    }
+}
+
+impl From<LogFault> for KeptFault {
+    fn from(fault: LogFault) -> KeptFault {
+        match fault {
+            LogFault::NoMemory => KeptFault::Script(ScriptFault::NoMemory),
+            LogFault::Full | LogFault::Failed => KeptFault::Journal(JournalFault::Failed),
+        }
+    }
+}
+
+impl From<OpenFault> for KeptFault {
+    fn from(fault: OpenFault) -> KeptFault {
+        match fault {
+            OpenFault::NoJournal => KeptFault::Journal(JournalFault::NotAJournal),
+            OpenFault::Damaged => KeptFault::Journal(JournalFault::Damaged(None)),
+            OpenFault::NoMemory => KeptFault::Script(ScriptFault::NoMemory),
+            OpenFault::Full | OpenFault::Failed => KeptFault::Journal(JournalFault::Failed),
+        }
+    }
+}
+
+impl From<RegionFault> for KeptFault {
+    fn from(fault: RegionFault) -> KeptFault {
+        match fault {
+            RegionFault::Damaged(place) => KeptFault::Journal(JournalFault::Damaged(Some(place))),
+            RegionFault::NoMemory => KeptFault::Script(ScriptFault::NoMemory),
+            RegionFault::Failed => KeptFault::Journal(JournalFault::Failed),
+        }
+    }
+}
+
+impl From<StartFault> for KeptFault {
+    fn from(fault: StartFault) -> KeptFault {
+        match fault {
+            StartFault::Open(fault) => KeptFault::from(fault),
+            StartFault::Read(fault) => KeptFault::from(fault),
+            StartFault::Run(fault) => KeptFault::from(fault),
+            StartFault::Write(fault) => KeptFault::from(fault),
+        }
+    }
+}
+
+impl From<ServeFault> for KeptFault {
+    fn from(fault: ServeFault) -> KeptFault {
+        match fault {
+            ServeFault::Read(fault) => KeptFault::from(fault),
+            ServeFault::Take(TakeFault::NotKept(fault)) => KeptFault::from(fault),
+            ServeFault::Take(TakeFault::NotTold(fault)) => KeptFault::from(fault),
+        }
+    }
+}
+
+impl From<FileFault> for KeptFault {
+    fn from(fault: FileFault) -> KeptFault {
+        match fault {
+            FileFault::Busy => KeptFault::Journal(JournalFault::Busy),
+            FileFault::NotAFile => KeptFault::Journal(JournalFault::NotAJournal),
+            FileFault::Io(error) if error.kind() == io::ErrorKind::OutOfMemory => {
+                KeptFault::Script(ScriptFault::NoMemory)
+            }
+            FileFault::Io(_) => KeptFault::Journal(JournalFault::Failed),
+        }
+    }
+}

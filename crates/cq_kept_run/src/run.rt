@@ -1,0 +1,128 @@
+//! How a session with a journal runs, from its start to the end of its reader.
+ghost use Rattle.std.specs.Prelude.{◌≡◌, false, true, IfOk, OnOk, ℕ, List};
+ghost use Rattle.std.specs.Io.KnownBytes.{Appends};
+ghost use Rattle.cq_lines.specs.Checks.{inner_of, is_failed};
+ghost use Rattle.cq_kept_session.specs.Kept.{IsKept, session_size};
+ghost use Rattle.cq_kept_run.specs.Runs.{Serving};
+
+use crate::blank::{fill, is_blank};
+use crate::fault::{JournalFault, KeptFault};
+use cq_base::ChainSize;
+use cq_disk::{Device, Host, Modelled, OpenFault, TornWrites, Unknown, create, open};
+use cq_kept_session::{Highest, KeptSession};
+use cq_lines::{Checked, ScriptFault, Sink};
+use std::alloc::Global;
+use std::io::{self, Read, Write};
+
+/// The length of a half of the root, which names up to 100,000 regions.
+const HALF: usize = 524_288;
+
+/// The length of a region.
+const REGION: usize = 16_777_216;
+
+/// Runs a session on so many servers whose lines the file at a path keeps. Where there is no file, one of so many mebibytes is made.
+/// Where there is one, its lines are run first, and nothing is written of them. Then a line such as
+/// `{"clients":2,"kind":"ready","lines":7,"queriers":0}` says how many lines that were, and the highest numbers of clients in their
+/// requests and queries. After that the lines of the reader are kept, run and answered, up to its end or to a fault. With two syncs
+/// nothing is supposed of torn writes.
+pub fn run_kept<R: Read, W: Write>(
+    rt: &HostRuntime,
+    size: ChainSize,
+    path: &str,
+    mebibytes: u64,
+    two_syncs: bool,
+    reader: &mut Checked<R>,
+    output: &mut Checked<W>,
+) -> Result<(), KeptFault>
+    requires { is_failed output.old ≡ false }
+{
+    let torn = if two_syncs {
+        TornWrites::Any
+    } else {
+        TornWrites::OldOrNew
+    };
+    let device = open_or_make(rt, path, mebibytes, torn)?;
+    run_on(rt.alloc(), size, device, reader, output)
+}
+
+/// Opens the file, or makes one of so many mebibytes where there is none.
+fn open_or_make(
+    rt: &HostRuntime,
+    path: &str,
+    mebibytes: u64,
+    torn: TornWrites,
+) -> Result<Modelled<Host, Unknown>, KeptFault> {
+    match open(rt, path, torn, Unknown) {
+        Ok(device) => Ok(device),
+        Err(OpenFault::Io(error)) if error.kind() == io::ErrorKind::NotFound => {
+            create(rt, path, (mebibytes as usize).saturating_mul(1_048_576))?;
+            Ok(open(rt, path, torn, Unknown)?)
+        }
+        Err(fault) => Err(KeptFault::from(fault)),
+    }
+}
+
+/// Runs a session whose lines a device keeps.
+fn run_on<D: Device, R: Read, W: Write>(
+    alloc: Global,
+    size: ChainSize,
+    device: D,
+    reader: &mut Checked<R>,
+    output: &mut Checked<W>,
+) -> Result<(), KeptFault>
+    requires { is_failed output.old ≡ false }
+{
+    let mut session = start(alloc, size, device)?;
+    run_session(&mut session, reader, output)
+}
+
+/// Tells that a session is ready, and serves the lines of the reader.
+fn run_session<D: Device, R: Read, W: Write>(
+    session: &mut KeptSession<D>,
+    reader: &mut Checked<R>,
+    output: &mut Checked<W>,
+) -> Result<(), KeptFault>
+    requires session { IsKept session.old }
+    requires output { is_failed output.old ≡ false }
+    ensures { OnOk result (Serving session.old session.new (R.remaining (inner_of reader.old)) (R.remaining (inner_of reader.new)) (W.contents (inner_of output.old)) (W.contents (inner_of output.new))) }
+{
+    tell_ready(session.line_count(), session.highest(), output)?;
+    session.serve(reader, output)?;
+    Ok(())
+}
+
+/// Begins a session on a device that has nothing, or goes on with the one that it has.
+fn start<D: Device>(alloc: Global, size: ChainSize, device: D) -> Result<KeptSession<D>, KeptFault>
+    ensures kept { IfOk result IsKept }
+    ensures size { IfOk result (λ session. session_size session ≡ size) }
+{
+    let mut device = device;
+    if device.len() < HALF + HALF {
+        return Err(KeptFault::Journal(JournalFault::NotAJournal));
+    }
+    if is_blank(&mut device)? {
+        fill(&mut device)?;
+        return Ok(KeptSession::create(alloc, size, device, HALF, REGION)?);
+    }
+    Ok(KeptSession::open(alloc, size, device, HALF, REGION)?)
+}
+
+/// Tells that the session is ready, and flushes that.
+fn tell_ready<W: Write>(
+    lines: u64,
+    highest: Highest,
+    output: &mut Checked<W>,
+) -> Result<(), ScriptFault>
+    requires { is_failed output.old ≡ false }
+    ensures ok { OnOk result (is_failed output.new ≡ false) }
+    ensures told { OnOk result ((text : List ℕ) × Appends (W.contents (inner_of output.old)) (W.contents (inner_of output.new)) text) }
+{
+    let Highest { clients, queriers } = highest;
+    output.print(format_args!(
+        "{{\"clients\":{clients},\"kind\":\"ready\",\"lines\":{lines},\"queriers\":{queriers}}}\n"
+    ));
+    if output.flush().is_err() || output.failed() {
+        return Err(ScriptFault::WriteFailed);
+    }
+    Ok(())
+}
