@@ -20,7 +20,7 @@ some_same {A} {x} {y} is = ap (λ (o : Option A). unwrap_or o x) is
 -- ---- numbers
 
 -- the text of an option that a parse found is the number that was read of it
-number_read : {E : Type 0} (gives : Text → Result ℕ E → Type 0)
+pub number_read : {E : Type 0} (gives : Text → Result ℕ E → Type 0)
     → ((text : Text) (n : ℕ) → gives text (Ok n) → n ≡ digits_value 10 (without_leading_plus text))
     → (id : Text) (rows : List Row) (f : Found) (read : Option ℕ) → rows_of f ≡ rows
     → (one_text f id ≡ None → read ≡ None)

@@ -15,7 +15,7 @@ use Rattle.cq_args.proofs.Asked.{some_same}
 use Rattle.cq_args.proofs.Live.{IsRead, IsValue, is_value, reads_both, reads_both_turned, reads_none, reads_servers, reads_turns}
 use Rattle.cq_args.specs.declared.invocation.Invocation.{Invocation}
 use Rattle.cq_args.specs.declared.invocation.Invocation.TheVariants.{Live, Replay, Session}
-use Rattle.cq_args.specs.CommandLine.{ReadsTurns, asked_invocation, asked_live, asked_servers, digit_of, live_of, most_turns, name_in, name_of, program_app, servers_rule, size_of, text_in, turns_of, turns_rule, turns_text}
+use Rattle.cq_args.specs.CommandLine.{LacksJournalIn, ReadsTurns, asked_invocation, asked_live, asked_servers, digit_of, live_of, most_turns, name_in, name_of, program_app, servers_rule, size_of, text_in, turns_of, turns_rule, turns_text}
 
 -- the arguments are taken, and the parse finds the command, the digit and the turns of the invocation
 pub record IsGood (args : List Text) (invocation : Invocation) : Type 0 where
@@ -25,6 +25,7 @@ pub record IsGood (args : List Text) (invocation : Invocation) : Type 0 where
   pub low : 1 ≤ size_of invocation
   pub high : size_of invocation ≤ 8
   pub turns : ReadsTurns (turns_text (subcommand_of program_app args)) invocation
+  pub lacks : LacksJournalIn (subcommand_of program_app args) invocation
 
 -- ---- numbers
 
@@ -106,22 +107,22 @@ most_are_turns = record { is = is_value _ _ refl refl; reads = refl }
 abbrev Finds : List Text → Invocation → Type 0
 Finds args invocation =
     (takes program_app args ≡ true) × (name_in (subcommand_of program_app args) ≡ name_of invocation)
-    × (text_in (subcommand_of program_app args) ≡ Some ((48 + size_of invocation) ∷ []))
+    × (text_in (subcommand_of program_app args) ≡ Some ((48 + size_of invocation) ∷ [])) × LacksJournalIn (subcommand_of program_app args) invocation
 
 is_good_replay : (args : List Text) (servers : ℕ) → Finds args (Replay servers) → 1 ≤ servers → servers ≤ 8 → IsGood args (Replay servers)
-is_good_replay args servers finds low high = record { taken = finds.0; name = finds.1; text = finds.2; low = low; high = high; turns = tt }
+is_good_replay args servers finds low high = record { taken = finds.0; name = finds.1; text = finds.2; low = low; high = high; turns = tt; lacks = finds.3 }
 
 is_good_session : (args : List Text) (servers : ℕ) → Finds args (Session servers) → 1 ≤ servers → servers ≤ 8 → IsGood args (Session servers)
-is_good_session args servers finds low high = record { taken = finds.0; name = finds.1; text = finds.2; low = low; high = high; turns = tt }
+is_good_session args servers finds low high = record { taken = finds.0; name = finds.1; text = finds.2; low = low; high = high; turns = tt; lacks = finds.3 }
 
 finds_none : Finds [] (Replay 1)
 unfolding clap_on_literals
-finds_none = (refl, refl, refl)
+finds_none = (refl, refl, refl, tt)
 
 -- both commands, alone
 finds_name : Finds (codes "replay" ∷ []) (Replay 1) × Finds (codes "session" ∷ []) (Session 1)
 unfolding clap_on_literals
-finds_name = ((refl, refl, refl), (refl, refl, refl))
+finds_name = ((refl, refl, refl, tt), (refl, refl, refl, (refl, refl, refl)))
 
 -- the arguments behind a command that ask for that many servers
 abbrev for_servers : ℕ → List Text
@@ -134,14 +135,14 @@ FindsServers n = Finds (codes "replay" ∷ for_servers n) (Replay n) × Finds (c
 finds_servers : (n : ℕ) → 1 ≤ n → n ≤ 8 → FindsServers n
 unfolding clap_on_literals
 finds_servers zero low high = absurd (omega arith)
-finds_servers (suc zero) low high = ((refl, refl, refl), (refl, refl, refl))
-finds_servers (suc (suc zero)) low high = ((refl, refl, refl), (refl, refl, refl))
-finds_servers (suc (suc (suc zero))) low high = ((refl, refl, refl), (refl, refl, refl))
-finds_servers (suc (suc (suc (suc zero)))) low high = ((refl, refl, refl), (refl, refl, refl))
-finds_servers (suc (suc (suc (suc (suc zero))))) low high = ((refl, refl, refl), (refl, refl, refl))
-finds_servers (suc (suc (suc (suc (suc (suc zero)))))) low high = ((refl, refl, refl), (refl, refl, refl))
-finds_servers (suc (suc (suc (suc (suc (suc (suc zero))))))) low high = ((refl, refl, refl), (refl, refl, refl))
-finds_servers (suc (suc (suc (suc (suc (suc (suc (suc zero)))))))) low high = ((refl, refl, refl), (refl, refl, refl))
+finds_servers (suc zero) low high = ((refl, refl, refl, tt), (refl, refl, refl, (refl, refl, refl)))
+finds_servers (suc (suc zero)) low high = ((refl, refl, refl, tt), (refl, refl, refl, (refl, refl, refl)))
+finds_servers (suc (suc (suc zero))) low high = ((refl, refl, refl, tt), (refl, refl, refl, (refl, refl, refl)))
+finds_servers (suc (suc (suc (suc zero)))) low high = ((refl, refl, refl, tt), (refl, refl, refl, (refl, refl, refl)))
+finds_servers (suc (suc (suc (suc (suc zero))))) low high = ((refl, refl, refl, tt), (refl, refl, refl, (refl, refl, refl)))
+finds_servers (suc (suc (suc (suc (suc (suc zero)))))) low high = ((refl, refl, refl, tt), (refl, refl, refl, (refl, refl, refl)))
+finds_servers (suc (suc (suc (suc (suc (suc (suc zero))))))) low high = ((refl, refl, refl, tt), (refl, refl, refl, (refl, refl, refl)))
+finds_servers (suc (suc (suc (suc (suc (suc (suc (suc zero)))))))) low high = ((refl, refl, refl, tt), (refl, refl, refl, (refl, refl, refl)))
 finds_servers (suc (suc (suc (suc (suc (suc (suc (suc (suc n))))))))) low high = absurd (omega arith)
 
 -- the arguments behind a command ask for so many servers: none for one, or a digit
@@ -172,6 +173,10 @@ good_session options servers (are_some some low high) = rw some (is_good_session
 
 -- ---- `live`
 
+no_session : (found : Option (Text × List Row)) (servers turns : ℕ) → LacksJournalIn found (Live servers turns)
+no_session None servers turns = tt
+no_session (Some found) servers turns = tt
+
 is_good_live : (options : List Text) (servers turns : ℕ) (text : Text) → IsRead options ((48 + servers) ∷ []) text → IsTurns text turns
     → 1 ≤ servers → servers ≤ 8 → IsGood (codes "live" ∷ options) (Live servers turns)
 is_good_live options servers turns text read number low high =
@@ -183,6 +188,7 @@ is_good_live options servers turns text read number low high =
       low = low;
       high = high;
       turns = (text, read.limit, accepted.0, number.reads, rw number.reads accepted.3);
+      lacks = no_session _ servers turns;
     }
 
 -- a live run on so many servers, for so many turns, of these two texts
@@ -285,8 +291,8 @@ is_good (arg ∷ options) invocation asked = by_name arg options _ _ _ refl refl
 pub is_found : {taken : Option Invocation} (found : Option (Text × List Row)) (args : List Text) (invocation : Invocation)
     → found ≡ subcommand_of program_app args → asked_invocation args ≡ Some invocation
     → ((c : Invocation) → text_in found ≡ Some ((48 + size_of c) ∷ []) → 1 ≤ size_of c → size_of c ≤ 8 → name_in found ≡ name_of c
-    → ReadsTurns (turns_text found) c → taken ≡ Some c)
+    → ReadsTurns (turns_text found) c → LacksJournalIn found c → taken ≡ Some c)
     → taken ≡ Some invocation
 is_found found args invocation is asked takes =
     let good = is_good args invocation asked in
-    takes invocation (ap text_in is ∙ good.text) good.low good.high (ap name_in is ∙ good.name) (rw is good.turns)
+    takes invocation (ap text_in is ∙ good.text) good.low good.high (ap name_in is ∙ good.name) (rw is good.turns) (subst (λ it. LacksJournalIn it invocation) (sym is) good.lacks)

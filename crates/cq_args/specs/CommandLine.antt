@@ -1,23 +1,26 @@
 -- The command line of the program, in the words of clap's own specification.
-use Rattle.std.specs.Prelude.{◌≡◌, ℕ, ◌-◌, ◌≤◌, ◌&&◌, nat_le, if◌then◌else◌, List, Option, Some, None, option_and_then, option_map, true, [], ◌∷◌, codes, pos, ⊤}
+use Rattle.std.specs.Prelude.{◌≡◌, ◌⊎◌, ℕ, ◌-◌, ◌≤◌, ◌&&◌, nat_le, if◌then◌else◌, List, Option, Some, None, option_and_then, option_map, true, [], ◌∷◌, codes, pos, ⊤}
 use Rattle.std.specs.Str.{all_ascii_digits, bytes_eq}
 use Rattle.std.specs.Str.Parse.{IsNumeral, digits_value, without_leading_plus}
-use Rattle.clap.specs.Words.{App, Row, Rule, Text, new_app, new_rule, one_of, with_rule, with_subcommand}
+use Rattle.clap.specs.Words.{App, Row, Rule, Text, first_of, new_app, new_rule, one_of, with_rule, with_subcommand}
 use Rattle.clap.specs.Simple.{on_top}
+use Rattle.clap.specs.declared.builder.action.ArgAction.TheVariants.{SetTrue}
 use Rattle.clap.specs.declared.builder.value_parser.ValueParser.TheVariants.{Signed, Unsigned}
 use Rattle.cq_args.specs.declared.invocation.Invocation.{Invocation}
-use Rattle.cq_args.specs.declared.invocation.Invocation.TheVariants.{Live, Replay, Session}
+use Rattle.cq_args.specs.declared.invocation.Invocation.TheVariants.{Kept, Live, Replay, Session}
 
 -- how many servers the chain begins with
 abbrev pub size_of : Invocation → ℕ
 size_of (Replay size) = size
 size_of (Session size) = size
+size_of (Kept size journal) = size
 size_of (Live size turns) = size
 
 -- the name of the command
 abbrev pub name_of : Invocation → Text
 name_of (Replay size) = codes "replay"
 name_of (Session size) = codes "session"
+name_of (Kept size journal) = codes "session"
 name_of (Live size turns) = codes "live"
 
 -- `--servers N`, a number from 1 to 8, and its text if it isn't given
@@ -32,6 +35,36 @@ servers_rule default = record (new_rule (codes "servers")) {
 -- a command of that name, with `[--servers N]`, and the text of that number if it isn't given
 abbrev pub command_app : Text → Text → App
 command_app name default = with_rule (new_app name) (servers_rule default)
+
+-- the name of the command for sessions
+abbrev pub session_name : Text
+session_name = codes "session"
+
+-- `--journal FILE`
+abbrev pub journal_rule : Rule
+journal_rule = record (new_rule (codes "journal")) {
+  long = Some (codes "journal");
+  value_names = 1;
+}
+
+-- `--journal-size MIB`, a number from 64 to 1,048,576
+abbrev pub journal_size_rule : Rule
+journal_size_rule = record (new_rule (codes "journal-size")) {
+  long = Some (codes "journal-size");
+  value_names = 1;
+  parser = Some (Unsigned 64 1048576);
+}
+
+-- `--two-syncs`
+abbrev pub two_syncs_rule : Rule
+two_syncs_rule = record (new_rule (codes "two-syncs")) {
+  long = Some (codes "two-syncs");
+  action = Some SetTrue;
+}
+
+-- `session [--servers N] [--journal FILE] [--journal-size MIB] [--two-syncs]`, on 1 server if no number is given
+abbrev pub session_app : App
+session_app = with_rule (with_rule (with_rule (command_app (codes "session") (codes "1")) journal_rule) journal_size_rule) two_syncs_rule
 
 -- the most turns that may be asked for
 abbrev pub most_turns : ℕ
@@ -62,7 +95,7 @@ with_command program command = with_subcommand program command.top
 abbrev pub program_app : App
 program_app =
     with_command (with_command
-    (with_command bare_app (command_app (codes "replay") (codes "1"))) (command_app (codes "session") (codes "1")))
+    (with_command bare_app (command_app (codes "replay") (codes "1"))) session_app)
     live_app
 
 -- the text of the number of servers that a parse found: "1" where no subcommand stands
@@ -92,9 +125,23 @@ abbrev pub HasTurns : Option (Text × List Row) → Invocation → Type 0
 HasTurns found (Live size turns) = IsNumber (turns_text found) turns
 HasTurns found _ = ⊤
 
--- the command of that name is asked for, on so many servers, and for so many turns
+-- A session has no journal just where none is asked for, and else the one of that file: 256 mebibytes if none are given.
+abbrev pub AsksJournal : List Row → Invocation → Type 0
+AsksJournal rows (Session size) = first_of (codes "journal") rows ≡ None
+AsksJournal rows (Kept size journal) =
+    (first_of (codes "journal") rows ≡ Some journal.path.now)
+    × (IsNumber (one_of (codes "journal-size") rows) journal.mebibytes ⊎ (journal.mebibytes ≡ 256))
+    × (one_of (codes "two-syncs") rows ≡ Some (codes "true") → journal.two_syncs ≡ true)
+AsksJournal rows _ = ⊤
+
+-- and that is so of what a parse found
+abbrev pub HasJournal : Option (Text × List Row) → Invocation → Type 0
+HasJournal None invocation = ⊤
+HasJournal (Some found) invocation = AsksJournal found.1 invocation
+
+-- the command of that name is asked for, on so many servers, for so many turns, and with that journal
 abbrev pub IsAsked : Option (Text × List Row) → Invocation → Type 0
-IsAsked found invocation = (name_in found ≡ name_of invocation) × IsSized found (size_of invocation) × HasTurns found invocation
+IsAsked found invocation = (name_in found ≡ name_of invocation) × IsSized found (size_of invocation) × HasTurns found invocation × HasJournal found invocation
 
 -- ---- good arguments
 
@@ -104,6 +151,17 @@ ReadsTurns found (Live size turns) =
     (text : Text) × (found ≡ Some text) × IsNumeral 10 (without_leading_plus text)
     × (turns ≡ digits_value 10 (without_leading_plus text)) × (turns ≤ most_turns)
 ReadsTurns found _ = ⊤
+
+-- nothing is said of a journal
+abbrev pub LacksJournal : List Row → Type 0
+LacksJournal rows = (first_of (codes "journal") rows ≡ None) × (one_of (codes "journal-size") rows ≡ None) × (one_of (codes "two-syncs") rows ≡ Some (codes "false"))
+
+-- if it is a session without one that is chosen
+abbrev pub LacksJournalIn : Option (Text × List Row) → Invocation → Type 0
+LacksJournalIn (Some found) (Session size) = LacksJournal found.1
+LacksJournalIn None (Session size) = ⊥
+LacksJournalIn found (Kept size journal) = ⊥
+LacksJournalIn found _ = ⊤
 
 -- the number that a text of one digit from 1 to 8 is
 abbrev pub digit_of : Text → Option ℕ

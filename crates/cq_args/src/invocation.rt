@@ -1,15 +1,15 @@
 //! What the arguments of the command line ask for.
 ghost use Rattle.std.specs.Prelude.{◌≡◌, ◌≢◌, ℕ, ◌<◌, ◌≤◌, ◌+◌, ◌^◌, [], ◌∷◌, IfOk, IfSome, IsErrAnd, MatchResult, Some, false, map};
 ghost use Rattle.std.specs.Str.Parse.{IsNumeral, digits_value, without_leading_plus};
-ghost use Rattle.clap.specs.Words.{HasKind, Text, app_of, fault_of, kind_of, rule_of, subcommand_of, subcommand_rows_of};
+ghost use Rattle.clap.specs.Words.{HasKind, Text, app_of, fault_of, found_of, kind_of, rows_of, rule_of, subcommand_of, subcommand_rows_of};
 ghost use Rattle.clap.specs.declared.builder.command.Command.TheViews.{out-Command};
 ghost use Rattle.clap.specs.declared.error.kind.ErrorKind.TheVariants.{OutOfMemory};
 ghost use Rattle.cq_args.specs.declared.invocation.TheConstants.{ZERO_DIGIT};
 ghost use Rattle.cq_args.specs.declared.invocation.Invocation.{Invocation};
-ghost use Rattle.cq_args.specs.CommandLine.{IsAsked, IsNumber, IsSized, ReadsTurns, asked_invocation, command_app, live_app, name_in, name_of, program_app, size_of, text_in, turns_rule, turns_text};
+ghost use Rattle.cq_args.specs.CommandLine.{AsksJournal, IsAsked, LacksJournal, LacksJournalIn, IsNumber, IsSized, ReadsTurns, asked_invocation, command_app, journal_rule, journal_size_rule, live_app, name_in, name_of, program_app, session_app, session_name, size_of, text_in, turns_rule, turns_text, two_syncs_rule};
 
 use clap::error::ErrorKind;
-use clap::{Arg, ArgMatches, Command, Error, value_parser};
+use clap::{Arg, ArgAction, ArgMatches, Command, Error, value_parser};
 use cq_base::{CHAIN_LIMIT, ChainSize};
 use std::alloc::{AllocError, Global};
 use std::convert::AsStr;
@@ -20,16 +20,39 @@ pub const VERSION: &str = "0.1.0";
 /// The first digit, as a byte.
 const ZERO_DIGIT: u8 = b'0';
 
+/// The journal that a session is asked to keep.
+#[derive(Clone, Copy, Debug, PartialEq, Eq)]
+pub struct JournalOptions<'a> {
+    /// The name of its file.
+    pub path: &'a str,
+    /// How many mebibytes the file has where it is made.
+    pub mebibytes: u64,
+    /// Whether it is written with two syncs.
+    pub two_syncs: bool,
+}
+
 /// What the command line asks for.
 #[derive(Clone, Copy, Debug, PartialEq, Eq)]
-pub enum Invocation {
+pub enum Invocation<'a> {
     /// The script on standard input, run in a world whose chain begins with so many servers.
-    Replay { size: ChainSize },
+    Replay {
+        size: ChainSize,
+    },
     /// The lines of a session, run in such a world; a bad line doesn't end it.
-    Session { size: ChainSize },
+    Session {
+        size: ChainSize,
+    },
+    /// The lines of a session that a journal keeps before they are answered.
+    Kept {
+        size: ChainSize,
+        journal: JournalOptions<'a>,
+    },
     /// The live script on standard input, run by so many servers, a master and two clients on threads of their own, each
     /// of them for at most so many turns.
-    Live { size: ChainSize, turns: u64 },
+    Live {
+        size: ChainSize,
+        turns: u64,
+    },
 }
 
 const REPLAY: &str = "replay";
@@ -41,6 +64,20 @@ const LIVE: &str = "live";
 const SERVERS: &str = "servers";
 
 const TURNS: &str = "turns";
+
+const JOURNAL: &str = "journal";
+
+const JOURNAL_SIZE: &str = "journal-size";
+
+const TWO_SYNCS: &str = "two-syncs";
+
+/// The length of a journal that is made, in mebibytes, if none is given.
+const JOURNAL_SIZE_DEFAULT: u64 = 256;
+
+/// The least and the most that may be asked for.
+const JOURNAL_SIZE_LEAST: u32 = 64;
+
+const JOURNAL_SIZE_MOST: u32 = 1_048_576;
 
 /// The number of servers that a replay and a session have if none is given.
 const SERVERS_DEFAULT: &str = "1";
@@ -86,6 +123,64 @@ fn turns_option<'a>(alloc: Global) -> Arg<'a>
         .help("How many turns each thread takes at most, from 1 to 1000000000")
 }
 
+/// The subcommand for sessions, with the number of servers, and the journal, as its options.
+fn session<'a>(alloc: Global) -> Result<Command<'a>, AllocError>
+    ensures app { IfOk result (λ command. app_of command ≡ session_app) }
+    ensures local { IfOk result (λ command. (out-Command command).has_globals ≡ false) }
+{
+    let command = command(
+        alloc,
+        SESSION,
+        "Runs the lines that come on standard input, until it ends, and goes on behind bad ones",
+        SERVERS_DEFAULT,
+    )?;
+    let command = command.arg(journal_option(alloc))?;
+    let command = command.arg(journal_size_option(alloc))?;
+    command.arg(two_syncs_option(alloc))
+}
+
+/// The name of the journal's file, as an option.
+fn journal_option<'a>(alloc: Global) -> Arg<'a>
+    ensures rule { rule_of result ≡ journal_rule }
+    ensures local { result.global ≡ false }
+{
+    Arg::new(alloc, JOURNAL)
+        .long(JOURNAL)
+        .value_name("FILE")
+        .help(
+            "Keeps the lines in this file before they are answered, and goes on behind those that it has",
+        )
+}
+
+/// The length of a journal that is made, as an option.
+fn journal_size_option<'a>(alloc: Global) -> Arg<'a>
+    ensures rule { rule_of result ≡ journal_size_rule }
+    ensures local { result.global ≡ false }
+{
+    Arg::new(alloc, JOURNAL_SIZE)
+        .long(JOURNAL_SIZE)
+        .value_name("MIB")
+        .value_parser(value_parser!(u64).range(
+            i64::from(JOURNAL_SIZE_LEAST)..=i64::from(JOURNAL_SIZE_MOST),
+        ))
+        .help(
+            "How many mebibytes that file has where it is made, from 64 to 1048576, and 256 if not given",
+        )
+}
+
+/// Whether the journal is written with two syncs, as an option.
+fn two_syncs_option<'a>(alloc: Global) -> Arg<'a>
+    ensures rule { rule_of result ≡ two_syncs_rule }
+    ensures local { result.global ≡ false }
+{
+    Arg::new(alloc, TWO_SYNCS)
+        .long(TWO_SYNCS)
+        .action(ArgAction::SetTrue)
+        .help(
+            "Syncs twice for what one sync keeps: nothing is supposed of sectors that a crash tears",
+        )
+}
+
 /// The subcommand for live runs, with the numbers of servers and of turns as its options.
 fn live<'a>(alloc: Global) -> Result<Command<'a>, AllocError>
     ensures app { IfOk result (λ command. app_of command ≡ live_app) }
@@ -110,12 +205,7 @@ fn program<'a>(alloc: Global) -> Result<Command<'a>, AllocError>
         "Runs the script on standard input and writes its answers to standard output",
         SERVERS_DEFAULT,
     )?;
-    let session = command(
-        alloc,
-        SESSION,
-        "Runs the lines that come on standard input, until it ends, and goes on behind bad ones",
-        SERVERS_DEFAULT,
-    )?;
+    let session = session(alloc)?;
     let live = live(alloc)?;
     Command::new(alloc, "cq")
         .no_binary_name(true)
@@ -152,17 +242,45 @@ fn turns_in(matches: &ArgMatches<'_>) -> Option<u64>
     options.get_one::<u64>(TURNS)
 }
 
+/// The journal that a session keeps, as these options say. `None`: one is asked for without a file, or its size is no number.
+fn session_in<'a>(options: &ArgMatches<'a>, size: ChainSize) -> Option<Invocation<'a>>
+    ensures asked { IfSome result (λ it. (size_of it ≡ size) × (name_of it ≡ session_name) × AsksJournal (rows_of (found_of options.now)) it) }
+    ensures good { LacksJournal (rows_of (found_of options.now)) → result ≡ Some (Invocation.Session size) }
+{
+    let two_syncs = options.get_flag(TWO_SYNCS);
+    let mebibytes = options.get_one::<u64>(JOURNAL_SIZE);
+    if let Some(path) = options.get_str(JOURNAL) {
+        let mebibytes = mebibytes.unwrap_or(JOURNAL_SIZE_DEFAULT);
+        let journal = JournalOptions {
+            path,
+            mebibytes,
+            two_syncs,
+        };
+        return Some(Invocation::Kept { size, journal });
+    }
+    if two_syncs {
+        return None;
+    }
+    match mebibytes {
+        Some(_) => None,
+        None => Some(Invocation::Session { size }),
+    }
+}
+
 /// What is asked for; a replay where no subcommand stands.
-fn invocation_in(matches: &ArgMatches<'_>) -> Option<Invocation>
+fn invocation_in<'a>(matches: &ArgMatches<'a>) -> Option<Invocation<'a>>
     ensures asked { IfSome result (IsAsked (subcommand_rows_of matches.now)) }
     ensures good { (invocation : Invocation) → text_in (subcommand_rows_of matches.now) ≡ Some ((ZERO_DIGIT + size_of invocation) ∷ [])
         → 1 ≤ size_of invocation → size_of invocation ≤ CHAIN_LIMIT → name_in (subcommand_rows_of matches.now) ≡ name_of invocation
-        → ReadsTurns (turns_text (subcommand_rows_of matches.now)) invocation → result ≡ Some invocation }
+        → ReadsTurns (turns_text (subcommand_rows_of matches.now)) invocation → LacksJournalIn (subcommand_rows_of matches.now) invocation → result ≡ Some invocation }
 {
     let size = ChainSize::new(servers_in(matches)?)?;
     match matches.subcommand_name() {
         None | Some(REPLAY) => Some(Invocation::Replay { size }),
-        Some(SESSION) => Some(Invocation::Session { size }),
+        Some(SESSION) => {
+            let (_, options) = matches.subcommand()?;
+            session_in(options, size)
+        }
         Some(LIVE) => Some(Invocation::Live {
             size,
             turns: turns_in(matches)?,
@@ -173,7 +291,7 @@ fn invocation_in(matches: &ArgMatches<'_>) -> Option<Invocation>
 
 /// What the arguments behind the program's name ask for; no arguments ask for a replay on one server. An error is
 /// a request for help or for the version, a fault of the arguments, or want of memory.
-pub fn invocation_of<'a, S: AsStr>(alloc: Global, args: &'a [S]) -> Result<Invocation, Error>
+pub fn invocation_of<'a, S: AsStr>(alloc: Global, args: &'a [S]) -> Result<Invocation<'a>, Error>
     ensures asked { IfOk result (IsAsked (subcommand_of program_app (map S.text args.entry.now))) }
     ensures good { (invocation : Invocation) → asked_invocation (map S.text args.entry.now) ≡ Some invocation
         → MatchResult result (λ got. got ≡ invocation) (λ error. kind_of error ≡ OutOfMemory) }
@@ -187,6 +305,6 @@ pub fn invocation_of<'a, S: AsStr>(alloc: Global, args: &'a [S]) -> Result<Invoc
     }
     Err(program.error(
         ErrorKind::InvalidValue,
-        "a number is missing, or out of its range",
+        "a number is missing or out of its range, or '--journal FILE' is missing",
     )?)
 }

@@ -4,4 +4,4 @@
 
 mod invocation;
 
-pub use invocation::{Invocation, VERSION, invocation_of};
+pub use invocation::{Invocation, JournalOptions, VERSION, invocation_of};
