@@ -1,3 +1,4 @@
 mod Examples
 mod Told
 mod LiveTold
+mod KeptTold

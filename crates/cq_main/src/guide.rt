@@ -48,7 +48,10 @@ Commands, and when to use which:
   replay   for a script: it ends at its first fault, as at a line that says no event
   session  for a program at the other end of a pipe, or a person at a terminal: there is no limit to
            the lines, and a bad one is told by a line such as {"line":3,"name":"BadLine","refused":61},
-           and the session goes on
+           and the session goes on. With --journal FILE its lines are kept in this file before they
+           are answered, and a later session with it goes on behind them: it begins with a line such as
+           {"clients":2,"kind":"ready","lines":7,"queriers":0}. Where the file has no room, a line is
+           refused by one such as {"line":8,"name":"NoRoom","refused":70}, and isn't kept
   live     to see a chain at work: servers, a master and two clients run side by side, each on a thread
            of its own; once the clients have their answers, all that the servers and the master did is
            put into one order and checked. It tells how many sends were accepted, and that the audit
@@ -57,6 +60,7 @@ Commands, and when to use which:
 Examples:
   cq replay --servers 3 < SCRIPT
   cq session
+  cq session --journal queues.journal --journal-size 1024
   cq live --servers 5 --turns 1000000 < LIVE_SCRIPT
 
 Exit statuses:
@@ -65,4 +69,6 @@ Exit statuses:
   2  a usage fault, or a fault of the script: 61 BadLine, 62 LineTooLong, 63 TooManyLines, 74 BadScript
   3  the reader or the writer failed, or memory ran out: 64 ReadFailed, 65 WriteFailed, 20 NoMemory;
      a live run had no turns left, or no thread: 71 TurnLimit, 73 SpawnFailed
+  4  the journal of a session: 66 JournalFailed, as where a write or a sync of it failed, 67
+     JournalDamaged, 68 JournalBusy, as another session has it, or 69 NotAJournal
 A fault is told by one line on standard error, such as "cq: 61 BadLine line 3"."#;

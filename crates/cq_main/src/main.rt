@@ -3,6 +3,7 @@
 #![tactic(auto)]
 
 mod guide;
+mod kept;
 mod live;
 mod live_fault;
 mod report;

@@ -15,6 +15,7 @@ ghost use Rattle.cq_lines.specs.declared.fault.ScriptFault.TheVariants.{NoMemory
 ghost use Rattle.std.specs.declared.io.ErrorKind.TheVariants.{OutOfMemory as NoRoom};
 
 use crate::guide::GUIDE;
+use crate::kept::{KeptSessions, run_journal};
 use crate::live::run_live;
 use crate::report::report;
 use clap::Error;
@@ -31,10 +32,10 @@ use std::thread::Threads;
 /// The status after a command line that is not understood.
 const USAGE: u8 = 2;
 
-/// Does what the arguments ask for. It replays the script of the reader, runs a session with it, runs it live, or writes help or
+/// Does what the arguments ask for. It replays the script of the reader, runs a session with it, which a journal may keep, runs it live, or writes help or
 /// the version, on `output`; a fault, or what is wrong with the arguments, goes to `errors`. Gives the status with which the
 /// program ends. A live run waits for its threads.
-pub fn run<H: Threads + Wait + Sync, R: Read, W: Write, E: Write>(
+pub fn run<H: Threads + Wait + Sync + KeptSessions, R: Read, W: Write, E: Write>(
     rt: &H,
     alloc: Global,
     args: &[String],
@@ -74,32 +75,35 @@ pub fn run<H: Threads + Wait + Sync, R: Read, W: Write, E: Write>(
         → output.new ≡ output.old }
 {
     match invocation_of(alloc, args) {
-        Ok(invocation) => carry_out(rt, alloc, invocation, reader, output, errors),
+        Ok(invocation) => carry_out(rt, alloc, &invocation, reader, output, errors),
         Err(error) => tell_error(alloc, &error, output, errors),
     }
 }
 
 /// Runs what was asked for, and tells its fault.
-fn carry_out<H: Threads + Wait + Sync, R: Read, W: Write, E: Write>(
+fn carry_out<H: Threads + Wait + Sync + KeptSessions, R: Read, W: Write, E: Write>(
     rt: &H,
     alloc: Global,
-    invocation: Invocation,
+    invocation: &Invocation<'_>,
     reader: &mut Checked<R>,
     output: &mut Checked<W>,
     errors: &mut Checked<E>,
 ) -> u8
     requires reader { is_failed reader.old ≡ false }
     requires output { is_failed output.old ≡ false }
-    ensures { Runs invocation result (R.remaining (inner_of reader.old)) (R.remaining (inner_of reader.new))
+    ensures { Runs invocation.now result (R.remaining (inner_of reader.old)) (R.remaining (inner_of reader.new))
         (is_failed reader.new) (W.contents (inner_of output.old)) (W.contents (inner_of output.new))
         (is_failed output.new) (is_flushed output.new) (is_failed errors.new) (E.contents (inner_of errors.old))
         (E.contents (inner_of errors.new)) }
 {
     match invocation {
-        Invocation::Replay { size } => run_script(alloc, size, reader, output, errors),
-        Invocation::Session { size } => run_session(alloc, size, reader, output, errors),
+        Invocation::Replay { size } => run_script(alloc, *size, reader, output, errors),
+        Invocation::Session { size } => run_session(alloc, *size, reader, output, errors),
+        Invocation::Kept { size, journal } => {
+            run_journal(rt, *size, journal, reader, output, errors)
+        }
         Invocation::Live { size, turns } => run_live(
-            rt, alloc, size, turns, reader, output, errors,
+            rt, alloc, *size, *turns, reader, output, errors,
         ),
     }
 }

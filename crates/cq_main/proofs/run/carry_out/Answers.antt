@@ -9,3 +9,6 @@ returns-in-Session g c = rw c.in-Session.is c.run_session.ensures
 
 pub returns-in-Live : goal.returns-in-Live
 returns-in-Live g c = rw c.in-Live.is c.run_live.ensures
+
+pub returns-in-Kept : goal.returns-in-Kept
+returns-in-Kept g c = rw c.in-Kept.is c.run_journal.ensures

@@ -1,0 +1,92 @@
+//! Sessions with a journal: how they are run, how their faults are told, and the status that the program ends with.
+ghost use Rattle.std.specs.Prelude.{◌≡◌, false};
+ghost use Rattle.cq_lines.specs.Checks.{inner_of, is_failed};
+ghost use Rattle.cq_main.specs.KeptOutcomes.{EndsAtJournal, RunsKept};
+ghost use Rattle.cq_main.specs.KeptStatuses.{fault_place};
+
+use crate::report::report;
+use cq_args::JournalOptions;
+use cq_base::ChainSize;
+use cq_kept_run::{JournalFault, KeptFault, run_kept};
+use cq_script::Checked;
+use std::io::{Read, Write};
+
+/// The status with which a fault of the journal ends the program.
+const JOURNAL: u8 = 4;
+
+/// What runs sessions whose lines a file keeps.
+pub trait KeptSessions {
+    /// Runs the lines of the reader on so many servers, and keeps them as the options say.
+    fn run<R: Read, W: Write>(
+        &self,
+        size: ChainSize,
+        journal: &JournalOptions<'_>,
+        reader: &mut Checked<R>,
+        output: &mut Checked<W>,
+    ) -> Result<(), KeptFault>
+        requires { is_failed output.old ≡ false };
+}
+
+impl KeptSessions for HostRuntime {
+    fn run<R: Read, W: Write>(
+        &self,
+        size: ChainSize,
+        journal: &JournalOptions<'_>,
+        reader: &mut Checked<R>,
+        output: &mut Checked<W>,
+    ) -> Result<(), KeptFault> {
+        run_kept(
+            self,
+            size,
+            journal.path,
+            journal.mebibytes,
+            journal.two_syncs,
+            reader,
+            output,
+        )
+    }
+}
+
+/// The byte of the journal's file at which it is damaged, if that is the fault and the byte is known.
+fn place_of(fault: &JournalFault) -> Option<usize>
+    ensures { result ≡ fault_place fault.now }
+{
+    match fault {
+        JournalFault::Damaged(place) => *place,
+        JournalFault::Failed | JournalFault::Busy | JournalFault::NotAJournal => None,
+    }
+}
+
+/// Writes the line of a fault of the journal, such as `cq: 67 JournalDamaged byte 4096`, and gives the status with which the
+/// program ends.
+fn report_journal<E: Write>(fault: &JournalFault, errors: &mut Checked<E>) -> u8
+    ensures { EndsAtJournal fault.now result (is_failed errors.new) (E.contents (inner_of errors.old))
+        (E.contents (inner_of errors.new)) }
+{
+    let code = fault.code();
+    let name = fault.name();
+    match place_of(fault) {
+        Some(place) => errors.print(format_args!("cq: {code} {name} byte {place}\n")),
+        None => errors.print(format_args!("cq: {code} {name}\n")),
+    }
+    JOURNAL
+}
+
+/// Runs the lines of the reader as a session whose lines are kept, tells its fault, and gives the status with which the program ends.
+pub fn run_journal<H: KeptSessions, R: Read, W: Write, E: Write>(
+    rt: &H,
+    size: ChainSize,
+    journal: &JournalOptions<'_>,
+    reader: &mut Checked<R>,
+    output: &mut Checked<W>,
+    errors: &mut Checked<E>,
+) -> u8
+    requires { is_failed output.old ≡ false }
+    ensures { RunsKept result (is_failed errors.new) (E.contents (inner_of errors.old)) (E.contents (inner_of errors.new)) }
+{
+    match rt.run(size, journal, reader, output) {
+        Ok(()) => 0,
+        Err(KeptFault::Script(fault)) => report(&fault, errors),
+        Err(KeptFault::Journal(fault)) => report_journal(&fault, errors),
+    }
+}
