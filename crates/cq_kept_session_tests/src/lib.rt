@@ -7,4 +7,6 @@ mod crashes;
 #[cfg(test)]
 mod openings;
 #[cfg(test)]
+mod rooms;
+#[cfg(test)]
 mod taking;
