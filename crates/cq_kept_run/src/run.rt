@@ -3,7 +3,7 @@ ghost use Rattle.std.specs.Prelude.{◌≡◌, false, true, IfOk, OnOk, ℕ, Lis
 ghost use Rattle.std.specs.Io.KnownBytes.{Appends};
 ghost use Rattle.cq_lines.specs.Checks.{inner_of, is_failed};
 ghost use Rattle.cq_kept_session.specs.Kept.{IsKept, session_size};
-ghost use Rattle.cq_kept_run.specs.Runs.{Serving};
+ghost use Rattle.cq_kept_run.specs.within.Runs.{Serving};
 
 use crate::blank::{fill, is_blank};
 use crate::fault::{JournalFault, KeptFault};

@@ -1,0 +1,2 @@
+-- What only the private functions cite.
+pub mod Runs
