@@ -5,7 +5,7 @@ ghost use Rattle.cq_kept_session.specs.Kept.{IsKept};
 use crate::taking::{HALF, kept_lines, session_text};
 use cq_base::ChainSize;
 use cq_disk::{Device, Memory, TornWrites};
-use cq_kept_session::KeptSession;
+use cq_kept_session::{KeptSession, TakeFault};
 use cq_records::TEXT_LIMIT;
 use cq_script::Checked;
 use std::alloc::{AllocError, Global};
@@ -46,6 +46,21 @@ fn without_refusals(alloc: Global, text: &[u8]) -> Result<Vec<u8>, AllocError> {
     Ok(others)
 }
 
+/// Takes whole lines, unless they are too many.
+fn take_whole<D: Device>(
+    kept: &mut KeptSession<D>,
+    lines: &[u8],
+    told: &mut Vec<u8>,
+) -> Result<(), TakeFault>
+    requires { IsKept kept.old }
+    ensures { OnOk result (IsKept kept.new) }
+{
+    if lines.len() > TEXT_LIMIT {
+        return Ok(());
+    }
+    kept.take_lines(lines, &mut Checked::new(&mut *told))
+}
+
 /// Takes a request and the put of its answer.
 fn request<D: Device>(
     alloc: Global,
@@ -60,10 +75,7 @@ fn request<D: Device>(
     let lines = format!(in alloc;
         "{{\"op\":\"arrive\",\"at\":1,\"clock\":1000,\"client\":1,\"number\":{number},\"ask\":{ask}}}\n{{\"op\":\"put\",\"from\":1,\"to\":\"clients\"}}\n"
     )?;
-    if lines.len() <= TEXT_LIMIT {
-        kept.take_lines(lines.as_bytes(), &mut Checked::new(&mut *told))?;
-    }
-    Ok(())
+    Ok(take_whole(kept, lines.as_bytes(), told)?)
 }
 
 /// Takes requests of a kind up to the first that is refused, and gives the number behind it. `None`: none was.
