@@ -2,7 +2,7 @@
 ghost use Rattle.std.specs.Prelude.{OnOk};
 ghost use Rattle.cq_kept_session.specs.Kept.{IsKept};
 
-use crate::taking::{HALF, kept_lines, session_text};
+use crate::taking::{HALF, kept_lines, open_with, session_text};
 use cq_base::ChainSize;
 use cq_disk::{Device, Memory, TornWrites};
 use cq_kept_session::{KeptSession, TakeFault};
@@ -126,9 +126,7 @@ fn deletes_find_room_the_longest(rt: HostRuntime) -> Result<(), Fail> {
     assert_eq!(rt; refusals(&told), refused);
 
     let bytes = kept.into_journal().into_device().bytes().to_vec(alloc)?;
-    let device = Memory::new(alloc, bytes, TornWrites::OldOrNew);
-    let again = KeptSession::open(alloc, ChainSize::one(), device, HALF, LEN)?;
-    let lines = kept_lines(alloc, again)?;
+    let lines = kept_lines(alloc, open_with(alloc, bytes, LEN)?)?;
     assert_eq!(rt;
         session_text(alloc, &lines).as_slice(),
         without_refusals(alloc, &told)?.as_slice()

@@ -65,11 +65,22 @@ pub(crate) fn take_pieces<D: Device>(
 pub(crate) fn open(alloc: Global, bytes: Vec<u8>) -> Result<KeptSession<Memory>, StartFault>
     ensures { IfOk result IsKept }
 {
+    open_with(alloc, bytes, LEN)
+}
+
+/// The same with regions of this length.
+pub(crate) fn open_with(
+    alloc: Global,
+    bytes: Vec<u8>,
+    len: usize,
+) -> Result<KeptSession<Memory>, StartFault>
+    ensures { IfOk result IsKept }
+{
     if bytes.len() < 2 * HALF {
         return Err(StartFault::Open(OpenFault::NoJournal));
     }
     let device = Memory::new(alloc, bytes, TornWrites::OldOrNew);
-    KeptSession::open(alloc, ChainSize::one(), device, HALF, LEN)
+    KeptSession::open(alloc, ChainSize::one(), device, HALF, len)
 }
 
 /// All lines that are kept.
