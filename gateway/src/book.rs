@@ -7,6 +7,7 @@ use std::sync::Arc;
 use std::time::Duration;
 
 use crate::errors::SqsError;
+use crate::journal::Need;
 use crate::limits::{MESSAGE_BYTES, QUEUE_BYTES};
 use crate::queues::ask::{Ask, StoreName};
 use crate::queues::book::Entry;
@@ -79,20 +80,20 @@ fn is_space_wanted(store: &Store) -> bool {
 fn is_worth_beginning_anew(store: &Store, place: usize) -> bool {
     let bytes = store.queues().books().bytes_of_current(place);
     let least = if is_space_wanted(store) { WORTH_IT_IF_FULL } else { WORTH_IT };
-    bytes > least && bytes > least + 2 * bytes_that_count(store, place)
+    bytes > least && bytes > least + 2 * bytes_of(of_place(store, place))
 }
 
 /// What an entry takes beside its message and the texts of attributes and tags.
 const ENTRY_BYTES: u64 = 512;
 
-/// What the entries that count take.
-fn bytes_that_count(store: &Store, place: usize) -> u64 {
+/// What the entries take that count of queues.
+fn bytes_of(queues: impl Iterator<Item = Arc<Queue>>) -> u64 {
     let bytes = |queue: Arc<Queue>| {
         let state = queue.state();
         let entries = 1 + state.tasks().len() as u64;
         entries * (MESSAGE_BYTES + ENTRY_BYTES) + state.own_bytes() - QUEUE_BYTES
     };
-    of_place(store, place).map(bytes).sum()
+    queues.map(bytes).sum()
 }
 
 fn of_place(store: &Store, place: usize) -> impl Iterator<Item = Arc<Queue>> + '_ {
@@ -100,8 +101,15 @@ fn of_place(store: &Store, place: usize) -> impl Iterator<Item = Arc<Queue>> + '
 }
 
 async fn bring_up_to_date(store: &Store, place: usize) -> Result<(), SqsError> {
+    for name in store.queues().left_over().of(place) {
+        remove_left_over(store, place, name).await?;
+    }
     let books = store.queues().books();
-    if books.current(place).is_none() || is_worth_beginning_anew(store, place) {
+    let is_first = books.current(place).is_none();
+    if is_first || is_worth_beginning_anew(store, place) {
+        if !is_first {
+            store.wait_for_room(Need::Less, bytes_of(of_place(store, place))).await?;
+        }
         let create = Ask::Create { store: store.next_book(place), visibility: 0, bytes: 0 };
         store.perform_nameless(place, vec![create.into()]).await?;
     }
@@ -110,23 +118,26 @@ async fn bring_up_to_date(store: &Store, place: usize) -> Result<(), SqsError> {
         return Err(SqsError::store_is_gone());
     }
     let earlier = books.earlier(place);
-    say_all(store, place).await?;
+    // Where no book goes with it, as in an older journal, nothing is gained by it on a full disk.
+    let need = if earlier.is_empty() { Need::More } else { Need::Less };
+    say_all(store, place, need).await?;
     if !earlier.is_empty() {
         say_removals(store, place).await?;
     }
     for number in earlier {
         remove(store, place, StoreName::of_book(number)).await?;
     }
-    for name in store.queues().left_over().of(place) {
-        remove_left_over(store, place, name).await?;
-    }
     Ok(())
 }
 
-/// Has the current book say of each queue what it doesn't yet.
-async fn say_all(store: &Store, place: usize) -> Result<(), SqsError> {
+/// Has the current book say of each queue what it doesn't yet, if all of that has room.
+async fn say_all(store: &Store, place: usize, need: Need) -> Result<(), SqsError> {
     let Some(current) = store.queues().books().current(place) else { return Ok(()) };
-    let all: Vec<_> = of_place(store, place).collect();
+    let is_unsaid = |queue: &Arc<Queue>| !queue.state().unsaid_in(current).is_empty();
+    let all: Vec<_> = of_place(store, place).filter(is_unsaid).collect();
+    if !all.is_empty() {
+        store.wait_for_room(need, bytes_of(all.iter().cloned())).await?;
+    }
     for some in all.chunks(AT_ONCE) {
         let unsaid = some.iter().map(|queue| (queue, queue.state().unsaid_in(current)));
         let unsaid = unsaid.filter(|(_, changes)| !changes.is_empty());

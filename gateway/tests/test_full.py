@@ -16,11 +16,14 @@ BODY = "x" * 50_000
 
 
 class Filled:
-    """A gateway whose queue has been sent messages until no more were taken. Another one was sent `kept` before."""
+    """A gateway whose queue has been sent messages until no more were taken. Another one was sent `kept` before, and what
+    `before` does was done."""
 
-    def __init__(self, room: Path, *words: str, kept: Sequence[str] = ()) -> None:
+    def __init__(self, room: Path, *words: str, kept: Sequence[str] = (),
+                 before: Callable[[ByJson], None] = lambda call: None) -> None:
         self.gateway = Started(*words, room=room)
         self.call = ByJson(self.gateway.url)
+        before(self.call)
         self.call("CreateQueue", QueueName="q.fifo", Attributes={"FifoQueue": "true", "VisibilityTimeout": "600"})
         if kept:
             self.call("CreateQueue", QueueName="kept.fifo", Attributes={"FifoQueue": "true"})

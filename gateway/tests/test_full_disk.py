@@ -4,6 +4,7 @@ from __future__ import annotations
 
 import json
 import os
+import random
 import threading
 import time
 from pathlib import Path
@@ -96,6 +97,99 @@ def test_space_that_is_too_little_to_write_segments_anew_is_there_for_receives_a
         full.call("DeleteMessageBatch", QueueUrl="kept.fifo", Entries=[
             {"Id": str(place), "ReceiptHandle": message["ReceiptHandle"]} for place, message in enumerate(messages)])
     assert found == kept and not full.sends()
+    assert full.gateway.stop() == 0
+
+
+KEYS = [f"{place:02}" + "k" * 118 for place in range(50)]
+TAGS = {key: "é" * 24 + "v" * 232 for key in KEYS}
+
+
+class FilledBesideTags(Filled):
+    """A disk of 40 MiB that is full, of which 200 queues take a tenth or a fifth: each has 20 KB of tags, and some are
+    changed."""
+
+    def __init__(self, room: Path, disk: Path, changed: int) -> None:
+        self.expected = [dict(TAGS) for _ in range(200)]
+
+        def tag(call: ByJson) -> None:
+            for number in range(200):
+                call("CreateQueue", QueueName=f"t{number}", tags=TAGS)
+            for turn in range(changed):
+                self.expected[turn % 200][KEYS[0]] = str(turn)
+                call("TagQueue", QueueUrl=f"t{turn % 200}", Tags={KEYS[0]: str(turn)})
+
+        super().__init__(room, "--journal", str(disk / "journal"), kept=["k" * 200_000], before=tag)
+
+    def leave(self, removed: int) -> None:
+        """Removes some of the queues, deletes all messages that came last, and lets their ids grow old."""
+        for number in range(removed):
+            self.call("DeleteQueue", QueueUrl=f"t{number}")
+        self.expected = [{}] * removed + self.expected[removed:]
+        deleted = 0
+        while messages := self.receive():
+            for message in messages:
+                self.call("DeleteMessage", QueueUrl="q.fifo", ReceiptHandle=message["ReceiptHandle"])
+            deleted += len(messages)
+        assert deleted == self.count
+        self.gateway.set_clock(self.gateway.moment + WINDOW)
+
+    def receive(self, queue: str = "q.fifo", **more: int) -> list[dict]:
+        """It is refused for moments, while segments are written anew. Deletes never are."""
+        latest = time.monotonic() + 20
+        while True:
+            try:
+                return self.call("ReceiveMessage", QueueUrl=queue, MaxNumberOfMessages=10, **more).get("Messages", [])
+            except Refused as refused:
+                assert refused.code == "ServiceUnavailable" and time.monotonic() < latest
+                time.sleep(0.02)
+
+    def restart(self) -> None:
+        self.gateway.kill()
+        self.gateway.start()
+        self.call = ByJson(self.gateway.url)
+
+    def look_at_queues(self) -> None:
+        names = [url.rsplit("/", 1)[-1] for url in self.call("ListQueues")["QueueUrls"]]
+        assert sorted(names) == sorted([f"t{number}" for number, tags in enumerate(self.expected) if tags]
+                                       + ["q.fifo", "kept.fifo"])
+        for number, tags in enumerate(self.expected):
+            assert not tags or self.call("ListQueueTags", QueueUrl=f"t{number}")["Tags"] == tags
+
+    def look(self) -> None:
+        self.look_at_queues()
+        (message,) = self.receive("kept.fifo", VisibilityTimeout=0)
+        assert message["Body"] == "k" * 200_000
+
+
+@pytest.mark.parametrize("changed, removed", [(0, 60), (200, 0), (230, 0), (100, 150)])
+def test_a_disk_comes_free_of_which_tags_take_much(tmp_path, small_disk, changed, removed):
+    full = FilledBesideTags(tmp_path, small_disk("40m"), changed)
+    full.leave(removed)
+    assert full.sends_again(20)
+    full.look()
+    # It holds for what comes then, too.
+    while full.sends():
+        pass
+    full.delete_all()
+    full.gateway.set_clock(full.gateway.moment + WINDOW)
+    assert full.sends_again(20)
+    full.restart()
+    full.look()
+    assert full.gateway.stop() == 0
+
+
+@pytest.mark.parametrize("changed, removed", [(0, 60), (230, 0)])
+def test_a_full_disk_comes_free_whenever_the_gateway_is_killed(tmp_path, small_disk, changed, removed):
+    moments = random.Random(f"{changed} {removed}")
+    full = FilledBesideTags(tmp_path, small_disk("40m"), changed)
+    full.leave(removed)
+    for _ in range(8):
+        time.sleep(moments.uniform(0, 0.4))
+        full.restart()
+        full.look_at_queues()
+    assert full.sends_again(20)
+    full.restart()
+    full.look()
     assert full.gateway.stop() == 0
 
 

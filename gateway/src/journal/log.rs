@@ -15,7 +15,7 @@ pub struct Sizes {
     pub segment: u64,
     /// Space is allocated in pieces of this size.
     pub piece: u64,
-    /// So much space is to be there behind the last commit.
+    /// So much space is to be there behind the last commit, beside what is kept for books.
     pub ahead: u64,
 }
 
@@ -34,6 +34,8 @@ pub struct Log<F: Folder> {
     active: Span,
     /// Up to here there is space.
     allocated: u64,
+    /// What is kept of the space ahead for books.
+    kept: u64,
     /// The number of the last commit that was tried.
     number: u64,
     /// An empty commit goes before the next one.
@@ -74,7 +76,7 @@ impl<F: Folder> Log<F> {
         let length = bytes.len() as u64;
         let allocated = if file.allocate(length).is_ok() { length } else { active.end };
         let number = active.last + 1;
-        let mut log = Log { folder, sizes, shards, allocated, number, file, active, owes_frame: true };
+        let mut log = Log { folder, sizes, shards, allocated, kept: 0, number, file, active, owes_frame: true };
         // No number is used again: the one that is passed over may have been that of a commit that failed.
         if log.is_short() {
             log.grow();
@@ -122,7 +124,7 @@ impl<F: Folder> Log<F> {
         publish(folder.as_ref(), 1)?;
         let allocated = active.end + sizes.piece;
         scanned.spans.push(active.clone());
-        Ok((Log { folder, sizes, shards, file, active, allocated, number: 0, owes_frame: false }, scanned))
+        Ok((Log { folder, sizes, shards, file, active, allocated, kept: 0, number: 0, owes_frame: false }, scanned))
     }
 
     /// The segment that is written to.
@@ -174,15 +176,24 @@ impl<F: Folder> Log<F> {
         Ok(())
     }
 
+    /// From now on so much more space is to be ahead.
+    pub fn keep(&mut self, bytes: u64) {
+        self.kept = bytes;
+    }
+
+    fn ahead(&self) -> u64 {
+        self.sizes.ahead + self.kept
+    }
+
     /// Whether there is less space ahead than there should be.
     pub fn is_short(&self) -> bool {
-        self.room() < self.sizes.ahead
+        self.room() < self.ahead()
     }
 
     /// Allocates one more piece, or at least as much as there should be ahead, if the disk has it. A disk that is full
     /// leaves the room as it is.
     pub fn grow(&mut self) -> bool {
-        let ahead = self.sizes.ahead.saturating_sub(self.space());
+        let ahead = self.ahead().saturating_sub(self.space());
         self.allocate(self.sizes.piece) || (ahead > 0 && self.allocate(ahead))
     }
 

@@ -74,10 +74,10 @@ pub enum Need {
     Less,
 }
 
-/// What is kept of the space ahead for requests that take something away or move it.
+/// What is kept of the space ahead for requests that take something away or move it, beside what is kept for books.
 const RESERVE: i64 = 8 << 20;
 
-/// What is kept of it for those that take something away.
+/// What is kept of it for those that take something away, beside that.
 const LAST_PART: i64 = 4 << 20;
 
 struct Shared {
@@ -90,6 +90,8 @@ struct Shared {
     ended: Notify,
     /// Space that is allocated, less what was promised to records. A batch has at most one frame a record.
     room: AtomicI64,
+    /// What is kept of it so that books can be begun or written anew.
+    kept: AtomicU64,
     /// The disk had no more space when it was last asked.
     is_full: AtomicBool,
     /// Changes when the disk was asked for space.
@@ -121,14 +123,16 @@ struct Rewriting {
     goes_on: bool,
     /// They are being written: what a full disk has free is for them.
     is_writing: bool,
-    /// It failed the last time.
-    has_failed: bool,
+    /// The last time failed, since so many bytes couldn't be written; 0 where that isn't known.
+    lacked: Option<u64>,
     /// How many names had been removed then.
     removed: usize,
     /// How much of the space ahead was left to the disk for it.
     lent: u64,
     /// Not before this moment again.
     next: Option<Instant>,
+    /// Not before this one, where it failed and more names were removed since.
+    soonest: Option<Instant>,
 }
 
 /// Where the writing thread finds its work.
@@ -183,6 +187,7 @@ impl LockedJournal {
             more: Condvar::new(),
             ended: Notify::new(),
             room: AtomicI64::new(log.room() as i64),
+            kept: AtomicU64::new(0),
             is_full: AtomicBool::new(false),
             grown: watch::channel(()).0,
             promised: AtomicU64::new(0),
@@ -300,6 +305,12 @@ impl Journal {
         self.0.bound.set(bytes);
     }
 
+    /// Keeps so much of the space ahead for books: as much as their records take. What counts of these has to be written
+    /// once more before a full disk comes free.
+    pub fn keep(&self, bytes: u64) {
+        self.0.kept.store(bytes, Ordering::Relaxed);
+    }
+
     /// How many bytes the segments have and will have by what is on its way.
     fn bytes(&self) -> u64 {
         self.0.bytes.load(Ordering::Relaxed) + self.0.promised.load(Ordering::Relaxed)
@@ -330,12 +341,13 @@ impl Journal {
         }
         self.0.promised.fetch_add(bytes, Ordering::Relaxed);
         let left = self.0.room.fetch_sub(bytes as i64, Ordering::Relaxed) - bytes as i64;
-        let is_enough = match need {
-            Need::More => left >= RESERVE,
-            Need::Same => left >= LAST_PART,
-            Need::Less => left >= 0,
+        let kept = self.0.kept.load(Ordering::Relaxed) as i64;
+        let least = match need {
+            Need::More => RESERVE + kept,
+            Need::Same => LAST_PART + kept,
+            Need::Less => 0,
         };
-        if is_enough {
+        if left >= least {
             return Ok(Some(bytes));
         }
         self.give_back(bytes);

@@ -290,6 +290,19 @@ pub struct Rewritten {
     pub consumed: usize,
 }
 
+/// Why segments aren't written anew, and how long what stays of them is; 0 where that isn't known.
+#[derive(Debug)]
+pub struct NotRewritten {
+    pub why: JournalError,
+    pub length: u64,
+}
+
+impl<E: Into<JournalError>> From<E> for NotRewritten {
+    fn from(why: E) -> NotRewritten {
+        NotRewritten { why: why.into(), length: 0 }
+    }
+}
+
 /// Writes the first segments of these spans anew, as one, without the records of removed names: as many as make one of
 /// `length` bytes. Nothing may be written to them any more, each removal must be on disk by commit `rests_on`, and
 /// segments before them must have been written anew. None if there are no spans.
@@ -299,7 +312,7 @@ pub fn rewrite<F: Folder>(
     removed: &HashSet<StoreName>,
     rests_on: u64,
     length: u64,
-) -> Result<Option<Rewritten>, JournalError> {
+) -> Result<Option<Rewritten>, NotRewritten> {
     let Some(first) = spans.first() else { return Ok(None) };
     let (mut kept, mut size, mut dropped, mut consumed) = (Vec::new(), 0, 0, 0);
     for span in spans {
@@ -330,7 +343,7 @@ pub fn rewrite<F: Folder>(
     if let Err(error) = file.write_at(0, &bytes).and_then(|()| file.sync()) {
         // What a full disk took of it is wanted for commits.
         let _ = file.set_length(0);
-        return Err(error.into());
+        return Err(NotRewritten { why: error.into(), length: bytes.len() as u64 });
     }
     let replaced = spans[..consumed - 1].iter().map(|span| span.segment).collect();
     Ok(Some(Rewritten { span, replaced, dropped, consumed }))

@@ -7,7 +7,7 @@ use std::time::{Duration, Instant};
 
 use super::disk::Files;
 use super::log::{halves_of, Log};
-use super::segments::{removed_by, rewrite, JournalError};
+use super::segments::{removed_by, rewrite, JournalError, NotRewritten};
 use super::{bytes_of, locked, CommitBatch, Journal};
 use crate::queues::ask::StoreName;
 
@@ -32,6 +32,12 @@ const REWRITTEN: u64 = 64 << 20;
 const PART_WORTH_CLOSING: u64 = 16;
 const BYTES_WORTH_CLOSING: u64 = 4 << 20;
 
+/// What a file takes of a disk beside its bytes.
+const BESIDE: u64 = 64 << 10;
+
+/// So much of the space ahead is never left to a full disk: the records of some thousand deletes go into that.
+const LEFT_FOR_DELETES: u64 = 256 << 10;
+
 pub fn start(log: Log<Files>, journal: Journal, failed: fn(&str)) -> Result<(), JournalError> {
     let thread = std::thread::Builder::new().name("journal".into());
     thread.spawn(move || {
@@ -54,6 +60,7 @@ enum Work {
 fn keep_writing(mut log: Log<Files>, journal: &Journal, failed: fn(&str)) -> Result<(), JournalError> {
     let mut is_quiet = true;
     loop {
+        log.keep(journal.0.kept.load(Ordering::Relaxed));
         rewrite_aside(&mut log, journal, failed)?;
         write_first(&mut log, journal)?;
         match wait(journal, is_quiet) {
@@ -192,7 +199,7 @@ fn begin_smaller_segment(log: &mut Log<Files>, journal: &Journal) -> Result<bool
     }
     for is_shrunk in [false, true] {
         if is_shrunk {
-            give_back(log, journal, unpromised(journal))?;
+            give_back(log, journal, most_lent(journal))?;
         }
         for room in halves_of(wanted) {
             if begin_segment_with(log, journal, room)? {
@@ -301,29 +308,33 @@ fn ask_for_space(log: &mut Log<Files>, journal: &Journal) -> Result<bool, Journa
 fn rewrite_aside(log: &mut Log<Files>, journal: &Journal, failed: fn(&str)) -> Result<(), JournalError> {
     let shared = &journal.0;
     let removed = locked(&shared.removed).len();
-    let (is_early, has_failed) = {
+    let (is_early, lacked) = {
         let rewriting = locked(&shared.rewriting);
-        if rewriting.goes_on || removed == rewriting.removed {
+        let has_more = removed > rewriting.removed;
+        if rewriting.goes_on || !(has_more || rewriting.lacked.is_some()) {
             return Ok(());
         }
-        (rewriting.next.is_some_and(|next| Instant::now() < next), rewriting.has_failed)
+        let is_soon = has_more && rewriting.lacked.is_some();
+        let next = if is_soon { rewriting.soonest } else { rewriting.next };
+        (next.is_some_and(|next| Instant::now() < next), rewriting.lacked)
     };
-    let is_urgent = journal.wants_space() && !(is_early && has_failed);
+    let is_urgent = journal.wants_space() && !(is_early && lacked.is_some());
     if !is_urgent && (is_early || closed_bytes(journal) < WORTH_REWRITING) {
         return Ok(());
     }
     let before = log.room();
-    let has_way = !is_urgent || make_way(log, journal, has_failed)?;
+    let has_way = !is_urgent || make_way(log, journal, lacked)?;
     let mut rewriting = locked(&shared.rewriting);
+    rewriting.removed = removed;
     if !has_way {
-        rewriting.has_failed = true;
-        rewriting.next = Some(Instant::now() + REST);
+        rewriting.lacked = Some(0);
+        (rewriting.next, rewriting.soonest) = (Some(Instant::now() + REST), Some(Instant::now() + REST));
         return Ok(());
     }
     rewriting.goes_on = true;
     rewriting.is_writing = true;
-    rewriting.removed = removed;
-    rewriting.lent = before.saturating_sub(log.room());
+    // What was lent the last time may not be taken again yet.
+    rewriting.lent += before.saturating_sub(log.room());
     drop(rewriting);
     // All of these are on disk by the last commit.
     let (removed, rests_on) = (locked(&shared.removed).clone(), log.active().last);
@@ -331,9 +342,9 @@ fn rewrite_aside(log: &mut Log<Files>, journal: &Journal, failed: fn(&str)) -> R
     let thread = std::thread::Builder::new().name("rewriting".into());
     thread.spawn(move || {
         let since = Instant::now();
-        let is_done = rewrite_closed(&journal, &removed, rests_on).unwrap_or_else(|error| {
+        let found = rewrite_closed(&journal, &removed, rests_on).unwrap_or_else(|error| {
             failed(&format!("the journal can't be written anew: {error}"));
-            false
+            Some(0)
         });
         let took = since.elapsed();
         end_writing(&journal);
@@ -343,8 +354,11 @@ fn rewrite_aside(log: &mut Log<Files>, journal: &Journal, failed: fn(&str)) -> R
         }
         let mut rewriting = locked(&journal.0.rewriting);
         rewriting.goes_on = false;
-        rewriting.has_failed = !is_done;
-        rewriting.next = Some(Instant::now() + REST.max(REST_SHARE * took));
+        rewriting.lacked = found;
+        let is_enough = lacked.is_none() && found.is_some_and(|length| length > 0 && length <= most_lent(&journal));
+        let now = Instant::now();
+        rewriting.next = (!is_enough).then(|| now + REST.max(REST_SHARE * took));
+        rewriting.soonest = (!is_enough).then(|| now + REST_SHARE * took);
         drop(rewriting);
         journal.inbox().looks_again = true;
         journal.0.more.notify_one();
@@ -353,10 +367,10 @@ fn rewrite_aside(log: &mut Log<Files>, journal: &Journal, failed: fn(&str)) -> R
 }
 
 /// Leaves a full disk space for what is written anew. The last segment is closed, where that is worth it, and what it
-/// had ahead and the next one hasn't stays free. So does half of the space ahead that isn't promised; the other half is
-/// for deletes. If the log took all that is free, nothing could be written anew, and the disk would be full for good.
-/// False if no segment could be begun: then all is as it was.
-fn make_way(log: &mut Log<Files>, journal: &Journal, has_failed: bool) -> Result<bool, JournalError> {
+/// had ahead and the next one hasn't stays free. So does half of the space ahead that isn't promised, or as much as the last
+/// time lacked; the rest is for deletes. If the log took all that is free, nothing could be written anew, and the disk would
+/// be full for good. False if no segment could be begun: then all is as it was.
+fn make_way(log: &mut Log<Files>, journal: &Journal, lacked: Option<u64>) -> Result<bool, JournalError> {
     let before = log.room();
     if log.active().end >= worth_closing(journal) && !begin_smaller_segment(log, journal)? {
         change_room(journal, log, |log| log.reach(before));
@@ -367,11 +381,18 @@ fn make_way(log: &mut Log<Files>, journal: &Journal, has_failed: bool) -> Result
     }
     let is_full = &journal.0.is_full;
     // Where the last time failed, the disk lacked space also if this log has enough.
-    is_full.fetch_or(has_failed, Ordering::Relaxed);
+    is_full.fetch_or(lacked.is_some(), Ordering::Relaxed);
     if is_full.load(Ordering::Relaxed) {
-        give_back(log, journal, unpromised(journal) / 2)?;
+        let half = unpromised(journal) / 2;
+        let lent = lacked.map_or(half, |lacked| (lacked + BESIDE).clamp(half, half.max(most_lent(journal))));
+        give_back(log, journal, lent)?;
     }
     Ok(true)
+}
+
+/// As much of the space ahead as can be left to a full disk for a while. The rest is for deletes.
+fn most_lent(journal: &Journal) -> u64 {
+    unpromised(journal).saturating_sub(LEFT_FOR_DELETES)
 }
 
 /// Nothing is being written anew any more. A disk that was full may have space by now. One that wasn't is asked for
@@ -394,8 +415,8 @@ fn closed_bytes(journal: &Journal) -> u64 {
     spans[..spans.len().saturating_sub(1)].iter().map(|span| span.end).sum()
 }
 
-/// Tells whether it was done, or must be tried again later. An error leaves it open which segments there are.
-fn rewrite_closed(journal: &Journal, removed: &HashSet<StoreName>, rests_on: u64) -> Result<bool, JournalError> {
+/// Tells how many bytes couldn't be written, if it must be tried again. An error leaves it open which segments there are.
+fn rewrite_closed(journal: &Journal, removed: &HashSet<StoreName>, rests_on: u64) -> Result<Option<u64>, JournalError> {
     let shared = &journal.0;
     let mut closed = {
         let spans = locked(&shared.spans);
@@ -405,12 +426,11 @@ fn rewrite_closed(journal: &Journal, removed: &HashSet<StoreName>, rests_on: u64
     loop {
         let rewritten = match rewrite(&shared.files, &closed, removed, rests_on, REWRITTEN) {
             Ok(Some(rewritten)) => rewritten,
-            Ok(None) => return Ok(true),
-            Err(error) => {
+            Ok(None) => return Ok(None),
+            Err(NotRewritten { why, length }) => {
                 // A full disk: nothing has changed, and it is tried again later.
-                tracing::warn!("the journal isn't written anew: {error}");
-                locked(&shared.rewriting).removed = 0;
-                return Ok(false);
+                tracing::warn!("the journal isn't written anew: {why}");
+                return Ok(Some(length));
             }
         };
         let (dropped, consumed) = (rewritten.dropped, rewritten.consumed);
@@ -462,9 +482,9 @@ mod tests {
         let (mut log, journal) = opened(&room);
         let before = log.room();
         let promised = journal.set_aside(Need::Less, before / 2).unwrap().unwrap();
-        assert!(make_way(&mut log, &journal, false).unwrap());
+        assert!(make_way(&mut log, &journal, None).unwrap());
         assert_eq!(log.room(), before, "the disk isn't full");
-        assert!(make_way(&mut log, &journal, true).unwrap());
+        assert!(make_way(&mut log, &journal, Some(0)).unwrap());
         let left = (before - promised) - (before - promised) / 2;
         assert_eq!((log.room(), counted(&journal)), (promised + left, left));
         locked(&journal.0.rewriting).is_writing = true;
@@ -480,6 +500,39 @@ mod tests {
         journal.inbox().wants_room = false;
         end_writing(&journal);
         assert!(!journal.inbox().wants_room, "the space ahead would grow each time");
+    }
+
+    #[test]
+    fn a_disk_that_lacked_space_is_left_as_much_and_some_is_there_for_deletes() {
+        let room = Room::new("lacked");
+        let (mut log, journal) = opened(&room);
+        let before = log.room();
+        for (lacked, lent) in [
+            (before / 4, before / 2),
+            (before * 3 / 4, before * 3 / 4 + BESIDE),
+            (before, before - LEFT_FOR_DELETES),
+            (before * 9, before - LEFT_FOR_DELETES),
+        ] {
+            assert!(make_way(&mut log, &journal, Some(lacked)).unwrap());
+            assert_eq!((log.room(), counted(&journal)), (before - lent, before - lent), "{lacked}");
+            let of_delete = journal.set_aside(Need::Less, 1000).unwrap().unwrap();
+            journal.give_back(of_delete);
+            take_again(&mut log, &journal, lent);
+        }
+    }
+
+    #[test]
+    fn space_is_kept_for_what_books_take() {
+        let room = Room::new("kept");
+        let (mut log, journal) = opened(&room);
+        let is_there = |need| journal.set_aside(need, 1 << 20).unwrap().map(|bytes| journal.give_back(bytes)).is_some();
+        assert!(is_there(Need::More) && is_there(Need::Same) && !log.is_short());
+        for (books, told) in [(6, [true, true]), (8, [false, true]), (11, [false, false])] {
+            journal.keep(books << 20);
+            assert_eq!([Need::More, Need::Same, Need::Less].map(is_there), [told[0], told[1], true], "{books} MiB");
+        }
+        log.keep(5 << 20);
+        assert!(log.is_short() && log.grow() && !log.is_short());
     }
 
     #[test]

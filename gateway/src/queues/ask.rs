@@ -280,9 +280,9 @@ pub enum TableChange {
     GoneOver(StoreName),
     #[serde(skip)]
     Removed,
-    /// Nothing is new, and it is said once more.
+    /// Nothing is new, and it is said once more: how the queue stands, or this task of it.
     #[serde(skip)]
-    Nothing,
+    Again(Option<Uuid>),
     /// A message was sent with a delay, in journals up to version 6. No book says it.
     Delayed(Arc<Delayed>),
 }

@@ -92,6 +92,17 @@ struct Book {
     number: u64,
     /// What its entries take of memory.
     bytes: u64,
+    /// What their records take of the journal.
+    record_bytes: u64,
+}
+
+/// What the record of an entry takes at most beside its text.
+const RECORD_BYTES: u64 = 512;
+
+/// A record has the text as a text of JSON.
+fn bytes_of_record(text: &str) -> u64 {
+    let escaped = memchr::memchr2_iter(b'"', b'\\', text.as_bytes()).count();
+    (text.len() + escaped) as u64 + RECORD_BYTES
 }
 
 /// The books of all programs, by their places: the last of each is the one that is written to, and the others are to be
@@ -106,7 +117,7 @@ impl Books {
 
     /// The store has this one, and from now on it is written to.
     pub fn add(&self, place: usize, number: u64) {
-        self.books().entry(place).or_default().push(Book { number, bytes: 0 });
+        self.books().entry(place).or_default().push(Book { number, bytes: 0, record_bytes: 0 });
     }
 
     /// The store hasn't got it any more. Tells what its entries took of memory.
@@ -118,14 +129,20 @@ impl Books {
         removed
     }
 
-    /// An entry of so many bytes stands in it. Tells what it takes of memory.
-    pub fn count(&self, place: usize, number: u64, bytes: u64) -> u64 {
-        let taken = bytes + MESSAGE_BYTES;
+    /// An entry of this text stands in it. Tells what it takes of memory.
+    pub fn count(&self, place: usize, number: u64, text: &str) -> u64 {
+        let taken = text.len() as u64 + MESSAGE_BYTES;
         if let Some(book) = self.books().entry(place).or_default().iter_mut().find(|book| book.number == number) {
             book.bytes += taken;
+            book.record_bytes += bytes_of_record(text);
             return taken;
         }
         0
+    }
+
+    /// What the records of all books take of the journal.
+    pub fn record_bytes(&self) -> u64 {
+        self.books().values().flatten().map(|book| book.record_bytes).sum()
     }
 
     /// The number of the one that is written to.
@@ -208,12 +225,14 @@ mod tests {
         assert_eq!((books.current(0), books.earlier(0)), (None, vec![]));
         books.add(0, 2);
         books.add(1, 3);
-        assert_eq!((books.count(0, 2, 10), books.count(0, 4, 10)), (10 + MESSAGE_BYTES, 0));
+        assert_eq!((books.count(0, 2, "0123456789"), books.count(0, 4, "0123456789")), (10 + MESSAGE_BYTES, 0));
         books.add(0, 4);
         assert_eq!((books.current(0), books.earlier(0), books.current(1)), (Some(4), vec![2], Some(3)));
         // One that was asked before.
-        assert_eq!(books.count(0, 2, 20), 20 + MESSAGE_BYTES);
-        assert_eq!((books.bytes_of_current(0), books.remove(0, 2)), (0, 30 + 2 * MESSAGE_BYTES));
+        assert_eq!(books.count(0, 2, r#"{"removed":"\"}"#), 15 + MESSAGE_BYTES);
+        assert_eq!(books.record_bytes(), 10 + 15 + 5 + 2 * RECORD_BYTES, "quotes and backslashes are escaped");
+        assert_eq!((books.bytes_of_current(0), books.remove(0, 2)), (0, 25 + 2 * MESSAGE_BYTES));
         assert_eq!((books.current(0), books.earlier(0), books.remove(0, 2)), (Some(4), vec![], 0));
+        assert_eq!(books.record_bytes(), 0);
     }
 }

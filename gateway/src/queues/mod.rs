@@ -301,7 +301,7 @@ impl Queues {
                 Ok((Outcome::Done, true))
             }
             (Ask::Say { book, entry, text }, StoreReply::Sent(_)) => {
-                let bytes = self.books.count(place, *book, text.len() as u64);
+                let bytes = self.books.count(place, *book, text);
                 self.bytes_in_use.fetch_add(bytes, Ordering::Relaxed);
                 self.said(place, queue, entry, *book);
                 Ok((Outcome::Done, true))

@@ -131,6 +131,13 @@ pub struct Store {
 /// What the records of ten messages take at most beside these.
 const ROOM: u64 = 32 << 10;
 
+/// So much of the journal's space is left for deletes where a book is begun anew.
+const KEPT_FOR_DELETES: u64 = 1 << 20;
+
+fn being_asked() -> SqsError {
+    SqsError::ServiceUnavailable("The journal's disk is being asked for space.".into())
+}
+
 impl Store {
     pub fn queues(&self) -> &Queues {
         &self.queues
@@ -152,22 +159,33 @@ impl Store {
 
     /// Refuses to move messages of so many bytes where their copies would be refused, since the journal's disk is full.
     pub fn test_room_to_move(&self, bytes: u64) -> Result<(), SqsError> {
-        if self.has_room(Need::Same, bytes)? {
+        if self.has_room(Need::Same, ROOM + 2 * bytes)? {
             return Ok(());
         }
-        Err(SqsError::ServiceUnavailable("The journal's disk is being asked for space.".into()))
+        Err(being_asked())
+    }
+
+    /// Waits until the journal has room for a book of so many bytes, and some more for deletes. Refuses it where the disk has
+    /// no such space.
+    pub async fn wait_for_room(&self, need: Need, bytes: u64) -> Result<(), SqsError> {
+        let Some(mut grown) = self.journal.as_ref().map(Journal::grown) else { return Ok(()) };
+        while !self.has_room(need, bytes + KEPT_FOR_DELETES)? {
+            // The journal doesn't end before the store.
+            let _ = grown.changed().await;
+        }
+        Ok(())
     }
 
     /// Refuses to send so many bytes where that would be refused in the end.
     pub fn test_room_to_send(&self, bytes: u64) -> Result<(), SqsError> {
         self.admission.test(bytes, self.clock.now())?;
-        self.has_room(Need::More, bytes).map(drop)
+        self.has_room(Need::More, ROOM + 2 * bytes).map(drop)
     }
 
-    /// Whether the journal has room for messages of so many bytes now. Where it never has, it refuses them.
+    /// Whether the journal has room for records of so many bytes now. Where it never has, it refuses them.
     fn has_room(&self, need: Need, bytes: u64) -> Result<bool, SqsError> {
         let Some(journal) = &self.journal else { return Ok(true) };
-        let room = journal.set_aside(need, ROOM + 2 * bytes)?;
+        let room = journal.set_aside(need, bytes)?;
         if let Some(room) = room {
             journal.give_back(room);
         }

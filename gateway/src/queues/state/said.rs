@@ -49,7 +49,11 @@ impl State {
             TableChange::Removed => {
                 return Some(Entry::Removed(Removal { name: entry.name, mark: entry.mark, at: moment }));
             }
-            TableChange::Nothing => return Some(Entry::Queue(entry)),
+            TableChange::Again(None) => return Some(Entry::Queue(entry)),
+            TableChange::Again(Some(id)) => {
+                let task = self.tasks.iter().find(|task| task.id == *id)?;
+                return Some(Entry::Task(entry.mark, task.clone()));
+            }
             TableChange::Delayed(_) => {}
         }
         (entry != self.entry).then_some(Entry::Queue(entry))
@@ -92,8 +96,8 @@ impl State {
     /// What the book of this number doesn't say yet.
     pub fn unsaid_in(&self, book: u64) -> Vec<TableChange> {
         let is_unsaid = |task: &&MoveTask| self.tasks_said_in.get(&task.id) != Some(&book);
-        let tasks = self.tasks.iter().filter(is_unsaid).cloned().map(TableChange::Task);
-        tasks.chain((self.said_in != book).then_some(TableChange::Nothing)).collect()
+        let tasks = self.tasks.iter().filter(is_unsaid).map(|task| TableChange::Again(Some(task.id)));
+        tasks.chain((self.said_in != book).then_some(TableChange::Again(None))).collect()
     }
 
     /// Of a queue beside one that is being purged: which of its messages are being deleted, if any still are.

@@ -114,10 +114,18 @@ impl Task {
                 if changed {
                     self.append_record(|| Record::of_ask(asked.moment, &asked.ask, &asked.raw, text))?;
                 }
+                self.keep_for_books(&asked.ask);
                 Ok(outcome)
             }
             Err(error) => Err(error),
         })
+    }
+
+    /// Has the journal keep space for what the books say by now.
+    fn keep_for_books(&self, ask: &Ask) {
+        if let (Some(journal), Ask::Say { .. } | Ask::Remove { .. }) = (&self.journal, ask) {
+            journal.keep(self.queues.books().record_bytes());
+        }
     }
 
     /// Adds a record to those that go to the journal next.

@@ -27,7 +27,8 @@ pub(super) fn need_of(ask: &Ask) -> Need {
 pub(super) fn need_of_change(change: &TableChange) -> Need {
     match change {
         TableChange::Untag(_) | TableChange::Purging(_) | TableChange::Purged => Need::Less,
-        TableChange::GoneOver(_) | TableChange::Removed => Need::Less,
+        // Records go when this is said.
+        TableChange::GoneOver(_) | TableChange::Removed | TableChange::Again(_) => Need::Less,
         _ => Need::Same,
     }
 }

@@ -15,7 +15,7 @@ use crate::lines::{self, AskFields};
 use crate::queues::ask::{Ask, Cause, Outcome, StoreName, TableChange};
 use crate::queues::book;
 use crate::queues::{Queue, State};
-use crate::store::{Answer, AnswerSender, Operation};
+use crate::store::{being_asked, Answer, AnswerSender, Operation};
 use crate::texts::{QueueKind, STORE_LIMIT};
 
 impl Task {
@@ -32,7 +32,7 @@ impl Task {
                     _ => StartOutcome::ready(Err(without_delays(&queue))),
                 },
                 (Some(queue), Some(Operation::Change(change))) => self.start_change(queue, change)?,
-                (Some(queue), Some(Operation::Say(entry))) => self.start_saying(queue, entry, Need::Same, 0)?,
+                (Some(queue), Some(Operation::Say(entry))) => self.start_saying(queue, entry, Need::Less, 0)?,
                 (Some(queue), Some(Operation::Count)) => StartOutcome::Open(self.count(queue)?),
                 (Some(queue), Some(Operation::Move { target, copies })) => {
                     self.start_move(queue, target, copies, &mut sender)?
@@ -282,8 +282,7 @@ impl Task {
     ) -> Result<StartOutcome, Ended> {
         let Some(book) = self.queues.books().current(self.shard.place()) else {
             self.admission.answered(weight);
-            let message = "The journal's disk is being asked for space.";
-            return Ok(StartOutcome::ready(Err(SqsError::ServiceUnavailable(message.into()))));
+            return Ok(StartOutcome::ready(Err(being_asked())));
         };
         let text = text_of(&entry)?;
         if text.len() > STORE_LIMIT {
