@@ -118,11 +118,11 @@ pub async fn run(store: Store, rights: Rights, queue: Arc<Queue>, id: Uuid) {
             Ok(Some(moved)) => moved,
             Ok(None) => {
                 task.status = Status::Completed;
-                0
+                Round::default()
             }
             Err(Failure::Ends(reason)) => {
                 (task.status, task.failure) = (Status::Failed, Some(reason.into()));
-                0
+                Round::default()
             }
             Err(Failure::ForNow(SqsError::QueueDoesNotExist)) => return,
             Err(Failure::ForNow(error)) => {
@@ -131,7 +131,8 @@ pub async fn run(store: Store, rights: Rights, queue: Arc<Queue>, id: Uuid) {
                 continue;
             }
         };
-        task.moved += moved;
+        // The tables count the others by their copies.
+        task.moved = queue.state().moved_by(id) + moved.elsewhere;
         while let Err(error) = store.change(&queue, TableChange::Task(task.clone())).await {
             if error == SqsError::QueueDoesNotExist {
                 return;
@@ -139,9 +140,16 @@ pub async fn run(store: Store, rights: Rights, queue: Arc<Queue>, id: Uuid) {
             tokio::time::sleep(PAUSE).await;
         }
         if let Some(rate) = task.rate {
-            tokio::time::sleep(Duration::from_millis(1000 * moved / u64::from(rate))).await;
+            tokio::time::sleep(Duration::from_millis(1000 * moved.all / u64::from(rate))).await;
         }
     }
+}
+
+/// How many messages a task has moved at once, and how many of them to queues that other programs have.
+#[derive(Clone, Copy, Default)]
+struct Round {
+    all: u64,
+    elsewhere: u64,
 }
 
 /// Moves some of the messages that are next, and tells how many; none where there are none. The task is handed those alone
@@ -152,7 +160,7 @@ async fn move_some(
     queue: &Arc<Queue>,
     task: &MoveTask,
     size: usize,
-) -> Result<Option<u64>, Failure> {
+) -> Result<Option<Round>, Failure> {
     let held = store.hold_for_move(queue).await.map_err(Failure::ForNow)?;
     let next = queue.state().next_up_to(task.up_to, size, store.clock().now());
     let targets = targets_of(store, rights, task, queue, &next)?;
@@ -163,16 +171,18 @@ async fn move_some(
     store.test_room_to_move(bytes).map_err(Failure::ForNow)?;
     let named = next.iter().copied().take(targets.len()).collect();
     let handed = held.take(named).await.map_err(Failure::ForNow)?;
-    let count = handed.len() as u64;
+    let place = store.place_of(&queue.name);
+    let mut round = Round { all: handed.len() as u64, elsewhere: 0 };
     let mut by_target: BTreeMap<QueueName, (Arc<Queue>, Vec<Handed>)> = BTreeMap::new();
     for handed in handed {
-        let place = next.iter().position(|sequence| *sequence == handed.receipt.sequence);
-        if let Some(target) = place.and_then(|place| targets.get(place)) {
+        let found = next.iter().position(|sequence| *sequence == handed.receipt.sequence);
+        if let Some(target) = found.and_then(|found| targets.get(found)) {
+            round.elsewhere += u64::from(store.place_of(&target.name) != place);
             by_target.entry(target.name.clone()).or_insert_with(|| (target.clone(), Vec::new())).1.push(handed);
         }
     }
     let moved = move_each(store, queue, held, by_target.into_values().collect()).await;
-    moved.map(|()| Some(count)).map_err(Failure::ForNow)
+    moved.map(|()| Some(round)).map_err(Failure::ForNow)
 }
 
 /// The queues to which messages go, up to the first that goes nowhere. With that one the task ends.

@@ -128,15 +128,16 @@ def test_messages_of_a_task_that_is_cut_off_are_moved_once(tmp_path, kind, by):
         def move() -> None:
             cut.call("StartMessageMoveTask", SourceArn=arn(cut.dead), DestinationArn=arn(target))
 
-        def is_running() -> bool:
+        def task() -> dict:
             (task,) = cut.call("ListMessageMoveTasks", SourceArn=arn(cut.dead))["Results"]
-            return task["Status"] == "RUNNING"
+            return task
 
         cut.cut(move, passing, 2 * COUNT)
         latest = time.monotonic() + 20
-        while is_running():
+        while task()["Status"] == "RUNNING":
             assert time.monotonic() < latest
             time.sleep(0.01)
+        assert int(task()["ApproximateNumberOfMessagesMoved"]) == COUNT, passing
         assert [message["Body"] for message in cut.receive(target)] == [str(number) for number in range(COUNT)], passing
         assert cut.receive(cut.dead) == []
         cut.call("DeleteQueue", QueueUrl=target)

@@ -43,6 +43,8 @@ impl Actions {
             }
             Some(arn) => Some(self.destination(arn.as_ref(), &queue.name, caller)?),
         };
+        // What an earlier task has begun to move is counted as moved by that one.
+        let held = self.store.hold(&queue).await?;
         let task = {
             let state = queue.state();
             if state.running_task().is_some() {
@@ -64,7 +66,8 @@ impl Actions {
             }
         };
         let id = task.id;
-        self.store.change(&queue, TableChange::Task(task)).await?;
+        held.change(TableChange::Task(task)).await?;
+        drop(held);
         let handle = TaskHandle { id, queue: queue.name.clone() }.outward();
         tokio::spawn(run(self.store.clone(), self.rights.clone(), queue, id));
         Ok(Response::TaskHandle(handle).into())
@@ -112,7 +115,7 @@ impl Actions {
         }
         task.status = Status::Cancelled;
         self.store.change(&queue, TableChange::Task(task)).await?;
-        let moved = find(&queue, *id).map_or(0, |task| task.moved);
+        let moved = queue.state().moved_by(*id);
         Ok(Response::Moved(moved).into())
     }
 

@@ -21,7 +21,7 @@ use crate::errors::SqsError;
 use crate::handles::{Handle, Mark, Receipt};
 use crate::lines::StoreReply;
 use crate::messages::{message_id, own_id};
-use crate::moves::Copies;
+use crate::moves::{Copies, Origin};
 use crate::polling::Polls;
 use crate::retention::Jumps;
 use crate::texts::{QueueKind, QueueName};
@@ -146,6 +146,8 @@ pub struct Queues {
     jumps: Jumps,
     copies: Copies,
     parts: Parts,
+    /// Queues that tasks have moved messages out of, by their marks, and the places of the programs that have them.
+    tasked: Mutex<HashMap<u64, (usize, Weak<Queue>)>>,
     alarms: Alarms,
     /// Operators look at messages, so these are kept here as well.
     keeps_copies: bool,
@@ -306,7 +308,7 @@ impl Queues {
                 self.said(place, queue, entry, *book);
                 Ok((Outcome::Done, true))
             }
-            (_, reply) => self.apply_to_messages(queue, ask, reply, moment),
+            (_, reply) => self.apply_to_messages(place, queue, ask, reply, moment),
         }
     }
 
@@ -326,7 +328,32 @@ impl Queues {
         match entry {
             Entry::Queue(entry) => self.said_of_queue(place, queue, entry, book),
             Entry::Removed(removal) => self.remove(place, queue, removal),
-            Entry::Task(_, task) => queue.state().said_of_task(task, book),
+            Entry::Task(_, task) => {
+                queue.state().said_of_task(task, book);
+                self.remember_tasked(place, queue);
+            }
+        }
+    }
+
+    fn tasked(&self) -> MutexGuard<'_, HashMap<u64, (usize, Weak<Queue>)>> {
+        self.tasked.lock().unwrap_or_else(PoisonError::into_inner)
+    }
+
+    fn remember_tasked(&self, place: usize, queue: &Arc<Queue>) {
+        let mut tasked = self.tasked();
+        if !tasked.contains_key(&queue.mark.0) {
+            tasked.retain(|_, (_, queue)| queue.strong_count() > 0);
+            tasked.insert(queue.mark.0, (place, Arc::downgrade(queue)));
+        }
+    }
+
+    /// The program at this place has the copy of a message that a task moves. It counts where the message was with the same
+    /// program: what another one has stands in no order with what the book says of the task.
+    fn count_moved(&self, place: usize, origin: Origin) {
+        let tasked =
+            self.tasked().get(&origin.mark).filter(|(own, _)| *own == place).and_then(|(_, queue)| queue.upgrade());
+        if let Some(queue) = tasked {
+            queue.state().count_moved();
         }
     }
 
@@ -354,6 +381,7 @@ impl Queues {
 
     fn apply_to_messages(
         &self,
+        place: usize,
         queue: &Arc<Queue>,
         ask: &Ask,
         reply: StoreReply,
@@ -366,8 +394,12 @@ impl Queues {
             }
             Ok(applied)
         })?;
-        if let Ask::Send { cause: Cause::Move(origin), .. } = ask {
+        if let Ask::Send { cause: Cause::Move(origin), envelope, .. } = ask {
             self.copies.mark_copied(*origin);
+            // What a task moves is a new message. All others keep their ids.
+            if own_id(envelope.whole()).is_none() {
+                self.count_moved(place, *origin);
+            }
             if let Some(delays) = queue.delays().filter(|delays| delays.mark.0 == origin.mark) {
                 delays.state().has_copy(origin.sequence);
             }

@@ -58,9 +58,9 @@ pub struct Tables {
     pub progress: Arc<AtomicU64>,
 }
 
-/// What a journal up to version 7 says of a queue beside the asks.
+/// What a journal up to version 7 says of a queue beside the asks, or the book of this number said before the queue was there.
 enum Older {
-    Entry(Entry),
+    Entry(Entry, u64),
     Change(TableChange),
 }
 
@@ -340,9 +340,9 @@ impl Replay {
         if let Some(creation) = record.creation {
             let (entry, tasks) = creation.into_entries(store, record.clock);
             let (mark, queue) = (entry.mark, self.queue_of(&entry));
-            self.wait_with(queue.clone(), Older::Entry(Entry::Queue(entry)), record.clock);
+            self.wait_with(queue.clone(), Older::Entry(Entry::Queue(entry), 0), record.clock);
             tasks.into_iter().for_each(|task| {
-                self.wait_with(queue.clone(), Older::Entry(Entry::Task(mark, task)), record.clock);
+                self.wait_with(queue.clone(), Older::Entry(Entry::Task(mark, task), 0), record.clock);
             });
         }
         if let (Some(_), Some(queue)) = (record.removed, self.queues.get(&store).cloned()) {
@@ -354,7 +354,8 @@ impl Replay {
     fn queue_of(&mut self, entry: &QueueEntry) -> Arc<Queue> {
         let queue = self.by_mark.entry(entry.mark).or_insert_with(|| Arc::new(Queue::new(entry))).clone();
         for (task, book) in self.tasks.remove(&entry.mark).unwrap_or_default() {
-            queue.state().said_of_task(&task, book);
+            // Copies that stand before this are answered first, and count in it.
+            self.wait_with(queue.clone(), Older::Entry(Entry::Task(entry.mark, task), book), 0);
         }
         self.queues.insert(entry.store, queue.clone());
         self.bases.insert(entry.store, entry.base);
@@ -493,7 +494,7 @@ impl Replay {
             let Some(Unanswered::Older { queue, older, clock }) = self.waiting.pop_front() else { return };
             let Some(tables) = &self.tables else { return };
             match older {
-                Older::Entry(entry) => tables.queues.said(self.shard.place(), &queue, &entry, 0),
+                Older::Entry(entry, book) => tables.queues.said(self.shard.place(), &queue, &entry, book),
                 Older::Change(change) => tables.queues.apply_older(self.shard.place(), &queue, &change, clock),
             }
         }

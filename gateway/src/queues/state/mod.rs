@@ -475,6 +475,11 @@ impl State {
         &self.tasks
     }
 
+    /// How many messages a task has moved.
+    pub fn moved_by(&self, id: Uuid) -> u64 {
+        self.tasks.iter().find(|task| task.id == id).map_or(0, |task| task.moved)
+    }
+
     pub fn running_task(&self) -> Option<&MoveTask> {
         self.tasks.iter().find(|task| task.status == Status::Running)
     }

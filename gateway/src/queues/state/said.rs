@@ -93,6 +93,13 @@ impl State {
         self.tasks_said_in.retain(|id, _| tasks.iter().any(|task| task.id == *id));
     }
 
+    /// The last task has moved one more message.
+    pub fn count_moved(&mut self) {
+        if let Some(task) = self.tasks.last_mut() {
+            task.moved += 1;
+        }
+    }
+
     /// What the book of this number doesn't say yet.
     pub fn unsaid_in(&self, book: u64) -> Vec<TableChange> {
         let is_unsaid = |task: &&MoveTask| self.tasks_said_in.get(&task.id) != Some(&book);

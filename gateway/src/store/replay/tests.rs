@@ -12,9 +12,10 @@ use uuid::Uuid;
 use super::*;
 use crate::attributes::GivenAttributes;
 use crate::lines::StoreReply;
-use crate::messages::Envelope;
+use crate::messages::{Envelope, EnvelopeHead};
 use crate::move_tasks::Status;
-use crate::queues::ask::{Cause, Outcome, Reach};
+use crate::moves::Origin;
+use crate::queues::ask::{Cause, Handed, Outcome, Reach};
 use crate::seeded::check;
 use crate::texts::{DedupId, GroupId, QueueKind, QueueName};
 
@@ -29,7 +30,10 @@ enum Step {
     Timeout(u8),
     Purging,
     Purged,
-    Task(u8, u64),
+    /// The last task, or a new one, stands so.
+    Task(bool, u64),
+    /// The first message is moved to the other queue of its kind, as a task does it.
+    Move,
     Send,
     Delay,
     /// The first message is received, and deleted or not.
@@ -54,7 +58,8 @@ fn steps() -> impl Strategy<Value = Steps> {
         2 => (0..3u8).prop_map(Step::Timeout),
         2 => Just(Step::Purging),
         1 => Just(Step::Purged),
-        2 => (0..3u8, 0..9u64).prop_map(|(id, moved)| Step::Task(id, moved)),
+        2 => (any::<bool>(), 0..9u64).prop_map(|(is_new, moved)| Step::Task(is_new, moved)),
+        4 => Just(Step::Move),
         4 => Just(Step::Send),
         3 => Just(Step::Delay),
         4 => any::<bool>().prop_map(Step::Take),
@@ -128,6 +133,7 @@ struct Living {
     store: BTreeMap<StoreName, StoreQueue>,
     now: Moment,
     sends: u64,
+    tasks: u64,
     /// The lines of the journal, the replies to these, and what was there behind each of them.
     lines: Vec<(Vec<u8>, String)>,
     seen: Vec<(Moment, Shown, BTreeSet<StoreName>)>,
@@ -136,7 +142,8 @@ struct Living {
 impl Living {
     fn new(shards: Shards) -> Living {
         let (queues, store) = (Queues::default(), BTreeMap::new());
-        let mut living = Living { queues, shards, store, now: 1000, sends: 0, lines: Vec::new(), seen: Vec::new() };
+        let mut living =
+            Living { queues, shards, store, now: 1000, sends: 0, tasks: 0, lines: Vec::new(), seen: Vec::new() };
         shards.all().for_each(|shard| living.begin_book(shard.place()));
         living
     }
@@ -259,6 +266,22 @@ impl Living {
         }
     }
 
+    fn move_first(&mut self, queue: &Arc<Queue>) {
+        let other = NAMES.iter().position(|name| *name == queue.name.as_str()).map(|place| NAMES[(place + 2) % 4]);
+        let target = other.and_then(QueueName::parse).and_then(|name| self.queues.find(&name));
+        let ask = Ask::Receive { size: 1, visibility: 0, attempt: None, most: None, reach: Reach::All };
+        let (Some(target), Ok(Outcome::Received { handed, .. })) = (target, self.ask(queue, ask)) else { return };
+        for Handed { receipt, envelope, .. } in handed {
+            self.sends += 1;
+            let origin = Origin { mark: queue.mark.0, sequence: receipt.sequence };
+            let head = EnvelopeHead { id: None, of: Some(origin), ..EnvelopeHead::of(&envelope).unwrap() };
+            let envelope = Envelope::Whole(head.over(&envelope).unwrap());
+            let (group, dedup) = (GroupId::parse("g").unwrap(), DedupId::parse(&self.sends.to_string()).unwrap());
+            let _ = self.ask(&target, Ask::Send { group, dedup, envelope, cause: Cause::Move(origin) });
+            self.ask(queue, Ask::Delete { receipt, by_client: false }).unwrap();
+        }
+    }
+
     fn step(&mut self, name: &str, step: &Step) {
         let name = QueueName::parse(name).unwrap();
         let place = self.shards.place_of(&name);
@@ -298,10 +321,13 @@ impl Living {
                 self.change(queue, TableChange::Purging(last));
             }
             Step::Purged => self.change(queue, TableChange::Purged),
-            Step::Task(id, moved) => {
+            Step::Task(is_new, moved) => {
                 let (destination, rate, failure, starter) = (None, None, None, None);
                 let status = if *moved == 8 { Status::Completed } else { Status::Running };
-                let (started, id, moved) = (u64::from(*id), Uuid::from_u128(u128::from(*id)), *moved);
+                self.tasks += u64::from(*is_new);
+                let (moved, started) = (*moved, queue.state().tasks().last().map_or(0, |last| last.started));
+                let started = if *is_new || started == 0 { self.tasks } else { started };
+                let id = Uuid::from_u128(u128::from(started));
                 let (up_to, to_move) = (9, 9);
                 let task = MoveTask { id, destination, rate, up_to, to_move, moved, started, status, failure, starter };
                 self.change(queue, TableChange::Task(task));
@@ -314,6 +340,7 @@ impl Living {
                 }
                 self.send(&queue.delays().unwrap(), Some(self.now + 5000));
             }
+            Step::Move => self.move_first(queue),
             Step::Take(is_deleted) => {
                 self.take(queue, *is_deleted);
                 queue.delays().into_iter().for_each(|delays| self.take(&delays, *is_deleted));
