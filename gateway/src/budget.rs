@@ -34,11 +34,6 @@ impl Budget {
     pub fn used(&self) -> usize {
         self.used.load(Ordering::Relaxed)
     }
-
-    /// How many bytes may be used.
-    pub fn most(&self) -> usize {
-        self.most
-    }
 }
 
 /// What the request of a connection has of the budget, one after the other. It goes back when this is dropped.

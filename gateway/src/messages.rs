@@ -287,12 +287,6 @@ impl Envelope {
         }
     }
 
-    pub fn into_whole(self) -> String {
-        match self {
-            Envelope::Whole(whole) | Envelope::Split { whole, .. } => whole,
-        }
-    }
-
     /// How many bytes it has, in the store and beside it.
     pub fn bytes(&self) -> u64 {
         match self {
@@ -533,7 +527,7 @@ mod tests {
     fn a_line_stands_for_an_envelope_in_parts_and_says_what_a_move_changes() {
         let body = Body::parse(&"ü\n".repeat(STORE_LIMIT)).unwrap();
         let own = Metadata { id: Some(Uuid::from_u128(7)), ..metadata() };
-        let whole = Envelope::new(&own, &body).unwrap().into_whole();
+        let whole = Envelope::new(&own, &body).unwrap().whole().to_string();
         let head = EnvelopeHead::of(&whole).unwrap();
         let line = head.in_place(12, whole.len()).unwrap();
         assert_eq!((line.whole().len() < 200, read_envelope(line.stored())), (true, None));

@@ -31,7 +31,7 @@ pub use backup::back_up;
 pub use disk::Files;
 use disk::{open_file, Folder};
 use log::{Log, Sizes};
-pub use record::{digest_of_reply, Creation, Record};
+pub use record::{digest_of_reply, Record};
 pub use segments::JournalError;
 use segments::{frames, lines_in, scan_all, Scanned, Span};
 pub use version1::{convert, count as count_version1, dump as dump_version1};
@@ -487,9 +487,4 @@ impl SegmentSummary {
 /// Whether there is a file with this name and a journal of version 1 in it.
 pub fn is_version1(path: &Path) -> bool {
     version1::is_there(path)
-}
-
-/// Where the Python gateway's journal stays after it was written anew.
-pub fn old_path(path: &Path) -> PathBuf {
-    Files::new(path).path_of("version1")
 }

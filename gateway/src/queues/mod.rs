@@ -29,7 +29,7 @@ use ask::{Ask, Cause, Outcome, StoreName, TableChange};
 use book::{Books, Entry, LeftOver, QueueEntry, Removal};
 pub use parts::Parts;
 use shards::Shards;
-pub use state::{bytes_of_queue, Chunk, Cursor, Peeked, Said, State, Visibility, WINDOW};
+pub use state::{Chunk, Cursor, Peeked, State, Visibility};
 
 /// So long a name isn't free after its queue was removed, in milliseconds
 /// (API Reference, CreateQueue, `QueueDeletedRecently`).

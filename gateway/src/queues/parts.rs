@@ -124,11 +124,6 @@ impl Parts {
             self.some_freed.notified().await;
         }
     }
-
-    /// How many queues with parts there are.
-    pub fn count(&self) -> usize {
-        self.entries().by_number.len()
-    }
 }
 
 #[cfg(test)]
@@ -160,7 +155,7 @@ mod tests {
         assert_eq!(freed(&parts), [1]);
         parts.apply_reply(1, &PartsAsk::Remove, StoreReply::Removed).unwrap();
         parts.settle(1);
-        assert_eq!((freed(&parts), parts.count()), (vec![], 0));
+        assert_eq!((freed(&parts), parts.entries().by_number.len()), (vec![], 0));
     }
 
     #[test]
@@ -173,7 +168,7 @@ mod tests {
         parts.settle_all();
         assert_eq!(freed(&parts), [1, 3]);
         parts.unname(4);
-        assert_eq!((freed(&parts), parts.count()), (vec![], 3));
+        assert_eq!((freed(&parts), parts.entries().by_number.len()), (vec![], 3));
     }
 
     #[test]

@@ -57,9 +57,6 @@ pub struct Shard {
 }
 
 impl Shard {
-    /// The one that has all queues.
-    pub const WHOLE: Shard = Shard { shards: Shards::ONE, place: 0 };
-
     pub fn has(self, name: &QueueName) -> bool {
         self.shards.place_of(name) == self.place as usize
     }

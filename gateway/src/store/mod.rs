@@ -306,12 +306,8 @@ impl Store {
         self.submit(queue, asks.into_iter().map(Operation::from).collect(), false, None).await
     }
 
-    /// The answer to one operation, as that of `ask`. Its request counts by `share` until it is there.
-    pub async fn perform(&self, queue: &Arc<Queue>, operation: Operation, share: &Arc<Share>) -> Answer {
-        self.perform_all(queue, vec![operation], share).await.pop().unwrap_or_else(|| Err(SqsError::store_is_gone()))
-    }
-
-    /// The answers to operations that are performed one after the other, in their order.
+    /// The answers to operations that are performed one after the other, in their order. Their request counts by `share`
+    /// until they are there.
     pub async fn perform_all(&self, queue: &Arc<Queue>, operations: Vec<Operation>, share: &Arc<Share>) -> Vec<Answer> {
         self.submit(queue, operations, false, Some(share)).await
     }

@@ -37,7 +37,7 @@ use attempts::{Attempt, Attempts};
 use delayed::{Calls, DueMessages, First, OlderDelayed};
 use message::{Handing, Message, Messages};
 pub use peek::{Chunk, Cursor, Peeked, Visibility};
-pub use said::{bytes_of_queue, Said};
+use said::bytes_of_queue;
 use uncounted::UncountedHandings;
 
 /// So long a deduplication id counts, in milliseconds. A repeated attempt id is given the same messages as long.

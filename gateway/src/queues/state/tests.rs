@@ -212,7 +212,7 @@ fn a_delayed_message_of_an_older_journal_is_there_until_the_store_has_it() {
     let mut state = state_of("standard");
     let empty = state.bytes_in_use();
     for id in 1..=3 {
-        let envelope = envelope(id, 1000).into_whole();
+        let envelope = envelope(id, 1000).whole().to_string();
         let call = (id == 3).then(|| call.clone());
         let message = Delayed { id: Uuid::from_u128(id), due: 5000, call, envelope };
         state.add_older(&TableChange::Delayed(Arc::new(message)), 1000);
