@@ -195,7 +195,7 @@ pub fn size_of_attributes(attributes: &MessageAttributes) -> usize {
 }
 
 /// The metadata of a message: all beside its body and its place, and in a FIFO queue beside its group.
-#[derive(Clone, Debug, PartialEq, Eq, Serialize, Deserialize)]
+#[derive(Clone, Debug, Default, PartialEq, Eq, Serialize, Deserialize)]
 pub struct Metadata {
     /// The MessageId, where it isn't made of the message's place: of one that was moved or delayed, or that an earlier
     /// version sent. It stands first, where `own_id` finds it.
@@ -412,18 +412,7 @@ mod tests {
     use super::*;
 
     fn metadata() -> Metadata {
-        Metadata {
-            id: None,
-            of: None,
-            sent: 1_700_000_000_000,
-            due: None,
-            dedup: DedupId::parse("d").ok(),
-            group: None,
-            sender: None,
-            attributes: MessageAttributes::new(),
-            trace: None,
-            source: None,
-        }
+        Metadata { sent: 1_700_000_000_000, dedup: DedupId::parse("d").ok(), ..Metadata::default() }
     }
 
     #[test]

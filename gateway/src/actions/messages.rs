@@ -101,16 +101,11 @@ impl Actions {
     /// The metadata of a message of either kind of queue.
     fn metadata(&self, message: &NewMessage, caller: &Caller) -> Metadata {
         Metadata {
-            id: None,
-            of: None,
             sent: self.store.clock().now(),
-            due: None,
-            dedup: None,
-            group: None,
             sender: caller.identity.as_ref().map(|identity| identity.name().to_string()),
             attributes: message.attributes.clone(),
             trace: message.trace.clone(),
-            source: None,
+            ..Metadata::default()
         }
     }
 

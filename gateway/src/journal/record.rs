@@ -54,7 +54,7 @@ impl Creation {
 }
 
 /// A record as it stands in the journal.
-#[derive(Debug, Serialize, Deserialize)]
+#[derive(Debug, Default, Serialize, Deserialize)]
 pub struct Record<'a> {
     pub clock: Moment,
     /// What was asked of the store, without a client and a number: a replay gives new ones.
@@ -98,30 +98,10 @@ pub struct Record<'a> {
 }
 
 impl<'a> Record<'a> {
-    fn at(clock: Moment) -> Record<'a> {
-        Record {
-            clock,
-            ask: None,
-            digest: None,
-            creation: None,
-            removed: None,
-            envelope: None,
-            copies: None,
-            attempt: None,
-            most: None,
-            own: false,
-            by_attempt: false,
-            queue: None,
-            change: None,
-            uncounted: None,
-        }
-    }
-
     /// The record of an ask that changed something. `reply` is the text of the store's reply.
     pub fn of_ask(clock: Moment, ask: &'a Ask, raw: &'a RawValue, reply: &str) -> Record<'a> {
-        let mut record = Record::at(clock);
-        record.ask = Some(raw);
-        record.digest = Some(digest_of_reply(reply).into());
+        let digest = Some(digest_of_reply(reply).into());
+        let mut record = Record { clock, ask: Some(raw), digest, ..Record::default() };
         match ask {
             Ask::Send { envelope, .. } => {
                 if let Envelope::Split { whole, .. } = envelope {
@@ -140,12 +120,12 @@ impl<'a> Record<'a> {
 
     pub fn of_change(clock: Moment, queue: StoreName, change: &TableChange) -> Record<'a> {
         let queue = Some(queue.text().into());
-        Record { queue, change: Some(change.clone()), ..Record::at(clock) }
+        Record { clock, queue, change: Some(change.clone()), ..Record::default() }
     }
 
     /// The record of a start that found the clock far ahead.
     pub fn of_jump(clock: Moment, uncounted: u64) -> Record<'static> {
-        Record { uncounted: Some(uncounted), ..Record::at(clock) }
+        Record { clock, uncounted: Some(uncounted), ..Record::default() }
     }
 
     /// Appends the record's line.
@@ -313,7 +293,7 @@ mod tests {
         let delayed = Delayed { id: uuid::Uuid::from_u128(7), due: 9, call: None, envelope: "{}\nb".into() };
         let mut lines = Vec::new();
         Record::of_change(5, StoreName(7), &TableChange::Delayed(Arc::new(delayed))).append(&mut lines).unwrap();
-        Record { envelope: Some("{}\nb".into()), ..Record::at(6) }.append(&mut lines).unwrap();
+        Record { clock: 6, envelope: Some("{}\nb".into()), ..Record::default() }.append(&mut lines).unwrap();
         let expected = "{\"clock\":5,\"queue\":\"7.fifo\",\"note\":{\"delayed\":{\
             \"id\":\"00000000-0000-0000-0000-000000000007\",\"due\":9,\"form\":\"{}\\nb\"}}}\n\
             {\"clock\":6,\"form\":\"{}\\nb\"}\n";
