@@ -78,8 +78,8 @@ impl<F: Folder> Log<F> {
         let number = active.last + 1;
         let mut log = Log { folder, sizes, shards, allocated, kept: 0, number, file, active, owes_frame: true };
         // No number is used again: the one that is passed over may have been that of a commit that failed.
-        if log.is_short() {
-            log.grow();
+        if log.is_short() && !log.grow() {
+            log.grow_in_part();
         }
         if log.space() >= frame::HEAD as u64 {
             log.pay()?;
@@ -195,6 +195,14 @@ impl<F: Folder> Log<F> {
     pub fn grow(&mut self) -> bool {
         let ahead = self.ahead().saturating_sub(self.space());
         self.allocate(self.sizes.piece) || (ahead > 0 && self.allocate(ahead))
+    }
+
+    /// Takes what a full disk has of the space that should be ahead: part of it may have been left to the disk, for segments
+    /// that were being written anew, when the program ended.
+    fn grow_in_part(&mut self) {
+        for part in halves_of(self.ahead().saturating_sub(self.space())) {
+            self.allocate(part);
+        }
     }
 
     /// Has so much space at least, if the disk has it.

@@ -92,6 +92,8 @@ struct State {
     /// How often a write, a sync or an allocation fails.
     failing: f64,
     is_full: bool,
+    /// No file gets longer than this by an allocation.
+    longest: u64,
     /// So many writes and syncs are left before power goes or the process is killed.
     left: Option<u32>,
 }
@@ -114,6 +116,7 @@ impl Disk {
             namings: Vec::new(),
             failing: 0.0,
             is_full: false,
+            longest: u64::MAX,
             left: None,
         })))
     }
@@ -252,7 +255,7 @@ impl Segment for File {
         if state.files[self.place].cache.len() >= length as usize {
             return Ok(());
         }
-        if state.is_full || state.fails() {
+        if state.is_full || length > state.longest || state.fails() {
             return Err(failure("the disk is full"));
         }
         state.files[self.place].set_length(length as usize);
@@ -594,6 +597,23 @@ fn a_full_disk_gets_no_record_into_a_segment_that_older_gateways_read() {
         let (_, scanned) = Log::open(Arc::new(disk.clone()), SIZES, Shards::ONE).unwrap();
         assert_eq!(Model::read(&disk, &scanned).texts, BTreeSet::from([(1, 1), (1, 2)]));
         assert_eq!(scanned.spans.iter().map(|span| span.head.version).collect::<Vec<_>>(), [2, 8]);
+    }
+}
+
+/// The program ended while the space ahead was left to a full disk.
+#[test]
+fn a_start_takes_what_a_full_disk_has_of_the_space_ahead() {
+    let disk = Disk::new(1);
+    for free in [0, 100, 300, 500, 599] {
+        let (mut log, _) = Log::open(Arc::new(disk.clone()), SIZES, Shards::ONE).unwrap();
+        log.commit(&Act::Send(1, free as u32).line()).unwrap();
+        log.give_back(u64::MAX).unwrap();
+        disk.state().longest = log.active().end + free;
+        drop(log);
+        let (log, _) = Log::open(Arc::new(disk.clone()), SIZES, Shards::ONE).unwrap();
+        let least = free.saturating_sub(SIZES.ahead / 16 + 2 * super::frame::HEAD as u64);
+        assert!((least..=free).contains(&log.room()), "{} of {free}", log.room());
+        disk.state().longest = u64::MAX;
     }
 }
 
