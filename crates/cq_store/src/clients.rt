@@ -120,6 +120,7 @@ impl ClientTable {
     /// `NoMemory` nothing has changed. O(1) expected and amortized.
     pub fn restore(&mut self, client: u32, one: ClientRecord) -> Result<bool, NoMemory>
         ensures put { IfOk result (λ is. is ≡ true → self.new.kept ≡ self.old.kept ++ (client, one) ∷ []) }
+        ensures new { IfOk result (λ is. is ≡ true → client_at self.old.kept client ≡ None) }
         ensures refused { IfOk result (λ is. is ≡ false → self.new.kept ≡ self.old.kept) }
         ensures only { IfOk result (λ is. is ≡ false → client_at self.old.kept client ≡ None → ⊥) }
         ensures err { OnErr result (self.new.kept ≡ self.old.kept) }

@@ -11,13 +11,13 @@ use thiserror::Error;
 pub enum WireFault {
     #[error("the bytes end inside a value")]
     Truncated,
-    /// It names no kind of value, or is a flag and neither 0 nor 1.
+    /// It names no kind of value that may stand there, or is a flag and neither 0 nor 1.
     #[error("a byte is no tag")]
     BadTag,
     /// It isn't UTF-8, or no name, id or body where one has to stand.
     #[error("a text breaks the rules of its place")]
     BadText,
-    /// It is no moment, timeout, size, part of a receipt or number of a refusal where one has to stand.
+    /// It is no moment, timeout, size, part of a receipt or number of a refusal where one has to stand, or isn't in its order.
     #[error("a number breaks the rules of its place")]
     BadNumber,
     #[error("bytes are left over behind the value")]

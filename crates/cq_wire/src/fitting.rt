@@ -8,29 +8,33 @@ use cq_base::{
     Seconds,
 };
 
+/// Each name has bytes.
 #[tactic(auto, using(crate::proofs::Utf8::utf8_is))]
-fn name_fits(name: &QueueName)
+pub fn name_fits(name: &QueueName)
     ensures { IsName name.now }
 {
     let _text = name.as_str();
 }
 
+/// Each group id has bytes.
 #[tactic(auto, using(crate::proofs::Utf8::utf8_is))]
-fn group_fits(id: &GroupId)
+pub fn group_fits(id: &GroupId)
     ensures { IsId id.now }
 {
     let _text = id.as_str();
 }
 
+/// Each deduplication id has bytes.
 #[tactic(auto, using(crate::proofs::Utf8::utf8_is))]
-fn dedup_fits(id: &DedupId)
+pub fn dedup_fits(id: &DedupId)
     ensures { IsId id.now }
 {
     let _text = id.as_str();
 }
 
+/// Each body has bytes.
 #[tactic(auto, using(crate::proofs::Utf8::utf8_is))]
-fn body_fits(body: &Body)
+pub fn body_fits(body: &Body)
     ensures { IsBody body.now }
 {
     let _text = body.as_str();

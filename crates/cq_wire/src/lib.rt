@@ -19,8 +19,12 @@ mod writer;
 
 pub use asks::entry_of;
 pub use fault::{ReadFault, WireFault};
-pub use fitting::{entry_fits, query_fits, reply_fits, request_fits};
-pub use parts::{flag_of, u32_of, u64_of};
+pub use fitting::{
+    body_fits, dedup_fits, entry_fits, group_fits, name_fits, query_fits, reply_fits, request_fits,
+};
+pub use parts::{
+    body_of, dedup_of, flag_of, group_of, moment_of, name_of, seconds_of, u32_of, u64_of,
+};
 pub use put::{put_entry, put_reply};
 pub use read::{read_entry, read_query, read_reply, read_request};
 pub use replies::reply_of;

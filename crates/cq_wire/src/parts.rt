@@ -78,6 +78,7 @@ pub fn flag_of(bytes: &[u8]) -> Result<(bool, &[u8]), ReadFault>
     }
 }
 
+/// A moment, of eight bytes; `BadNumber` where it is above the largest. O(1).
 #[tactic(auto, unfolding(crate::specs::Reading::moment_at))]
 pub fn moment_of(bytes: &[u8]) -> Result<(Moment, &[u8]), ReadFault>
     ensures { Gives (λ x. (x.0, x.1.now)) result (moment_at bytes.now) }
@@ -89,6 +90,7 @@ pub fn moment_of(bytes: &[u8]) -> Result<(Moment, &[u8]), ReadFault>
     }
 }
 
+/// A number of seconds, of four bytes; `BadNumber` where it is above the largest. O(1).
 #[tactic(auto, unfolding(crate::specs::Reading::seconds_at))]
 pub fn seconds_of(bytes: &[u8]) -> Result<(Seconds, &[u8]), ReadFault>
     ensures { Gives (λ x. (x.0, x.1.now)) result (seconds_at bytes.now) }
@@ -114,6 +116,7 @@ pub fn batch_of(bytes: &[u8]) -> Result<(BatchSize, &[u8]), ReadFault>
     }
 }
 
+/// The name of a queue; `BadText` where it is none. O(bytes of it), and takes memory for them.
 #[tactic(auto, unfolding(crate::specs::Reading::name_at))]
 pub fn name_of(alloc: Global, bytes: &[u8]) -> Result<(QueueName, &[u8]), ReadFault>
     ensures { Gives (λ x. (x.0, x.1.now)) result (name_at bytes.now) }
@@ -126,6 +129,7 @@ pub fn name_of(alloc: Global, bytes: &[u8]) -> Result<(QueueName, &[u8]), ReadFa
     }
 }
 
+/// The id of a group; `BadText` where it is none. O(bytes of it), and takes memory for them.
 #[tactic(auto, unfolding(crate::specs::Reading::id_at))]
 pub fn group_of(alloc: Global, bytes: &[u8]) -> Result<(GroupId, &[u8]), ReadFault>
     ensures { Gives (λ x. (x.0, x.1.now)) result (id_at bytes.now) }
@@ -138,8 +142,9 @@ pub fn group_of(alloc: Global, bytes: &[u8]) -> Result<(GroupId, &[u8]), ReadFau
     }
 }
 
+/// A deduplication id; `BadText` where it is none. O(bytes of it), and takes memory for them.
 #[tactic(auto, unfolding(crate::specs::Reading::id_at))]
-fn dedup_of(alloc: Global, bytes: &[u8]) -> Result<(DedupId, &[u8]), ReadFault>
+pub fn dedup_of(alloc: Global, bytes: &[u8]) -> Result<(DedupId, &[u8]), ReadFault>
     ensures { Gives (λ x. (x.0, x.1.now)) result (id_at bytes.now) }
 {
     let (text, rest) = text_of(bytes)?;
@@ -150,6 +155,7 @@ fn dedup_of(alloc: Global, bytes: &[u8]) -> Result<(DedupId, &[u8]), ReadFault>
     }
 }
 
+/// A body; `BadText` where it is none. O(bytes of it), and takes memory for them.
 #[tactic(auto, unfolding(crate::specs::Reading::body_at))]
 pub fn body_of(alloc: Global, bytes: &[u8]) -> Result<(Body, &[u8]), ReadFault>
     ensures { Gives (λ x. (x.0, x.1.now)) result (body_at bytes.now) }

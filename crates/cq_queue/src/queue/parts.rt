@@ -76,6 +76,7 @@ impl Queue {
     /// and then, as after `NoMemory`, the queue is as before. Amortized O(log messages).
     pub fn restore_message(&mut self, message: Message) -> Result<bool, NoMemory>
         ensures put { IfOk result (λ is. is ≡ true → self.new ≡ and_message message self.old) }
+        ensures next { IfOk result (λ is. is ≡ true → IsNextMessage self.old message) }
         ensures refused { IfOk result (λ is. is ≡ false → self.new ≡ self.old) }
         ensures only { IfOk result (λ is. is ≡ false → IsNextMessage self.old message → ⊥) }
         ensures err { OnErr result (self.new ≡ self.old) }
@@ -94,6 +95,7 @@ impl Queue {
     /// next one, and then, as after `NoMemory`, the queue is as before. O(1) expected and amortized.
     pub fn restore_accepted(&mut self, accepted: Accepted) -> Result<bool, NoMemory>
         ensures put { IfOk result (λ is. is ≡ true → self.new ≡ and_accepted accepted self.old) }
+        ensures next { IfOk result (λ is. is ≡ true → IsNextAccepted self.old accepted) }
         ensures refused { IfOk result (λ is. is ≡ false → self.new ≡ self.old) }
         ensures only { IfOk result (λ is. is ≡ false → IsNextAccepted self.old accepted → ⊥) }
         ensures err { OnErr result (self.new ≡ self.old) }

@@ -70,6 +70,7 @@ impl Store {
         reply: Reply,
     ) -> Result<bool, NoMemory>
         ensures put { IfOk result (λ is. is ≡ true → self.new ≡ and_client client (record { number = number; reply = reply }) self.old) }
+        ensures new { IfOk result (λ is. is ≡ true → client_at self.old.clients client ≡ None) }
         ensures refused { IfOk result (λ is. is ≡ false → self.new ≡ self.old) }
         ensures only { IfOk result (λ is. is ≡ false → client_at self.old.clients client ≡ None → ⊥) }
         ensures err { OnErr result (self.new ≡ self.old) }
@@ -82,6 +83,7 @@ impl Store {
     /// expected and amortized.
     pub fn restore_name(&mut self, queue: QueueName, kept: QueueRecord) -> Result<bool, NoMemory>
         ensures put { IfOk result (λ is. is ≡ true → self.new ≡ and_name queue kept self.old) }
+        ensures next { IfOk result (λ is. is ≡ true → IsNextName self.old queue kept) }
         ensures refused { IfOk result (λ is. is ≡ false → self.new ≡ self.old) }
         ensures only { IfOk result (λ is. is ≡ false → IsNextName self.old queue kept → ⊥) }
         ensures err { OnErr result (self.new ≡ self.old) }
