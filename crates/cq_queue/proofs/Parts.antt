@@ -7,14 +7,14 @@ use Rattle.std.specs.Option.{option_map, is_some}
 use Rattle.std.proofs.lemmas.Bool.Decides.{nat_tests}
 use Rattle.std.proofs.lemmas.List.Elements.{All-head, All-tail, All-cons, All-nil, All-push, All-weaker}
 use Rattle.std.proofs.lemmas.List.{length_push}
-use Rattle.cq_base.specs.queue.Incarnations.{Accepted}
+use Rattle.cq_base.specs.queue.Incarnations.{Accepted, Incarnation}
 use Rattle.cq_base.specs.queue.Messages.{Message}
 use Rattle.cq_base.specs.Relations.{Among}
 use Rattle.cq_messages.specs.Ordered.{all_after}
 use Rattle.cq_queue.specs.declared.accepted.Known.{Known}
 use Rattle.cq_queue.specs.within.Sound.{IsHandedUpTo, IsNumberedUpTo, IsSound}
 use Rattle.cq_queue.specs.within.Windows.{IsBy, IsRising, AreDistinct, known_of}
-use Rattle.cq_queue.specs.Parts.{AreInOrder}
+use Rattle.cq_queue.specs.Parts.{AreInOrder, IsNextMessage}
 
 -- in order of moments, all are at least as late as the lower bound
 rising_all : (b : ℕ) (xs : List Accepted) → IsRising b xs → All (λ x. b ≤ x.moment) xs
@@ -102,3 +102,9 @@ sound-kept number sent used messages last accepted a past fewer h = record {
 pub none-behind : (n : ℕ) (ms : List Message) (o : Option (Bor Message)) → true ≡ is_some o → IfSome o (λ m. all_after (n - 1) ms ≡ m.now ∷ all_after m.now.sequence ms) → All (λ x. x.sequence < n) ms → ⊥
 none-behind n ms None e h all = true≢false e
 none-behind n ms (Some m) e h all = none-before n ms m.now (all_after m.now.sequence ms) all h
+
+-- a message that is behind all others and within what the queue has done may be the next one
+pub next-message : (q kept : Incarnation) (m one : Message) → q ≡ kept → m ≡ one → All (λ x. x.sequence < m.sequence) q.messages → m.sequence ≤ q.sent → m.handings ≤ q.used → IsNextMessage kept one
+next-message q kept m one is same later sent handed =
+    let next : IsNextMessage q m = record { later = later; sent = sent; handed = handed } in
+    subst (λ (r : Incarnation). IsNextMessage r one) is (subst (λ (y : Message). IsNextMessage q y) same next)
