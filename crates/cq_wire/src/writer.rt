@@ -33,6 +33,13 @@ impl Writer {
         Writer { bytes, start }
     }
 
+    /// How many bytes of the value are there. O(1).
+    pub fn len(&self) -> usize
+        ensures { result ≡ length self.now.value }
+    {
+        self.bytes.len() - self.start
+    }
+
     /// The bytes with the value at their end.
     pub fn whole(self) -> Vec<u8>
         ensures { result.items ≡ self.before ++ self.value }

@@ -1,0 +1,7 @@
+pub mod PartLaws
+pub mod Building
+pub mod Places
+pub mod NamesTaken
+pub mod Steps
+pub mod Chunked
+pub mod Rebuilt

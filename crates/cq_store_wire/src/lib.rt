@@ -1,0 +1,18 @@
+//! A store as bytes, a part after another, so that no more of it than one part has to be there at once. `specs/Layout.antt`
+//! has the bytes of each part and `specs/Order.antt` the parts of a store in their order; `specs/Reading.antt` what is read of
+//! any bytes, and `specs/Building.antt` the store that is made of the parts, or the fault. `cq_wire` has numbers and texts.
+#![tactic(auto)]
+
+mod build;
+mod fitting;
+pub mod laws;
+mod part;
+mod parts;
+mod put;
+mod reader;
+mod writer;
+
+pub use fitting::store_fits;
+pub use part::{NameRecord, Part};
+pub use reader::StoreReader;
+pub use writer::StoreWriter;
