@@ -5,3 +5,4 @@ pub mod NamesTaken
 pub mod Steps
 pub mod Chunked
 pub mod Rebuilt
+pub mod Spelled
