@@ -4,6 +4,8 @@
 //! - `values SEED COUNT`: so many values, made by the seed, are written and read. Then of each all fronts are read, and it is
 //!   read with each of its bytes changed.
 //! - `bytes SEED COUNT`: so many texts of bytes are read as each kind of value.
+//! - `stores SEED COUNT`: so many stores, which requests came to by the seed, are written in chunks and read. Then of each all
+//!   fronts are read, and it is read with each of its bytes changed.
 //! - `dump SEED COUNT`: so many values are written as hex digits, with words that say them, for a reader in another language.
 //! - `read KIND HEX`: those bytes are read as a value of that kind, and the words of the value are told, or the fault.
 //! - `hold KIND HEX`, `skip KIND HEX`: the bytes are read, and the value is held; or they aren't read. What the one takes more
@@ -18,6 +20,7 @@ mod given;
 mod kinds;
 mod made;
 mod reads;
+mod stores;
 mod trials;
 
 use crate::made::Draws;
@@ -50,6 +53,7 @@ fn run_drawn(
     match kind {
         "values" => trials::try_values(rt, alloc, &mut draws, count),
         "bytes" => trials::try_bytes(rt, alloc, &mut draws, count),
+        "stores" => stores::try_stores(rt, alloc, &mut draws, count),
         "dump" => dump::dump(rt, alloc, &mut draws, count),
         _ => Err(stop("no such job")),
     }

@@ -42,6 +42,17 @@ impl Tally {
         }
     }
 
+    /// One more read gave a value.
+    pub fn add_value(&mut self) {
+        self.values = self.values.saturating_add(1);
+    }
+
+    /// One more gave that fault.
+    pub fn add(&mut self, fault: WireFault) {
+        let count = self.count_of(fault);
+        *count = count.saturating_add(1);
+    }
+
     /// Reads the bytes as a value of that kind. One that is read has to be written as these bytes.
     pub fn read(&mut self, alloc: Global, kind: Kind, bytes: &[u8]) -> io::Result<()> {
         match read(alloc, kind, bytes) {
@@ -49,13 +60,12 @@ impl Tally {
                 if value.bytes(alloc)?.as_slice() != bytes {
                     return Err(stop("a value is written otherwise than it was read"));
                 }
-                self.values = self.values.saturating_add(1);
+                self.add_value();
                 Ok(())
             }
             Err(ReadFault::NoMemory) => Err(stop("no memory")),
             Err(ReadFault::Bad(fault)) => {
-                let count = self.count_of(fault);
-                *count = count.saturating_add(1);
+                self.add(fault);
                 Ok(())
             }
         }
