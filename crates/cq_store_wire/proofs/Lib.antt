@@ -6,3 +6,4 @@ pub mod Steps
 pub mod Chunked
 pub mod Rebuilt
 pub mod Spelled
+pub mod Examples
