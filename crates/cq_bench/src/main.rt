@@ -1,4 +1,5 @@
-//! What the programs of `bench/` measure, by the first word of the command line: `store`, the calls of a store; `links`,
+//! What the programs of `bench/` measure, by the first word of the command line: `store`, the calls of a store; `bytes`,
+//! stores that are written and read as bytes; `links`,
 //! items from one thread to another; `live`, live runs; and `json`, lines read and written by `serde_json` alone. Each
 //! reads lines of standard input; its file says which.
 #![tactic(auto)]
@@ -22,10 +23,11 @@ fn main(rt: HostRuntime) -> ExitCode {
     let done = match words_of(&rt) {
         Ok(words) => match words.first().map(|word| word.as_str()) {
             Some("store") => store::run_lines(&rt),
+            Some("bytes") => store::run_byte_lines(&rt),
             Some("links") => links::run_lines(&rt, rt.alloc()),
             Some("live") => live::run_lines(&rt, rt.alloc()),
             Some("json") => json::copy_lines(&rt),
-            _ => Err(stop("the first word is none of store, links, live and json")),
+            _ => Err(stop("the first word is none of store, bytes, links, live and json")),
         },
         Err(error) => Err(error),
     };

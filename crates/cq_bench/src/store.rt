@@ -6,6 +6,7 @@ use cq_base::{
     Receipt, Reply, Request, Seconds,
 };
 use cq_store::Store;
+use cq_store_wire::{StoreReader, StoreWriter};
 use std::alloc::Global;
 use std::io;
 use std::io::{BufRead, BufReader};
@@ -221,6 +222,64 @@ impl Bench {
     }
 }
 
+/// The bytes with which a chunk ends.
+const CHUNK: usize = 1_048_576;
+
+/// More chunks than a store has that is made here.
+const CHUNKS: usize = 1_000_000;
+
+impl Bench {
+    /// Writes the store into chunks. How long it takes, and the chunks.
+    #[inline(never)]
+    fn write(&self, rt: &HostRuntime, alloc: Global) -> io::Result<(u64, Vec<Vec<u8>>)> {
+        let mut chunks = Vec::new(alloc);
+        let mut writer = StoreWriter::new();
+        let start = Instant::now(rt)?;
+        for _ in 0..CHUNKS {
+            if writer.is_done() {
+                break;
+            }
+            let mut bytes = Vec::new(alloc);
+            writer
+                .next(&self.store, &mut bytes, CHUNK)
+                .map_err(|_| stop("no memory"))?;
+            chunks.push(bytes).map_err(|_| stop("no memory"))?;
+        }
+        Ok((since(rt, &start)?, chunks))
+    }
+
+    /// Reads a store from chunks. How long it takes.
+    #[inline(never)]
+    fn read(rt: &HostRuntime, alloc: Global, chunks: &[Vec<u8>]) -> io::Result<u64> {
+        let start = Instant::now(rt)?;
+        let mut reader = StoreReader::new(alloc);
+        for chunk in chunks {
+            reader = reader
+                .feed(chunk.as_slice())
+                .map_err(|_| stop("a chunk isn't read"))?;
+        }
+        let store = reader.store().map_err(|_| stop("a store isn't read"))?;
+        let took = since(rt, &start)?;
+        drop(store);
+        Ok(took)
+    }
+}
+
+/// Times a copy of a store, its writing and its reading, each by its messages.
+fn run_bytes(rt: &HostRuntime, messages: u64, groups: u64) -> io::Result<()> {
+    let alloc = rt.alloc();
+    let mut bench = Bench::new(alloc)?;
+    bench.create()?;
+    bench.send_all(rt, alloc, messages, groups)?;
+    let copy = bench.copy(rt)?.checked_div(messages).unwrap_or(0);
+    let (write, chunks) = bench.write(rt, alloc)?;
+    let write = write.checked_div(messages).unwrap_or(0);
+    let read = Bench::read(rt, alloc, chunks.as_slice())?
+        .checked_div(messages)
+        .unwrap_or(0);
+    println!(rt; "{messages} messages {groups} groups: copy {copy} write {write} read {read} each")
+}
+
 /// How long receives, changes and deletes take.
 #[derive(Clone, Copy)]
 struct Rounds {
@@ -292,10 +351,20 @@ fn numbers(line: &str) -> Option<(u64, u64)> {
     Some((messages.parse().ok()?, groups.parse().ok()?))
 }
 
+/// Times the calls of stores, a store a line.
 pub fn run_lines(rt: &HostRuntime) -> io::Result<()> {
     for line in BufReader::new(rt.alloc(), rt.reader())?.lines(rt.alloc()) {
         let (messages, groups) = numbers(line?.as_str()).ok_or(stop("no two numbers"))?;
         run(rt, messages, groups)?;
+    }
+    Ok(())
+}
+
+/// Times stores as bytes, a store a line.
+pub fn run_byte_lines(rt: &HostRuntime) -> io::Result<()> {
+    for line in BufReader::new(rt.alloc(), rt.reader())?.lines(rt.alloc()) {
+        let (messages, groups) = numbers(line?.as_str()).ok_or(stop("no two numbers"))?;
+        run_bytes(rt, messages, groups)?;
     }
     Ok(())
 }
