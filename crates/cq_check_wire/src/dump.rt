@@ -7,7 +7,7 @@ use std::alloc::Global;
 use std::fmt::Write;
 use std::io;
 
-fn add_hex(text: &mut String, bytes: &[u8]) -> io::Result<()> {
+pub fn add_hex(text: &mut String, bytes: &[u8]) -> io::Result<()> {
     for byte in bytes {
         write!(text, "{byte:02x}")?;
     }
@@ -22,7 +22,7 @@ fn add_receipt(text: &mut String, receipt: Receipt) -> io::Result<()> {
     Ok(())
 }
 
-fn add_text(text: &mut String, words: &str) -> io::Result<()> {
+pub fn add_text(text: &mut String, words: &str) -> io::Result<()> {
     text.push(' ')?;
     add_hex(text, words.as_bytes())
 }
@@ -126,7 +126,7 @@ fn add_deliveries(text: &mut String, deliveries: &[Delivery]) -> io::Result<()> 
     Ok(())
 }
 
-fn add_reply(text: &mut String, reply: &Reply) -> io::Result<()> {
+pub fn add_reply(text: &mut String, reply: &Reply) -> io::Result<()> {
     match reply {
         Reply::Created(incarnation) => write!(text, " created {incarnation}")?,
         Reply::Removed => text.push_str(" removed")?,

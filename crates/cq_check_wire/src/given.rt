@@ -2,6 +2,8 @@
 use crate::dump::add_value;
 use crate::kinds::{Kind, read};
 use crate::stop;
+use crate::stored::add_store;
+use crate::stores::read_store;
 use cq_wire::ReadFault;
 use std::alloc::Global;
 use std::io;
@@ -37,17 +39,35 @@ fn given(alloc: Global, words: &mut SplitWhitespace<'_>) -> io::Result<(Kind, Ve
     Ok((kind, bytes_of(alloc, digits.as_bytes())?))
 }
 
-/// Tells the value that the bytes are, or the fault.
+/// Tells the value that the bytes are, or the fault. The value may be a store.
 pub fn tell_read(
     rt: &impl Print,
     alloc: Global,
     words: &mut SplitWhitespace<'_>,
 ) -> io::Result<()> {
-    let (kind, bytes) = given(alloc, words)?;
+    let name = words.next().ok_or(stop("no kind"))?;
+    let bytes = bytes_of(alloc, words.next().unwrap_or("").as_bytes())?;
+    if name == "store" {
+        return tell_store(rt, alloc, &bytes);
+    }
+    let kind = Kind::named(name).ok_or(stop("no such kind"))?;
     match read(alloc, kind, &bytes) {
         Ok(value) => {
             let mut text = String::new(alloc);
             add_value(&mut text, &value)?;
+            println!(rt; "{text}")
+        }
+        Err(ReadFault::NoMemory) => Err(stop("no memory")),
+        Err(ReadFault::Bad(fault)) => println!(rt; "{} {}", fault.code(), fault.name()),
+    }
+}
+
+/// Tells the store that the bytes are, or the fault.
+fn tell_store(rt: &impl Print, alloc: Global, bytes: &[u8]) -> io::Result<()> {
+    match read_store(alloc, bytes) {
+        Ok(store) => {
+            let mut text = String::new(alloc);
+            add_store(&mut text, &store)?;
             println!(rt; "{text}")
         }
         Err(ReadFault::NoMemory) => Err(stop("no memory")),

@@ -6,7 +6,8 @@
 //! - `bytes SEED COUNT`: so many texts of bytes are read as each kind of value.
 //! - `stores SEED COUNT`: so many stores, which requests came to by the seed, are written in chunks and read. Then of each all
 //!   fronts are read, and it is read with each of its bytes changed.
-//! - `dump SEED COUNT`: so many values are written as hex digits, with words that say them, for a reader in another language.
+//! - `dump SEED COUNT`, `dump-stores SEED COUNT`: so many values, or stores, are written as hex digits, with words that say them,
+//!   for a reader in another language.
 //! - `read KIND HEX`: those bytes are read as a value of that kind, and the words of the value are told, or the fault.
 //! - `hold KIND HEX`, `skip KIND HEX`: the bytes are read, and the value is held; or they aren't read. What the one takes more
 //!   than the other is the memory of the value.
@@ -20,6 +21,7 @@ mod given;
 mod kinds;
 mod made;
 mod reads;
+mod stored;
 mod stores;
 mod trials;
 
@@ -55,6 +57,7 @@ fn run_drawn(
         "bytes" => trials::try_bytes(rt, alloc, &mut draws, count),
         "stores" => stores::try_stores(rt, alloc, &mut draws, count),
         "dump" => dump::dump(rt, alloc, &mut draws, count),
+        "dump-stores" => stores::dump_stores(rt, alloc, &mut draws, count),
         _ => Err(stop("no such job")),
     }
 }

@@ -1,7 +1,9 @@
 //! Stores that are written in chunks and read.
+use crate::dump::add_hex;
 use crate::made::Draws;
 use crate::reads::Tally;
 use crate::stop;
+use crate::stored::add_store;
 use cq_base::{
     Ask, BatchSize, Body, DedupId, Entry, GroupId, HISTORY_LIMIT, Moment, QueueName, Receipt,
     Request, Seconds,
@@ -138,13 +140,14 @@ fn passed(alloc: Global, draws: &mut Draws, store: &Store) -> io::Result<Store> 
     reader.store().map_err(|_| stop("a store isn't read"))
 }
 
-fn read(alloc: Global, bytes: &[u8]) -> Result<Store, ReadFault> {
+/// The store that one chunk is.
+pub fn read_store(alloc: Global, bytes: &[u8]) -> Result<Store, ReadFault> {
     StoreReader::new(alloc).feed(bytes)?.store()
 }
 
 /// Reads bytes as a store. One that is read has to be written as these bytes.
 fn read_one(alloc: Global, tally: &mut Tally, bytes: &[u8]) -> io::Result<()> {
-    match read(alloc, bytes) {
+    match read_store(alloc, bytes) {
         Ok(store) => {
             if whole(alloc, &store)?.as_slice() != bytes {
                 return Err(stop("a store is written otherwise than it was read"));
@@ -231,4 +234,22 @@ pub fn try_stores(rt: &impl Print, alloc: Global, draws: &mut Draws, count: u64)
     tallies.passed.tell(rt, "stores")?;
     tallies.fronts.tell(rt, "fronts of stores")?;
     tallies.changed.tell(rt, "changed stores")
+}
+
+/// So many stores, a line each.
+pub fn dump_stores(
+    rt: &impl Print,
+    alloc: Global,
+    draws: &mut Draws,
+    count: u64,
+) -> io::Result<()> {
+    for _ in 0..count {
+        let store = made(alloc, draws)?;
+        let mut text = String::new(alloc);
+        add_hex(&mut text, &whole(alloc, &store)?)?;
+        text.push(' ')?;
+        add_store(&mut text, &store)?;
+        println!(rt; "{text}")?;
+    }
+    Ok(())
 }
