@@ -34,7 +34,7 @@ parts-read (p ∷ ps) (suc n) state fit h =
     ∙ ap (λ (r : Result (Part × List ℕ) WireFault). r >>= λ x. put x.0 state >>= λ next. read_into n x.1 next) (part_is_read p rest fit.0)
     ∙ bind-same (put p state) (λ next. read_into n rest next) (λ next. built ps next) (λ next e. parts-read ps n next fit.1 (omega (arith, sum, h, some-bytes p)))
 
-chunk-fed : (ps : List Part) (state : State) → AllByRecursion IsPart ps → fed (chunk ps) state ≡ built ps state
+pub chunk-fed : (ps : List Part) (state : State) → AllByRecursion IsPart ps → fed (chunk ps) state ≡ built ps state
 unfolding fed chunk
 chunk-fed ps state fit = parts-read ps (length (flat_map part ps)) state fit (omega arith)
 

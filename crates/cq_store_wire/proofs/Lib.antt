@@ -7,3 +7,4 @@ pub mod Chunked
 pub mod Rebuilt
 pub mod Spelled
 pub mod Examples
+pub mod Passing

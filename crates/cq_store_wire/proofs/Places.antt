@@ -1,5 +1,5 @@
 -- What is written at each place of a store, and what follows it.
-use Rattle.std.proofs.Common.{◌≡◌, ℕ, zero, suc, ◌+◌, ◌<◌, ◌≤◌, ◌^◌, List, [], ◌∷◌, ◌++◌, length, drop, map, Option, None, Some, Result, Ok, Err, refl, sym, subst, ap, ◌∙◌, append_assoc, arith}
+use Rattle.std.proofs.Common.{◌≡◌, ◌⊎◌, ℕ, zero, suc, ◌+◌, ◌<◌, ◌≤◌, ◌^◌, List, [], ◌∷◌, ◌++◌, length, drop, map, Option, None, Some, Result, Ok, Err, refl, sym, subst, ap, ◌∙◌, append_assoc, arith, inl, inr}
 use Rattle.std.specs.Prelude.{slice_get, IfOk}
 use Rattle.std.specs.List.{AllByRecursion, flat_map}
 use Rattle.std.specs.Option.{option_map}
@@ -208,3 +208,11 @@ chunk-next before (p ∷ rest) after old new c next = record {
 pub next-shorter : (before after : List Part) (old new : List ℕ) → IsNext before after old new → length after < length before
 next-shorter [] after old new next = absurd next
 next-shorter (p ∷ rest) after old new next = let same : length rest ≡ length after = ap length next.1.0 in omega (arith, same)
+
+-- behind a part the place has moved on
+pub moved : (kept : StoreKept) (first place next : Place) (old new value : List ℕ) → ((place ≡ first) × (length value ≡ 1)) ⊎ (length (parts_from kept place) < length (parts_from kept first))
+    → IsNext (parts_from kept place) (parts_from kept next) old new → length (parts_from kept next) < length (parts_from kept first)
+moved kept first place next old new value (inl same) n =
+    let here : length (parts_from kept place) ≡ length (parts_from kept first) = ap (λ (p : Place). length (parts_from kept p)) same.0 in
+    omega (arith, here, next-shorter (parts_from kept place) (parts_from kept next) old new n)
+moved kept first place next old new value (inr less) n = omega (arith, less, next-shorter (parts_from kept place) (parts_from kept next) old new n)

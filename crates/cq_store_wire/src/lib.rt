@@ -8,11 +8,13 @@ mod fitting;
 pub mod laws;
 mod part;
 mod parts;
+mod pass;
 mod put;
 mod reader;
 mod writer;
 
 pub use fitting::store_fits;
 pub use part::{NameRecord, Part};
+pub use pass::passed;
 pub use reader::StoreReader;
 pub use writer::StoreWriter;

@@ -1,5 +1,5 @@
 //! A store is written as chunks, each of some parts.
-ghost use Rattle.std.specs.Prelude.{◌≡◌, ℕ, suc, List, [], ◌++◌, drop, true, false, IfOk, OnOk, OnErr};
+ghost use Rattle.std.specs.Prelude.{◌≡◌, ℕ, suc, ◌<◌, List, [], ◌++◌, length, drop, true, false, IfOk, OnOk, OnErr};
 ghost use Rattle.std.specs.Option.{option_map};
 ghost use Rattle.cq_messages.specs.Ordered.{all_after};
 ghost use Rattle.cq_store_wire.specs.Chunks.{IsChunk, IsNext};
@@ -179,7 +179,7 @@ fn put_at(out: &mut Writer, store: &Store, place: Place) -> Result<Place, NoMemo
     }
 }
 
-/// Puts a chunk, from the version on, and answers the next place.
+/// Puts a chunk, from the version on, and answers the next place. A chunk has one part at least, if there is one.
 fn put_chunk(
     out: &mut Writer,
     store: &Store,
@@ -188,11 +188,13 @@ fn put_chunk(
 ) -> Result<Place, NoMemory>
     requires { out.old.value ≡ [] }
     ensures ok { IfOk result (λ next. IsChunk (parts_from store.now start) (parts_from store.now next) out.new.value) }
+    ensures moves { IfOk result (λ next. (start ≡ places.End → ⊥) → length (parts_from store.now next) < length (parts_from store.now start)) }
     ensures before { out.new.before ≡ out.old.before }
 {
     out.put(&[VERSION])?;
+    let least = enough.max(2);
     let mut place = start;
-    while place != Place::End && out.len() < enough {
+    while place != Place::End && out.len() < least {
         place = put_at(out, store, place)?;
     }
     Ok(place)
@@ -222,10 +224,10 @@ impl StoreWriter {
         self.place == Place::End
     }
 
-    /// Writes the next chunk behind the bytes. It ends with the part with which it has `enough` bytes, or with the store's
-    /// last, so it has at most 2.7 MB more than `enough`. The store has to be the same at each call: what another one's
-    /// chunks are read as isn't said. After `NoMemory` bytes and writer are as before. O(bytes of the chunk), and a search
-    /// for each message: O(log messages).
+    /// Writes the next chunk behind the bytes. It has one part at least, and ends with the part with which it has `enough`
+    /// bytes, or with the store's last; so it has at most 2.7 MB more than `enough`. The store has to be the same at each
+    /// call: what another one's chunks are read as isn't said. After `NoMemory` bytes and writer are as before. O(bytes of
+    /// the chunk), and a search for each message: O(log messages).
     pub fn next(
         &mut self,
         store: &Store,
@@ -234,6 +236,7 @@ impl StoreWriter {
     ) -> Result<(), NoMemory>
         ensures ok { OnOk result ((one : List ℕ) × (bytes.new.items ≡ bytes.old.items ++ one)
             × IsChunk (parts_from store.now self.old.place) (parts_from store.now self.new.place) one) }
+        ensures moves { OnOk result ((self.old.place ≡ places.End → ⊥) → length (parts_from store.now self.new.place) < length (parts_from store.now self.old.place)) }
         ensures err { OnErr result ((bytes.new.items ≡ bytes.old.items) × (self.new ≡ self.old)) }
     {
         let empty = Vec::new(*bytes.allocator());

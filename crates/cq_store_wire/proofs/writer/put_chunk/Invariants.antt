@@ -1,5 +1,5 @@
--- What is written so far is a chunk, of the parts from the start up to the place.
-use Rattle.std.proofs.Common.{◌≡◌, length}
+-- What is written so far is a chunk, of the parts from the start up to the place; and where that hasn't moved, it is the version.
+use Rattle.std.proofs.Common.{◌≡◌, ◌<◌, ◌⊎◌, length}
 use Rattle.cq_store_wire.specs.Chunks.{IsChunk}
 use Rattle.cq_store_wire.specs.Order.{parts_from}
 use Rattle.cq_store_wire.proofs.writer.put_chunk.Given as goal
@@ -7,6 +7,7 @@ use Rattle.cq_store_wire.proofs.writer.put_chunk.Given as goal
 abbrev pub invariant-loop-out : goal.invariant-loop-out
 invariant-loop-out l = record {
   chunk : IsChunk (parts_from l.store l.fn.start) (parts_from l.store l.place) l.out.value;
+  moves : ((l.place ≡ l.fn.start) × (length l.out.value ≡ 1)) ⊎ (length (parts_from l.store l.place) < length (parts_from l.store l.fn.start));
   before : l.out.before ≡ l.fn.out.before;
 }
 
