@@ -54,6 +54,11 @@ module _ (a b o e m : List ℕ) (start at n len r : ℕ) (is_start : length a �
   pub behind_pieces : drop (start + len) (take (start + at) d ++ (m ++ drop (start + at + n) d)) ≡ drop (start + len) d
   behind_pieces = ap (λ (l : List ℕ). drop (start + len) l) (λ i. prefix i ++ (m ++ back i)) ∙ behind_of m m_n ∙ sym (ap (λ (l : List ℕ). drop (start + len) l) (sym (append_assoc a b (o ++ e))) ∙ behind_of o is_n)
 
+  pub long_pieces : length (take (start + at) d ++ (m ++ drop (start + at + n) d)) ≡ length d
+  long_pieces =
+      ap length (λ i. prefix i ++ (m ++ back i))
+      ∙ omega (arith, length-append (a ++ b) (m ++ e), length-append m e, length-append a b, length-append a (b ++ (o ++ e)), length-append b (o ++ e), length-append o e, is_n, m_n)
+
   pub third_piece : take n (drop (start + at) d) ≡ take n (drop at (part start len d))
   third_piece =
       ap (λ (l : List ℕ). take n l) (ap (λ (l : List ℕ). drop (start + at) l) (sym (append_assoc a b (o ++ e))) ∙ drop_at (a ++ b) (o ++ e) (start + at) (omega (arith, length-append a b, is_start, is_at)))
@@ -104,6 +109,7 @@ module _ (d : List ℕ) (start at n len : ℕ) (fits : at + n ≤ len) (long : s
       (record {
         before = before_pieces a b o e m start at n len (len - at - n) a_long b_long o_long m_n rest;
         behind = behind_pieces a b o e m start at n len (len - at - n) a_long b_long o_long m_n rest;
+        long = long_pieces a b o e m start at n len (len - at - n) a_long b_long o_long m_n rest;
       })
 
 part_long : (start at n len : ℕ) (d : List ℕ) → at + n ≤ len → start + at + n ≤ length d → at + n ≤ length (part start len d)

@@ -1,5 +1,5 @@
 -- A part of a device, what a crash leaves of it, and what lies beside it.
-use Rattle.std.specs.Prelude.{◌≡◌, ◌⊎◌, ℕ, ◌+◌, ◌≤◌, List, take, drop, refl}
+use Rattle.std.specs.Prelude.{◌≡◌, ◌⊎◌, ℕ, ◌+◌, ◌≤◌, List, length, take, drop, refl}
 use mathlib.Core.Path.{◌∙◌}
 use mathlib.Core.Logic.{inl, inr}
 use Rattle.std.proofs.Common.{⊎_elim, arith, ap, sym}
@@ -15,16 +15,17 @@ Leaves start len outcomes x = (c : List ℕ) × outcomes c × (x ≡ part start 
 pub counts : (start len : ℕ) (some more : List ℕ → Type 0) → ((c : List ℕ) → some c → more c) → (x : List ℕ) → Leaves start len some x → Leaves start len more x
 counts start len some more step x left = (left.0, step left.0 left.1, left.2)
 
--- the same bytes before the part and behind it
+-- the same bytes before the part and behind it, and as many in all
 pub record Beside (start len : ℕ) (old new : List ℕ) : Type 0 where
   pub before : take start new ≡ take start old
   pub behind : drop (start + len) new ≡ drop (start + len) old
+  pub long : length new ≡ length old
 
 pub beside_self : (start len : ℕ) (c : List ℕ) → Beside start len c c
-beside_self start len c = record { before = refl; behind = refl }
+beside_self start len c = record { before = refl; behind = refl; long = refl }
 
 pub beside_both : (start len : ℕ) (a b c : List ℕ) → Beside start len a b → Beside start len b c → Beside start len a c
-beside_both start len a b c p q = record { before = q.before ∙ p.before; behind = q.behind ∙ p.behind }
+beside_both start len a b c p q = record { before = q.before ∙ p.before; behind = q.behind ∙ p.behind; long = q.long ∙ p.long }
 
 -- it was possible before, but for the part
 abbrev pub WasBeside : ℕ → ℕ → (List ℕ → Type 0) → List ℕ → Type 0
@@ -75,6 +76,7 @@ keeps_both moment left_since may_leave keeps seen on start1 len1 start2 len2 sta
         record {
           before = sym (ap (λ (k : ℕ). take k x) p.same_start) ∙ beside.before ∙ ap (λ (k : ℕ). take k d) p.same_start;
           behind = sym (ap (λ (k : ℕ). drop k x) ends) ∙ beside.behind ∙ ap (λ (k : ℕ). drop k d) ends;
+          long = beside.long;
         }
 
     further : (x : List ℕ) → WasBeside start2 len2 (may_leave b) x → WasBeside start1 len1 (may_leave a) x

@@ -150,7 +150,7 @@ pub only_on : {D : Type 0} (moment : D → ℕ) (left_since : D → ℕ → List
 only_on moment left_since may_leave keeps seen start len new_start new_len old new k only part_only f left =
     let was = k.now f left in
     let from_old : Beside start len (seen old) f = subst (λ (d : List ℕ). Beside start len d f) (only was.0 was.1) was.2 in
-    let from_new : Beside start len (seen new) f = record { before = from_old.before ∙ sym k.shown.before; behind = from_old.behind ∙ sym k.shown.behind } in
+    let from_new : Beside start len (seen new) f = record { before = from_old.before ∙ sym k.shown.before; behind = from_old.behind ∙ sym k.shown.behind; long = from_old.long ∙ sym k.shown.long } in
     let at : (x : List ℕ) → part new_start new_len x ≡ part start len x = λ x i. part (k.same_start i) (k.same_len i) x in
     whole_again start len (seen new) f from_new (sym (at f) ∙ part_only (part new_start new_len f) (f, left, refl) ∙ at (seen new))
 

@@ -37,15 +37,15 @@ pub part_before : (a l s len : ℕ) (old c : List ℕ) → a + l ≤ s → Besid
 part_before a l s len old c le beside = sym (take_drop_take a l s c le) ∙ ap (λ (xs : List ℕ). take l (drop a xs)) beside.before ∙ take_drop_take a l s old le
 
 -- one that begins behind it
-part_behind : (a l s len : ℕ) (old c : List ℕ) → s + len ≤ a → Beside s len old c → part a l c ≡ part a l old
-part_behind a l s len old c le beside =
-    let far : a ≡ s + len + (a - (s + len)) = omega (arith, le) in
-    let of : (xs : List ℕ) → drop a xs ≡ drop (a - (s + len)) (drop (s + len) xs) = λ xs. ap (λ (k : ℕ). drop k xs) far ∙ sym (drop-drop (a - (s + len)) (s + len) xs) in
-    ap (λ (xs : List ℕ). take l xs) (of c ∙ ap (λ (xs : List ℕ). drop (a - (s + len)) xs) beside.behind ∙ sym (of old))
+part_behind : (a l end : ℕ) (old c : List ℕ) → end ≤ a → drop end c ≡ drop end old → part a l c ≡ part a l old
+part_behind a l end old c le behind =
+    let far : a ≡ end + (a - end) = omega (arith, le) in
+    let of : (xs : List ℕ) → drop a xs ≡ drop (a - end) (drop end xs) = λ xs. ap (λ (k : ℕ). drop k xs) far ∙ sym (drop-drop (a - end) end xs) in
+    ap (λ (xs : List ℕ). take l xs) (of c ∙ ap (λ (xs : List ℕ). drop (a - end) xs) behind ∙ sym (of old))
 
 -- a region that is apart from the one that changes
 pub part_apart : (len n g : ℕ) (old c : List ℕ) → AreApart len n g → Beside g len old c → part n len c ≡ part n len old
-part_apart len n g old c apart beside = ⊎_elim (λ before. part_before n len g len old c before beside) (λ behind. part_behind n len g len old c behind beside) apart
+part_apart len n g old c apart beside = ⊎_elim (λ before. part_before n len g len old c before beside) (λ behind. part_behind n len (g + len) old c behind beside.behind) apart
 
 -- all of them
 pub records_apart : (len g : ℕ) (ns : List ℕ) (old c : List ℕ) → Each (λ n. AreApart len n g) ns → Beside g len old c → records_at len ns c ≡ records_at len ns old
@@ -175,10 +175,7 @@ append-none (x ∷ xs) = ap (λ (ys : List (List ℕ)). x ∷ ys) (append-none x
 -- what lies behind the root is the same, so the records of regions there are
 module _ (h len : ℕ) (old c : List ℕ) (same : drop (h + h) c ≡ drop (h + h) old) where
   pub part_same : (n : ℕ) → h + h ≤ n → part n len c ≡ part n len old
-  part_same n low = part_behind n len 0 (h + h) old c (omega (arith, low)) (record { before = refl; behind = ap (λ (k : ℕ). drop k c) none ∙ same ∙ sym (ap (λ (k : ℕ). drop k old) none) })
-    where
-      none : 0 + (h + h) ≡ h + h
-      none = omega arith
+  part_same n low = part_behind n len (h + h) old c low same
 
   pub records_same : (ns : List ℕ) → Each (λ n. h + h ≤ n) ns → records_at len ns c ≡ records_at len ns old
   records_same [] low = refl

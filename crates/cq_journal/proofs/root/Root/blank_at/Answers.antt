@@ -37,7 +37,7 @@ returns-clause-root g c =
       durable = λ f left.
           let was = k.now f left in
           let from_old : Beside p n old_bytes f = subst (λ (d : List ℕ). Beside p n d f) (q.durable was.0 was.1) was.2 in
-          let from_new : Beside p n new_bytes f = record { before = from_old.before ∙ sym k.shown.before; behind = from_old.behind ∙ sym k.shown.behind } in
+          let from_new : Beside p n new_bytes f = record { before = from_old.before ∙ sym k.shown.before; behind = from_old.behind ∙ sym k.shown.behind; long = from_old.long ∙ sym k.shown.long } in
           let at : (x : List ℕ) → part new.start new.len x ≡ part p n x = λ x i. part (k.same_start i) (k.same_len i) x in
           whole_again p n new_bytes f from_new (sym (at f) ∙ only (part new.start new.len f) (f, left, refl) ∙ at new_bytes);
     })

@@ -162,7 +162,7 @@ returns-clause-root g c =
       durable = λ f left.
           let was = k.now f left in
           let from_mid : Beside turned.log.device.start turned.log.device.len mid f = subst (λ (d : List ℕ). Beside turned.log.device.start turned.log.device.len d f) (t.durable was.0 was.1) was.2 in
-          let from_fin : Beside turned.log.device.start turned.log.device.len fin f = record { before = from_mid.before ∙ sym k.shown.before; behind = from_mid.behind ∙ sym k.shown.behind } in
+          let from_fin : Beside turned.log.device.start turned.log.device.len fin f = record { before = from_mid.before ∙ sym k.shown.before; behind = from_mid.behind ∙ sym k.shown.behind; long = from_mid.long ∙ sym k.shown.long } in
           let at : (x : List ℕ) → part c.commit.new.self.device.start c.commit.new.self.device.len x ≡ part turned.log.device.start turned.log.device.len x = λ x i. part (k.same_start i) (k.same_len i) x in
           whole_again turned.log.device.start turned.log.device.len fin f from_fin
           (sym (at f) ∙ c.in_ok-commit.ensures.settled.durable (part c.commit.new.self.device.start c.commit.new.self.device.len f) (f, left, refl) ∙ at fin);

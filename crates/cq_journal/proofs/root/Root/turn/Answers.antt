@@ -37,7 +37,7 @@ returns-clause-turned g c =
       durable = λ f left.
           let was = k.now f left in
           let from_old : Beside o h old_seen f = subst (λ (d : List ℕ). Beside o h d f) (c.requires.durable was.0 was.1) was.2 in
-          let from_new : Beside o h new_seen f = record { before = from_old.before ∙ sym k.shown.before; behind = from_old.behind ∙ sym k.shown.behind } in
+          let from_new : Beside o h new_seen f = record { before = from_old.before ∙ sym k.shown.before; behind = from_old.behind ∙ sym k.shown.behind; long = from_old.long ∙ sym k.shown.long } in
           whole_again o h new_seen f from_new (sym (moved f) ∙ c.in_ok-blank.ensures.durable (part new.start new.len f) (f, left, refl) ∙ moved new_seen);
     }
 
