@@ -1,16 +1,17 @@
 -- Two halves of which one counts, while the other one is blanked and written.
-use Rattle.std.proofs.Common.{◌≡◌, ◌⊎◌, inl, inr, ⊎_elim, ℕ, zero, suc, ◌+◌, ◌-◌, ◌<◌, ◌≤◌, true, false, List, [], ◌∷◌, length, take, drop, refl, sym, ◌∙◌, ap, subst, arith, drop-drop, length-drop}
+use Rattle.std.proofs.Common.{◌≡◌, ◌≢◌, ◌⊎◌, inl, inr, ⊎_elim, ℕ, zero, suc, ◌+◌, ◌-◌, ◌<◌, ◌≤◌, true, false, List, [], ◌∷◌, length, take, drop, refl, sym, ◌∙◌, ap, subst, arith, drop-drop, length-drop}
 use Rattle.std.specs.Prelude.{Bool, nat_lt, map, Option, Some, None, if◌then◌else◌}
 use Rattle.std.proofs.lemmas.Bool.{true≢false}
 use Rattle.std.proofs.lemmas.Bool.Decides.{nat_tests}
 use Rattle.cq_disk.specs.Device.{Only}
 use Rattle.cq_disk.specs.Region.{part, Leaves, Beside, KeepsBeside}
 use Rattle.cq_disk.proofs.Parts.{whole_again}
-use Rattle.cq_records.specs.Frames.{text_of, frames, records}
+use Rattle.cq_records.specs.Frames.{text_of, frames, records, all_sound}
 use Rattle.cq_records.specs.Layout.{IsPrefixOf}
+use Rattle.cq_records.proofs.Outcomes.{none_damaged}
 use Rattle.cq_journal.specs.declared.number.TheConstants.{NUMBER_LIMIT}
 use Rattle.cq_journal.specs.Numbers.{number_of}
-use Rattle.cq_journal.specs.Roots.{first_of, number_in, later, half_of, root_of, numbered, IsSameRoot, IsOldOrNew}
+use Rattle.cq_journal.specs.Roots.{first_of, number_in, later, half_of, root_of, numbered, HasSoundHalves, IsSameRoot, IsOldOrNew}
 
 pub number_back : (n : ℕ) (text : List ℕ) → n < NUMBER_LIMIT → number_of (numbered n text) ≡ n
 number_back n text small = omega (arith, small)
@@ -77,6 +78,48 @@ module _ (h s : ℕ) (place : (s ≡ 0) ⊎ (s ≡ h)) where
   pub same_half : (old c : List ℕ) → Beside (h - s) h old c → half_of s h c ≡ half_of s h old
   same_half old c beside = ap (λ (l : List ℕ). first_of (records l)) (half_kept old c beside)
 
+  -- Both halves are sound: the one that begins at s, and the other one.
+  halves_of : (c : List ℕ) → all_sound (frames (part s h c)) ≡ true → all_sound (frames (part (h - s) h c)) ≡ true → number_in (half_of (h - s) h c) ≢ number_in (half_of s h c) → HasSoundHalves h c
+  halves_of c here there differ = ⊎_elim at_front at_back place
+    where
+      at_front : s ≡ 0 → HasSoundHalves h c
+      at_front is =
+          let o_is : h - s ≡ h = omega (arith, is) in
+          record {
+            differ = λ same. differ (ap (λ (k : ℕ). number_in (half_of k h c)) o_is ∙ sym same ∙ sym (ap (λ (k : ℕ). number_in (half_of k h c)) is));
+            first = subst (λ (k : ℕ). all_sound (frames (part k h c)) ≡ true) is here;
+            second = subst (λ (k : ℕ). all_sound (frames (part k h c)) ≡ true) o_is there;
+          }
+
+      at_back : s ≡ h → HasSoundHalves h c
+      at_back is =
+          let o_is : h - s ≡ 0 = omega (arith, is) in
+          record {
+            differ = λ same. differ (ap (λ (k : ℕ). number_in (half_of k h c)) o_is ∙ same ∙ sym (ap (λ (k : ℕ). number_in (half_of k h c)) is));
+            first = subst (λ (k : ℕ). all_sound (frames (part k h c)) ≡ true) o_is there;
+            second = subst (λ (k : ℕ). all_sound (frames (part k h c)) ≡ true) is here;
+          }
+
+  sound_here : (c : List ℕ) → HasSoundHalves h c → all_sound (frames (part s h c)) ≡ true
+  sound_here c halves = ⊎_elim
+      (λ (is : s ≡ 0). subst (λ (k : ℕ). all_sound (frames (part k h c)) ≡ true) (sym is) halves.first)
+      (λ (is : s ≡ h). subst (λ (k : ℕ). all_sound (frames (part k h c)) ≡ true) (sym is) halves.second)
+      place
+
+  sound_there : (c : List ℕ) → HasSoundHalves h c → all_sound (frames (part (h - s) h c)) ≡ true
+  sound_there c halves = ⊎_elim at_front at_back place
+    where
+      at_front : s ≡ 0 → all_sound (frames (part (h - s) h c)) ≡ true
+      at_front is = let o_is : h ≡ h - s = omega (arith, is) in subst (λ (k : ℕ). all_sound (frames (part k h c)) ≡ true) o_is halves.second
+
+      at_back : s ≡ h → all_sound (frames (part (h - s) h c)) ≡ true
+      at_back is = let o_is : 0 ≡ h - s = omega (arith, is) in subst (λ (k : ℕ). all_sound (frames (part k h c)) ≡ true) o_is halves.first
+
+  -- one half is as it was, and the other one is sound and has another number
+  pub still_sound : (old c : List ℕ) → Beside (h - s) h old c → all_sound (frames (part (h - s) h c)) ≡ true → number_in (half_of (h - s) h c) ≢ number_in (half_of s h old) → HasSoundHalves h old → HasSoundHalves h c
+  still_sound old c beside there differ halves =
+      halves_of c (ap (λ (l : List ℕ). all_sound (frames l)) (half_kept old c beside) ∙ sound_here old halves) there (λ same. differ (same ∙ ap number_in (same_half old c beside)))
+
   module _ (old : List ℕ) (n : ℕ) (current : number_in (half_of s h old) ≡ n) (other : number_in (half_of (h - s) h old) < n) where
     pub root_is : root_of h old ≡ half_of s h old
     root_is = counts old (omega (arith, current, other))
@@ -90,6 +133,12 @@ module _ (h s : ℕ) (place : (s ≡ 0) ⊎ (s ≡ h)) where
     still_root c blanked beside = record {
       root = counts c (omega (arith, low c blanked, current, ap number_in (same_half old c beside))) ∙ same_half old c beside ∙ sym root_is;
       behind = behind_kept old c beside;
+      long = beside.long;
+      sound = λ halves.
+          still_sound old c beside
+          (⊎_elim (λ none. ap all_sound none) (λ same. ap (λ (l : List ℕ). all_sound (frames l)) same ∙ sound_there old halves) blanked)
+          (λ same. absurd (omega (arith, low c blanked, same, current)))
+          halves;
     }
 
     -- While it is written: it has no record, or the new one.
@@ -119,9 +168,9 @@ new_counts h s place n new c is before next =
     counts h (h - s) (turned_place h s place) c (omega (arith, lower, higher)) ∙ is
 
 pub old_or_new : (h s : ℕ) (place : (s ≡ 0) ⊎ (s ≡ h)) (old : List ℕ) (n : ℕ) (current : number_in (half_of s h old) ≡ n) (other : number_in (half_of (h - s) h old) < n)
-    (new : List ℕ) (batch : List (List ℕ)) (one : map text_of batch ≡ new ∷ []) (next : number_of new ≡ n + 1) (c : List ℕ)
+    (new : List ℕ) (batch : List (List ℕ)) (one : map text_of batch ≡ new ∷ []) (next : number_of new ≡ n + 1) (sound : all_sound batch ≡ true) (c : List ℕ)
     → IsPrefixOf [] batch (part (h - s) h c) → Beside (h - s) h old c → IsOldOrNew h old new c
-old_or_new h s place old n current other new batch one next c prefix beside =
+old_or_new h s place old n current other new batch one next sound c prefix beside =
     let same = same_half h s place old c beside in
     record {
       root = ⊎_elim
@@ -129,6 +178,11 @@ old_or_new h s place old n current other new batch one next c prefix beside =
           (λ some. inr (new_counts h s place n new c some (ap number_in same ∙ current) next))
           (written h s place old n current other new batch one next c prefix);
       behind = behind_kept h s place old c beside;
+      long = beside.long;
+      sound = still_sound h s place old c beside (none_damaged [] batch (part (h - s) h c) refl sound prefix) (λ same. ⊎_elim
+          (λ none. absurd (omega (arith, ap number_in none, same, current, other)))
+          (λ some. absurd (omega (arith, ap number_in some, next, same, current)))
+          (written h s place old n current other new batch one next c prefix));
     }
 
 pub beside_at : (a a' b b' : ℕ) (d c : List ℕ) → a ≡ a' → b ≡ b' → Beside a b d c → Beside a' b' d c

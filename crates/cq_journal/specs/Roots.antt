@@ -1,7 +1,7 @@
 -- What the two halves of a root stand for. Each has one record, or none: a number, and the root's text. The higher number counts.
-use Rattle.std.specs.Prelude.{◌≡◌, ◌⊎◌, ℕ, ◌+◌, nat_lt, List, [], ◌∷◌, ◌++◌, drop, Option, Some, None, if◌then◌else◌}
+use Rattle.std.specs.Prelude.{◌≡◌, ◌≢◌, ◌⊎◌, ℕ, ◌+◌, nat_lt, true, List, [], ◌∷◌, ◌++◌, length, drop, Option, Some, None, if◌then◌else◌}
 use Rattle.cq_disk.specs.Region.{part}
-use Rattle.cq_records.specs.Frames.{records}
+use Rattle.cq_records.specs.Frames.{frames, records, all_sound}
 use Rattle.cq_journal.specs.Numbers.{digits, number_of}
 
 abbrev pub first_of : List (List ℕ) → Option (List ℕ)
@@ -28,12 +28,22 @@ root_of half bytes = later (half_of 0 half bytes) (half_of half half bytes)
 abbrev pub numbered : ℕ → List ℕ → List ℕ
 numbered n text = digits n ++ text
 
--- the root is the same, and so is what lies behind both halves
+-- the halves have records with different numbers, and each record has its checksum
+pub record HasSoundHalves (half : ℕ) (bytes : List ℕ) : Type 0 where
+  pub differ : number_in (half_of 0 half bytes) ≢ number_in (half_of half half bytes)
+  pub first : all_sound (frames (part 0 half bytes)) ≡ true
+  pub second : all_sound (frames (part half half bytes)) ≡ true
+
+-- The root is the same, and so is what lies behind both halves. The halves are sound if they were.
 pub record IsSameRoot (half : ℕ) (old bytes : List ℕ) : Type 0 where
   pub root : root_of half bytes ≡ root_of half old
   pub behind : drop (half + half) bytes ≡ drop (half + half) old
+  pub long : length bytes ≡ length old
+  pub sound : HasSoundHalves half old → HasSoundHalves half bytes
 
--- the old root counts, or the new one, and what lies behind both halves is the same
+-- The old root counts, or the new one, and what lies behind both halves is the same. The halves are sound if they were.
 pub record IsOldOrNew (half : ℕ) (old new bytes : List ℕ) : Type 0 where
   pub root : (root_of half bytes ≡ root_of half old) ⊎ (root_of half bytes ≡ Some new)
   pub behind : drop (half + half) bytes ≡ drop (half + half) old
+  pub long : length bytes ≡ length old
+  pub sound : HasSoundHalves half old → HasSoundHalves half bytes

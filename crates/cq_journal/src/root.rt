@@ -93,6 +93,7 @@ impl<D: Device> Root<D> {
         ensures number { OnOk result (root_number self.new ≡ root_number self.old + 1) }
         ensures behind { OnOk result (drop (root_half self.old + root_half self.old) (D.seen (root_device self.new)) ≡ drop (root_half self.old + root_half self.old) (D.seen (root_device self.old))) }
         ensures text { OnOk result (IsTrue (D.is_honest (root_device self.new)) → root_of (root_half self.new) (D.seen (root_device self.new)) ≡ Some (numbered (root_number self.old + 1) text.now)) }
+        ensures shown { OnOk result (IsTrue (D.is_honest (root_device self.new)) → IsOldOrNew (root_half self.old) (D.seen (root_device self.old)) (numbered (root_number self.old + 1) text.now) (D.seen (root_device self.new))) }
         ensures any_moment { IsTrue (D.is_honest (root_device self.new)) → LeavesOnly D.moment D.left_since (root_device self.old) (root_device self.new)
             (IsOldOrNew (root_half self.old) (D.seen (root_device self.old)) (numbered (root_number self.old + 1) text.now)) }
         ensures keeps { D.keeps (root_device self.old) (root_device self.new) }

@@ -3,7 +3,7 @@ pub mod Frames
 mod Framing
 mod Gates
 mod Heads
-mod Outcomes
+pub mod Outcomes
 mod Examples
 mod Torn
 mod Zeros

@@ -1,5 +1,6 @@
 use Rattle.std.proofs.Common.{◌≡◌, inl, inr, ⊎_elim, ◌+◌, ◌-◌, ◌≤◌, ◌++◌, ◌∙◌, ℕ, List, [], length, take, refl, sym, ap, subst, arith}
 use Rattle.std.specs.Prelude.{IsTrue, Some, map, replicate}
+use Rattle.std.proofs.lemmas.List.{take_all}
 use Rattle.cq_disk.specs.Device.{LeavesOnly}
 use Rattle.cq_disk.specs.Region.{part, Leaves, Beside, beside_both}
 use Rattle.cq_disk.proofs.Parts.{alone, whole_again}
@@ -49,7 +50,7 @@ returns-in_err-commit-clause-any_moment g c = λ honest.
     let honest_old : IsTrue (g.D.Device.is_honest r.log.device.device) = c.turn.ensures.honest honest_turned in
     let P : List ℕ → Type 0 = IsOldOrNew h old new in
     let first : LeavesOnly g.D.Device.moment g.D.Device.left_since r.log.device.device turned.log.device.device P =
-    weakened g.D.Device.moment g.D.Device.left_since r.log.device.device turned.log.device.device (IsSameRoot h old) P (c.turn.ensures.any_moment honest_turned) (λ f same. record { root = inl same.root; behind = same.behind }) in
+    weakened g.D.Device.moment g.D.Device.left_since r.log.device.device turned.log.device.device (IsSameRoot h old) P (c.turn.ensures.any_moment honest_turned) (λ f same. record { root = inl same.root; behind = same.behind; long = same.long; sound = same.sound }) in
     let k = c.commit.ensures.keeps in
     let prefix : (x : List ℕ) → Leaves turned.log.device.start turned.log.device.len (g.D.Device.left_since c.commit.new.self.device.device (g.D.Device.moment turned.log.device.device)) x → IsPrefixOf [] (frames batch) x = λ x left.
     let it = c.commit.ensures.any_moment.each x (left.0, left.1, left.2 ∙ sym (λ i. part (k.same_start i) (k.same_len i) left.0)) in
@@ -59,7 +60,7 @@ returns-in_err-commit-clause-any_moment g c = λ honest.
     let second : LeavesOnly g.D.Device.moment g.D.Device.left_since turned.log.device.device c.commit.new.self.device.device P =
     weakened g.D.Device.moment g.D.Device.left_since turned.log.device.device c.commit.new.self.device.device _ P run (λ f both.
     let same : part turned.log.device.start turned.log.device.len f ≡ part (h - s) h f = λ i. part (t.start i) (t.half i) f in
-    old_or_new h s q.place old r.number (q.current honest_old) (q.other honest_old) new (frames batch) c.in_ok-batch.ensures.records next f (subst (λ (x : List ℕ). IsPrefixOf [] (frames batch) x) same both.0)
+    old_or_new h s q.place old r.number (q.current honest_old) (q.other honest_old) new (frames batch) c.in_ok-batch.ensures.records next c.in_ok-batch.batch.batch.sound f (subst (λ (x : List ℕ). IsPrefixOf [] (frames batch) x) same both.0)
     (beside_both (h - s) h old mid f beside_mid (beside_at _ _ _ _ mid f t.start t.half both.1))) in
     runs_on g.D.Device.moment g.D.Device.left_since r.log.device.device turned.log.device.device c.commit.new.self.device.device P first second
 
@@ -82,7 +83,7 @@ returns-clause-any_moment g c = λ honest.
     let honest_old : IsTrue (g.D.Device.is_honest r.log.device.device) = c.turn.ensures.honest honest_turned in
     let P : List ℕ → Type 0 = IsOldOrNew h old new in
     let first : LeavesOnly g.D.Device.moment g.D.Device.left_since r.log.device.device turned.log.device.device P =
-    weakened g.D.Device.moment g.D.Device.left_since r.log.device.device turned.log.device.device (IsSameRoot h old) P (c.turn.ensures.any_moment honest_turned) (λ f same. record { root = inl same.root; behind = same.behind }) in
+    weakened g.D.Device.moment g.D.Device.left_since r.log.device.device turned.log.device.device (IsSameRoot h old) P (c.turn.ensures.any_moment honest_turned) (λ f same. record { root = inl same.root; behind = same.behind; long = same.long; sound = same.sound }) in
     let k = c.commit.ensures.keeps in
     let prefix : (x : List ℕ) → Leaves turned.log.device.start turned.log.device.len (g.D.Device.left_since c.commit.new.self.device.device (g.D.Device.moment turned.log.device.device)) x → IsPrefixOf [] (frames batch) x = λ x left.
     let it = c.commit.ensures.any_moment.each x (left.0, left.1, left.2 ∙ sym (λ i. part (k.same_start i) (k.same_len i) left.0)) in
@@ -92,7 +93,7 @@ returns-clause-any_moment g c = λ honest.
     let second : LeavesOnly g.D.Device.moment g.D.Device.left_since turned.log.device.device c.commit.new.self.device.device P =
     weakened g.D.Device.moment g.D.Device.left_since turned.log.device.device c.commit.new.self.device.device _ P run (λ f both.
     let same : part turned.log.device.start turned.log.device.len f ≡ part (h - s) h f = λ i. part (t.start i) (t.half i) f in
-    old_or_new h s q.place old r.number (q.current honest_old) (q.other honest_old) new (frames batch) c.in_ok-batch.ensures.records next f (subst (λ (x : List ℕ). IsPrefixOf [] (frames batch) x) same both.0)
+    old_or_new h s q.place old r.number (q.current honest_old) (q.other honest_old) new (frames batch) c.in_ok-batch.ensures.records next c.in_ok-batch.batch.batch.sound f (subst (λ (x : List ℕ). IsPrefixOf [] (frames batch) x) same both.0)
     (beside_both (h - s) h old mid f beside_mid (beside_at _ _ _ _ mid f t.start t.half both.1))) in
     runs_on g.D.Device.moment g.D.Device.left_since r.log.device.device turned.log.device.device c.commit.new.self.device.device P first second
 
@@ -167,6 +168,29 @@ returns-clause-root g c =
           whole_again turned.log.device.start turned.log.device.len fin f from_fin
           (sym (at f) ∙ c.in_ok-commit.ensures.settled.durable (part c.commit.new.self.device.start c.commit.new.self.device.len f) (f, left, refl) ∙ at fin);
     }
+
+pub returns-clause-shown : goal.returns-clause-shown
+returns-clause-shown g c = λ honest.
+    let r = c.args.self.now in
+    let turned = c.turn.new.self in
+    let t = c.in_ok-turn.ensures.turned in
+    let h = r.log.device.len in
+    let s = r.log.device.start in
+    let old = g.D.Device.seen r.log.device.device in
+    let mid = g.D.Device.seen turned.log.device.device in
+    let q = c.requires.root in
+    let new = numbered (r.number + 1) c.args.text.now in
+    let batch = batch_bytes c.in_ok-batch.batch in
+    let none : frames (part turned.log.device.start turned.log.device.len mid) ≡ [] = ap frames t.blank ∙ of_zeros turned.log.device.len in
+    let next : number_of new ≡ r.number + 1 = number_back (r.number + 1) c.args.text.now (omega (arith, (c.has_room.ensures.room c.if-not-has_room.false).0)) in
+    let k = c.commit.ensures.keeps in
+    let fin = g.D.Device.seen c.commit.new.self.device.device in
+    let moved : part c.commit.new.self.device.start c.commit.new.self.device.len fin ≡ part (h - s) h fin = λ i. part ((k.same_start ∙ t.start) i) ((k.same_len ∙ t.half) i) fin in
+    let beside : Beside (h - s) h old fin = beside_both (h - s) h old mid fin (beside_at _ _ _ _ old mid t.start t.half t.beside) (beside_at _ _ _ _ mid fin t.start t.half k.shown) in
+    let honest_old : IsTrue (g.D.Device.is_honest r.log.device.device) = c.turn.ensures.honest (sym c.commit.ensures.honest ∙ honest) in
+    let frames_are : frames (part (h - s) h fin) ≡ frames batch = sym (ap frames moved) ∙ c.in_ok-commit.ensures.acknowledged ∙ ap (λ (fs : List (List ℕ)). fs ++ frames batch) none in
+    let all : IsPrefixOf [] (frames batch) (part (h - s) h fin) = record { many = length (frames batch); frames = frames_are ∙ sym (take_all (length (frames batch)) (frames batch) (omega arith)) } in
+    old_or_new h s q.place old r.number (q.current honest_old) (q.other honest_old) new (frames batch) c.in_ok-batch.ensures.records next c.in_ok-batch.batch.batch.sound fin all beside
 
 pub returns-clause-half : goal.returns-clause-half
 returns-clause-half g c = c.commit.ensures.keeps.same_len ∙ c.in_ok-turn.ensures.turned.half
