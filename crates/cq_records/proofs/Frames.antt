@@ -4,7 +4,7 @@ use Rattle.std.specs.Prelude.{◌&&◌, ◌==◌, nat_le, if◌then◌else◌, r
 use Rattle.std.proofs.lemmas.Bool.{cases_Bool, and_parts, and_from, true≢false}
 use Rattle.std.proofs.lemmas.Bool.Decides.{nat_tests}
 use Rattle.std.proofs.lemmas.List.{take_at, drop_at, take_all, get_or_append_left}
-use Rattle.cq_records.specs.Frames.{has_no_zero, frame_length, is_whole, frames_in, frames, joined, is_sound, all_sound}
+use Rattle.cq_records.specs.Frames.{has_no_zero, frame_length, is_whole, frames_in, frames, joined, is_sound, all_sound, IsDamaged}
 
 pub if_true : {X : Type 0} (b : Bool) (x y : X) → b ≡ true → (if b then x else y) ≡ x
 if_true true x y is = refl
@@ -54,6 +54,11 @@ unrolled bytes =
 
 pub first_whole : (bytes : List ℕ) → is_whole bytes ≡ true → frames bytes ≡ take (frame_length bytes) bytes ∷ frames (drop (frame_length bytes) bytes)
 first_whole bytes is = unrolled bytes ∙ if_true (is_whole bytes) _ _ is
+
+-- a frame that begins here and is damaged
+pub damaged_unsound : (bytes : List ℕ) → IsDamaged bytes → all_sound (frames bytes) ≡ false
+damaged_unsound bytes damaged =
+    ap all_sound (first_whole bytes damaged.whole) ∙ ap (λ (sound : Bool). sound && all_sound (frames (drop (frame_length bytes) bytes))) damaged.unsound
 
 pub none_whole : (bytes : List ℕ) → is_whole bytes ≡ false → frames bytes ≡ []
 none_whole bytes is = unrolled bytes ∙ if_false (is_whole bytes) _ _ is

@@ -1,7 +1,12 @@
 //! What the definitions say, row by row, and what follows from the contracts.
+ghost use Rattle.std.specs.Prelude.{◌≡◌, true};
+ghost use Rattle.cq_disk.specs.Device.{LeavesOnly};
+ghost use Rattle.cq_records.specs.Frames.{frames, all_sound};
+ghost use Rattle.cq_records.specs.Logs.{IsSettled};
 ghost use Rattle.cq_records.specs.Outcomes.{ChangesAlone, NoneDamaged};
 ghost use Rattle.cq_records.specs.Examples.{Examples};
 
+use crate::{Batch, Log, LogFault};
 use cq_disk::Device;
 
 /// What bytes of a log stand for.
@@ -19,3 +24,11 @@ pub fn a_part_changes_alone<D: Device>(_old: &D, _new: &D)
 pub fn no_outcome_is_damaged()
     ensures { NoneDamaged }
 {}
+
+/// A commit in a log. A crash at any moment of it leaves bytes of which no reader of records says that they are damaged.
+pub fn a_commit_leaves_no_damage<D: Device>(log: &mut Log<D>, batch: &Batch) -> Result<(), LogFault>
+    requires { IsSettled D.seen D.may_leave log.old }
+    ensures { LeavesOnly D.moment D.left_since log.old.device log.new.device (λ c. all_sound (frames c) ≡ true) }
+{
+    log.commit(batch)
+}

@@ -17,6 +17,8 @@ pub use blanks::blank;
 pub use crc::checksum;
 pub use fault::{LogFault, ReadFault};
 pub use frame::{HEAD_LENGTH, TEXT_LIMIT, is_text};
-pub use laws::{a_part_changes_alone, bytes_stand_for, no_outcome_is_damaged};
+pub use laws::{
+    a_commit_leaves_no_damage, a_part_changes_alone, bytes_stand_for, no_outcome_is_damaged,
+};
 pub use log::Log;
 pub use reading::{Found, read_into, read_record, read_texts};

@@ -100,6 +100,7 @@ pub fn read_texts<D: Device>(
     ensures read { OnOk result (IsTrue (D.is_honest device.new) → text.new.items ≡ text.old.items ++ joined (records (drop at.old (D.seen device.old)))) }
     ensures within { at.new ≤ length (D.seen device.old) }
     ensures damaged { IsErrOf result ReadFault.Damaged → IsTrue (D.is_honest device.new) → IsDamaged (drop at.new (D.seen device.old)) }
+    ensures unsound { IsErrOf result ReadFault.Damaged → IsTrue (D.is_honest device.new) → all_sound (frames (drop at.old (D.seen device.old))) ≡ false }
     ensures failed { IsErrOf result ReadFault.Failed → D.faults device.old < D.faults device.new }
     ensures later { D.faults device.old ≤ D.faults device.new }
 
