@@ -10,12 +10,14 @@ use Rattle.cq_records.specs.Layout.{IsLog}
 use Rattle.cq_journal.specs.declared.journal.Journal.{Journal}
 use Rattle.cq_journal.specs.declared.number.TheConstants.{NUMBER_LIMIT}
 use Rattle.cq_journal.specs.Base.{HasEitherRecords}
+use Rattle.cq_journal.specs.Intact.{IsIntact}
 use Rattle.cq_journal.specs.Journal.{journal_device, journal_half, journal_places, journal_records, region_len, HasRegions, IsJournal}
 use Rattle.cq_journal.specs.Regions.{Each, AreApart, HasRecords, kept, places_text, records_at}
 use Rattle.cq_journal.specs.Rests.{Rests}
 use Rattle.cq_journal.specs.Root.{IsRoot, root_number}
 use Rattle.cq_journal.specs.Roots.{root_of, numbered}
 use Rattle.cq_journal.specs.within.Reads.{IsRead}
+use Rattle.cq_journal.proofs.Intact.{rests_intact, leaves_on, stays_on, stays_same}
 use Rattle.cq_journal.proofs.Regions.{kept_of}
 
 module _ {D : Type 0} {g : Ghosts D} where
@@ -32,6 +34,8 @@ module _ {D : Type 0} {g : Ghosts D} where
     records = refl;
     honest = λ honest. honest;
     moments = λ honest. started g.moment g.left_since (journal_device j) (HasRecords (journal_half j) (region_len j) (journal_records j)) (λ c left. at_rest j q honest c (q.root.durable c (only c left)));
+    intact = rests_intact j only q;
+    stays = λ _ i. i;
     later = omega arith;
   }
 
@@ -46,6 +50,8 @@ module _ {D : Type 0} {g : Ghosts D} where
         runs_on g.moment g.left_since (journal_device a) (journal_device b) (journal_device c) P (p.moments (q.honest honest))
         (weakened g.moment g.left_since (journal_device b) (journal_device c) (HasRecords (journal_half b) (region_len b) (journal_records b)) P (q.moments honest)
         (λ f is. (λ i. kept (sym p.half i) (sym p.len i) f) ∙ is ∙ ap (λ (rs : List (List ℕ)). Some rs) p.records));
+    intact = leaves_on a b c p.half p.len q.honest p.intact p.stays q.intact;
+    stays = stays_on a b c p.half p.len q.honest p.stays q.stays;
     later = omega (arith, p.later, q.later);
   }
 
@@ -66,6 +72,9 @@ module _ {D : Type 0} {g : Ghosts D} where
       honest = honest;
       moments = λ now. weakened g.moment g.left_since (journal_device old) (journal_device new) (λ c. c ≡ g.seen (journal_device old)) (HasRecords (journal_half old) (region_len old) (journal_records old)) run
           (at_rest old q (honest now));
+      intact = λ now i. weakened g.moment g.left_since (journal_device old) (journal_device new) (λ c. c ≡ g.seen (journal_device old)) (IsIntact (journal_half old) (region_len old)) run
+          (λ c is. subst (IsIntact (journal_half old) (region_len old)) (sym is) i);
+      stays = stays_same old new read.seen;
       later = later;
     }
 

@@ -4,6 +4,7 @@ mod Changes
 pub mod Copies
 mod Examples
 mod Halves
+mod Intact
 mod Moves
 mod OtherRegions
 pub mod RegionLists

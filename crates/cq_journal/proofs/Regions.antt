@@ -4,13 +4,13 @@ use Rattle.std.specs.Prelude.{map, replicate, Some, get_or, true, ◌*◌, ◌/�
 use Rattle.std.proofs.lemmas.Bool.{and_from}
 use Rattle.std.proofs.lemmas.Bool.Decides.{nat_tests}
 use Rattle.cq_disk.specs.Region.{part, Beside}
-use Rattle.cq_records.specs.Frames.{text_of, frames, records, has_no_zero}
+use Rattle.cq_records.specs.Frames.{text_of, frames, records, has_no_zero, all_sound}
 use Rattle.cq_records.specs.Layout.{IsPrefixOf}
 use Rattle.cq_journal.specs.declared.number.TheConstants.{NUMBER_LIMIT}
 use Rattle.cq_journal.specs.Numbers.{digits, number_of}
 use Rattle.cq_records.proofs.Frames.{of_zeros}
 use Rattle.cq_journal.specs.Roots.{first_of, later, root_of, numbered, IsOldOrNew}
-use Rattle.cq_journal.specs.Regions.{places_text, places_in, records_at, named_records, kept, Each, AreApart, HasPrefixOf, HasRecords}
+use Rattle.cq_journal.specs.Regions.{places_text, places_in, records_at, named_records, kept, Each, AreApart, AreSound, HasPrefixOf, HasRecords}
 
 -- ---- the places that a text names
 
@@ -51,6 +51,11 @@ part_apart len n g old c apart beside = ⊎_elim (λ before. part_before n len g
 pub records_apart : (len g : ℕ) (ns : List ℕ) (old c : List ℕ) → Each (λ n. AreApart len n g) ns → Beside g len old c → records_at len ns c ≡ records_at len ns old
 records_apart len g [] old c apart beside = refl
 records_apart len g (n ∷ ns) old c apart beside = λ i. (ap records (part_apart len n g old c apart.0 beside) i) ++ (records_apart len g ns old c apart.1 beside i)
+
+-- their records have their checksums still
+pub sound_apart : (len g : ℕ) (ns : List ℕ) (old c : List ℕ) → Each (λ n. AreApart len n g) ns → Beside g len old c → AreSound len ns old → AreSound len ns c
+sound_apart len g [] old c apart beside sound = tt
+sound_apart len g (n ∷ ns) old c apart beside sound = (ap (λ (l : List ℕ). all_sound (frames l)) (part_apart len n g old c apart.0 beside) ∙ sound.0, sound_apart len g ns old c apart.1 beside sound.1)
 
 -- the root lies before all regions
 pub root_apart : (half g len : ℕ) (old c : List ℕ) → half + half ≤ g → Beside g len old c → root_of half c ≡ root_of half old

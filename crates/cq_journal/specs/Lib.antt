@@ -5,6 +5,7 @@ pub mod Roots
 pub mod within
 pub mod Regions
 pub mod Journal
+pub mod Intact
 pub mod Base
 pub mod Rests
 pub mod Faults

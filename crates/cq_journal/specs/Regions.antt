@@ -1,8 +1,8 @@
 -- What a journal's file stands for. Behind the root lie regions of one length, each of them a log. The root's text names the places
 -- of those that count, in order, and their records are the journal's.
-use Rattle.std.specs.Prelude.{◌≡◌, ◌⊎◌, ℕ, ◌+◌, ◌≤◌, List, [], ◌∷◌, ◌++◌, take, drop, Option, Some, None, ⊤}
+use Rattle.std.specs.Prelude.{◌≡◌, ◌⊎◌, ℕ, ◌+◌, ◌≤◌, true, List, [], ◌∷◌, ◌++◌, take, drop, Option, Some, None, ⊤}
 use Rattle.cq_disk.specs.Region.{part}
-use Rattle.cq_records.specs.Frames.{records}
+use Rattle.cq_records.specs.Frames.{frames, records, all_sound}
 use Rattle.cq_journal.specs.Numbers.{digits, number_of}
 use Rattle.cq_journal.specs.Roots.{root_of}
 
@@ -44,6 +44,10 @@ kept half len bytes = named_records len bytes (root_of half bytes)
 abbrev pub Each : (ℕ → Type 0) → List ℕ → Type 0
 Each P [] = ⊤
 Each P (n ∷ ns) = P n × Each P ns
+
+-- each record of the regions of this length at these places has its checksum
+abbrev pub AreSound : ℕ → List ℕ → List ℕ → Type 0
+AreSound len places bytes = Each (λ n. all_sound (frames (part n len bytes)) ≡ true) places
 
 -- no byte is of both regions
 abbrev pub AreApart : ℕ → ℕ → ℕ → Type 0

@@ -13,6 +13,7 @@ use std::alloc::Global;
 
 impl<D: Device> Journal<D> {
     ghost use Rattle.cq_journal.specs.Base.{IsBase, base_records};
+    ghost use Rattle.cq_journal.specs.Intact.{LeavesIntact, StaysIntact};
     ghost use Rattle.cq_journal.specs.Journal.{IsJournal, journal_device, journal_half, journal_records, region_len};
     ghost use Rattle.cq_journal.specs.Rests.{Rests};
     ghost use Rattle.cq_journal.specs.within.Reads.{IsRead, closed_places};
@@ -36,6 +37,8 @@ impl<D: Device> Journal<D> {
         ensures copied { OnOk result (IsTrue (D.is_honest (journal_device self.new)) → journal_records to.new ≡ journal_records self.old) }
         ensures any_moment { IsTrue (D.is_honest (journal_device self.new)) → IsTrue (E.is_honest (journal_device to.new))
             → LeavesOnly E.moment E.left_since (journal_device to.old) (journal_device to.new) (HasEitherRecords (journal_half to.old) (region_len to.old) (journal_records to.old) (journal_records self.old)) }
+        ensures intact { LeavesIntact to.old to.new }
+        ensures stays { OnOk result (StaysIntact to.old to.new) }
         ensures honest { IsTrue (E.is_honest (journal_device to.new)) → IsTrue (E.is_honest (journal_device to.old)) }
         ensures full { IsErrOf result OpenFault.Full → IsJournal self.new }
         ensures full_there { IsErrOf result OpenFault.Full → IsJournal to.new × (journal_records to.new ≡ journal_records to.old) }

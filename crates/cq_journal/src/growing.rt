@@ -11,6 +11,7 @@ use cq_records::{Batch, LogFault};
 use std::alloc::Global;
 
 impl<D: Device> Journal<D> {
+    ghost use Rattle.cq_journal.specs.Intact.{LeavesIntact, StaysIntact};
     ghost use Rattle.cq_journal.specs.Journal.{IsJournal, journal_device, journal_half, journal_records, region_len};
 
     /// Adds the records of a batch as `commit` does, in the next region where the one that grows has no room for them. `Full`: there
@@ -24,6 +25,9 @@ impl<D: Device> Journal<D> {
         ensures acknowledged { OnOk result (journal_records self.new ≡ journal_records self.old ++ records (batch_bytes batch.now)) }
         ensures any_moment { IsTrue (D.is_honest (journal_device self.new)) → LeavesOnly D.moment D.left_since (journal_device self.old) (journal_device self.new)
             (HasPrefixOf (journal_half self.old) (region_len self.old) (journal_records self.old) (records (batch_bytes batch.now))) }
+        ensures intact { LeavesIntact self.old self.new }
+        ensures stays { OnOk result (StaysIntact self.old self.new) }
+        ensures stays_full { IsErrOf result LogFault.Full → StaysIntact self.old self.new }
         ensures honest { IsTrue (D.is_honest (journal_device self.new)) → IsTrue (D.is_honest (journal_device self.old)) }
         ensures full { IsErrOf result LogFault.Full → IsJournal self.new × (journal_records self.new ≡ journal_records self.old) }
         ensures failed { IsErrOf result LogFault.Failed → D.faults (journal_device self.old) < D.faults (journal_device self.new) }
@@ -43,6 +47,9 @@ impl<D: Device> Journal<D> {
         ensures acknowledged { OnOk result (journal_records self.new ≡ journal_records self.old ++ records (batch_bytes batch.now)) }
         ensures any_moment { IsTrue (D.is_honest (journal_device self.new)) → LeavesOnly D.moment D.left_since (journal_device self.old) (journal_device self.new)
             (HasPrefixOf (journal_half self.old) (region_len self.old) (journal_records self.old) (records (batch_bytes batch.now))) }
+        ensures intact { LeavesIntact self.old self.new }
+        ensures stays { OnOk result (StaysIntact self.old self.new) }
+        ensures stays_full { IsErrOf result LogFault.Full → StaysIntact self.old self.new }
         ensures honest { IsTrue (D.is_honest (journal_device self.new)) → IsTrue (D.is_honest (journal_device self.old)) }
         ensures full { IsErrOf result LogFault.Full → IsJournal self.new × (journal_records self.new ≡ journal_records self.old) }
         ensures failed { IsErrOf result LogFault.Failed → D.faults (journal_device self.old) < D.faults (journal_device self.new) }

@@ -33,6 +33,7 @@ pub struct Journal<D: Device> {
 
 impl<D: Device> Journal<D> {
     ghost use Rattle.cq_journal.specs.Base.{IsBase, base_records};
+    ghost use Rattle.cq_journal.specs.Intact.{LeavesIntact, StaysIntact};
     ghost use Rattle.cq_journal.specs.Journal.{HasRegions, IsJournal, journal_device, IsFree, journal_half, journal_records, region_len};
 
     /// Makes a journal on a device: a root of two halves of this length, and behind it one region of this length. Whatever
@@ -77,6 +78,12 @@ impl<D: Device> Journal<D> {
         // A crash at any moment of the call leaves the records from before it, and some of the batch's from the first on.
         ensures any_moment { IsTrue (D.is_honest (journal_device self.new)) → LeavesOnly D.moment D.left_since (journal_device self.old) (journal_device self.new)
             (HasPrefixOf (journal_half self.old) (region_len self.old) (journal_records self.old) (records (batch_bytes batch.now))) }
+
+        // No opening refuses what it leaves, where the bytes from before are intact. So it is of each call on a journal.
+        ensures intact { LeavesIntact self.old self.new }
+        ensures stays { OnOk result (StaysIntact self.old self.new) }
+        ensures stays_full { IsErrOf result LogFault.Full → StaysIntact self.old self.new }
+
         ensures keeps { D.keeps (journal_device self.old) (journal_device self.new) }
         ensures honest { D.is_honest (journal_device self.new) ≡ D.is_honest (journal_device self.old) }
         ensures full { IsErrOf result LogFault.Full → IsJournal self.new × (journal_records self.new ≡ journal_records self.old) }
@@ -127,6 +134,9 @@ impl<D: Device> Journal<D> {
         ensures records { OnOk result (journal_records self.new ≡ journal_records self.old) }
         ensures any_moment { IsTrue (D.is_honest (journal_device self.new)) → LeavesOnly D.moment D.left_since (journal_device self.old) (journal_device self.new)
             (HasRecords (journal_half self.old) (region_len self.old) (journal_records self.old)) }
+        ensures intact { LeavesIntact self.old self.new }
+        ensures stays { OnOk result (StaysIntact self.old self.new) }
+        ensures stays_full { IsErrOf result LogFault.Full → StaysIntact self.old self.new }
         ensures honest { IsTrue (D.is_honest (journal_device self.new)) → IsTrue (D.is_honest (journal_device self.old)) }
         ensures full { IsErrOf result LogFault.Full → IsJournal self.new × (journal_records self.new ≡ journal_records self.old) }
         ensures failed { IsErrOf result LogFault.Failed → D.faults (journal_device self.old) < D.faults (journal_device self.new) }
@@ -148,6 +158,9 @@ impl<D: Device> Journal<D> {
         ensures records { OnOk result (journal_records self.new ≡ journal_records self.old) }
         ensures any_moment { IsTrue (D.is_honest (journal_device self.new)) → LeavesOnly D.moment D.left_since (journal_device self.old) (journal_device self.new)
             (HasRecords (journal_half self.old) (region_len self.old) (journal_records self.old)) }
+        ensures intact { LeavesIntact self.old self.new }
+        ensures stays { OnOk result (StaysIntact self.old self.new) }
+        ensures stays_full { IsErrOf result LogFault.Full → StaysIntact self.old self.new }
         ensures honest { IsTrue (D.is_honest (journal_device self.new)) → IsTrue (D.is_honest (journal_device self.old)) }
         ensures full { IsErrOf result LogFault.Full → IsJournal self.new × (journal_records self.new ≡ journal_records self.old) }
         ensures failed { IsErrOf result LogFault.Failed → D.faults (journal_device self.old) < D.faults (journal_device self.new) }

@@ -13,6 +13,7 @@ use cq_disk::{Device, DeviceFault};
 use cq_records::{Batch, LogFault};
 
 impl<D: Device> Journal<D> {
+    ghost use Rattle.cq_journal.specs.Intact.{LeavesIntact, StaysIntact};
     ghost use Rattle.cq_journal.specs.Journal.{IsJournal, journal_device, journal_half, journal_records, region_len};
     ghost use Rattle.cq_journal.specs.within.Outside.{IsOutside, ChangesOutside};
 
@@ -28,6 +29,8 @@ impl<D: Device> Journal<D> {
         ensures zeros { OnOk result (part place (region_len self.old) (D.seen (journal_device self.new)) ≡ replicate (region_len self.old) 0) }
         ensures any_moment { IsTrue (D.is_honest (journal_device self.new)) → LeavesOnly D.moment D.left_since (journal_device self.old) (journal_device self.new)
             (HasRecords (journal_half self.old) (region_len self.old) (journal_records self.old)) }
+        ensures intact { LeavesIntact self.old self.new }
+        ensures stays { StaysIntact self.old self.new }
         ensures cause { HasCause (D.faults (journal_device self.old)) (D.faults (journal_device self.new)) result }
     {
         self.root.blank_at(place, self.len)
@@ -45,6 +48,8 @@ impl<D: Device> Journal<D> {
         ensures zeros { OnOk result (part place (region_len self.old) (D.seen (journal_device self.new)) ≡ replicate (region_len self.old) 0) }
         ensures any_moment { IsTrue (D.is_honest (journal_device self.new)) → LeavesOnly D.moment D.left_since (journal_device self.old) (journal_device self.new)
             (HasRecords (journal_half self.old) (region_len self.old) (journal_records self.old)) }
+        ensures intact { LeavesIntact self.old self.new }
+        ensures stays { StaysIntact self.old self.new }
         ensures full { IsErrOf result LogFault.Full → IsJournal self.new }
         ensures failed { IsErrOf result LogFault.Failed → D.faults (journal_device self.old) < D.faults (journal_device self.new) }
         ensures cause { IsErrOf result LogFault.Full → D.faults (journal_device self.old) < D.faults (journal_device self.new) }
@@ -79,6 +84,8 @@ impl<D: Device> Journal<D> {
         ensures log { OnOk result (IsLog (part place (region_len self.old) (D.seen (journal_device self.new))) (log_end self.new.root)) }
         ensures any_moment { IsTrue (D.is_honest (journal_device self.new)) → LeavesOnly D.moment D.left_since (journal_device self.old) (journal_device self.new)
             (HasRecords (journal_half self.old) (region_len self.old) (journal_records self.old)) }
+        ensures intact { LeavesIntact self.old self.new }
+        ensures stays { StaysIntact self.old self.new }
         ensures full { IsErrOf result LogFault.Full → IsJournal self.new × (journal_device self.new ≡ journal_device self.old) × (log_end self.new.root ≡ end) × (region_len self.old < end + length (batch_bytes batch.now)) }
         ensures failed { IsErrOf result LogFault.Failed → D.faults (journal_device self.old) < D.faults (journal_device self.new) }
         ensures later { D.faults (journal_device self.old) ≤ D.faults (journal_device self.new) }

@@ -16,6 +16,7 @@ use cq_records::Batch;
 use std::alloc::Global;
 
 impl<D: Device> Journal<D> {
+    ghost use Rattle.cq_journal.specs.Intact.{LeavesIntact, StaysIntact};
     ghost use Rattle.cq_journal.specs.Journal.{HasRegions, IsJournal, IsFree, grows_soundly, journal_device, journal_half, journal_records, region_len};
 
     /// Opens the journal of a device, with halves of the root and regions of these lengths, and makes it ready for records:
@@ -118,6 +119,8 @@ impl<D: Device> Journal<D> {
         ensures records { OnOk result (IsTrue (D.is_honest (journal_device self.new)) → journal_records self.new ≡ journal_records self.old) }
         ensures any_moment { IsTrue (D.is_honest (journal_device self.new)) → LeavesOnly D.moment D.left_since (journal_device self.old) (journal_device self.new)
             (HasRecords (journal_half self.old) (region_len self.old) (journal_records self.old)) }
+        ensures intact { LeavesIntact self.old self.new }
+        ensures stays { OnOk result (StaysIntact self.old self.new) }
         ensures honest { IsTrue (D.is_honest (journal_device self.new)) → IsTrue (D.is_honest (journal_device self.old)) }
         ensures full { IsErrOf result OpenFault.Full → self.new ≡ self.old }
         ensures damaged { IsErrOf result OpenFault.Damaged → IsTrue (D.is_honest (journal_device self.new)) → grows_soundly self.old ≡ false }
@@ -139,6 +142,8 @@ impl<D: Device> Journal<D> {
         ensures records { OnOk result (IsTrue (D.is_honest (journal_device self.new)) → journal_records self.new ≡ journal_records self.old) }
         ensures any_moment { IsTrue (D.is_honest (journal_device self.new)) → LeavesOnly D.moment D.left_since (journal_device self.old) (journal_device self.new)
             (HasRecords (journal_half self.old) (region_len self.old) (journal_records self.old)) }
+        ensures intact { LeavesIntact self.old self.new }
+        ensures stays { OnOk result (StaysIntact self.old self.new) }
         ensures honest { IsTrue (D.is_honest (journal_device self.new)) → IsTrue (D.is_honest (journal_device self.old)) }
         ensures full { IsErrOf result OpenFault.Full → self.new ≡ self.old }
         ensures damaged { IsErrOf result OpenFault.Damaged → IsTrue (D.is_honest (journal_device self.new)) → grows_soundly self.old ≡ false }
@@ -170,6 +175,7 @@ impl<D: Device> Journal<D> {
         ensures beside { OnOk result (Beside place (region_len self.old) (D.seen (journal_device self.old)) (D.seen (journal_device self.new))) }
         ensures any_moment { IsTrue (D.is_honest (journal_device self.new)) → LeavesOnly D.moment D.left_since (journal_device self.old) (journal_device self.new)
             (HasRecords (journal_half self.old) (region_len self.old) (journal_records self.old)) }
+        ensures left { LeavesOnly D.moment D.left_since (journal_device self.old) (journal_device self.new) (Beside place (region_len self.old) (D.seen (journal_device self.old))) }
         ensures honest { IsTrue (D.is_honest (journal_device self.new)) → IsTrue (D.is_honest (journal_device self.old)) }
         ensures full { IsErrOf result OpenFault.Full → ⊥ }
         ensures damaged { IsErrOf result OpenFault.Damaged → IsTrue (D.is_honest (journal_device self.new)) → grows_soundly self.old ≡ false }

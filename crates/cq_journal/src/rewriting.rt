@@ -14,6 +14,7 @@ use std::alloc::Global;
 
 impl<D: Device> Journal<D> {
     ghost use Rattle.cq_journal.specs.Base.{IsBase, base_records};
+    ghost use Rattle.cq_journal.specs.Intact.{LeavesIntact, StaysIntact};
     ghost use Rattle.cq_journal.specs.Journal.{HasRegions, IsJournal, IsFree, journal_device, journal_half, journal_places, journal_records, region_len};
     ghost use Rattle.cq_journal.specs.within.FreeBeside.{IsFreeBeside};
 
@@ -30,6 +31,8 @@ impl<D: Device> Journal<D> {
         ensures empty { IfOk result (λ base. base_records self.new base ≡ []) }
         ensures any_moment { IsTrue (D.is_honest (journal_device self.new)) → LeavesOnly D.moment D.left_since (journal_device self.old) (journal_device self.new)
             (HasRecords (journal_half self.old) (region_len self.old) (journal_records self.old)) }
+        ensures intact { LeavesIntact self.old self.new }
+        ensures stays { StaysIntact self.old self.new }
         ensures honest { IsTrue (D.is_honest (journal_device self.new)) → IsTrue (D.is_honest (journal_device self.old)) }
         ensures full { IsErrOf result LogFault.Full → IsJournal self.new }
         ensures failed { IsErrOf result LogFault.Failed → D.faults (journal_device self.old) < D.faults (journal_device self.new) }
@@ -60,6 +63,8 @@ impl<D: Device> Journal<D> {
         ensures added { OnOk result (base_records self.new base.new ≡ base_records self.old base.old ++ records (batch_bytes batch.now)) }
         ensures any_moment { IsTrue (D.is_honest (journal_device self.new)) → LeavesOnly D.moment D.left_since (journal_device self.old) (journal_device self.new)
             (HasRecords (journal_half self.old) (region_len self.old) (journal_records self.old)) }
+        ensures intact { LeavesIntact self.old self.new }
+        ensures stays { StaysIntact self.old self.new }
         ensures honest { IsTrue (D.is_honest (journal_device self.new)) → IsTrue (D.is_honest (journal_device self.old)) }
         ensures full { IsErrOf result LogFault.Full → IsJournal self.new × IsBase self.new base.new × (base_records self.new base.new ≡ base_records self.old base.old) }
         ensures failed { IsErrOf result LogFault.Failed → D.faults (journal_device self.old) < D.faults (journal_device self.new) }
@@ -116,6 +121,8 @@ impl<D: Device> Journal<D> {
         ensures same { OnOk result (base_records self.new base.new ≡ base_records self.old base.old) }
         ensures any_moment { IsTrue (D.is_honest (journal_device self.new)) → LeavesOnly D.moment D.left_since (journal_device self.old) (journal_device self.new)
             (HasRecords (journal_half self.old) (region_len self.old) (journal_records self.old)) }
+        ensures intact { LeavesIntact self.old self.new }
+        ensures stays { StaysIntact self.old self.new }
         ensures honest { IsTrue (D.is_honest (journal_device self.new)) → IsTrue (D.is_honest (journal_device self.old)) }
         ensures full { IsErrOf result LogFault.Full → IsJournal self.new × IsBase self.new base.new × (base_records self.new base.new ≡ base_records self.old base.old) }
         ensures failed { IsErrOf result LogFault.Failed → D.faults (journal_device self.old) < D.faults (journal_device self.new) }
@@ -146,6 +153,8 @@ impl<D: Device> Journal<D> {
         ensures freed { OnOk result (Each (λ place. IsFree self.new place) (journal_places self.old)) }
         ensures any_moment { IsTrue (D.is_honest (journal_device self.new)) → LeavesOnly D.moment D.left_since (journal_device self.old) (journal_device self.new)
             (HasEitherRecords (journal_half self.old) (region_len self.old) (journal_records self.old) (base_records self.old base)) }
+        ensures intact { LeavesIntact self.old self.new }
+        ensures stays { OnOk result (StaysIntact self.old self.new) }
         ensures honest { IsTrue (D.is_honest (journal_device self.new)) → IsTrue (D.is_honest (journal_device self.old)) }
         ensures full { IsErrOf result LogFault.Full → self.new ≡ self.old }
         ensures failed { IsErrOf result LogFault.Failed → D.faults (journal_device self.old) < D.faults (journal_device self.new) }

@@ -1,6 +1,6 @@
 -- The region that grows is full.
 use Rattle.std.proofs.Common.{rules, ℕ, List, arith}
-use Rattle.std.specs.Prelude.{IsErrOf}
+use Rattle.std.specs.Prelude.{IsErrOf, Result, Ok, Err, OnOk}
 use Rattle.cq_disk.proofs.Moments.{weakened, runs_on}
 use Rattle.cq_records.specs.Batch.{batch_bytes}
 use Rattle.cq_records.specs.Frames.{records}
@@ -8,7 +8,12 @@ use Rattle.cq_records.specs.declared.fault.LogFault.TheVariants.{Full}
 use Rattle.cq_journal.specs.Journal.{journal_half, journal_records, region_len}
 use Rattle.cq_journal.specs.Regions.{HasPrefixOf}
 use Rattle.cq_journal.proofs.Appends.{prefix_back}
+use Rattle.cq_journal.proofs.Intact.{leaves_on, stays_on}
 use Rattle.cq_journal.proofs.journal.Journal.append.Goals as goal
+
+on_ok : {T E P Q : Type 0} (r : Result T E) → OnOk r P → (P → Q) → OnOk r Q
+on_ok (Ok x) p step = step p
+on_ok (Err e) p step = tt
 
 pub returns-in-Err-Full-clause-any_moment : goal.returns-in-Err-Full-clause-any_moment
 returns-in-Err-Full-clause-any_moment g c = λ honest.
@@ -26,3 +31,24 @@ returns-in-Err-Full-clause-any_moment g c = λ honest.
 
 pub returns-in-Err-Full-clause-failed : goal.returns-in-Err-Full-clause-failed
 returns-in-Err-Full-clause-failed g c = λ failed. omega (arith, c.commit.ensures.later, c.append_in_next.ensures.failed failed)
+
+pub returns-in-Err-Full-clause-intact : goal.returns-in-Err-Full-clause-intact
+returns-in-Err-Full-clause-intact g c =
+    let first = c.commit.ensures in
+    let next = c.append_in_next.ensures in
+    let is : IsErrOf c.commit.result Full = search rules in
+    leaves_on c.args.self.now c.commit.new.self c.append_in_next.new.self first.lengths.0 first.lengths.1 next.honest first.intact (first.stays_full is) next.intact
+
+pub returns-in-Err-Full-clause-stays : goal.returns-in-Err-Full-clause-stays
+returns-in-Err-Full-clause-stays g c =
+    let first = c.commit.ensures in
+    let next = c.append_in_next.ensures in
+    let is : IsErrOf c.commit.result Full = search rules in
+    on_ok c.append_in_next.result next.stays (λ stays. stays_on c.args.self.now c.commit.new.self c.append_in_next.new.self first.lengths.0 first.lengths.1 next.honest (first.stays_full is) stays)
+
+pub returns-in-Err-Full-clause-stays_full : goal.returns-in-Err-Full-clause-stays_full
+returns-in-Err-Full-clause-stays_full g c = λ full.
+    let first = c.commit.ensures in
+    let next = c.append_in_next.ensures in
+    let is : IsErrOf c.commit.result Full = search rules in
+    stays_on c.args.self.now c.commit.new.self c.append_in_next.new.self first.lengths.0 first.lengths.1 next.honest (first.stays_full is) (next.stays_full full)

@@ -3,6 +3,7 @@ use Rattle.std.proofs.Common.{refl}
 use Rattle.std.specs.Prelude.{Result, Ok, Err, OnOk}
 use Rattle.cq_disk.proofs.Moments.{weakened}
 use Rattle.cq_journal.proofs.OtherRegions.{journal_still, records_still, still_kept}
+use Rattle.cq_journal.proofs.Intact.{outside_leaves, outside_stays}
 use Rattle.cq_journal.proofs.journal.Journal.blank_outside.Goals as goal
 
 on_ok : {T E P Q : Type 0} (r : Result T E) → OnOk r P → (P → Q) → OnOk r Q
@@ -27,3 +28,11 @@ returns-clause-any_moment g c = λ honest.
     let j = c.args.self.now in
     weakened d.moment d.left_since j.root.log.device.device c.blank_at.new.self.log.device.device _ _ c.blank_at.ensures.any_moment
     (still_kept c.args.place j c.requires.outside c.requires.journal (c.blank_at.ensures.honest honest))
+
+pub returns-clause-intact : goal.returns-clause-intact
+returns-clause-intact g c =
+    outside_leaves c.args.place c.args.self.now (record { root = c.blank_at.new.self; len = c.args.self.now.len; closed = c.args.self.now.closed; growing = c.args.self.now.growing; end = c.args.self.now.end }) c.requires.outside c.requires.journal.regions c.blank_at.ensures.honest c.blank_at.ensures.any_moment
+
+pub returns-clause-stays : goal.returns-clause-stays
+returns-clause-stays g c =
+    outside_stays c.args.place c.args.self.now (record { root = c.blank_at.new.self; len = c.args.self.now.len; closed = c.args.self.now.closed; growing = c.args.self.now.growing; end = c.args.self.now.end }) c.requires.outside c.requires.journal.regions c.blank_at.ensures.honest c.blank_at.ensures.beside

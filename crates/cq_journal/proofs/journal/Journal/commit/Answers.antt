@@ -4,12 +4,16 @@ use Rattle.std.specs.Prelude.{Some, map, Result, Ok, Err, OnOk}
 use Rattle.cq_disk.specs.Region.{part}
 use Rattle.cq_disk.proofs.Moments.{weakened}
 use Rattle.cq_records.specs.Batch.{batch_bytes}
-use Rattle.cq_records.specs.Frames.{text_of, frames, records}
+use Rattle.cq_records.specs.Frames.{text_of, frames, records, all_sound}
 use Rattle.cq_records.specs.Layout.{IsLog}
 use Rattle.cq_journal.specs.Regions.{Each, places_text, records_at}
 use Rattle.cq_journal.specs.Roots.{root_of, numbered}
 use Rattle.cq_journal.proofs.Bases.{apart_last, base_still, base_records_still}
 use Rattle.cq_journal.proofs.Regions.{grows, kept_of, records_apart, records_more, root_apart, text_append, last_of, each_so}
+use Rattle.cq_records.proofs.Outcomes.{none_damaged}
+use Rattle.cq_records.proofs.Frames.{sound_append}
+use Rattle.cq_journal.specs.Intact.{IsIntact}
+use Rattle.cq_journal.proofs.Intact.{intact_at, grown_intact}
 use Rattle.cq_journal.proofs.journal.Journal.commit.Goals as goal
 
 on_both : {T E P Q R : Type 0} (r : Result T E) → OnOk r P → OnOk r Q → (P → Q → R) → OnOk r R
@@ -121,3 +125,42 @@ returns-clause-bases g c base is =
       base_still j.growing j (record { root = c.commit_at-done.new.self; len = j.len; closed = j.closed; growing = j.growing; end = c.commit_at-done.new.self.log.end }) refl refl done.half done.length done.beside base is apart,
       base_records_still j.growing j (record { root = c.commit_at-done.new.self; len = j.len; closed = j.closed; growing = j.growing; end = c.commit_at-done.new.self.log.end }) refl refl done.half done.length done.beside base is apart,
     )
+
+pub returns-clause-intact : goal.returns-clause-intact
+returns-clause-intact g c = λ now i.
+    let j = c.args.self.now in
+    let q = c.requires in
+    let done = c.commit_at-done.ensures in
+    let new = c.commit_at-done.new.self in
+    let h = j.root.log.device.len in
+    let old_bytes = g.D.Device.seen j.root.log.device.device in
+    let at = intact_at j q.regions (sym done.honest ∙ now) i in
+    weakened g.D.Device.moment g.D.Device.left_since j.root.log.device.device new.log.device.device _ _ done.any_moment (λ f both. (
+      j.root.number,
+      j.closed.items,
+      j.growing,
+      grown_intact h j.len j.root.number j.closed.items j.growing old_bytes at f both.1
+          (none_damaged (frames (part j.growing j.len old_bytes)) (frames (batch_bytes c.args.batch.now)) (part j.growing j.len f) q.log.sound c.args.batch.now.batch.sound both.0),
+    ))
+
+pub returns-clause-stays : goal.returns-clause-stays
+returns-clause-stays g c =
+    let j = c.args.self.now in
+    let q = c.requires in
+    let done = c.commit_at-done.ensures in
+    let new = c.commit_at-done.new.self in
+    let h = j.root.log.device.len in
+    let old_bytes = g.D.Device.seen j.root.log.device.device in
+    let new_bytes = g.D.Device.seen new.log.device.device in
+    on_both c.commit_at-done.result done.acknowledged done.acknowledged (λ acknowledged again now i. (
+      j.root.number,
+      j.closed.items,
+      j.growing,
+      grown_intact h j.len j.root.number j.closed.items j.growing old_bytes (intact_at j q.regions (sym done.honest ∙ now) i) new_bytes done.beside
+          (ap all_sound acknowledged ∙ sound_append (frames (part j.growing j.len old_bytes)) (frames (batch_bytes c.args.batch.now)) q.log.sound c.args.batch.now.batch.sound),
+    ))
+
+pub returns-clause-stays_full : goal.returns-clause-stays_full
+returns-clause-stays_full g c = λ err now i.
+    let j = c.args.self.now in
+    subst (IsIntact j.root.log.device.len j.len) (sym (ap g.D.Device.seen (c.commit_at-done.ensures.full err).1)) i

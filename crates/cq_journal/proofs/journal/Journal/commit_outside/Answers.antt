@@ -7,6 +7,7 @@ use Rattle.cq_records.specs.Batch.{batch_bytes}
 use Rattle.cq_records.specs.Frames.{text_of, frames}
 use Rattle.cq_journal.proofs.Regions.{text_append}
 use Rattle.cq_journal.proofs.OtherRegions.{journal_still, records_still, still_kept}
+use Rattle.cq_journal.proofs.Intact.{outside_leaves, outside_stays}
 use Rattle.cq_journal.proofs.journal.Journal.commit_outside.Goals as goal
 
 on_ok : {T E P Q : Type 0} (r : Result T E) → OnOk r P → (P → Q) → OnOk r Q
@@ -48,3 +49,14 @@ returns-clause-full g c err =
       full.2,
       full.3,
     )
+
+pub returns-clause-intact : goal.returns-clause-intact
+returns-clause-intact g c =
+    let d = g.D.Device in
+    let j = c.args.self.now in
+    outside_leaves c.args.place j (record { root = c.commit_at.new.self; len = c.args.self.now.len; closed = c.args.self.now.closed; growing = c.args.self.now.growing; end = c.args.self.now.end }) c.requires.outside c.requires.journal.regions (λ honest. sym c.commit_at.ensures.honest ∙ honest)
+    (weakened d.moment d.left_since j.root.log.device.device c.commit_at.new.self.log.device.device _ _ c.commit_at.ensures.any_moment (λ f both. both.1))
+
+pub returns-clause-stays : goal.returns-clause-stays
+returns-clause-stays g c =
+    outside_stays c.args.place c.args.self.now (record { root = c.commit_at.new.self; len = c.args.self.now.len; closed = c.args.self.now.closed; growing = c.args.self.now.growing; end = c.args.self.now.end }) c.requires.outside c.requires.journal.regions (λ honest. sym c.commit_at.ensures.honest ∙ honest) c.commit_at.ensures.beside

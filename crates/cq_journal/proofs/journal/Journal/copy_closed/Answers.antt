@@ -45,7 +45,7 @@ pub returns-in_err-widen_base-clause-rests_there : goal.returns-in_err-widen_bas
 returns-in_err-widen_base-clause-rests_there g c =
     let w = c.widen_base.ensures in
     rests_on c.args.to.now c.copy_region.new.to c.widen_base.new.self (rests_on c.args.to.now c.loop-at.to c.copy_region.new.to c.loop-at.invariant.rests_there c.copy_region.ensures.rests_there)
-    (record { half = w.lengths.0; len = w.lengths.1; records = w.records; honest = w.honest; moments = w.any_moment; later = w.later })
+    (record { half = w.lengths.0; len = w.lengths.1; records = w.records; honest = w.honest; moments = w.any_moment; intact = w.intact; stays = w.stays; later = w.later })
 
 pub loop-at-preserved : goal.loop-at-preserved
 loop-at-preserved g c =
@@ -65,7 +65,7 @@ loop-at-preserved g c =
       there = widened.journal;
       base = widened.base;
       rests_there = rests_on c.args.to.now c.copy_region.new.to c.widen_base.new.self (rests_on c.args.to.now c.loop-at.to c.copy_region.new.to inv.rests_there e.rests_there)
-          (record { half = w.lengths.0; len = w.lengths.1; records = w.records; honest = w.honest; moments = w.any_moment; later = w.later });
+          (record { half = w.lengths.0; len = w.lengths.1; records = w.records; honest = w.honest; moments = w.any_moment; intact = w.intact; stays = w.stays; later = w.later });
       copied = λ honest.
           let l = c.loop-at.self in
           let at = c.loop-at.at in

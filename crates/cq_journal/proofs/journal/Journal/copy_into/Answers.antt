@@ -8,6 +8,7 @@ use Rattle.cq_journal.specs.Base.{HasEitherRecords, base_records}
 use Rattle.cq_journal.specs.Journal.{IsJournal, journal_half, journal_records, region_len}
 use Rattle.cq_journal.specs.Rests.{Rests}
 use Rattle.cq_journal.proofs.Copies.{either_back, rests_on, rests_self}
+use Rattle.cq_journal.proofs.Intact.{leaves_on, stays_on}
 use Rattle.cq_journal.proofs.journal.Journal.copy_into.Goals as goal
 
 pub returns-in_err-base-clause-rests : goal.returns-in_err-base-clause-rests
@@ -25,7 +26,7 @@ returns-in_err-copy_all-clause-any_moment g c = λ honest honest_there.
     let to = c.args.to.now in
     let b = c.begin_base.ensures in
     let all = c.copy_all.ensures in
-    let begun : Rests to c.begin_base.new.self = record { half = b.lengths.0; len = b.lengths.1; records = b.records; honest = b.honest; moments = b.any_moment; later = b.later } in
+    let begun : Rests to c.begin_base.new.self = record { half = b.lengths.0; len = b.lengths.1; records = b.records; honest = b.honest; moments = b.any_moment; intact = b.intact; stays = b.stays; later = b.later } in
     let run = rests_on to c.begin_base.new.self c.copy_all.new.to begun all.rests_there in
     weakened e.moment e.left_since to.root.log.device.device c.copy_all.new.to.root.log.device.device _ _ (run.moments honest_there) (λ f is. inl is)
 
@@ -38,7 +39,7 @@ returns-in_err-rewrite-clause-any_moment g c = λ honest honest_there.
     let b = c.begin_base.ensures in
     let all = c.copy_all.ensures in
     let w = c.rewrite.ensures in
-    let begun : Rests to c.begin_base.new.self = record { half = b.lengths.0; len = b.lengths.1; records = b.records; honest = b.honest; moments = b.any_moment; later = b.later } in
+    let begun : Rests to c.begin_base.new.self = record { half = b.lengths.0; len = b.lengths.1; records = b.records; honest = b.honest; moments = b.any_moment; intact = b.intact; stays = b.stays; later = b.later } in
     let run = rests_on to c.begin_base.new.self mid begun all.rests_there in
     let base_is : base_records mid c.copy_all.new.base ≡ journal_records j = c.in_ok-copy_all.ensures.copied honest ∙ ap (λ (rs : List (List ℕ)). rs ++ journal_records j) c.in_ok-base.ensures.empty in
     let P : List ℕ → Type 0 = HasEitherRecords (journal_half to) (region_len to) (journal_records to) (journal_records j) in
@@ -55,7 +56,7 @@ returns-clause-any_moment g c = λ honest honest_there.
     let b = c.begin_base.ensures in
     let all = c.copy_all.ensures in
     let w = c.rewrite.ensures in
-    let begun : Rests to c.begin_base.new.self = record { half = b.lengths.0; len = b.lengths.1; records = b.records; honest = b.honest; moments = b.any_moment; later = b.later } in
+    let begun : Rests to c.begin_base.new.self = record { half = b.lengths.0; len = b.lengths.1; records = b.records; honest = b.honest; moments = b.any_moment; intact = b.intact; stays = b.stays; later = b.later } in
     let run = rests_on to c.begin_base.new.self mid begun all.rests_there in
     let base_is : base_records mid c.copy_all.new.base ≡ journal_records j = c.in_ok-copy_all.ensures.copied honest ∙ ap (λ (rs : List (List ℕ)). rs ++ journal_records j) c.in_ok-base.ensures.empty in
     let P : List ℕ → Type 0 = HasEitherRecords (journal_half to) (region_len to) (journal_records to) (journal_records j) in
@@ -75,3 +76,43 @@ returns-in_err-rewrite-clause-full_there g c = λ full.
     let same : c.rewrite.new.self ≡ mid = c.rewrite.ensures.full is in
     let records_are : journal_records mid ≡ journal_records to = c.copy_all.ensures.rests_there.records ∙ c.begin_base.ensures.records in
     (subst IsJournal (sym same) c.in_ok-copy_all.ensures.there, ap journal_records same ∙ records_are)
+
+pub returns-in_err-copy_all-clause-intact : goal.returns-in_err-copy_all-clause-intact
+returns-in_err-copy_all-clause-intact g c =
+    let to = c.args.to.now in
+    let mid = c.copy_all.new.to in
+    let b = c.begin_base.ensures in
+    let all = c.copy_all.ensures in
+    let begun : Rests to c.begin_base.new.self = record { half = b.lengths.0; len = b.lengths.1; records = b.records; honest = b.honest; moments = b.any_moment; intact = b.intact; stays = b.stays; later = b.later } in
+    let run = rests_on to c.begin_base.new.self mid begun all.rests_there in
+    run.intact
+
+pub returns-in_err-rewrite-clause-intact : goal.returns-in_err-rewrite-clause-intact
+returns-in_err-rewrite-clause-intact g c =
+    let to = c.args.to.now in
+    let mid = c.copy_all.new.to in
+    let b = c.begin_base.ensures in
+    let all = c.copy_all.ensures in
+    let begun : Rests to c.begin_base.new.self = record { half = b.lengths.0; len = b.lengths.1; records = b.records; honest = b.honest; moments = b.any_moment; intact = b.intact; stays = b.stays; later = b.later } in
+    let run = rests_on to c.begin_base.new.self mid begun all.rests_there in
+    leaves_on to mid c.rewrite.new.self run.half run.len c.rewrite.ensures.honest run.intact run.stays c.rewrite.ensures.intact
+
+pub returns-clause-intact : goal.returns-clause-intact
+returns-clause-intact g c =
+    let to = c.args.to.now in
+    let mid = c.copy_all.new.to in
+    let b = c.begin_base.ensures in
+    let all = c.copy_all.ensures in
+    let begun : Rests to c.begin_base.new.self = record { half = b.lengths.0; len = b.lengths.1; records = b.records; honest = b.honest; moments = b.any_moment; intact = b.intact; stays = b.stays; later = b.later } in
+    let run = rests_on to c.begin_base.new.self mid begun all.rests_there in
+    leaves_on to mid c.rewrite.new.self run.half run.len c.rewrite.ensures.honest run.intact run.stays c.rewrite.ensures.intact
+
+pub returns-clause-stays : goal.returns-clause-stays
+returns-clause-stays g c =
+    let to = c.args.to.now in
+    let mid = c.copy_all.new.to in
+    let b = c.begin_base.ensures in
+    let all = c.copy_all.ensures in
+    let begun : Rests to c.begin_base.new.self = record { half = b.lengths.0; len = b.lengths.1; records = b.records; honest = b.honest; moments = b.any_moment; intact = b.intact; stays = b.stays; later = b.later } in
+    let run = rests_on to c.begin_base.new.self mid begun all.rests_there in
+    stays_on to mid c.rewrite.new.self run.half run.len c.rewrite.ensures.honest run.stays c.in_ok-rewrite.ensures.stays

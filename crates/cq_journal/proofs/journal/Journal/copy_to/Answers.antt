@@ -10,6 +10,7 @@ use Rattle.cq_journal.specs.Regions.{places_text, HasRecords, records_at}
 use Rattle.cq_journal.specs.Roots.{root_of, numbered}
 use Rattle.cq_journal.proofs.Moves.{while_copied, blank_frames, blank_log}
 use Rattle.cq_journal.proofs.Regions.{each_so, kept_of, root_apart, text_append}
+use Rattle.cq_disk.specs.Region.{beside_self}
 use Rattle.cq_journal.proofs.journal.Journal.copy_to.Goals as goal
 
 pub commit_at-requires-clause-log : goal.commit_at-requires-clause-log
@@ -148,3 +149,53 @@ returns-clause-regions g c =
           ∙ root_apart h p j.len old fin free.behind beside ∙ q.names (c.read_at.ensures.honest (c.blank_at.ensures.honest (sym c.commit_at.ensures.honest ∙ honest)))
           ∙ ap (λ (m : ℕ). Some (numbered m (places_text places))) (sym number_is);
     }
+
+pub returns-in_err-read_at-clause-left : goal.returns-in_err-read_at-clause-left
+returns-in_err-read_at-clause-left g c =
+    let j = c.args.self.now in
+    let d = g.D.Device in
+    let device = j.root.log.device.device in
+    weakened d.moment d.left_since device c.read_at.new.self.log.device.device _ _ c.read_at.ensures.any_moment
+    (λ f is. subst (Beside c.args.place j.len (d.seen device)) (sym is) (beside_self c.args.place j.len (d.seen device)))
+
+pub returns-in_err-blank_at-clause-left : goal.returns-in_err-blank_at-clause-left
+returns-in_err-blank_at-clause-left g c =
+    let j = c.args.self.now in
+    let d = g.D.Device in
+    let p = c.args.place in
+    let device = j.root.log.device.device in
+    let one = c.read_at.new.self.log.device.device in
+    let two = c.blank_at.new.self.log.device.device in
+    let P : List ℕ → Type 0 = Beside p j.len (d.seen device) in
+    let first : LeavesOnly d.moment d.left_since device one P = weakened d.moment d.left_since device one _ P c.read_at.ensures.any_moment (λ f is. subst P (sym is) (beside_self p j.len (d.seen device))) in
+    runs_on d.moment d.left_since device one two P first (weakened d.moment d.left_since one two _ P c.blank_at.ensures.any_moment (λ f near. subst (λ (o : List ℕ). Beside p j.len o f) c.read_at.ensures.seen near))
+
+pub returns-in_err-commit_at-clause-left : goal.returns-in_err-commit_at-clause-left
+returns-in_err-commit_at-clause-left g c =
+    let j = c.args.self.now in
+    let d = g.D.Device in
+    let p = c.args.place in
+    let device = j.root.log.device.device in
+    let one = c.read_at.new.self.log.device.device in
+    let two = c.blank_at.new.self.log.device.device in
+    let three = c.commit_at.new.self.log.device.device in
+    let P : List ℕ → Type 0 = Beside p j.len (d.seen device) in
+    let first : LeavesOnly d.moment d.left_since device one P = weakened d.moment d.left_since device one _ P c.read_at.ensures.any_moment (λ f is. subst P (sym is) (beside_self p j.len (d.seen device))) in
+    let second = runs_on d.moment d.left_since device one two P first (weakened d.moment d.left_since one two _ P c.blank_at.ensures.any_moment (λ f near. subst (λ (o : List ℕ). Beside p j.len o f) c.read_at.ensures.seen near)) in
+    let blanked : Beside p j.len (d.seen device) (d.seen two) = subst (λ (o : List ℕ). Beside p j.len o (d.seen two)) c.read_at.ensures.seen c.blank_at.ensures.beside in
+    runs_on d.moment d.left_since device two three P second (weakened d.moment d.left_since two three _ P c.commit_at.ensures.any_moment (λ f both. beside_both p j.len (d.seen device) (d.seen two) f blanked both.1))
+
+pub returns-clause-left : goal.returns-clause-left
+returns-clause-left g c =
+    let j = c.args.self.now in
+    let d = g.D.Device in
+    let p = c.args.place in
+    let device = j.root.log.device.device in
+    let one = c.read_at.new.self.log.device.device in
+    let two = c.blank_at.new.self.log.device.device in
+    let three = c.commit_at.new.self.log.device.device in
+    let P : List ℕ → Type 0 = Beside p j.len (d.seen device) in
+    let first : LeavesOnly d.moment d.left_since device one P = weakened d.moment d.left_since device one _ P c.read_at.ensures.any_moment (λ f is. subst P (sym is) (beside_self p j.len (d.seen device))) in
+    let second = runs_on d.moment d.left_since device one two P first (weakened d.moment d.left_since one two _ P c.blank_at.ensures.any_moment (λ f near. subst (λ (o : List ℕ). Beside p j.len o f) c.read_at.ensures.seen near)) in
+    let blanked : Beside p j.len (d.seen device) (d.seen two) = subst (λ (o : List ℕ). Beside p j.len o (d.seen two)) c.read_at.ensures.seen c.blank_at.ensures.beside in
+    runs_on d.moment d.left_since device two three P second (weakened d.moment d.left_since two three _ P c.commit_at.ensures.any_moment (λ f both. beside_both p j.len (d.seen device) (d.seen two) f blanked both.1))

@@ -10,6 +10,8 @@ use Rattle.cq_journal.specs.declared.number.TheConstants.{NUMBER_LIMIT}
 use Rattle.cq_journal.specs.Regions.{Each, AreApart, places_text, HasRecords, records_at}
 use Rattle.cq_journal.specs.Roots.{numbered, IsOldOrNew}
 use Rattle.cq_journal.proofs.Regions.{kept_of, last_of, each_so, each_more, each_left, places_long, no_zero_places, part_same, while_named, records_kept}
+use Rattle.cq_journal.specs.Intact.{IsIntact}
+use Rattle.cq_journal.proofs.Intact.{rests_intact, intact_at, with_next, sound_blank}
 use Rattle.cq_journal.proofs.journal.Journal.go_on_at.Goals as goal
 
 pub with_next-requires-clause-closed : goal.with_next-requires-clause-closed
@@ -160,3 +162,83 @@ returns-clause-journal g c =
       };
       log = blank_log c.clear_outside.new.self.len (part p c.clear_outside.new.self.len fin) (subst (λ (k : ℕ). part p k fin ≡ replicate k 0) (sym len_is) zeros);
     }
+
+pub returns-in_err-closed-clause-intact : goal.returns-in_err-closed-clause-intact
+returns-in_err-closed-clause-intact g c = rests_intact c.args.self.now (λ f. g.met.D.Device.only_now c.args.self.now.root.log.device.device f) c.requires.journal.regions
+
+pub returns-then-not-has_room-clause-intact : goal.returns-then-not-has_room-clause-intact
+returns-then-not-has_room-clause-intact g c = rests_intact c.args.self.now (λ f. g.met.D.Device.only_now c.args.self.now.root.log.device.device f) c.requires.journal.regions
+
+pub returns-in_err-put-clause-intact : goal.returns-in_err-put-clause-intact
+returns-in_err-put-clause-intact g c = λ now i.
+    let j = c.args.self.now in
+    let q = c.requires.journal.regions in
+    let free = c.requires.free in
+    let d = g.D.Device in
+    let device = j.root.log.device.device in
+    let blanked = c.clear_outside.new.self.root in
+    let mid = blanked.log.device.device in
+    let fin = c.put.new.self.log.device.device in
+    let places : List ℕ = j.closed.items ++ j.growing ∷ [] in
+    let h = j.root.log.device.len in
+    let p = c.args.place in
+    let b = c.in_ok-clear_outside.ensures in
+    let honest_mid = c.put.ensures.honest now in
+    let at = intact_at j q (b.changes.honest honest_mid) i in
+    let text_is : c.deref-3.result.now ≡ places_text (places ++ p ∷ []) = c.deref-3.ensures.value ∙ c.in_ok-closed.ensures.text ∙ ap (λ (xs : List ℕ). places_text ((xs ++ j.growing ∷ []) ++ p ∷ [])) c.deref.ensures.value in
+    let small : blanked.number + 1 < NUMBER_LIMIT = omega (arith, (c.has_room.ensures.room c.if-not-has_room.false).0, b.changes.number) in
+    let named : (f : List ℕ) → IsOldOrNew blanked.log.device.len (d.seen mid) (numbered (blanked.number + 1) c.deref-3.result.now) f → IsIntact h j.len f = λ f either.
+    with_next h j.len j.root.number j.closed.items j.growing (d.seen device) at p free.behind free.small free.within free.apart (d.seen mid) b.changes.beside (sound_blank j.len _ b.zeros) (blanked.number + 1) small f
+    (subst (λ (k : ℕ). IsOldOrNew k (d.seen mid) (numbered (blanked.number + 1) (places_text (places ++ p ∷ []))) f) b.changes.half
+    (subst (λ (text : List ℕ). IsOldOrNew blanked.log.device.len (d.seen mid) (numbered (blanked.number + 1) text) f) text_is either)) in
+    let P : List ℕ → Type 0 = IsIntact h j.len in
+    runs_on d.moment d.left_since device mid fin P (c.clear_outside.ensures.intact honest_mid i) (weakened d.moment d.left_since mid fin _ P (c.put.ensures.any_moment now) named)
+
+pub returns-clause-intact : goal.returns-clause-intact
+returns-clause-intact g c = λ now i.
+    let j = c.args.self.now in
+    let q = c.requires.journal.regions in
+    let free = c.requires.free in
+    let d = g.D.Device in
+    let device = j.root.log.device.device in
+    let blanked = c.clear_outside.new.self.root in
+    let mid = blanked.log.device.device in
+    let fin = c.put.new.self.log.device.device in
+    let places : List ℕ = j.closed.items ++ j.growing ∷ [] in
+    let h = j.root.log.device.len in
+    let p = c.args.place in
+    let b = c.in_ok-clear_outside.ensures in
+    let honest_mid = c.put.ensures.honest now in
+    let at = intact_at j q (b.changes.honest honest_mid) i in
+    let text_is : c.deref-3.result.now ≡ places_text (places ++ p ∷ []) = c.deref-3.ensures.value ∙ c.in_ok-closed.ensures.text ∙ ap (λ (xs : List ℕ). places_text ((xs ++ j.growing ∷ []) ++ p ∷ [])) c.deref.ensures.value in
+    let small : blanked.number + 1 < NUMBER_LIMIT = omega (arith, (c.has_room.ensures.room c.if-not-has_room.false).0, b.changes.number) in
+    let named : (f : List ℕ) → IsOldOrNew blanked.log.device.len (d.seen mid) (numbered (blanked.number + 1) c.deref-3.result.now) f → IsIntact h j.len f = λ f either.
+    with_next h j.len j.root.number j.closed.items j.growing (d.seen device) at p free.behind free.small free.within free.apart (d.seen mid) b.changes.beside (sound_blank j.len _ b.zeros) (blanked.number + 1) small f
+    (subst (λ (k : ℕ). IsOldOrNew k (d.seen mid) (numbered (blanked.number + 1) (places_text (places ++ p ∷ []))) f) b.changes.half
+    (subst (λ (text : List ℕ). IsOldOrNew blanked.log.device.len (d.seen mid) (numbered (blanked.number + 1) text) f) text_is either)) in
+    let P : List ℕ → Type 0 = IsIntact h j.len in
+    runs_on d.moment d.left_since device mid fin P (c.clear_outside.ensures.intact honest_mid i) (weakened d.moment d.left_since mid fin _ P (c.put.ensures.any_moment now) named)
+
+pub returns-clause-stays : goal.returns-clause-stays
+returns-clause-stays g c = λ now i.
+    let j = c.args.self.now in
+    let q = c.requires.journal.regions in
+    let free = c.requires.free in
+    let d = g.D.Device in
+    let device = j.root.log.device.device in
+    let blanked = c.clear_outside.new.self.root in
+    let mid = blanked.log.device.device in
+    let fin = c.put.new.self.log.device.device in
+    let places : List ℕ = j.closed.items ++ j.growing ∷ [] in
+    let h = j.root.log.device.len in
+    let p = c.args.place in
+    let b = c.in_ok-clear_outside.ensures in
+    let honest_mid = c.put.ensures.honest now in
+    let at = intact_at j q (b.changes.honest honest_mid) i in
+    let text_is : c.deref-3.result.now ≡ places_text (places ++ p ∷ []) = c.deref-3.ensures.value ∙ c.in_ok-closed.ensures.text ∙ ap (λ (xs : List ℕ). places_text ((xs ++ j.growing ∷ []) ++ p ∷ [])) c.deref.ensures.value in
+    let small : blanked.number + 1 < NUMBER_LIMIT = omega (arith, (c.has_room.ensures.room c.if-not-has_room.false).0, b.changes.number) in
+    let named : (f : List ℕ) → IsOldOrNew blanked.log.device.len (d.seen mid) (numbered (blanked.number + 1) c.deref-3.result.now) f → IsIntact h j.len f = λ f either.
+    with_next h j.len j.root.number j.closed.items j.growing (d.seen device) at p free.behind free.small free.within free.apart (d.seen mid) b.changes.beside (sound_blank j.len _ b.zeros) (blanked.number + 1) small f
+    (subst (λ (k : ℕ). IsOldOrNew k (d.seen mid) (numbered (blanked.number + 1) (places_text (places ++ p ∷ []))) f) b.changes.half
+    (subst (λ (text : List ℕ). IsOldOrNew blanked.log.device.len (d.seen mid) (numbered (blanked.number + 1) text) f) text_is either)) in
+    named (d.seen fin) (c.in_ok-put.ensures.shown now)

@@ -11,6 +11,9 @@ use Rattle.cq_journal.specs.Regions.{Each, AreApart, places_text, HasRecords, re
 use Rattle.cq_journal.specs.Roots.{numbered, IsOldOrNew}
 use Rattle.cq_journal.proofs.Moves.{records_moved, while_moved}
 use Rattle.cq_journal.proofs.Regions.{kept_of, each_so, each_more, each_left, no_zero_places, part_same, places_long}
+use Rattle.cq_journal.specs.Intact.{IsIntact}
+use Rattle.cq_journal.proofs.Bases.{free_outside}
+use Rattle.cq_journal.proofs.Intact.{rests_intact, intact_at, outside_leaves, with_other}
 use Rattle.cq_journal.proofs.journal.Journal.move_to.Goals as goal
 
 pub text_of-requires-clause-closed : goal.text_of-requires-clause-closed
@@ -163,3 +166,90 @@ returns-clause-journal g c =
       };
       log = subst (λ (k : ℕ). IsLog (part p k fin) c.in_ok-end.end) (sym len_is) (subst (λ (bytes : List ℕ). IsLog bytes c.in_ok-end.end) (sym (part_same h n mid fin behind p free.behind)) ok.log);
     }
+
+pub returns-in_err-text-clause-intact : goal.returns-in_err-text-clause-intact
+returns-in_err-text-clause-intact g c = rests_intact c.args.self.now (λ f. g.met.D.Device.only_now c.args.self.now.root.log.device.device f) c.requires.regions
+
+pub returns-then-not-has_room-clause-intact : goal.returns-then-not-has_room-clause-intact
+returns-then-not-has_room-clause-intact g c = rests_intact c.args.self.now (λ f. g.met.D.Device.only_now c.args.self.now.root.log.device.device f) c.requires.regions
+
+pub returns-in_err-end-clause-intact : goal.returns-in_err-end-clause-intact
+returns-in_err-end-clause-intact g c =
+    let j = c.args.self.now in
+    outside_leaves c.args.place j c.copy_to.new.self (free_outside j c.args.place c.requires.free) c.requires.regions c.copy_to.ensures.honest c.copy_to.ensures.left
+
+pub returns-in_err-put-clause-intact : goal.returns-in_err-put-clause-intact
+returns-in_err-put-clause-intact g c = λ now i.
+    let j = c.args.self.now in
+    let q = c.requires.regions in
+    let free = c.requires.free in
+    let d = g.D.Device in
+    let h = j.root.log.device.len in
+    let p = c.args.place in
+    let ns : List ℕ = j.closed.items in
+    let device = j.root.log.device.device in
+    let copied = c.copy_to.new.self in
+    let mid = copied.root.log.device.device in
+    let fin = c.put.new.self.log.device.device in
+    let ok = c.in_ok-end.ensures in
+    let honest_mid = c.put.ensures.honest now in
+    let at = intact_at j q (c.copy_to.ensures.honest honest_mid) i in
+    let text_is : c.deref-3.result.now ≡ places_text (ns ++ p ∷ []) = c.deref-3.ensures.value ∙ c.in_ok-text.ensures ∙ ap (λ (xs : List ℕ). places_text (xs ++ p ∷ [])) c.deref.ensures.value in
+    let small : copied.root.number + 1 < NUMBER_LIMIT = omega (arith, (c.has_room.ensures.room c.if-not-has_room.false).0, c.copy_to.ensures.number) in
+    let named : (f : List ℕ) → IsOldOrNew copied.root.log.device.len (d.seen mid) (numbered (copied.root.number + 1) c.deref-3.result.now) f → IsIntact h j.len f = λ f either.
+    with_other h j.len j.root.number ns j.growing (d.seen device) at p free.behind free.small free.within free.apart (d.seen mid) ok.beside ok.log.sound (copied.root.number + 1) small f
+    (subst (λ (k : ℕ). IsOldOrNew k (d.seen mid) (numbered (copied.root.number + 1) (places_text (ns ++ p ∷ []))) f) c.copy_to.ensures.half
+    (subst (λ (text : List ℕ). IsOldOrNew copied.root.log.device.len (d.seen mid) (numbered (copied.root.number + 1) text) f) text_is either)) in
+    let P : List ℕ → Type 0 = IsIntact h j.len in
+    runs_on d.moment d.left_since device mid fin P (outside_leaves p j copied (free_outside j p free) q c.copy_to.ensures.honest c.copy_to.ensures.left honest_mid i)
+    (weakened d.moment d.left_since mid fin _ P (c.put.ensures.any_moment now) named)
+
+pub returns-clause-intact : goal.returns-clause-intact
+returns-clause-intact g c = λ now i.
+    let j = c.args.self.now in
+    let q = c.requires.regions in
+    let free = c.requires.free in
+    let d = g.D.Device in
+    let h = j.root.log.device.len in
+    let p = c.args.place in
+    let ns : List ℕ = j.closed.items in
+    let device = j.root.log.device.device in
+    let copied = c.copy_to.new.self in
+    let mid = copied.root.log.device.device in
+    let fin = c.put.new.self.log.device.device in
+    let ok = c.in_ok-end.ensures in
+    let honest_mid = c.put.ensures.honest now in
+    let at = intact_at j q (c.copy_to.ensures.honest honest_mid) i in
+    let text_is : c.deref-3.result.now ≡ places_text (ns ++ p ∷ []) = c.deref-3.ensures.value ∙ c.in_ok-text.ensures ∙ ap (λ (xs : List ℕ). places_text (xs ++ p ∷ [])) c.deref.ensures.value in
+    let small : copied.root.number + 1 < NUMBER_LIMIT = omega (arith, (c.has_room.ensures.room c.if-not-has_room.false).0, c.copy_to.ensures.number) in
+    let named : (f : List ℕ) → IsOldOrNew copied.root.log.device.len (d.seen mid) (numbered (copied.root.number + 1) c.deref-3.result.now) f → IsIntact h j.len f = λ f either.
+    with_other h j.len j.root.number ns j.growing (d.seen device) at p free.behind free.small free.within free.apart (d.seen mid) ok.beside ok.log.sound (copied.root.number + 1) small f
+    (subst (λ (k : ℕ). IsOldOrNew k (d.seen mid) (numbered (copied.root.number + 1) (places_text (ns ++ p ∷ []))) f) c.copy_to.ensures.half
+    (subst (λ (text : List ℕ). IsOldOrNew copied.root.log.device.len (d.seen mid) (numbered (copied.root.number + 1) text) f) text_is either)) in
+    let P : List ℕ → Type 0 = IsIntact h j.len in
+    runs_on d.moment d.left_since device mid fin P (outside_leaves p j copied (free_outside j p free) q c.copy_to.ensures.honest c.copy_to.ensures.left honest_mid i)
+    (weakened d.moment d.left_since mid fin _ P (c.put.ensures.any_moment now) named)
+
+pub returns-clause-stays : goal.returns-clause-stays
+returns-clause-stays g c = λ now i.
+    let j = c.args.self.now in
+    let q = c.requires.regions in
+    let free = c.requires.free in
+    let d = g.D.Device in
+    let h = j.root.log.device.len in
+    let p = c.args.place in
+    let ns : List ℕ = j.closed.items in
+    let device = j.root.log.device.device in
+    let copied = c.copy_to.new.self in
+    let mid = copied.root.log.device.device in
+    let fin = c.put.new.self.log.device.device in
+    let ok = c.in_ok-end.ensures in
+    let honest_mid = c.put.ensures.honest now in
+    let at = intact_at j q (c.copy_to.ensures.honest honest_mid) i in
+    let text_is : c.deref-3.result.now ≡ places_text (ns ++ p ∷ []) = c.deref-3.ensures.value ∙ c.in_ok-text.ensures ∙ ap (λ (xs : List ℕ). places_text (xs ++ p ∷ [])) c.deref.ensures.value in
+    let small : copied.root.number + 1 < NUMBER_LIMIT = omega (arith, (c.has_room.ensures.room c.if-not-has_room.false).0, c.copy_to.ensures.number) in
+    let named : (f : List ℕ) → IsOldOrNew copied.root.log.device.len (d.seen mid) (numbered (copied.root.number + 1) c.deref-3.result.now) f → IsIntact h j.len f = λ f either.
+    with_other h j.len j.root.number ns j.growing (d.seen device) at p free.behind free.small free.within free.apart (d.seen mid) ok.beside ok.log.sound (copied.root.number + 1) small f
+    (subst (λ (k : ℕ). IsOldOrNew k (d.seen mid) (numbered (copied.root.number + 1) (places_text (ns ++ p ∷ []))) f) c.copy_to.ensures.half
+    (subst (λ (text : List ℕ). IsOldOrNew copied.root.log.device.len (d.seen mid) (numbered (copied.root.number + 1) text) f) text_is either)) in
+    named (d.seen fin) (c.in_ok-put.ensures.shown now)

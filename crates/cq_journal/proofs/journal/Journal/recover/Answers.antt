@@ -3,6 +3,7 @@ use Rattle.std.proofs.Common.{List, [], ◌∷◌, ◌++◌, ℕ, sym, subst}
 use Rattle.cq_disk.proofs.Moments.{started}
 use Rattle.cq_journal.specs.Regions.{HasRecords, records_at}
 use Rattle.cq_journal.proofs.Regions.{kept_of}
+use Rattle.cq_journal.proofs.Intact.{rests_intact}
 use Rattle.cq_journal.proofs.journal.Journal.recover.Goals as goal
 
 pub returns-in_default-clause-any_moment : goal.returns-in_default-clause-any_moment
@@ -15,3 +16,6 @@ returns-in_default-clause-any_moment g c = λ honest.
     let P : List ℕ → Type 0 = HasRecords j.root.log.device.len j.len (records_at j.len places (d.seen device)) in
     started d.moment d.left_since device P (λ f left.
     subst P (sym (q.root.durable f (g.met.D.Device.only_now device f left))) (kept_of j.root.log.device.len j.len j.root.number places (d.seen device) q.small (q.names honest)))
+
+pub returns-in_default-clause-intact : goal.returns-in_default-clause-intact
+returns-in_default-clause-intact g c = rests_intact c.args.self.now (λ f. g.met.D.Device.only_now c.args.self.now.root.log.device.device f) c.requires

@@ -10,6 +10,8 @@ use Rattle.cq_journal.specs.Regions.{Each, AreApart, places_text, records_at}
 use Rattle.cq_journal.specs.Roots.{numbered, IsOldOrNew}
 use Rattle.cq_journal.proofs.Bases.{while_rewritten, transposed, apart_back, each_both}
 use Rattle.cq_journal.proofs.Regions.{each_left, each_so, kept_of, last_of, no_zero_places, part_same, places_long, records_same}
+use Rattle.cq_journal.specs.Intact.{IsIntact}
+use Rattle.cq_journal.proofs.Intact.{rests_intact, intact_at, named_intact}
 use Rattle.cq_journal.proofs.journal.Journal.rewrite.Goals as goal
 
 pub text_of-requires-clause-closed : goal.text_of-requires-clause-closed
@@ -146,3 +148,66 @@ returns-clause-freed g c =
       apart = each_so (λ m. AreApart n a m) (λ m. AreApart n m a) (λ m. apart_back n a m) bs facts.1.1.1;
       few = base.few;
     }) ns all
+
+pub returns-in_err-text-clause-intact : goal.returns-in_err-text-clause-intact
+returns-in_err-text-clause-intact g c = rests_intact c.args.self.now (λ f. g.met.D.Device.only_now c.args.self.now.root.log.device.device f) c.requires.journal.regions
+
+pub returns-then-not-has_room-clause-intact : goal.returns-then-not-has_room-clause-intact
+returns-then-not-has_room-clause-intact g c = rests_intact c.args.self.now (λ f. g.met.D.Device.only_now c.args.self.now.root.log.device.device f) c.requires.journal.regions
+
+pub returns-in_err-put-clause-intact : goal.returns-in_err-put-clause-intact
+returns-in_err-put-clause-intact g c = λ now i.
+    let j = c.args.self.now in
+    let b = c.args.base in
+    let q = c.requires.journal.regions in
+    let base = c.requires.base in
+    let d = g.D.Device in
+    let h = j.root.log.device.len in
+    let n = j.root.number in
+    let device = j.root.log.device.device in
+    let old = d.seen device in
+    let bs : List ℕ = base_places b in
+    let at = intact_at j q (c.put.ensures.honest now) i in
+    let text_is : c.deref-3.result.now ≡ places_text bs = c.deref-3.ensures.value ∙ c.in_ok-text.ensures ∙ ap (λ (xs : List ℕ). places_text (xs ++ b.growing ∷ [])) c.deref.ensures.value in
+    let named : (f : List ℕ) → IsOldOrNew h old (numbered (n + 1) c.deref-3.result.now) f → IsIntact h j.len f = λ f either.
+    named_intact h j.len n j.closed.items j.growing old at (n + 1) b.closed.items b.growing (c.has_room.ensures.room c.if-not-has_room.false).0 base.small base.behind base.within base.alone base.sound f
+    (subst (λ (text : List ℕ). IsOldOrNew h old (numbered (n + 1) text) f) text_is either) in
+    weakened d.moment d.left_since device c.put.new.self.log.device.device _ (IsIntact h j.len) (c.put.ensures.any_moment now) named
+
+pub returns-clause-intact : goal.returns-clause-intact
+returns-clause-intact g c = λ now i.
+    let j = c.args.self.now in
+    let b = c.args.base in
+    let q = c.requires.journal.regions in
+    let base = c.requires.base in
+    let d = g.D.Device in
+    let h = j.root.log.device.len in
+    let n = j.root.number in
+    let device = j.root.log.device.device in
+    let old = d.seen device in
+    let bs : List ℕ = base_places b in
+    let at = intact_at j q (c.put.ensures.honest now) i in
+    let text_is : c.deref-3.result.now ≡ places_text bs = c.deref-3.ensures.value ∙ c.in_ok-text.ensures ∙ ap (λ (xs : List ℕ). places_text (xs ++ b.growing ∷ [])) c.deref.ensures.value in
+    let named : (f : List ℕ) → IsOldOrNew h old (numbered (n + 1) c.deref-3.result.now) f → IsIntact h j.len f = λ f either.
+    named_intact h j.len n j.closed.items j.growing old at (n + 1) b.closed.items b.growing (c.has_room.ensures.room c.if-not-has_room.false).0 base.small base.behind base.within base.alone base.sound f
+    (subst (λ (text : List ℕ). IsOldOrNew h old (numbered (n + 1) text) f) text_is either) in
+    weakened d.moment d.left_since device c.put.new.self.log.device.device _ (IsIntact h j.len) (c.put.ensures.any_moment now) named
+
+pub returns-clause-stays : goal.returns-clause-stays
+returns-clause-stays g c = λ now i.
+    let j = c.args.self.now in
+    let b = c.args.base in
+    let q = c.requires.journal.regions in
+    let base = c.requires.base in
+    let d = g.D.Device in
+    let h = j.root.log.device.len in
+    let n = j.root.number in
+    let device = j.root.log.device.device in
+    let old = d.seen device in
+    let bs : List ℕ = base_places b in
+    let at = intact_at j q (c.put.ensures.honest now) i in
+    let text_is : c.deref-3.result.now ≡ places_text bs = c.deref-3.ensures.value ∙ c.in_ok-text.ensures ∙ ap (λ (xs : List ℕ). places_text (xs ++ b.growing ∷ [])) c.deref.ensures.value in
+    let named : (f : List ℕ) → IsOldOrNew h old (numbered (n + 1) c.deref-3.result.now) f → IsIntact h j.len f = λ f either.
+    named_intact h j.len n j.closed.items j.growing old at (n + 1) b.closed.items b.growing (c.has_room.ensures.room c.if-not-has_room.false).0 base.small base.behind base.within base.alone base.sound f
+    (subst (λ (text : List ℕ). IsOldOrNew h old (numbered (n + 1) text) f) text_is either) in
+    named (d.seen c.put.new.self.log.device.device) (c.in_ok-put.ensures.shown now)

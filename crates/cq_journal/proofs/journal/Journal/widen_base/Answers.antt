@@ -11,6 +11,7 @@ use Rattle.cq_records.specs.declared.fault.LogFault.TheVariants.{Full as LogFull
 use Rattle.cq_journal.proofs.Bases.{base_still, base_records_still, free_outside, base_made, records_widened}
 use Rattle.cq_journal.proofs.Moves.{blank_log}
 use Rattle.cq_journal.proofs.Regions.{each_more, kept_of}
+use Rattle.cq_journal.proofs.Intact.{rests_intact}
 use Rattle.cq_journal.proofs.journal.Journal.widen_base.Goals as goal
 
 pub clear_outside-requires-clause-outside : goal.clear_outside-requires-clause-outside
@@ -57,6 +58,7 @@ returns-clause-base g c =
     (each_more (λ n. Each (λ m. AreApart j.len m n) (journal_places j)) ns p q.apart free.apart)
     (each_more (λ n. AreApart j.len n p) b.closed.items b.growing found.apart found.apart_growing)
     (omega (arith, length-append ns (p ∷ []), length-append b.closed.items (b.growing ∷ []), found.few))
+    q.sound
     (blank_log j.len _ done.zeros)
 
 pub returns-clause-same : goal.returns-clause-same
@@ -86,3 +88,9 @@ returns-in_err-clear_outside-clause-full g c = λ full.
       base_still p j new places changes.len changes.half changes.length changes.beside b c.requires.base apart,
       base_records_still p j new places changes.len changes.half changes.length changes.beside b c.requires.base apart,
     )
+
+pub returns-in_default-clause-intact : goal.returns-in_default-clause-intact
+returns-in_default-clause-intact g c = rests_intact c.args.self.now (λ f. g.met.D.Device.only_now c.args.self.now.root.log.device.device f) c.requires.journal.regions
+
+pub returns-in_err-closed-clause-intact : goal.returns-in_err-closed-clause-intact
+returns-in_err-closed-clause-intact g c = rests_intact c.args.self.now (λ f. g.met.D.Device.only_now c.args.self.now.root.log.device.device f) c.requires.journal.regions
