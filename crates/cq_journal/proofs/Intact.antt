@@ -24,7 +24,7 @@ abbrev named_places : Option (List ℕ) → List ℕ
 named_places None = []
 named_places (Some root) = places_in (drop 5 root)
 
-same_places : (n m : ℕ) (ps qs : List ℕ) → Each (λ k. k < NUMBER_LIMIT) ps → Each (λ k. k < NUMBER_LIMIT) qs → Some (numbered n (places_text ps)) ≡ Some (numbered m (places_text qs)) → ps ≡ qs
+pub same_places : (n m : ℕ) (ps qs : List ℕ) → Each (λ k. k < NUMBER_LIMIT) ps → Each (λ k. k < NUMBER_LIMIT) qs → Some (numbered n (places_text ps)) ≡ Some (numbered m (places_text qs)) → ps ≡ qs
 same_places n m ps qs small_p small_q same = sym (places_back ps small_p) ∙ named ∙ places_back qs small_q
   where
     named : places_in (places_text ps) ≡ places_in (places_text qs)
@@ -35,7 +35,7 @@ same_places n m ps qs small_p small_q same = sym (places_back ps small_p) ∙ na
 long_within : (len : ℕ) (ms old c : List ℕ) → length c ≡ length old → Each (λ m. m + len ≤ length old) ms → Each (λ m. m + len ≤ length c) ms
 long_within len ms old c long within = subst (λ (k : ℕ). Each (λ m. m + len ≤ k) ms) (sym long) within
 
-halves_apart : (h len p : ℕ) (old c : List ℕ) → h + h ≤ p → Beside p len old c → HasSoundHalves h old → HasSoundHalves h c
+pub halves_apart : (h len p : ℕ) (old c : List ℕ) → h + h ≤ p → Beside p len old c → HasSoundHalves h old → HasSoundHalves h c
 halves_apart h len p old c low beside halves = record {
   differ = λ same. halves.differ (sym (number_same 0 first) ∙ same ∙ number_same h second);
   first = ap (λ (l : List ℕ). all_sound (frames l)) first ∙ halves.first;

@@ -9,5 +9,6 @@ mod Moves
 mod OtherRegions
 pub mod RegionLists
 mod Refreshed
+mod Refused
 mod Regions
 mod Survival

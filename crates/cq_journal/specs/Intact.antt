@@ -34,3 +34,19 @@ module _ {D : Type 0} {g : Ghosts D} where
   abbrev pub StaysIntact : Journal D g → Journal D g → Type 0
   StaysIntact old new = IsTrue (g.is_honest (journal_device new)) → IsIntact (journal_half old) (region_len old) (g.seen (journal_device old))
       → IsIntact (journal_half old) (region_len old) (g.seen (journal_device new))
+
+-- ---- rows that compute: halves of 20 bytes, of which the first one names a region of 10 bytes at 40
+
+-- 49 bytes of such a device
+abbrev pub example : List ℕ → List ℕ
+example end = 1 ∷ 11 ∷ 1 ∷ 1 ∷ 46 ∷ 130 ∷ 23 ∷ 76 ∷ 1 ∷ 2 ∷ 1 ∷ 1 ∷ 1 ∷ 1 ∷ 41 ∷ 1 ∷ 1 ∷ 1 ∷ 1 ∷ 0 ∷ 0 ∷ 0 ∷ 0 ∷ 0 ∷ 0 ∷ 0 ∷ 0 ∷ 0 ∷ 0 ∷ 0 ∷ 0 ∷ 0 ∷ 0 ∷ 0 ∷ 0 ∷ 0 ∷ 0 ∷ 0 ∷ 0 ∷ 0 ∷ 1 ∷ 2 ∷ 1 ∷ 1 ∷ 216 ∷ 208 ∷ 90 ∷ 215 ∷ 1 ∷ end
+
+pub record IntactExamples : Type 0 where
+  -- with a record of one byte
+  pub whole : IsIntact 20 10 (example (65 ∷ []))
+  -- whose last byte a crash has lost
+  pub torn : IsIntact 20 10 (example (0 ∷ []))
+  -- whose last byte is another one
+  pub rotten : IsIntact 20 10 (example (66 ∷ [])) → ⊥
+  -- a device that ends inside its region
+  pub short : IsIntact 20 10 (example []) → ⊥

@@ -11,3 +11,4 @@ pub mod Rests
 pub mod Faults
 pub mod Changes
 pub mod Histories
+pub mod Refusals

@@ -30,6 +30,7 @@ impl<D: Device> Journal<D> {
         ensures stays_full { IsErrOf result LogFault.Full → StaysIntact self.old self.new }
         ensures honest { IsTrue (D.is_honest (journal_device self.new)) → IsTrue (D.is_honest (journal_device self.old)) }
         ensures full { IsErrOf result LogFault.Full → IsJournal self.new × (journal_records self.new ≡ journal_records self.old) }
+        ensures lengths_full { IsErrOf result LogFault.Full → (journal_half self.new ≡ journal_half self.old) × (region_len self.new ≡ region_len self.old) }
         ensures failed { IsErrOf result LogFault.Failed → D.faults (journal_device self.old) < D.faults (journal_device self.new) }
     {
         match self.commit(batch) {
@@ -52,6 +53,7 @@ impl<D: Device> Journal<D> {
         ensures stays_full { IsErrOf result LogFault.Full → StaysIntact self.old self.new }
         ensures honest { IsTrue (D.is_honest (journal_device self.new)) → IsTrue (D.is_honest (journal_device self.old)) }
         ensures full { IsErrOf result LogFault.Full → IsJournal self.new × (journal_records self.new ≡ journal_records self.old) }
+        ensures lengths_full { IsErrOf result LogFault.Full → (journal_half self.new ≡ journal_half self.old) × (region_len self.new ≡ region_len self.old) }
         ensures failed { IsErrOf result LogFault.Failed → D.faults (journal_device self.old) < D.faults (journal_device self.new) }
     {
         if batch.as_slice().len() > self.len {

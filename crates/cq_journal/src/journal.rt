@@ -3,6 +3,7 @@ ghost use Rattle.std.specs.Prelude.{◌≡◌, ◌++◌, ◌+◌, ◌<◌, ◌�
 ghost use Rattle.cq_disk.specs.Device.{LeavesOnly};
 ghost use Rattle.cq_records.specs.Batch.{batch_bytes};
 ghost use Rattle.cq_records.specs.Frames.{records};
+ghost use Rattle.cq_journal.specs.Intact.{IsIntact};
 ghost use Rattle.cq_journal.specs.Regions.{kept, HasPrefixOf, HasRecords};
 ghost use Rattle.cq_journal.specs.declared.base.Base.{Base};
 
@@ -45,6 +46,7 @@ impl<D: Device> Journal<D> {
         ensures empty { IfOk result (λ journal. journal_records journal ≡ []) }
         ensures half { IfOk result (λ journal. journal_half journal ≡ half) }
         ensures len { IfOk result (λ journal. region_len journal ≡ len) }
+        ensures intact { IfOk result (λ journal. IsIntact half len (D.seen (journal_device journal))) }
     {
         let place = half + half;
         let mut text = Vec::new(alloc);
@@ -139,6 +141,7 @@ impl<D: Device> Journal<D> {
         ensures stays_full { IsErrOf result LogFault.Full → StaysIntact self.old self.new }
         ensures honest { IsTrue (D.is_honest (journal_device self.new)) → IsTrue (D.is_honest (journal_device self.old)) }
         ensures full { IsErrOf result LogFault.Full → IsJournal self.new × (journal_records self.new ≡ journal_records self.old) }
+        ensures lengths_full { IsErrOf result LogFault.Full → (journal_half self.new ≡ journal_half self.old) × (region_len self.new ≡ region_len self.old) }
         ensures failed { IsErrOf result LogFault.Failed → D.faults (journal_device self.old) < D.faults (journal_device self.new) }
         ensures later { D.faults (journal_device self.old) ≤ D.faults (journal_device self.new) }
     {
@@ -163,6 +166,7 @@ impl<D: Device> Journal<D> {
         ensures stays_full { IsErrOf result LogFault.Full → StaysIntact self.old self.new }
         ensures honest { IsTrue (D.is_honest (journal_device self.new)) → IsTrue (D.is_honest (journal_device self.old)) }
         ensures full { IsErrOf result LogFault.Full → IsJournal self.new × (journal_records self.new ≡ journal_records self.old) }
+        ensures lengths_full { IsErrOf result LogFault.Full → (journal_half self.new ≡ journal_half self.old) × (region_len self.new ≡ region_len self.old) }
         ensures failed { IsErrOf result LogFault.Failed → D.faults (journal_device self.old) < D.faults (journal_device self.new) }
         ensures later { D.faults (journal_device self.old) ≤ D.faults (journal_device self.new) }
     {

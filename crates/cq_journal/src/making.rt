@@ -2,7 +2,7 @@
 ghost use Rattle.std.specs.Prelude.{◌≡◌, ◌+◌, ◌<◌, ◌≤◌, true, length, Some, IfOk};
 ghost use Rattle.cq_records.specs.Frames.{has_no_zero};
 ghost use Rattle.cq_journal.specs.Root.{root_half, root_device, root_number, IsRoot};
-ghost use Rattle.cq_journal.specs.Roots.{root_of, numbered};
+ghost use Rattle.cq_journal.specs.Roots.{root_of, numbered, HasSoundHalves};
 
 use crate::root::batch_of;
 use crate::{ROOT_TEXT_LIMIT, Root};
@@ -24,6 +24,7 @@ pub fn create<D: Device>(
     ensures half { IfOk result (λ root. root_half root ≡ half) }
     ensures number { IfOk result (λ root. root_number root ≡ 1) }
     ensures text { IfOk result (λ root. root_of half (D.seen (root_device root)) ≡ Some (numbered 1 text.now)) }
+    ensures sound { IfOk result (λ root. HasSoundHalves half (D.seen (root_device root))) }
 {
     let batch = batch_of(alloc, 1, text)?;
     let mut device = device;

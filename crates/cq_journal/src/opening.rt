@@ -1,8 +1,9 @@
 //! How a root is read.
-ghost use Rattle.std.specs.Prelude.{◌≡◌, ◌⊎◌, ◌+◌, ◌<◌, ◌≤◌, length, Some, None, IsTrue, IfOk, OnOk, IfSome, MatchOption, IsErrOf};
+ghost use Rattle.std.specs.Prelude.{◌≡◌, ◌⊎◌, ◌+◌, ◌<◌, ◌≤◌, false, length, Some, None, IsTrue, IfOk, OnOk, IfSome, MatchOption, IsErrOf, ⊤};
 ghost use Rattle.cq_disk.specs.Device.{Only, LeavesOnly, HasCause};
 ghost use Rattle.cq_disk.specs.Region.{part};
-ghost use Rattle.cq_journal.specs.Roots.{number_in, half_of};
+ghost use Rattle.cq_records.specs.Frames.{frames, all_sound};
+ghost use Rattle.cq_journal.specs.Roots.{number_in, half_of, HasSoundHalves};
 ghost use Rattle.cq_journal.specs.Found.{items_of, IsChosen, IsFound};
 ghost use Rattle.cq_journal.specs.within.Refreshed.{IsRefreshed};
 
@@ -42,6 +43,8 @@ pub fn read_root<D: Device>(
     ensures any_moment { IsTrue (D.is_honest region.new.device) → LeavesOnly D.moment D.left_since region.old.device region.new.device
         (λ c. D.may_leave region.old.device c ⊎ (c ≡ D.seen region.old.device)) }
     ensures honest { IsTrue (D.is_honest region.new.device) → IsTrue (D.is_honest region.old.device) }
+    ensures damaged { IsErrOf result ReadFault.Damaged → IsTrue (D.is_honest region.new.device) → HasSoundHalves region.old.len (D.seen region.old.device) → ⊥ }
+    ensures none { IfOk result (λ found. MatchOption found (IsTrue (D.is_honest region.new.device) → HasSoundHalves region.old.len (D.seen region.old.device) → ⊥) (λ _. ⊤)) }
     ensures failed { IsErrOf result ReadFault.Failed → D.faults region.old.device < D.faults region.new.device }
 {
     let found = find_root(alloc, region)?;
@@ -63,6 +66,7 @@ fn find_root<D: Device>(alloc: Global, region: &mut Region<D>) -> Result<Option<
     ensures any_moment { LeavesOnly D.moment D.left_since region.old.device region.new.device
         (λ c. D.may_leave region.old.device c ⊎ (c ≡ D.seen region.old.device)) }
     ensures honest { IsTrue (D.is_honest region.new.device) → IsTrue (D.is_honest region.old.device) }
+    ensures damaged { IsErrOf result ReadFault.Damaged → IsTrue (D.is_honest region.new.device) → HasSoundHalves region.old.len (D.seen region.old.device) → ⊥ }
     ensures later { D.faults region.old.device ≤ D.faults region.new.device }
     ensures failed { IsErrOf result ReadFault.Failed → D.faults region.old.device < D.faults region.new.device }
 {
@@ -113,6 +117,7 @@ fn read_half<D: Device>(alloc: Global, region: &mut Region<D>) -> Result<Option<
     ensures any_moment { Only (D.seen region.old.device) (D.may_leave region.old.device) → LeavesOnly D.moment D.left_since region.old.device region.new.device
         (λ c. c ≡ D.seen region.old.device) }
     ensures honest { IsTrue (D.is_honest region.new.device) → IsTrue (D.is_honest region.old.device) }
+    ensures damaged { IsErrOf result ReadFault.Damaged → IsTrue (D.is_honest region.new.device) → all_sound (frames (part region.old.start region.old.len (D.seen region.old.device))) ≡ false }
     ensures later { D.faults region.old.device ≤ D.faults region.new.device }
     ensures failed { IsErrOf result ReadFault.Failed → D.faults region.old.device < D.faults region.new.device }
 {
@@ -149,6 +154,7 @@ fn choose(
     second: Option<Vec<u8>>,
 ) -> Result<Option<Found>, ReadFault>
     ensures chosen { IfOk result (IsChosen half (items_of first) (items_of second)) }
+    ensures damaged { IsErrOf result ReadFault.Damaged → number_in (items_of first) ≡ number_in (items_of second) }
     ensures failed { IsErrOf result ReadFault.Failed → ⊥ }
 {
     let (a, b) = (number_of_half(&first), number_of_half(&second));

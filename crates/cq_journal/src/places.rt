@@ -1,6 +1,6 @@
 //! The places of regions as the text of a root.
-ghost use Rattle.std.specs.Prelude.{◌≡◌, ◌++◌, ◌∷◌, [], ◌<◌, true, OnOk, IfOk};
-ghost use Rattle.cq_journal.specs.Regions.{AreApart, Each, places_text};
+ghost use Rattle.std.specs.Prelude.{◌≡◌, ◌++◌, ◌∷◌, [], ◌<◌, true, false, drop, OnOk, IfOk};
+ghost use Rattle.cq_journal.specs.Regions.{AreApart, Each, places_in, places_text};
 ghost use Rattle.cq_journal.specs.Roots.{numbered};
 ghost use Rattle.cq_journal.specs.within.Bounds.{IsWithin};
 
@@ -10,14 +10,16 @@ use std::alloc::{AllocError, Global};
 
 /// Whether two regions of this length have no byte in common.
 pub(crate) fn is_apart(len: usize, a: usize, b: usize) -> bool
-    ensures { result ≡ true → AreApart len a b }
+    ensures apart { result ≡ true → AreApart len a b }
+    ensures not { result ≡ false → AreApart len a b → ⊥ }
 {
     if a <= b { b - a >= len } else { a - b >= len }
 }
 
 /// Whether all of these regions have no byte in common with that one: O(places).
 pub(crate) fn are_apart(len: usize, places: &[u64], place: usize) -> bool
-    ensures { result ≡ true → Each (λ n. AreApart len n place) places.now }
+    ensures apart { result ≡ true → Each (λ n. AreApart len n place) places.now }
+    ensures not { result ≡ false → Each (λ n. AreApart len n place) places.now → ⊥ }
 {
     for other in places {
         if !is_apart(len, *other as usize, place) {
@@ -83,7 +85,8 @@ pub(crate) fn with_next(
 
 /// Whether a region of this length at this place begins at `low` or behind it, and ends at `high` or before it.
 fn is_within(len: usize, low: usize, high: usize, place: u64) -> bool
-    ensures { result ≡ true → IsWithin len low high place }
+    ensures within { result ≡ true → IsWithin len low high place }
+    ensures not { result ≡ false → IsWithin len low high place → ⊥ }
 {
     if place >= NUMBER_LIMIT {
         return false;
@@ -94,7 +97,8 @@ fn is_within(len: usize, low: usize, high: usize, place: u64) -> bool
 
 /// Whether all of these regions lie there: O(places).
 pub(crate) fn are_within(len: usize, low: usize, high: usize, places: &[u64]) -> bool
-    ensures { result ≡ true → Each (IsWithin len low high) places.now }
+    ensures within { result ≡ true → Each (IsWithin len low high) places.now }
+    ensures not { result ≡ false → Each (IsWithin len low high) places.now → ⊥ }
 {
     for place in places {
         if !is_within(len, low, high, *place) {
@@ -106,7 +110,8 @@ pub(crate) fn are_within(len: usize, low: usize, high: usize, places: &[u64]) ->
 
 /// The numbers that a root's record names behind its own, five bytes each: O(bytes).
 pub(crate) fn read_places(alloc: Global, bytes: &[u8]) -> Result<Vec<u64>, AllocError>
-    ensures { IfOk result (λ places. Each (λ n. n < NUMBER_LIMIT) places.items) }
+    ensures places { IfOk result (λ places. places.items ≡ places_in (drop 5 bytes.now)) }
+    ensures small { IfOk result (λ places. Each (λ n. n < NUMBER_LIMIT) places.items) }
 {
     let mut places = Vec::new(alloc);
     let mut at = bytes.len().min(5);
@@ -129,7 +134,8 @@ pub(crate) fn is_record_of(
     requires number { number < NUMBER_LIMIT }
     requires closed { Each (λ n. n < NUMBER_LIMIT) closed.now }
     requires growing { growing < NUMBER_LIMIT }
-    ensures { IfOk result (λ is. is ≡ true → bytes.now ≡ numbered number (places_text (closed.now ++ growing ∷ []))) }
+    ensures is { IfOk result (λ is. is ≡ true → bytes.now ≡ numbered number (places_text (closed.now ++ growing ∷ []))) }
+    ensures not { IfOk result (λ is. is ≡ false → bytes.now ≡ numbered number (places_text (closed.now ++ growing ∷ [])) → ⊥) }
 {
     let mut record = Vec::new(alloc);
     push_number(&mut record, number)?;

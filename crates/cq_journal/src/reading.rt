@@ -1,7 +1,8 @@
 //! What the regions of a journal have, read one by one.
-ghost use Rattle.std.specs.Prelude.{◌≡◌, ◌++◌, ◌+◌, ◌<◌, ◌≤◌, ℕ, [], length, drop, get_or, Err, IsTrue, OnOk, IsErrOf};
+ghost use Rattle.std.specs.Prelude.{◌≡◌, ◌++◌, ◌+◌, ◌<◌, ◌≤◌, ℕ, [], false, length, drop, get_or, Err, IsTrue, OnOk, IsErrOf};
 ghost use Rattle.cq_disk.specs.Region.{part};
-ghost use Rattle.cq_records.specs.Frames.{records, joined, IsDamaged};
+ghost use Rattle.cq_records.specs.Frames.{frames, records, joined, all_sound, IsDamaged};
+ghost use Rattle.cq_journal.specs.Intact.{IsIntact};
 
 use crate::{Journal, RegionFault};
 use cq_disk::Device;
@@ -9,7 +10,7 @@ use cq_records::ReadFault;
 use std::alloc::Global;
 
 impl<D: Device> Journal<D> {
-    ghost use Rattle.cq_journal.specs.Journal.{HasRegions, IsJournal, journal_device, journal_places, journal_regions, region_len, IsDamagedAt};
+    ghost use Rattle.cq_journal.specs.Journal.{HasRegions, IsJournal, journal_device, journal_half, journal_places, journal_regions, region_len, IsDamagedAt};
     ghost use Rattle.cq_journal.specs.Rests.{Rests};
 
     /// How many regions count.
@@ -36,6 +37,7 @@ impl<D: Device> Journal<D> {
         ensures regions { journal_regions self.new ≡ journal_regions self.old }
         ensures read { OnOk result (IsTrue (D.is_honest (journal_device self.new)) → text.new.items ≡ text.old.items ++ joined (get_or (journal_regions self.old) index [])) }
         ensures damaged { (place : ℕ) → result ≡ Err (RegionFault.Damaged place) → IsTrue (D.is_honest (journal_device self.new)) → IsDamagedAt self.old index place }
+        ensures refused { (place : ℕ) → result ≡ Err (RegionFault.Damaged place) → IsTrue (D.is_honest (journal_device self.new)) → IsIntact (journal_half self.old) (region_len self.old) (D.seen (journal_device self.old)) → ⊥ }
         ensures failed { result ≡ Err RegionFault.Failed → D.faults (journal_device self.old) < D.faults (journal_device self.new) }
     {
         let _whole = self.root.log.device.device.len();
@@ -67,6 +69,7 @@ impl<D: Device> Journal<D> {
         ensures read { OnOk result (IsTrue (D.is_honest (journal_device self.new)) → text.new.items ≡ text.old.items ++ joined (records (part place (region_len self.old) (D.seen (journal_device self.old))))) }
         ensures at { at.new ≤ region_len self.old }
         ensures damaged { IsErrOf result ReadFault.Damaged → IsTrue (D.is_honest (journal_device self.new)) → IsDamaged (drop at.new (part place (region_len self.old) (D.seen (journal_device self.old)))) }
+        ensures unsound { IsErrOf result ReadFault.Damaged → IsTrue (D.is_honest (journal_device self.new)) → all_sound (frames (part place (region_len self.old) (D.seen (journal_device self.old)))) ≡ false }
         ensures failed { IsErrOf result ReadFault.Failed → D.faults (journal_device self.old) < D.faults (journal_device self.new) }
     {
         self.root.read_texts_at(alloc, place, self.len, at, text)

@@ -71,6 +71,7 @@ impl<D: Device> Root<D> {
         ensures read { OnOk result (IsTrue (D.is_honest (root_device self.new)) → text.new.items ≡ text.old.items ++ joined (records (drop at.old (part place len (D.seen (root_device self.old)))))) }
         ensures at { at.new ≤ length (part place len (D.seen (root_device self.old))) }
         ensures damaged { IsErrOf result ReadFault.Damaged → IsTrue (D.is_honest (root_device self.new)) → IsDamaged (drop at.new (part place len (D.seen (root_device self.old)))) }
+        ensures unsound { IsErrOf result ReadFault.Damaged → IsTrue (D.is_honest (root_device self.new)) → all_sound (frames (drop at.old (part place len (D.seen (root_device self.old))))) ≡ false }
         ensures seen { D.seen (root_device self.new) ≡ D.seen (root_device self.old) }
         ensures any_moment { LeavesOnly D.moment D.left_since (root_device self.old) (root_device self.new)
             (λ c. c ≡ D.seen (root_device self.old)) }

@@ -5,6 +5,8 @@ ghost use Rattle.cq_disk.specs.Region.{part, Beside};
 ghost use Rattle.cq_records.specs.Frames.{records};
 ghost use Rattle.cq_records.specs.Layout.{IsLog};
 ghost use Rattle.cq_journal.specs.Histories.{OpensTo};
+ghost use Rattle.cq_journal.specs.Intact.{IsIntact};
+ghost use Rattle.cq_journal.specs.Refusals.{OpensIntact};
 ghost use Rattle.cq_journal.specs.Regions.{kept, HasRecords};
 ghost use Rattle.cq_journal.specs.Root.{root_half, root_device, root_number, IsRoot};
 ghost use Rattle.cq_journal.specs.Roots.{root_of};
@@ -29,6 +31,12 @@ impl<D: Device> Journal<D> {
         ensures kept { IfOk result (λ journal. IsTrue (D.is_honest (journal_device journal)) → kept half len (D.seen device) ≡ Some (journal_records journal)) }
         ensures lengths { IfOk result (λ journal. (journal_half journal ≡ half) × (region_len journal ≡ len)) }
         ensures any_moment { IfOk result (λ journal. IsTrue (D.is_honest (journal_device journal)) → OpensTo D.moment D.left_since D.may_leave D.seen half len device (journal_device journal)) }
+        ensures intact { IfOk result (λ journal. IsTrue (D.is_honest (journal_device journal)) → OpensIntact D.moment D.left_since D.may_leave D.seen half len device (journal_device journal)) }
+        ensures stays { IfOk result (λ journal. IsTrue (D.is_honest (journal_device journal)) → IsIntact half len (D.seen device) → IsIntact half len (D.seen (journal_device journal))) }
+
+        // It refuses intact bytes only where a read has given others: `last` is the device as the calls on it have left it.
+        ensures damaged { IsErrOf result OpenFault.Damaged → (last : D) × (IsTrue (D.is_honest last) → IsIntact half len (D.seen device) → ⊥) }
+        ensures nothing { IsErrOf result OpenFault.NoJournal → (last : D) × (IsTrue (D.is_honest last) → IsIntact half len (D.seen device) → ⊥) }
     {
         let _len = device.len();
         let mut region = Region {
@@ -60,6 +68,8 @@ impl<D: Device> Journal<D> {
 
         ensures regions { IfOk result HasRegions }
         ensures kept { IfOk result (λ journal. IsTrue (D.is_honest (journal_device journal)) → kept (journal_half journal) (region_len journal) (D.seen (journal_device journal)) ≡ Some (journal_records journal)) }
+        ensures damaged { IsErrOf result OpenFault.Damaged → IsTrue (D.is_honest (root_device root)) → IsIntact (root_half root) len (D.seen (root_device root)) → ⊥ }
+        ensures nothing { IsErrOf result OpenFault.NoJournal → ⊥ }
         ensures device { IfOk result (λ journal. (journal_device journal ≡ root_device root) × (journal_half journal ≡ root_half root) × (region_len journal ≡ len)) }
     {
         let mut closed = read_places(alloc, &found.bytes)?;
@@ -124,6 +134,8 @@ impl<D: Device> Journal<D> {
         ensures honest { IsTrue (D.is_honest (journal_device self.new)) → IsTrue (D.is_honest (journal_device self.old)) }
         ensures full { IsErrOf result OpenFault.Full → self.new ≡ self.old }
         ensures damaged { IsErrOf result OpenFault.Damaged → IsTrue (D.is_honest (journal_device self.new)) → grows_soundly self.old ≡ false }
+        ensures refused { IsErrOf result OpenFault.Damaged → IsTrue (D.is_honest (journal_device self.new)) → IsIntact (journal_half self.old) (region_len self.old) (D.seen (journal_device self.old)) → ⊥ }
+        ensures nothing { IsErrOf result OpenFault.NoJournal → ⊥ }
         ensures failed { IsErrOf result OpenFault.Failed → D.faults (journal_device self.old) < D.faults (journal_device self.new) }
     {
         let Some(place) = self.free_region() else {
@@ -147,6 +159,7 @@ impl<D: Device> Journal<D> {
         ensures honest { IsTrue (D.is_honest (journal_device self.new)) → IsTrue (D.is_honest (journal_device self.old)) }
         ensures full { IsErrOf result OpenFault.Full → self.new ≡ self.old }
         ensures damaged { IsErrOf result OpenFault.Damaged → IsTrue (D.is_honest (journal_device self.new)) → grows_soundly self.old ≡ false }
+        ensures nothing { IsErrOf result OpenFault.NoJournal → ⊥ }
         ensures failed { IsErrOf result OpenFault.Failed → D.faults (journal_device self.old) < D.faults (journal_device self.new) }
     {
         let text = text_of(alloc, &self.closed, place as u64)?;
@@ -179,6 +192,7 @@ impl<D: Device> Journal<D> {
         ensures honest { IsTrue (D.is_honest (journal_device self.new)) → IsTrue (D.is_honest (journal_device self.old)) }
         ensures full { IsErrOf result OpenFault.Full → ⊥ }
         ensures damaged { IsErrOf result OpenFault.Damaged → IsTrue (D.is_honest (journal_device self.new)) → grows_soundly self.old ≡ false }
+        ensures nothing { IsErrOf result OpenFault.NoJournal → ⊥ }
         ensures failed { IsErrOf result OpenFault.Failed → D.faults (journal_device self.old) < D.faults (journal_device self.new) }
         ensures later { D.faults (journal_device self.old) ≤ D.faults (journal_device self.new) }
     {

@@ -4,6 +4,10 @@ use Rattle.cq_disk.specs.Region.{part, Leaves, Beside}
 use Rattle.cq_disk.proofs.Moments.{weakened}
 use Rattle.cq_disk.proofs.Parts.{alone, whole_again}
 use Rattle.cq_journal.proofs.Halves.{only_on}
+use Rattle.std.proofs.Common.{rules}
+use Rattle.std.specs.Prelude.{IsErrOf}
+use Rattle.cq_records.specs.declared.fault.ReadFault.TheVariants.{Damaged}
+use Rattle.cq_records.proofs.Frames.{damaged_unsound}
 use Rattle.cq_journal.proofs.opening.read_half.Goals as goal
 
 pub returns-in_err-found-clause-seen : goal.returns-in_err-found-clause-seen
@@ -75,3 +79,9 @@ returns-clause-any_moment g c = λ only.
     was.2 ∙ ap (λ (f : List ℕ). part r.start r.len f) (only was.0 was.1) in
     let run = alone d.moment d.left_since d.may_leave d.keeps d.seen g.met.D.Device.splits r.start r.len n.start n.len r.device n.device P e.keeps only same in
     weakened d.moment d.left_since r.device n.device (λ f. P (part r.start r.len f) × Beside r.start r.len (d.seen r.device) f) (λ f. f ≡ d.seen r.device) run (λ f both. whole_again r.start r.len (d.seen r.device) f both.1 both.0)
+
+pub returns-in_err-found-clause-damaged : goal.returns-in_err-found-clause-damaged
+returns-in_err-found-clause-damaged g c = λ err honest.
+    let r = c.args.region.now in
+    let is : IsErrOf c.read_record.result Damaged = search rules in
+    damaged_unsound (part r.start r.len (g.D.Device.seen r.device)) (c.read_record.ensures.damaged is honest)

@@ -1,12 +1,13 @@
 -- The places so far are small.
-use Rattle.std.proofs.Common.{◌-◌, ◌<◌, ◌≤◌, length}
+use Rattle.std.proofs.Common.{◌≡◌, ◌++◌, ◌-◌, ◌<◌, ◌≤◌, length, drop}
 use Rattle.cq_journal.specs.declared.number.TheConstants.{NUMBER_LIMIT}
-use Rattle.cq_journal.specs.Regions.{Each}
+use Rattle.cq_journal.specs.Regions.{Each, places_in}
 use Rattle.cq_journal.proofs.places.read_places.Given as goal
 
 abbrev pub invariant-loop-at : goal.invariant-loop-at
 invariant-loop-at l = record {
   within : l.at ≤ length l.bytes;
+  read : l.places.items ++ places_in (drop l.at l.bytes) ≡ places_in (drop 5 l.bytes);
   small : Each (λ n. n < NUMBER_LIMIT) l.places.items;
 }
 

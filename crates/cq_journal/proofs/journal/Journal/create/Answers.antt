@@ -9,6 +9,7 @@ use Rattle.cq_journal.specs.Numbers.{digits}
 use Rattle.cq_journal.specs.Regions.{Each, AreApart, places_text, records_at}
 use Rattle.cq_journal.specs.Roots.{root_of, numbered}
 use Rattle.cq_journal.proofs.Regions.{append-none, root_apart}
+use Rattle.cq_journal.proofs.Intact.{halves_apart, sound_blank}
 use Rattle.cq_journal.proofs.journal.Journal.create.Goals as goal
 
 pub returns-clause-empty : goal.returns-clause-empty
@@ -52,3 +53,29 @@ returns-clause-journal g c =
         sound = ap all_sound none;
       };
     }
+
+pub returns-clause-intact : goal.returns-clause-intact
+returns-clause-intact g c =
+    let d = g.D.Device in
+    let b = c.in_ok-blank_at.ensures in
+    let made = c.in_ok-root.ensures in
+    let root = c.in_ok-root.root in
+    let p = c.args.half + c.args.half in
+    let n = c.args.len in
+    let old = d.seen root.log.device.device in
+    let bytes = d.seen c.blank_at.new.self.log.device.device in
+    let text_is : c.deref.result.now ≡ places_text (p ∷ []) = c.deref.ensures.value ∙ c.in_ok-push_number.ensures.ok ∙ ap (λ (xs : List ℕ). xs ++ digits p) c.new-text.ensures.items in (
+      1,
+      [],
+      p,
+      record {
+        names = root_apart c.args.half p n old bytes (omega arith) b.beside ∙ made.text ∙ (λ i. Some (numbered 1 (text_is i)));
+        small_number = omega arith;
+        small = (c.requires.small, tt);
+        behind = (omega arith, tt);
+        within = (omega (arith, b.length, c.len-whole.ensures, c.if-whole-place.false, c.if-whole-place-2.false), tt);
+        apart = tt;
+        halves = halves_apart c.args.half n p old bytes (omega arith) b.beside made.sound;
+        regions = (sound_blank n (part p n bytes) b.zeros, tt);
+      },
+    )

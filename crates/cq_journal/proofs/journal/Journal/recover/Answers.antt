@@ -4,6 +4,7 @@ use Rattle.cq_disk.proofs.Moments.{started}
 use Rattle.cq_journal.specs.Regions.{HasRecords, records_at}
 use Rattle.cq_journal.proofs.Regions.{kept_of}
 use Rattle.cq_journal.proofs.Intact.{rests_intact}
+use Rattle.cq_journal.proofs.Refused.{growing_sound, not_both}
 use Rattle.cq_journal.proofs.journal.Journal.recover.Goals as goal
 
 pub returns-in_default-clause-any_moment : goal.returns-in_default-clause-any_moment
@@ -19,3 +20,8 @@ returns-in_default-clause-any_moment g c = λ honest.
 
 pub returns-in_default-clause-intact : goal.returns-in_default-clause-intact
 returns-in_default-clause-intact g c = rests_intact c.args.self.now (λ f. g.met.D.Device.only_now c.args.self.now.root.log.device.device f) c.requires
+
+pub returns-clause-refused : goal.returns-clause-refused
+returns-clause-refused g c = λ err honest i.
+    let j = c.args.self.now in
+    not_both (growing_sound j c.requires (c.move_to.ensures.honest honest) i) (c.move_to.ensures.damaged err honest)
