@@ -10,5 +10,6 @@ mod OtherRegions
 pub mod RegionLists
 mod Refreshed
 mod Refused
+mod Refusals
 mod Regions
 mod Survival

@@ -1,11 +1,13 @@
-//! The calls of a journal as the changes of which its laws speak.
-ghost use Rattle.std.specs.Prelude.{◌≡◌, ◌+◌, ◌<◌, ◌≤◌, ℕ, length, Some, IsTrue, OnOk};
+//! The calls of a journal as the changes of which its laws speak, and as calls that leave intact bytes.
+ghost use Rattle.std.specs.Prelude.{◌≡◌, ◌+◌, ◌<◌, ◌≤◌, ℕ, length, Some, IsTrue, OnOk, IsErrOf};
 ghost use Rattle.cq_records.specs.Batch.{batch_bytes};
 ghost use Rattle.cq_records.specs.Frames.{records};
 ghost use Rattle.cq_journal.specs.Base.{IsBase, base_records};
 ghost use Rattle.cq_journal.specs.Changes.{adds, replaces, rests};
 ghost use Rattle.cq_journal.specs.Histories.{Tries, Makes, OpensTo};
+ghost use Rattle.cq_journal.specs.Intact.{IsIntact};
 ghost use Rattle.cq_journal.specs.Journal.{HasRegions, IsJournal, journal_device, journal_half, journal_records, journal_regions, region_len};
+ghost use Rattle.cq_journal.specs.Refusals.{GoesOn, LeavesWhole, OpensIntact};
 ghost use Rattle.cq_journal.specs.Regions.{kept};
 
 use crate::{Base, Found, Journal, OpenFault, RegionFault, read_root};
@@ -18,6 +20,9 @@ pub fn commit_adds<D: Device>(journal: &mut Journal<D>, batch: &Batch) -> Result
     requires { IsJournal journal.old }
     ensures tries { Tries (adds (records (batch_bytes batch.now))) journal.old journal.new }
     ensures makes { OnOk result (Makes (adds (records (batch_bytes batch.now))) journal.old journal.new) }
+    ensures leaves { LeavesWhole journal.old journal.new }
+    ensures goes_on { OnOk result (GoesOn journal.old journal.new) }
+    ensures full { IsErrOf result LogFault.Full → GoesOn journal.old journal.new }
 {
     journal.commit(batch)
 }
@@ -31,6 +36,9 @@ pub fn append_adds<D: Device>(
     requires { IsJournal journal.old }
     ensures tries { Tries (adds (records (batch_bytes batch.now))) journal.old journal.new }
     ensures makes { OnOk result (Makes (adds (records (batch_bytes batch.now))) journal.old journal.new) }
+    ensures leaves { LeavesWhole journal.old journal.new }
+    ensures goes_on { OnOk result (GoesOn journal.old journal.new) }
+    ensures full { IsErrOf result LogFault.Full → GoesOn journal.old journal.new }
 {
     journal.append(alloc, batch)
 }
@@ -46,6 +54,8 @@ pub fn read_region_rests<D: Device>(
     requires index { index < length (journal_regions journal.old) }
     ensures tries { Tries rests journal.old journal.new }
     ensures makes { Makes rests journal.old journal.new }
+    ensures leaves { LeavesWhole journal.old journal.new }
+    ensures goes_on { GoesOn journal.old journal.new }
 {
     journal.read_region(alloc, index, text)
 }
@@ -59,6 +69,9 @@ pub fn next_region_rests<D: Device>(
     requires { IsJournal journal.old }
     ensures tries { Tries rests journal.old journal.new }
     ensures makes { OnOk result (Makes rests journal.old journal.new) }
+    ensures leaves { LeavesWhole journal.old journal.new }
+    ensures goes_on { OnOk result (GoesOn journal.old journal.new) }
+    ensures full { IsErrOf result LogFault.Full → GoesOn journal.old journal.new }
 {
     journal.next_region(alloc, place)
 }
@@ -71,6 +84,8 @@ pub fn begin_base_rests<D: Device>(
     requires { IsJournal journal.old }
     ensures tries { Tries rests journal.old journal.new }
     ensures makes { OnOk result (Makes rests journal.old journal.new) }
+    ensures leaves { LeavesWhole journal.old journal.new }
+    ensures goes_on { GoesOn journal.old journal.new }
 {
     journal.begin_base(alloc)
 }
@@ -85,6 +100,8 @@ pub fn add_to_base_rests<D: Device>(
     requires base { IsBase journal.old base.old }
     ensures tries { Tries rests journal.old journal.new }
     ensures makes { OnOk result (Makes rests journal.old journal.new) }
+    ensures leaves { LeavesWhole journal.old journal.new }
+    ensures goes_on { GoesOn journal.old journal.new }
 {
     journal.add_to_base(base, batch)
 }
@@ -99,6 +116,8 @@ pub fn widen_base_rests<D: Device>(
     requires base { IsBase journal.old base.old }
     ensures tries { Tries rests journal.old journal.new }
     ensures makes { OnOk result (Makes rests journal.old journal.new) }
+    ensures leaves { LeavesWhole journal.old journal.new }
+    ensures goes_on { GoesOn journal.old journal.new }
 {
     journal.widen_base(alloc, base)
 }
@@ -113,6 +132,9 @@ pub fn rewrite_replaces<D: Device>(
     requires base { IsBase journal.old base }
     ensures tries { Tries (replaces (base_records journal.old base)) journal.old journal.new }
     ensures makes { OnOk result (Makes (replaces (base_records journal.old base)) journal.old journal.new) }
+    ensures leaves { LeavesWhole journal.old journal.new }
+    ensures goes_on { OnOk result (GoesOn journal.old journal.new) }
+    ensures full { IsErrOf result LogFault.Full → GoesOn journal.old journal.new }
 {
     journal.rewrite(alloc, base)
 }
@@ -125,6 +147,11 @@ pub fn recover_rests<D: Device>(journal: &mut Journal<D>, alloc: Global) -> Resu
     ensures opens { (first : D) → OpensTo D.moment D.left_since D.may_leave D.seen (journal_half journal.old) (region_len journal.old) first (journal_device journal.old)
         → kept (journal_half journal.old) (region_len journal.old) (D.seen first) ≡ Some (journal_records journal.old) → IsTrue (D.is_honest (journal_device journal.new))
         → OpensTo D.moment D.left_since D.may_leave D.seen (journal_half journal.old) (region_len journal.old) first (journal_device journal.new) }
+    ensures leaves { LeavesWhole journal.old journal.new }
+    ensures goes_on { OnOk result (GoesOn journal.old journal.new) }
+    ensures opens_intact { (first : D) → OpensIntact D.moment D.left_since D.may_leave D.seen (journal_half journal.old) (region_len journal.old) first (journal_device journal.old)
+        → (IsIntact (journal_half journal.old) (region_len journal.old) (D.seen first) → IsIntact (journal_half journal.old) (region_len journal.old) (D.seen (journal_device journal.old))) → IsTrue (D.is_honest (journal_device journal.new))
+        → OpensIntact D.moment D.left_since D.may_leave D.seen (journal_half journal.old) (region_len journal.old) first (journal_device journal.new) }
 {
     journal.recover(alloc)
 }
@@ -136,7 +163,8 @@ pub fn read_root_opens<D: Device>(
 ) -> Result<Option<Found>, ReadFault>
     requires start { region.old.start ≡ 0 }
     requires room { region.old.len + region.old.len ≤ length (D.seen region.old.device) }
-    ensures { (len : ℕ) → IsTrue (D.is_honest region.new.device) → OpensTo D.moment D.left_since D.may_leave D.seen region.old.len len region.old.device region.new.device }
+    ensures opens { (len : ℕ) → IsTrue (D.is_honest region.new.device) → OpensTo D.moment D.left_since D.may_leave D.seen region.old.len len region.old.device region.new.device }
+    ensures opens_intact { (len : ℕ) → IsTrue (D.is_honest region.new.device) → OpensIntact D.moment D.left_since D.may_leave D.seen region.old.len len region.old.device region.new.device }
 {
     read_root(alloc, region)
 }

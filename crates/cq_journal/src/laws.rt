@@ -2,7 +2,9 @@
 ghost use Rattle.std.specs.Prelude.{◌≡◌, ℕ, List, Some, IsTrue};
 ghost use Rattle.cq_journal.specs.Changes.{Change, ChangeExamples};
 ghost use Rattle.cq_journal.specs.Histories.{Acknowledges, Rewrites, RewritesAtAnyMoment, Survives};
+ghost use Rattle.cq_journal.specs.Intact.{IntactExamples};
 ghost use Rattle.cq_journal.specs.Journal.{HasRegions, journal_device, journal_half, journal_records, journal_regions, region_len};
+ghost use Rattle.cq_journal.specs.Refusals.{NoneRefused, StaysUnrefused};
 ghost use Rattle.cq_journal.specs.Regions.{all_records, kept};
 
 use crate::Journal;
@@ -44,4 +46,20 @@ pub fn rewrites_tell_the_same()
 /// What a crash in a call leaves outlives any number of crashes in openings.
 pub fn what_is_left_outlives_openings<D: Device>(_old: &D, _last: &D, _first: &D, _new: &D)
     ensures { (half : ℕ) (len : ℕ) (rs : List (List ℕ)) (change : Change) → Survives D.moment D.left_since D.may_leave D.seen half len rs change _old.now _last.now _first.now _new.now }
+{}
+
+/// After any calls that ended well or found no room, a crash at any moment of the next one leaves bytes that no opening calls
+/// damaged, and none that it takes for no journal.
+pub fn no_outcome_is_refused<D: Device>(_old: &Journal<D>, _mid: &Journal<D>, _new: &Journal<D>)
+    ensures { (times : ℕ) → NoneRefused times _old.now _mid.now _new.now }
+{}
+
+/// Nor do any number of crashes in openings, after such a one.
+pub fn openings_leave_nothing_refused<D: Device>(_old: &D, _last: &D, _first: &D, _new: &D)
+    ensures { (half : ℕ) (len : ℕ) → StaysUnrefused D.moment D.left_since D.may_leave D.seen half len _old.now _last.now _first.now _new.now }
+{}
+
+/// Which bytes are intact, in examples.
+pub fn bytes_are_intact()
+    ensures { IntactExamples }
 {}

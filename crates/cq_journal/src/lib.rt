@@ -33,7 +33,8 @@ pub use calls::{
 pub use fault::{OpenFault, RegionFault};
 pub use journal::{Journal, REGION_LIMIT};
 pub use laws::{
-    a_journal_keeps_its_records, changes_stand_for, rewrites_tell_the_same,
+    a_journal_keeps_its_records, bytes_are_intact, changes_stand_for, no_outcome_is_refused,
+    openings_leave_nothing_refused, rewrites_tell_the_same,
     the_regions_of_a_journal_have_its_records, what_is_acknowledged_stays,
     what_is_left_outlives_openings,
 };

@@ -12,3 +12,13 @@ returns-clause-tries g c = record { honest = c.append.ensures.honest; moments = 
 pub returns-clause-makes : goal.returns-clause-makes
 returns-clause-makes g c =
     if_ok c.append.result c.append.ensures.lengths c.append.ensures.acknowledged (λ lengths records. record { half = lengths.0; len = lengths.1; records = λ _. records; tries = record { honest = c.append.ensures.honest; moments = c.append.ensures.any_moment } })
+
+pub returns-clause-leaves : goal.returns-clause-leaves
+returns-clause-leaves g c = record { honest = c.append.ensures.honest; moments = c.append.ensures.intact }
+
+pub returns-clause-goes_on : goal.returns-clause-goes_on
+returns-clause-goes_on g c =
+    if_ok c.append.result (c.append.ensures.lengths) c.append.ensures.stays (λ lengths stays. record { half = lengths.0; len = lengths.1; honest = c.append.ensures.honest; stays = stays })
+
+pub returns-clause-full : goal.returns-clause-full
+returns-clause-full g c = λ full. record { half = (c.append.ensures.lengths_full full).0; len = (c.append.ensures.lengths_full full).1; honest = c.append.ensures.honest; stays = c.append.ensures.stays_full full }

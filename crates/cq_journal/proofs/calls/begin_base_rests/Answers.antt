@@ -16,3 +16,9 @@ returns-clause-tries g c = record { honest = c.begin_base.ensures.honest; moment
 pub returns-clause-makes : goal.returns-clause-makes
 returns-clause-makes g c =
     if_ok c.begin_base.result (always c.begin_base.result c.begin_base.ensures.lengths) (always c.begin_base.result c.begin_base.ensures.records) (λ lengths records. record { half = lengths.0; len = lengths.1; records = λ _. records; tries = record { honest = c.begin_base.ensures.honest; moments = c.begin_base.ensures.any_moment } })
+
+pub returns-clause-leaves : goal.returns-clause-leaves
+returns-clause-leaves g c = record { honest = c.begin_base.ensures.honest; moments = c.begin_base.ensures.intact }
+
+pub returns-clause-goes_on : goal.returns-clause-goes_on
+returns-clause-goes_on g c = record { half = c.begin_base.ensures.lengths.0; len = c.begin_base.ensures.lengths.1; honest = c.begin_base.ensures.honest; stays = c.begin_base.ensures.stays }

@@ -17,3 +17,13 @@ returns-clause-tries g c = record { honest = λ honest. sym c.commit.ensures.hon
 pub returns-clause-makes : goal.returns-clause-makes
 returns-clause-makes g c =
     if_ok c.commit.result (always c.commit.result c.commit.ensures.lengths) c.commit.ensures.acknowledged (λ lengths records. record { half = lengths.0; len = lengths.1; records = λ _. records; tries = record { honest = λ honest. sym c.commit.ensures.honest ∙ honest; moments = c.commit.ensures.any_moment } })
+
+pub returns-clause-leaves : goal.returns-clause-leaves
+returns-clause-leaves g c = record { honest = (λ now. sym c.commit.ensures.honest ∙ now); moments = c.commit.ensures.intact }
+
+pub returns-clause-goes_on : goal.returns-clause-goes_on
+returns-clause-goes_on g c =
+    if_ok c.commit.result (always c.commit.result c.commit.ensures.lengths) c.commit.ensures.stays (λ lengths stays. record { half = lengths.0; len = lengths.1; honest = (λ now. sym c.commit.ensures.honest ∙ now); stays = stays })
+
+pub returns-clause-full : goal.returns-clause-full
+returns-clause-full g c = λ full. record { half = c.commit.ensures.lengths.0; len = c.commit.ensures.lengths.1; honest = (λ now. sym c.commit.ensures.honest ∙ now); stays = c.commit.ensures.stays_full full }
