@@ -108,7 +108,7 @@ async fn bring_up_to_date(store: &Store, place: usize) -> Result<(), SqsError> {
     let is_first = books.current(place).is_none();
     if is_first || is_worth_beginning_anew(store, place) {
         if !is_first {
-            store.wait_for_room(Need::Less, bytes_of(of_place(store, place))).await?;
+            store.wait_for_room(Need::Free, bytes_of(of_place(store, place))).await?;
         }
         let create = Ask::Create { store: store.next_book(place), visibility: 0, bytes: 0 };
         store.perform_nameless(place, vec![create.into()]).await?;
@@ -119,7 +119,7 @@ async fn bring_up_to_date(store: &Store, place: usize) -> Result<(), SqsError> {
     }
     let earlier = books.earlier(place);
     // Where no book goes with it, as in an older journal, nothing is gained by it on a full disk.
-    let need = if earlier.is_empty() { Need::More } else { Need::Less };
+    let need = if earlier.is_empty() { Need::More } else { Need::Free };
     say_all(store, place, need).await?;
     if !earlier.is_empty() {
         say_removals(store, place).await?;

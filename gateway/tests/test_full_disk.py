@@ -125,12 +125,8 @@ class FilledBesideTags(Filled):
         for number in range(removed):
             self.call("DeleteQueue", QueueUrl=f"t{number}")
         self.expected = [{}] * removed + self.expected[removed:]
-        deleted = 0
-        while messages := self.receive():
-            for message in messages:
-                self.call("DeleteMessage", QueueUrl="q.fifo", ReceiptHandle=message["ReceiptHandle"])
-            deleted += len(messages)
-        assert deleted == self.count
+        for handle in self.receive_all():
+            self.call("DeleteMessage", QueueUrl="q.fifo", ReceiptHandle=handle)
         self.gateway.set_clock(self.gateway.moment + WINDOW)
 
     def receive(self, queue: str = "q.fifo", **more: int) -> list[dict]:
@@ -142,6 +138,14 @@ class FilledBesideTags(Filled):
             except Refused as refused:
                 assert refused.code == "ServiceUnavailable" and time.monotonic() < latest
                 time.sleep(0.02)
+
+    def receive_all(self) -> list[str]:
+        """The handles of all messages that came last. They are in flight from then on."""
+        handles: list[str] = []
+        while messages := self.receive():
+            handles += [message["ReceiptHandle"] for message in messages]
+        assert len(handles) == self.count
+        return handles
 
     def restart(self) -> None:
         self.gateway.kill()
@@ -191,6 +195,80 @@ def test_a_full_disk_comes_free_whenever_the_gateway_is_killed(tmp_path, small_d
     full.restart()
     full.look()
     assert full.gateway.stop() == 0
+
+
+def test_what_says_queues_once_more_leaves_space_for_deletes_and_removals(tmp_path, small_disk):
+    """Queues of which tags take much are purged and untagged until that is refused."""
+    full = FilledBesideTags(tmp_path, small_disk("40m"), 0)
+    handles = full.receive_all()
+
+    for number in range(40):
+        full.call("PurgeQueue", QueueUrl=f"t{number}")
+
+    def untag(turn: int) -> None:
+        full.call("UntagQueue", QueueUrl=f"t{turn % 200}", TagKeys=[KEYS[turn // 200]])
+
+    with pytest.raises(Refused, match="ServiceUnavailable 503"):
+        for turn in range(2000):
+            untag(turn)
+            del full.expected[turn % 200][KEYS[turn // 200]]
+    # What was refused is refused again, and has changed nothing.
+    for what in (lambda: untag(turn), lambda: full.call("PurgeQueue", QueueUrl="t199")):
+        with pytest.raises(Refused, match="ServiceUnavailable 503"):
+            what()
+    full.look_at_queues()
+    for handle in handles:
+        full.call("DeleteMessage", QueueUrl="q.fifo", ReceiptHandle=handle)
+    for number in range(100):
+        full.call("DeleteQueue", QueueUrl=f"t{number}")
+    full.expected = [{}] * 100 + full.expected[100:]
+    full.gateway.set_clock(full.gateway.moment + WINDOW)
+    assert full.sends_again(20)
+    full.restart()
+    full.look()
+    assert full.gateway.stop() == 0
+
+
+def test_deletes_leave_space_for_removals(tmp_path, disk):
+    """The journal has 100,000 bytes of space ahead, and its disk none."""
+    journal = disk / "journal"
+    gateway = Started("--journal", str(journal), room=tmp_path)
+    call = ByJson(gateway.url)
+    call("CreateQueue", QueueName="q.fifo", Attributes=FIFO)
+    for number in range(1000):
+        call("SendMessage", QueueUrl="q.fifo", MessageBody="b", MessageGroupId=str(number),
+             MessageDeduplicationId=str(number))
+    handles: list[str] = []
+    while messages := call("ReceiveMessage", QueueUrl="q.fifo", MaxNumberOfMessages=10).get("Messages"):
+        handles += [message["ReceiptHandle"] for message in messages]
+    gateway.kill()
+    segment = journal.with_name("journal.1")
+    os.truncate(segment, end(segment) + 100_000)
+    filler = fill(disk)
+    gateway.start()
+    call = ByJson(gateway.url)
+    deleted = 0
+    with pytest.raises(Refused, match="ServiceUnavailable 503"):
+        for handle in handles:
+            call("DeleteMessage", QueueUrl="q.fifo", ReceiptHandle=handle)
+            deleted += 1
+    assert 50 < deleted < 1000
+    call("DeleteQueue", QueueUrl="q.fifo")
+    for _ in range(2):
+        assert call("ListQueues") == {}
+        gateway.kill()
+        gateway.start()
+        call = ByJson(gateway.url)
+    filler.unlink()
+    latest = time.monotonic() + 20
+    while True:
+        try:
+            call("CreateQueue", QueueName="other.fifo", Attributes=FIFO)
+            break
+        except Refused as refused:
+            assert refused.code == "OverLimit" and time.monotonic() < latest
+            time.sleep(0.05)
+    assert gateway.stop() == 0
 
 
 def test_a_start_is_possible_where_nothing_can_be_written(tmp_path, disk):

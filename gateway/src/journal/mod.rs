@@ -63,15 +63,19 @@ impl CommitBatch {
     }
 }
 
-/// What a request does to the space that is in use.
+/// What a request does to the space that is in use. Those that stand first are refused first.
 #[derive(Clone, Copy, Debug, PartialEq, Eq)]
 pub enum Need {
-    /// It adds something that stays: refused first.
+    /// It adds something that stays.
     More,
     /// It moves what is there.
     Same,
-    /// It takes something away: refused last.
+    /// A client takes something away of what is said of a queue, so all of that is said once more.
     Less,
+    /// A message is deleted, or the gateway gives back one that it was handed.
+    Delete,
+    /// Records can go once it is done: a queue is removed, or it or a book goes over to another name.
+    Free,
 }
 
 /// What is kept of the space ahead for requests that take something away or move it, beside what is kept for books.
@@ -79,6 +83,13 @@ const RESERVE: i64 = 8 << 20;
 
 /// What is kept of it for those that take something away, beside that.
 const LAST_PART: i64 = 4 << 20;
+
+/// What is kept of it for deletes, and for what has records go, beside that.
+const FOR_DELETES: i64 = 2 << 20;
+
+/// What is kept of it for what has records go, so that deletes alone never keep a disk full: an entry of a queue that goes over
+/// to another name goes into that, or the removal of some hundred queues.
+const FOR_REMOVALS: i64 = 64 << 10;
 
 struct Shared {
     files: Files,
@@ -345,7 +356,9 @@ impl Journal {
         let least = match need {
             Need::More => RESERVE + kept,
             Need::Same => LAST_PART + kept,
-            Need::Less => 0,
+            Need::Less => FOR_DELETES + kept,
+            Need::Delete => FOR_REMOVALS,
+            Need::Free => 0,
         };
         if left >= least {
             return Ok(Some(bytes));

@@ -481,7 +481,7 @@ mod tests {
         let room = Room::new("left");
         let (mut log, journal) = opened(&room);
         let before = log.room();
-        let promised = journal.set_aside(Need::Less, before / 2).unwrap().unwrap();
+        let promised = journal.set_aside(Need::Free, before / 2).unwrap().unwrap();
         assert!(make_way(&mut log, &journal, None).unwrap());
         assert_eq!(log.room(), before, "the disk isn't full");
         assert!(make_way(&mut log, &journal, Some(0)).unwrap());
@@ -491,7 +491,7 @@ mod tests {
         locked(&journal.0.rewriting).lent = before - log.room();
         grow(&mut log, &journal).unwrap();
         assert_eq!((log.room(), counted(&journal)), (promised + left, left), "what is free is for others");
-        assert!(journal.set_aside(Need::Less, left).is_err(), "nobody waits for it");
+        assert!(journal.set_aside(Need::Free, left).is_err(), "nobody waits for it");
         journal.inbox().wants_room = false;
         end_writing(&journal);
         assert!(journal.inbox().wants_room);
@@ -515,9 +515,31 @@ mod tests {
         ] {
             assert!(make_way(&mut log, &journal, Some(lacked)).unwrap());
             assert_eq!((log.room(), counted(&journal)), (before - lent, before - lent), "{lacked}");
-            let of_delete = journal.set_aside(Need::Less, 1000).unwrap().unwrap();
+            let of_delete = journal.set_aside(Need::Delete, 1000).unwrap().unwrap();
             journal.give_back(of_delete);
             take_again(&mut log, &journal, lent);
+        }
+    }
+
+    const NEEDS: [Need; 5] = [Need::More, Need::Same, Need::Less, Need::Delete, Need::Free];
+
+    /// Which needs find room for a record of so many bytes.
+    fn needs_with_room(journal: &Journal, bytes: u64) -> Vec<Need> {
+        let is_there =
+            |need: &Need| journal.set_aside(*need, bytes).unwrap().map(|room| journal.give_back(room)).is_some();
+        NEEDS.into_iter().filter(is_there).collect()
+    }
+
+    #[test]
+    fn those_that_free_least_are_refused_first() {
+        let room = Room::new("order");
+        let (log, journal) = opened(&room);
+        let all = log.room();
+        for (left, from) in [(9 << 20, 0), (5 << 20, 1), (3 << 20, 2), (1 << 20, 3), (70_000, 3), (50_000, 4), (900, 5)]
+        {
+            let taken = journal.set_aside(Need::Free, all - left).unwrap().unwrap();
+            assert_eq!(needs_with_room(&journal, 1000), NEEDS[from..], "{left}");
+            journal.give_back(taken);
         }
     }
 
@@ -525,11 +547,10 @@ mod tests {
     fn space_is_kept_for_what_books_take() {
         let room = Room::new("kept");
         let (mut log, journal) = opened(&room);
-        let is_there = |need| journal.set_aside(need, 1 << 20).unwrap().map(|bytes| journal.give_back(bytes)).is_some();
-        assert!(is_there(Need::More) && is_there(Need::Same) && !log.is_short());
-        for (books, told) in [(6, [true, true]), (8, [false, true]), (11, [false, false])] {
+        assert!(needs_with_room(&journal, 1 << 20) == NEEDS && !log.is_short());
+        for (books, from) in [(6, 0), (8, 1), (11, 2), (13, 3)] {
             journal.keep(books << 20);
-            assert_eq!([Need::More, Need::Same, Need::Less].map(is_there), [told[0], told[1], true], "{books} MiB");
+            assert_eq!(needs_with_room(&journal, 1 << 20), NEEDS[from..], "{books} MiB");
         }
         log.keep(5 << 20);
         assert!(log.is_short() && log.grow() && !log.is_short());

@@ -87,7 +87,7 @@ impl Task {
     fn set_aside(&self, copy: &Ask, bytes: u64) -> Result<Option<[u64; 2]>, SqsError> {
         let Some(journal) = &self.journal else { return Ok(Some([0, 0])) };
         let Some(room) = journal.set_aside(need_of(copy), bytes)? else { return Ok(None) };
-        match journal.set_aside(Need::Less, DELETION_BYTES) {
+        match journal.set_aside(Need::Delete, DELETION_BYTES) {
             Ok(Some(of_deletion)) => Ok(Some([room, of_deletion])),
             refused => {
                 journal.give_back(room);

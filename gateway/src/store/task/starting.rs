@@ -5,7 +5,7 @@ use std::sync::Arc;
 use serde_json::value::RawValue;
 
 use super::entries::{Entry, Open, OpenAsk, Pending, StartOutcome};
-use super::room::{bytes_of, need_of, need_of_change};
+use super::room::{bytes_with_end, need_of, need_of_change};
 use super::{Ended, Task, PIECE};
 use crate::clock::Moment;
 use crate::errors::SqsError;
@@ -32,7 +32,7 @@ impl Task {
                     _ => StartOutcome::ready(Err(without_delays(&queue))),
                 },
                 (Some(queue), Some(Operation::Change(change))) => self.start_change(queue, change)?,
-                (Some(queue), Some(Operation::Say(entry))) => self.start_saying(queue, entry, Need::Less, 0)?,
+                (Some(queue), Some(Operation::Say(entry))) => self.start_saying(queue, entry, Need::Free, 0)?,
                 (Some(queue), Some(Operation::Count)) => StartOutcome::Open(self.count(queue)?),
                 (Some(queue), Some(Operation::Move { target, copies })) => {
                     self.start_move(queue, target, copies, &mut sender)?
@@ -147,7 +147,7 @@ impl Task {
             None => 0,
             // It has no record.
             Some(_) if ask.reads_parts() => 0,
-            Some(journal) => match journal.set_aside(need, bytes_of(&raw)) {
+            Some(journal) => match journal.set_aside(need, bytes_with_end(&ask, &raw)) {
                 Ok(Some(room)) => room,
                 Ok(None) => return Ok(StartOutcome::LacksRoom(queue, ask.into())),
                 Err(error) => return ready(Err(error)),
