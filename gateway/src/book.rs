@@ -8,9 +8,8 @@ use std::time::Duration;
 
 use crate::errors::SqsError;
 use crate::journal::Need;
-use crate::limits::{MESSAGE_BYTES, QUEUE_BYTES};
 use crate::queues::ask::{Ask, StoreName};
-use crate::queues::book::Entry;
+use crate::queues::book::{Entry, Removal, Size};
 use crate::queues::Queue;
 use crate::store::{Operation, Store};
 
@@ -80,20 +79,23 @@ fn is_space_wanted(store: &Store) -> bool {
 fn is_worth_beginning_anew(store: &Store, place: usize) -> bool {
     let bytes = store.queues().books().bytes_of_current(place);
     let least = if is_space_wanted(store) { WORTH_IT_IF_FULL } else { WORTH_IT };
-    bytes > least && bytes > least + 2 * bytes_of(of_place(store, place))
+    bytes > least && bytes > least + 2 * size_of(of_place(store, place)).memory
 }
 
-/// What an entry takes beside its message and the texts of attributes and tags.
-const ENTRY_BYTES: u64 = 512;
-
 /// What the entries take that count of queues.
-fn bytes_of(queues: impl Iterator<Item = Arc<Queue>>) -> u64 {
-    let bytes = |queue: Arc<Queue>| {
-        let state = queue.state();
-        let entries = 1 + state.tasks().len() as u64;
-        entries * (MESSAGE_BYTES + ENTRY_BYTES) + state.own_bytes() - QUEUE_BYTES
-    };
-    queues.map(bytes).sum()
+fn size_of(queues: impl Iterator<Item = Arc<Queue>>) -> Size {
+    queues.map(|queue| queue.state().size_of_entries()).sum()
+}
+
+/// What the records take of all that a fresh book is to say.
+fn bytes_of_records(store: &Store, place: usize) -> u64 {
+    let of_removals = removals_of(store, place).map(|removal| Entry::Removed(removal).size()).sum::<Size>();
+    size_of(of_place(store, place)).journal + of_removals.journal
+}
+
+fn removals_of(store: &Store, place: usize) -> impl Iterator<Item = Removal> + '_ {
+    let removals = store.queues().removals(store.clock().now()).into_iter();
+    removals.filter(move |removal| store.place_of(&removal.name) == place)
 }
 
 fn of_place(store: &Store, place: usize) -> impl Iterator<Item = Arc<Queue>> + '_ {
@@ -108,7 +110,7 @@ async fn bring_up_to_date(store: &Store, place: usize) -> Result<(), SqsError> {
     let is_first = books.current(place).is_none();
     if is_first || is_worth_beginning_anew(store, place) {
         if !is_first {
-            store.wait_for_room(Need::Free, bytes_of(of_place(store, place))).await?;
+            store.wait_for_room(Need::Free, bytes_of_records(store, place)).await?;
         }
         let create = Ask::Create { store: store.next_book(place), visibility: 0, bytes: 0 };
         store.perform_nameless(place, vec![create.into()]).await?;
@@ -136,7 +138,7 @@ async fn say_all(store: &Store, place: usize, need: Need) -> Result<(), SqsError
     let is_unsaid = |queue: &Arc<Queue>| !queue.state().unsaid_in(current).is_empty();
     let all: Vec<_> = of_place(store, place).filter(is_unsaid).collect();
     if !all.is_empty() {
-        store.wait_for_room(need, bytes_of(all.iter().cloned())).await?;
+        store.wait_for_room(need, size_of(all.iter().cloned()).journal).await?;
     }
     for some in all.chunks(AT_ONCE) {
         let unsaid = some.iter().map(|queue| (queue, queue.state().unsaid_in(current)));
@@ -160,8 +162,7 @@ fn is_for_now(error: &SqsError) -> bool {
 }
 
 async fn say_removals(store: &Store, place: usize) -> Result<(), SqsError> {
-    let removals = store.queues().removals(store.clock().now()).into_iter();
-    let own = removals.filter(|removal| store.place_of(&removal.name) == place);
+    let own = removals_of(store, place);
     let operations: Vec<_> = own.map(|removal| Operation::Say(Entry::Removed(removal))).collect();
     if operations.is_empty() {
         return Ok(());
@@ -181,5 +182,48 @@ async fn remove(store: &Store, place: usize, name: StoreName) -> Result<(), SqsE
         // The store hasn't got it.
         Err(SqsError::QueueDoesNotExist) => Ok(()),
         other => other,
+    }
+}
+
+#[cfg(test)]
+mod tests {
+    use std::collections::BTreeMap;
+
+    use super::*;
+    use crate::journal::Record;
+    use crate::limits::MESSAGE_BYTES;
+    use crate::lines::AskFields;
+    use crate::queues::book::QueueEntry;
+    use crate::queues::Queues;
+    use crate::texts::QueueName;
+
+    /// What stands before a record that is a commit by itself.
+    const FRAME_HEAD: u64 = 28;
+
+    /// How long the record of an entry is, and its message.
+    fn written(entry: &Entry) -> (u64, u64) {
+        let text = entry.text().unwrap();
+        let length = text.len() as u64;
+        let ask = Ask::Say { book: u64::MAX >> 3, entry: Arc::new(entry.clone()), text };
+        let raw = serde_json::value::to_raw_value(&AskFields::of(StoreName::of_book(u64::MAX >> 3), 0, &ask)).unwrap();
+        let mut line = Vec::new();
+        let reply = r#"{"kind":"sent","sequence":18446744073709551615}"#;
+        Record::of_ask(u64::MAX, &ask, &raw, reply).append(&mut line).unwrap();
+        (line.len() as u64 + FRAME_HEAD, length)
+    }
+
+    #[test]
+    fn what_counts_of_queues_is_counted_as_it_is_written() {
+        for value in ["", "v", "\"", "\\", "\n", "\u{1}", "\u{7f}", "é", "\u{fffe}", "\u{10400}"] {
+            let tags: BTreeMap<_, _> = (0..50).map(|place| (format!("{place}{value}"), value.repeat(256))).collect();
+            let name = QueueName::parse("q").unwrap();
+            let entry = QueueEntry { tags, ..QueueEntry::plain(StoreName(1), name, u64::MAX) };
+            let (queues, queue) = (Queues::default(), Arc::new(Queue::new(&entry)));
+            let entry = Entry::Queue(entry);
+            queues.said(0, &queue, &entry, 1, entry.size());
+            let (size, (record, text)) = (size_of([queue].into_iter()), written(&entry));
+            assert!((record..record + 512).contains(&size.journal), "{value:?}: {size:?}, {record}");
+            assert_eq!(size.memory, text + MESSAGE_BYTES, "{value:?}");
+        }
     }
 }

@@ -86,6 +86,49 @@ impl QueueEntry {
     }
 }
 
+impl Entry {
+    /// What stands in a book. Older journals have tags with the two characters that JSON leaves as they are and no body may
+    /// have.
+    pub fn text(&self) -> serde_json::Result<String> {
+        Ok(serde_json::to_string(self)?.replace('\u{fffe}', "\\ufffe").replace('\u{ffff}', "\\uffff"))
+    }
+
+    /// What it takes in a book.
+    pub fn size(&self) -> Size {
+        // Nothing in an entry can't be written.
+        self.text().map_or(Size::default(), |text| Size::of(&text))
+    }
+}
+
+/// What entries take, in bytes.
+#[derive(Clone, Copy, Debug, Default, PartialEq, Eq)]
+pub struct Size {
+    pub memory: u64,
+    /// What their records take of the journal at most.
+    pub journal: u64,
+}
+
+/// What the record of an entry takes at most beside its text.
+const RECORD_BYTES: u64 = 512;
+
+impl Size {
+    /// That of an entry of this text, which its record has as a text of JSON.
+    pub fn of(text: &str) -> Size {
+        let escaped = memchr::memchr2_iter(b'"', b'\\', text.as_bytes()).count();
+        let length = text.len() as u64;
+        Size { memory: length + MESSAGE_BYTES, journal: length + escaped as u64 + RECORD_BYTES }
+    }
+}
+
+impl std::iter::Sum for Size {
+    fn sum<I: Iterator<Item = Size>>(sizes: I) -> Size {
+        sizes.fold(Size::default(), |sum, size| Size {
+            memory: sum.memory + size.memory,
+            journal: sum.journal + size.journal,
+        })
+    }
+}
+
 /// One that the store has.
 #[derive(Clone, Copy, Debug)]
 struct Book {
@@ -94,15 +137,6 @@ struct Book {
     bytes: u64,
     /// What their records take of the journal.
     record_bytes: u64,
-}
-
-/// What the record of an entry takes at most beside its text.
-const RECORD_BYTES: u64 = 512;
-
-/// A record has the text as a text of JSON.
-fn bytes_of_record(text: &str) -> u64 {
-    let escaped = memchr::memchr2_iter(b'"', b'\\', text.as_bytes()).count();
-    (text.len() + escaped) as u64 + RECORD_BYTES
 }
 
 /// The books of all programs, by their places: the last of each is the one that is written to, and the others are to be
@@ -129,13 +163,12 @@ impl Books {
         removed
     }
 
-    /// An entry of this text stands in it. Tells what it takes of memory.
-    pub fn count(&self, place: usize, number: u64, text: &str) -> u64 {
-        let taken = text.len() as u64 + MESSAGE_BYTES;
+    /// An entry of this size stands in it. Tells what it takes of memory.
+    pub fn count(&self, place: usize, number: u64, size: Size) -> u64 {
         if let Some(book) = self.books().entry(place).or_default().iter_mut().find(|book| book.number == number) {
-            book.bytes += taken;
-            book.record_bytes += bytes_of_record(text);
-            return taken;
+            book.bytes += size.memory;
+            book.record_bytes += size.journal;
+            return size.memory;
         }
         0
     }
@@ -225,11 +258,12 @@ mod tests {
         assert_eq!((books.current(0), books.earlier(0)), (None, vec![]));
         books.add(0, 2);
         books.add(1, 3);
-        assert_eq!((books.count(0, 2, "0123456789"), books.count(0, 4, "0123456789")), (10 + MESSAGE_BYTES, 0));
+        let size = Size::of("0123456789");
+        assert_eq!((books.count(0, 2, size), books.count(0, 4, size)), (10 + MESSAGE_BYTES, 0));
         books.add(0, 4);
         assert_eq!((books.current(0), books.earlier(0), books.current(1)), (Some(4), vec![2], Some(3)));
         // One that was asked before.
-        assert_eq!(books.count(0, 2, r#"{"removed":"\"}"#), 15 + MESSAGE_BYTES);
+        assert_eq!(books.count(0, 2, Size::of(r#"{"removed":"\"}"#)), 15 + MESSAGE_BYTES);
         assert_eq!(books.record_bytes(), 10 + 15 + 5 + 2 * RECORD_BYTES, "quotes and backslashes are escaped");
         assert_eq!((books.bytes_of_current(0), books.remove(0, 2)), (0, 25 + 2 * MESSAGE_BYTES));
         assert_eq!((books.current(0), books.earlier(0), books.remove(0, 2)), (Some(4), vec![], 0));

@@ -26,7 +26,7 @@ use crate::polling::Polls;
 use crate::retention::Jumps;
 use crate::texts::{QueueKind, QueueName};
 use ask::{Ask, Cause, Outcome, StoreName, TableChange};
-use book::{Books, Entry, LeftOver, QueueEntry, Removal};
+use book::{Books, Entry, LeftOver, QueueEntry, Removal, Size};
 pub use parts::Parts;
 use shards::Shards;
 pub use state::{Chunk, Cursor, Peeked, State, Visibility};
@@ -303,9 +303,10 @@ impl Queues {
                 Ok((Outcome::Done, true))
             }
             (Ask::Say { book, entry, text }, StoreReply::Sent(_)) => {
-                let bytes = self.books.count(place, *book, text);
+                let size = Size::of(text);
+                let bytes = self.books.count(place, *book, size);
                 self.bytes_in_use.fetch_add(bytes, Ordering::Relaxed);
-                self.said(place, queue, entry, *book);
+                self.said(place, queue, entry, *book, size);
                 Ok((Outcome::Done, true))
             }
             (_, reply) => self.apply_to_messages(place, queue, ask, reply, moment),
@@ -323,13 +324,13 @@ impl Queues {
         }
     }
 
-    /// The book of this number, of the program at this place, has this entry, about this queue.
-    pub fn said(&self, place: usize, queue: &Arc<Queue>, entry: &Entry, book: u64) {
+    /// The book of this number, of the program at this place, has this entry of this size, about this queue.
+    pub fn said(&self, place: usize, queue: &Arc<Queue>, entry: &Entry, book: u64, size: Size) {
         match entry {
-            Entry::Queue(entry) => self.said_of_queue(place, queue, entry, book),
+            Entry::Queue(entry) => self.said_of_queue(place, queue, entry, book, size),
             Entry::Removed(removal) => self.remove(place, queue, removal),
             Entry::Task(_, task) => {
-                queue.state().said_of_task(task, book);
+                queue.state().said_of_task(task, book, size);
                 self.remember_tasked(place, queue);
             }
         }
@@ -357,15 +358,15 @@ impl Queues {
         }
     }
 
-    fn said_of_queue(&self, place: usize, queue: &Arc<Queue>, entry: &QueueEntry, book: u64) {
+    fn said_of_queue(&self, place: usize, queue: &Arc<Queue>, entry: &QueueEntry, book: u64, size: Size) {
         let earlier = queue.store_names();
         let is_new = !self.find(&queue.name).is_some_and(|found| Arc::ptr_eq(&found, queue));
         let said = if is_new {
-            let said = queue.state().said(entry, book);
+            let said = queue.state().said(entry, book, size);
             self.insert(queue);
             said
         } else {
-            self.counted(queue, |state| state.said(entry, book))
+            self.counted(queue, |state| state.said(entry, book, size))
         };
         if said.has_gone_over {
             self.let_delays_go(queue);
@@ -441,7 +442,7 @@ impl Queues {
     /// Applies a record of a journal up to version 7, of which the store knows nothing.
     pub fn apply_older(&self, place: usize, queue: &Arc<Queue>, change: &TableChange, moment: Moment) {
         match queue.entry_after(change, moment) {
-            Some(entry) => self.said(place, queue, &entry, 0),
+            Some(entry) => self.said(place, queue, &entry, 0, entry.size()),
             None => self.counted(queue, |state| state.add_older(change, moment)),
         }
     }

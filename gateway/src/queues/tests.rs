@@ -8,7 +8,7 @@ use proptest::sample::Index;
 use proptest::test_runner::TestCaseResult;
 
 use super::ask::{Ask, Cause, Changer, Outcome, Reach, StoreName, TableChange};
-use super::book::{Entry, QueueEntry};
+use super::book::{Entry, QueueEntry, Size};
 use super::State;
 use crate::attributes::{GivenAttributes, QueueAttributes};
 use crate::clock::Moment;
@@ -164,7 +164,7 @@ impl Both {
                 Record::Ask(ask, reply) => {
                     drop(again.apply_reply(ask, reply.clone(), *moment, &Jumps::default()).unwrap());
                 }
-                Record::Entry(entry) => drop(again.said(entry, 1)),
+                Record::Entry(entry) => drop(again.said(entry, 1, Size::default())),
             }
         }
         prop_assert_eq!(again.messages_told(), self.state.messages_told());
@@ -307,7 +307,7 @@ impl Both {
                     GivenAttributes::read(QueueKind::Fifo, &[("DelaySeconds".into(), seconds.to_string())]).unwrap();
                 if let Some(Entry::Queue(entry)) = self.state.entry_after(&TableChange::Attributes(given), 0, self.now)
                 {
-                    self.state.said(&entry, 1);
+                    self.state.said(&entry, 1, Size::default());
                     self.records.push((self.now, Record::Entry(entry)));
                 }
             }

@@ -494,7 +494,7 @@ impl Replay {
             let Some(Unanswered::Older { queue, older, clock }) = self.waiting.pop_front() else { return };
             let Some(tables) = &self.tables else { return };
             match older {
-                Older::Entry(entry, book) => tables.queues.said(self.shard.place(), &queue, &entry, book),
+                Older::Entry(entry, book) => tables.queues.said(self.shard.place(), &queue, &entry, book, entry.size()),
                 Older::Change(change) => tables.queues.apply_older(self.shard.place(), &queue, &change, clock),
             }
         }

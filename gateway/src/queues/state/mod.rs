@@ -20,7 +20,7 @@ use std::sync::Arc;
 use uuid::Uuid;
 
 use super::ask::{Ask, Cause, Changer, Fate, Handed, Outcome, Reach, TableChange};
-use super::book::QueueEntry;
+use super::book::{QueueEntry, Size};
 use super::groups::{Group, Groups};
 use crate::attributes::QueueAttributes;
 use crate::clock::Moment;
@@ -64,9 +64,10 @@ pub struct State {
     kind: QueueKind,
     /// What the book says of it.
     pub entry: QueueEntry,
-    /// The number of the book that says it, and those of the books that say how its tasks stand.
+    /// The number of the book that says it, and the size of the entry. The same of each of its tasks.
     pub said_in: u64,
-    tasks_said_in: HashMap<Uuid, u64>,
+    entry_size: Size,
+    tasks_said_in: HashMap<Uuid, (u64, Size)>,
     /// What the queue takes without its messages.
     own_bytes: u64,
     tasks: Vec<MoveTask>,
@@ -143,6 +144,7 @@ impl State {
             kind,
             entry: entry.clone(),
             said_in: 0,
+            entry_size: Size::default(),
             tasks_said_in: HashMap::new(),
             own_bytes: bytes_of_queue(&entry.attributes, &entry.tags),
             tasks: Vec::new(),

@@ -8,7 +8,7 @@ use crate::clock::Moment;
 use crate::limits::QUEUE_BYTES;
 use crate::move_tasks::{self, MoveTask};
 use crate::queues::ask::TableChange;
-use crate::queues::book::{Entry, Purging, QueueEntry, Removal};
+use crate::queues::book::{Entry, Purging, QueueEntry, Removal, Size};
 
 /// What an entry changed.
 #[derive(Clone, Copy, Debug, Default, PartialEq, Eq)]
@@ -59,10 +59,11 @@ impl State {
         (entry != self.entry).then_some(Entry::Queue(entry))
     }
 
-    /// The book of this number says how the queue stands; 0 stands for records of a journal up to version 7.
-    pub fn said(&mut self, entry: &QueueEntry, book: u64) -> Said {
+    /// The book of this number says how the queue stands, by an entry of this size; 0 stands for records of a journal up to
+    /// version 7.
+    pub fn said(&mut self, entry: &QueueEntry, book: u64, size: Size) -> Said {
         let before = std::mem::replace(&mut self.entry, entry.clone());
-        self.said_in = book;
+        (self.said_in, self.entry_size) = (book, size);
         let said = Said {
             has_opened: before.attributes != entry.attributes,
             has_gone_over: before.store != entry.store,
@@ -85,10 +86,10 @@ impl State {
         said
     }
 
-    /// The book of this number says how a task stands.
-    pub fn said_of_task(&mut self, task: &MoveTask, book: u64) {
+    /// The book of this number says how a task stands, by an entry of this size.
+    pub fn said_of_task(&mut self, task: &MoveTask, book: u64, size: Size) {
         move_tasks::merge(&mut self.tasks, task);
-        self.tasks_said_in.insert(task.id, book);
+        self.tasks_said_in.insert(task.id, (book, size));
         let tasks = &self.tasks;
         self.tasks_said_in.retain(|id, _| tasks.iter().any(|task| task.id == *id));
     }
@@ -102,9 +103,15 @@ impl State {
 
     /// What the book of this number doesn't say yet.
     pub fn unsaid_in(&self, book: u64) -> Vec<TableChange> {
-        let is_unsaid = |task: &&MoveTask| self.tasks_said_in.get(&task.id) != Some(&book);
+        let is_unsaid = |task: &&MoveTask| self.tasks_said_in.get(&task.id).map_or(true, |(own, _)| *own != book);
         let tasks = self.tasks.iter().filter(is_unsaid).map(|task| TableChange::Again(Some(task.id)));
         tasks.chain((self.said_in != book).then_some(TableChange::Again(None))).collect()
+    }
+
+    /// What the entries take that count of the queue.
+    pub fn size_of_entries(&self) -> Size {
+        let of_tasks = self.tasks_said_in.values().map(|(_, size)| *size);
+        of_tasks.chain([self.entry_size]).sum()
     }
 
     /// Of a queue beside one that is being purged: which of its messages are being deleted, if any still are.

@@ -26,7 +26,7 @@ fn state_of(name: &str) -> State {
 fn change(state: &mut State, change: &TableChange, moment: Moment) -> bool {
     match state.entry_after(change, 0, moment) {
         Some(Entry::Queue(entry)) => {
-            state.said(&entry, 1);
+            state.said(&entry, 1, Size::default());
             true
         }
         _ => false,

@@ -284,7 +284,7 @@ impl Task {
             self.admission.answered(weight);
             return Ok(StartOutcome::ready(Err(being_asked())));
         };
-        let text = text_of(&entry)?;
+        let text = entry.text()?;
         if text.len() > STORE_LIMIT {
             // So long may be what an older journal has, which keeps it.
             self.admission.answered(weight);
@@ -295,11 +295,6 @@ impl Task {
         let raw = serde_json::value::to_raw_value(&AskFields::of(StoreName::of_book(book), 0, &ask))?;
         self.ask_admitted(queue, ask, raw, need, self.clock.now(), weight)
     }
-}
-
-/// What stands in a book. Older journals have tags with the two characters that JSON leaves as they are and no body may have.
-fn text_of(entry: &book::Entry) -> serde_json::Result<String> {
-    Ok(serde_json::to_string(entry)?.replace('\u{fffe}', "\\ufffe").replace('\u{ffff}', "\\uffff"))
 }
 
 /// What the call sent that this repeats, with a delay or without: meanwhile the queue may have got another one.
