@@ -82,9 +82,20 @@ def test_closed_segments_are_written_anew_on_a_disk_with_little_free(tmp_path, d
     assert full.gateway.stop() == 0
 
 
+def test_all_of_the_space_ahead_goes_to_segments_that_need_it_and_is_taken_again(tmp_path, disk):
+    """What stays of them is more than half of the space that is kept ahead, and nothing else is free."""
+    full = Filled(tmp_path, "--journal", str(disk / "journal"), kept=["k" * 200_000] * 40)
+    fill(disk)
+    full.delete_all()
+    full.gateway.set_clock(full.gateway.moment + WINDOW)
+    assert full.sends_again(20)
+    assert visible(full.call, "kept.fifo") == 40
+    assert full.gateway.stop() == 0
+
+
 def test_space_that_is_too_little_to_write_segments_anew_is_there_for_receives_and_deletes(tmp_path, disk):
     """What stays of them is more than there is in all."""
-    kept = [f"{number}" * 200_000 for number in range(10)] * 4
+    kept = [f"{number}" * 200_000 for number in range(10)] * 5
     full = Filled(tmp_path, "--journal", str(disk / "journal"), kept=kept)
     fill(disk)
     full.delete_all()

@@ -78,8 +78,9 @@ impl<F: Folder> Log<F> {
         let number = active.last + 1;
         let mut log = Log { folder, sizes, shards, allocated, kept: 0, number, file, active, owes_frame: true };
         // No number is used again: the one that is passed over may have been that of a commit that failed.
-        if log.is_short() && !log.grow() {
-            log.grow_in_part();
+        // Part of it may have been left to the disk, for segments that were being written anew, when the program ended.
+        if log.is_short() {
+            log.grow();
         }
         if log.space() >= frame::HEAD as u64 {
             log.pay()?;
@@ -190,24 +191,35 @@ impl<F: Folder> Log<F> {
         self.room() < self.ahead()
     }
 
-    /// Allocates one more piece, or at least as much as there should be ahead, if the disk has it. A disk that is full
-    /// leaves the room as it is.
+    /// Allocates one more piece, or at least as much as there should be ahead, if the disk has it. Of a disk that is full it
+    /// takes what there is of that, and tells false.
     pub fn grow(&mut self) -> bool {
-        let ahead = self.ahead().saturating_sub(self.space());
-        self.allocate(self.sizes.piece) || (ahead > 0 && self.allocate(ahead))
+        let lacking = self.ahead().saturating_sub(self.space());
+        if self.allocate(self.sizes.piece) || (lacking > 0 && self.allocate(lacking)) {
+            return true;
+        }
+        self.grow_in_part(lacking);
+        false
     }
 
-    /// Takes what a full disk has of the space that should be ahead: part of it may have been left to the disk, for segments
-    /// that were being written anew, when the program ended.
-    fn grow_in_part(&mut self) {
-        for part in halves_of(self.ahead().saturating_sub(self.space())) {
+    /// Takes what a full disk has of so much space, but for a small part of a piece.
+    fn grow_in_part(&mut self, bytes: u64) {
+        let least = (self.sizes.piece / SMALL_PARTS).max(1);
+        let mut part = bytes / 2;
+        while part >= least {
             self.allocate(part);
+            part /= 2;
         }
     }
 
-    /// Has so much space at least, if the disk has it.
+    /// Has so much space at least, if the disk has it. If not, it takes what there is of that, and tells false.
     pub fn reach(&mut self, space: u64) -> bool {
-        self.allocate(space.saturating_sub(self.space()))
+        let lacking = space.saturating_sub(self.space());
+        if self.allocate(lacking) {
+            return true;
+        }
+        self.grow_in_part(lacking);
+        false
     }
 
     fn allocate(&mut self, more: u64) -> bool {
@@ -257,6 +269,9 @@ impl<F: Folder> Log<F> {
         Ok(closed)
     }
 }
+
+/// A piece has so many small parts.
+const SMALL_PARTS: u64 = 1024;
 
 /// Ever smaller shares of a size, down to a sixteenth.
 pub fn halves_of(size: u64) -> impl Iterator<Item = u64> {

@@ -138,8 +138,6 @@ struct Rewriting {
     lacked: Option<u64>,
     /// How many names had been removed then.
     removed: usize,
-    /// How much of the space ahead was left to the disk for it.
-    lent: u64,
     /// Not before this moment again.
     next: Option<Instant>,
     /// Not before this one, where it failed and more names were removed since.

@@ -255,13 +255,6 @@ fn give_back(log: &mut Log<Files>, journal: &Journal, bytes: u64) -> Result<(), 
     Ok(())
 }
 
-/// Takes space again that was given to the disk: all of it, or as large a part as is there.
-fn take_again(log: &mut Log<Files>, journal: &Journal, bytes: u64) {
-    let before = log.room();
-    let mut parts = std::iter::once(bytes).chain(halves_of(bytes)).filter(|part| *part > 0);
-    change_room(journal, log, |log| parts.any(|part| log.reach(before + part)));
-}
-
 /// Does something to the log, and counts the room that it has from then on.
 fn change_room<T>(journal: &Journal, log: &mut Log<Files>, change: impl FnOnce(&mut Log<Files>) -> T) -> T {
     let before = log.room() as i64;
@@ -285,10 +278,6 @@ fn grow(log: &mut Log<Files>, journal: &Journal) -> Result<(), JournalError> {
     let is_left = shared.is_full.load(Ordering::Relaxed) && locked(&shared.rewriting).is_writing;
     if !is_left {
         let is_grown = ask_for_space(log, journal)?;
-        let lent = std::mem::take(&mut locked(&shared.rewriting).lent);
-        if !is_grown {
-            take_again(log, journal, lent);
-        }
         shared.is_full.store(!is_grown, Ordering::Relaxed);
     }
     // Whoever waits for space is told in any case: where there is none, it is refused.
@@ -322,7 +311,6 @@ fn rewrite_aside(log: &mut Log<Files>, journal: &Journal, failed: fn(&str)) -> R
     if !is_urgent && (is_early || closed_bytes(journal) < WORTH_REWRITING) {
         return Ok(());
     }
-    let before = log.room();
     let has_way = !is_urgent || make_way(log, journal, lacked)?;
     let mut rewriting = locked(&shared.rewriting);
     rewriting.removed = removed;
@@ -333,8 +321,6 @@ fn rewrite_aside(log: &mut Log<Files>, journal: &Journal, failed: fn(&str)) -> R
     }
     rewriting.goes_on = true;
     rewriting.is_writing = true;
-    // What was lent the last time may not be taken again yet.
-    rewriting.lent += before.saturating_sub(log.room());
     drop(rewriting);
     // All of these are on disk by the last commit.
     let (removed, rests_on) = (locked(&shared.removed).clone(), log.active().last);
@@ -488,7 +474,6 @@ mod tests {
         let left = (before - promised) - (before - promised) / 2;
         assert_eq!((log.room(), counted(&journal)), (promised + left, left));
         locked(&journal.0.rewriting).is_writing = true;
-        locked(&journal.0.rewriting).lent = before - log.room();
         grow(&mut log, &journal).unwrap();
         assert_eq!((log.room(), counted(&journal)), (promised + left, left), "what is free is for others");
         assert!(journal.set_aside(Need::Free, left).is_err(), "nobody waits for it");
@@ -517,7 +502,7 @@ mod tests {
             assert_eq!((log.room(), counted(&journal)), (before - lent, before - lent), "{lacked}");
             let of_delete = journal.set_aside(Need::Delete, 1000).unwrap().unwrap();
             journal.give_back(of_delete);
-            take_again(&mut log, &journal, lent);
+            change_room(&journal, &mut log, |log| log.reach(before));
         }
     }
 
@@ -554,17 +539,5 @@ mod tests {
         }
         log.keep(5 << 20);
         assert!(log.is_short() && log.grow() && !log.is_short());
-    }
-
-    #[test]
-    fn space_that_was_left_to_the_disk_is_taken_again() {
-        let room = Room::new("again");
-        let (mut log, journal) = opened(&room);
-        let before = log.room();
-        give_back(&mut log, &journal, before / 2).unwrap();
-        assert_eq!((log.room(), counted(&journal)), (before - before / 2, before - before / 2));
-        take_again(&mut log, &journal, before / 2);
-        take_again(&mut log, &journal, 0);
-        assert_eq!((log.room(), counted(&journal)), (before, before));
     }
 }
