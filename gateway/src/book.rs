@@ -23,6 +23,9 @@ const LONGEST_REST: Duration = Duration::from_secs(10);
 const WORTH_IT: u64 = 1 << 20;
 const WORTH_IT_IF_FULL: u64 = 64 << 10;
 
+/// On a full disk that has room for it, it is begun anew also for this part of what counts, and as many bytes as those.
+const PART_WORTH_IT_IF_FULL: u64 = 8;
+
 /// So many queues are said once more at once.
 const AT_ONCE: usize = 64;
 
@@ -75,11 +78,17 @@ fn is_space_wanted(store: &Store) -> bool {
     store.wants_space() || store.is_memory_full()
 }
 
-/// Whether old entries take more than those that count.
+/// Whether old entries take more than those that count. On a full disk some of them are enough, if a fresh book has room.
 fn is_worth_beginning_anew(store: &Store, place: usize) -> bool {
     let bytes = store.queues().books().bytes_of_current(place);
     let least = if is_space_wanted(store) { WORTH_IT_IF_FULL } else { WORTH_IT };
-    bytes > least && bytes > least + 2 * size_of(of_place(store, place)).memory
+    if bytes <= least {
+        return false;
+    }
+    let Size { memory: counting, journal } = size_of_all(store, place);
+    let old = bytes.saturating_sub(counting);
+    let is_some = old > WORTH_IT_IF_FULL + counting / PART_WORTH_IT_IF_FULL;
+    old > least + counting || (is_some && store.has_room_on_full_disk(journal))
 }
 
 /// What the entries take that count of queues.
@@ -87,10 +96,10 @@ fn size_of(queues: impl Iterator<Item = Arc<Queue>>) -> Size {
     queues.map(|queue| queue.state().size_of_entries()).sum()
 }
 
-/// What the records take of all that a fresh book is to say.
-fn bytes_of_records(store: &Store, place: usize) -> u64 {
-    let of_removals = removals_of(store, place).map(|removal| Entry::Removed(removal).size()).sum::<Size>();
-    size_of(of_place(store, place)).journal + of_removals.journal
+/// What all takes that a fresh book is to say.
+fn size_of_all(store: &Store, place: usize) -> Size {
+    let of_removals = removals_of(store, place).map(|removal| Entry::Removed(removal).size());
+    of_removals.chain([size_of(of_place(store, place))]).sum()
 }
 
 fn removals_of(store: &Store, place: usize) -> impl Iterator<Item = Removal> + '_ {
@@ -110,7 +119,8 @@ async fn bring_up_to_date(store: &Store, place: usize) -> Result<(), SqsError> {
     let is_first = books.current(place).is_none();
     if is_first || is_worth_beginning_anew(store, place) {
         if !is_first {
-            store.wait_for_room(Need::Free, bytes_of_records(store, place)).await?;
+            store.begin_segment().await;
+            store.wait_for_room(Need::Free, size_of_all(store, place).journal).await?;
         }
         let create = Ask::Create { store: store.next_book(place), visibility: 0, bytes: 0 };
         store.perform_nameless(place, vec![create.into()]).await?;

@@ -5,8 +5,10 @@ from __future__ import annotations
 import json
 import os
 import random
+import subprocess
 import threading
 import time
+from collections.abc import Callable
 from pathlib import Path
 
 import pytest
@@ -158,6 +160,18 @@ class FilledBesideTags(Filled):
         assert len(handles) == self.count
         return handles
 
+    def is_done(self, what: Callable[[int], None], turn: int) -> bool:
+        """False where it is refused for seconds. It is refused for moments while a book is begun anew."""
+        latest = time.monotonic() + 3
+        while time.monotonic() < latest:
+            try:
+                what(turn)
+                return True
+            except Refused as refused:
+                assert (refused.code, refused.status) == ("ServiceUnavailable", 503)
+                time.sleep(0.05)
+        return False
+
     def restart(self) -> None:
         self.gateway.kill()
         self.gateway.start()
@@ -208,25 +222,79 @@ def test_a_full_disk_comes_free_whenever_the_gateway_is_killed(tmp_path, small_d
     assert full.gateway.stop() == 0
 
 
+def sends(call, queue: str = "q") -> bool:
+    """Sends a small message to a standard queue, if it is taken."""
+    try:
+        call("SendMessage", QueueUrl=queue, MessageBody="b")
+    except Refused as refused:
+        assert refused.code == "OverLimit"
+        return False
+    return True
+
+
+def sends_in_time(call, seconds: float = 20) -> bool:
+    """Whether such a message is taken by then."""
+    latest = time.monotonic() + seconds
+    while not sends(call):
+        if time.monotonic() > latest:
+            return False
+        time.sleep(0.05)
+    return True
+
+
+def test_a_book_is_made_smaller_where_tags_alone_fill_a_disk(tmp_path, disk):
+    """Of what the book takes more than half counts. Once a larger part counts than goes on such a disk, it has to be larger."""
+    gateway = Started("--journal", str(disk / "journal"), room=tmp_path)
+    call = ByJson(gateway.url)
+    call("CreateQueue", QueueName="q")
+    expected = [dict(TAGS) for _ in range(330)]
+    for number in range(330):
+        call("CreateQueue", QueueName=f"t{number}", tags=TAGS)
+    with pytest.raises(Refused, match="ServiceUnavailable 503"):
+        for turn in range(1000):
+            call("TagQueue", QueueUrl=f"t{turn % 330}", Tags={KEYS[0]: str(turn)})
+            expected[turn % 330][KEYS[0]] = str(turn)
+    assert turn < 330 and sends_in_time(call)
+    with pytest.raises(Refused, match="OverLimit 403"):
+        for number in range(330, 1000):
+            call("CreateQueue", QueueName=f"t{number}", tags=TAGS)
+            expected.append(dict(TAGS))
+    sent = 2
+    while sends(call):
+        sent += 1
+    assert not sends_in_time(call, 2)
+    subprocess.run(["mount", "-o", "remount,size=48m", str(disk)], check=True)
+    assert sends_in_time(call)
+    for _ in range(2):
+        names = {url.rsplit("/", 1)[-1] for url in call("ListQueues")["QueueUrls"]}
+        assert names == {"q", *(f"t{number}" for number in range(len(expected)))}
+        for number, tags in enumerate(expected):
+            assert call("ListQueueTags", QueueUrl=f"t{number}")["Tags"] == tags
+        assert visible(call, "q") == sent
+        gateway.kill()
+        gateway.start()
+        call = ByJson(gateway.url)
+    assert gateway.stop() == 0
+
+
 def test_what_says_queues_once_more_leaves_space_for_deletes_and_removals(tmp_path, small_disk):
     """Queues of which tags take much are purged and untagged until that is refused."""
     full = FilledBesideTags(tmp_path, small_disk("40m"), 0)
     handles = full.receive_all()
 
-    for number in range(40):
-        full.call("PurgeQueue", QueueUrl=f"t{number}")
-
     def untag(turn: int) -> None:
         full.call("UntagQueue", QueueUrl=f"t{turn % 200}", TagKeys=[KEYS[turn // 200]])
 
-    with pytest.raises(Refused, match="ServiceUnavailable 503"):
-        for turn in range(2000):
-            untag(turn)
-            del full.expected[turn % 200][KEYS[turn // 200]]
-    # What was refused is refused again, and has changed nothing.
-    for what in (lambda: untag(turn), lambda: full.call("PurgeQueue", QueueUrl="t199")):
-        with pytest.raises(Refused, match="ServiceUnavailable 503"):
-            what()
+    def purge(turn: int) -> None:
+        full.call("PurgeQueue", QueueUrl=f"t{turn}")
+
+    assert all(full.is_done(purge, turn) for turn in range(40))
+    turn = 0
+    while full.is_done(untag, turn):
+        del full.expected[turn % 200][KEYS[turn // 200]]
+        turn += 1
+    assert not full.is_done(purge, 199)
+    # What was refused has changed nothing.
     full.look_at_queues()
     for handle in handles:
         full.call("DeleteMessage", QueueUrl="q.fifo", ReceiptHandle=handle)

@@ -149,6 +149,7 @@ struct Rewriting {
 struct Inbox {
     batch: CommitBatch,
     wants_room: bool,
+    wants_segment: bool,
     /// There may be something to do beside what waits.
     looks_again: bool,
     is_closed: bool,
@@ -314,8 +315,8 @@ impl Journal {
         self.0.bound.set(bytes);
     }
 
-    /// Keeps so much of the space ahead for books: as much as their records take. What counts of these has to be written
-    /// once more before a full disk comes free.
+    /// Keeps so much of the space ahead for books: as much as the records take of what counts in them. That may have to be
+    /// written once more before a full disk comes free.
     pub fn keep(&self, bytes: u64) {
         self.0.kept.store(bytes, Ordering::Relaxed);
     }
@@ -331,13 +332,38 @@ impl Journal {
             bound: self.0.bound.limit(),
             commits: self.0.commits.load(Ordering::Relaxed),
             records: self.count(),
-            is_disk_full: self.0.is_full.load(Ordering::Relaxed),
+            is_disk_full: self.is_disk_full(),
         }
     }
 
     /// Whether the bound or the disk is full, so that records that can go should go at once.
     pub fn wants_space(&self) -> bool {
-        self.0.bound.is_full(self.bytes()) || self.0.is_full.load(Ordering::Relaxed)
+        self.0.bound.is_full(self.bytes()) || self.is_disk_full()
+    }
+
+    /// Whether the disk gave no space when it was last asked.
+    pub fn is_disk_full(&self) -> bool {
+        self.0.is_full.load(Ordering::Relaxed)
+    }
+
+    /// Whether all records that can go have gone.
+    pub fn has_let_go(&self) -> bool {
+        let removed = locked(&self.0.removed).len();
+        let rewriting = locked(&self.0.rewriting);
+        !rewriting.goes_on && rewriting.lacked.is_none() && rewriting.removed >= removed
+    }
+
+    /// Has what is written from then on stand in a segment of its own where the disk is full, if the last one is long enough to
+    /// be worth that. So what goes can be written anew without it.
+    pub async fn begin_segment(&self) {
+        if !self.is_disk_full() {
+            return;
+        }
+        let mut grown = self.grown();
+        self.inbox().wants_segment = true;
+        self.0.more.notify_one();
+        // The journal doesn't end before the store.
+        let _ = grown.changed().await;
     }
 
     /// Sets space aside for a record of up to `bytes`, and tells how much that was; none where it must be asked for
@@ -362,7 +388,7 @@ impl Journal {
             return Ok(Some(bytes));
         }
         self.give_back(bytes);
-        let was_full = self.0.is_full.load(Ordering::Relaxed);
+        let was_full = self.is_disk_full();
         self.inbox().wants_room = true;
         self.0.more.notify_one();
         match need {

@@ -51,6 +51,7 @@ pub fn start(log: Log<Files>, journal: Journal, failed: fn(&str)) -> Result<(), 
 /// What there is to do next.
 enum Work {
     Grow,
+    BeginSegment,
     LookAgain,
     Write(CommitBatch),
     Quiet,
@@ -65,6 +66,7 @@ fn keep_writing(mut log: Log<Files>, journal: &Journal, failed: fn(&str)) -> Res
         write_first(&mut log, journal)?;
         match wait(journal, is_quiet) {
             Work::Grow => grow(&mut log, journal)?,
+            Work::BeginSegment => begin_segment_of_its_own(&mut log, journal)?,
             Work::LookAgain => {}
             Work::Write(mut batch) => {
                 if !batch.records.is_empty() {
@@ -99,6 +101,9 @@ fn wait(journal: &Journal, is_quiet: bool) -> Work {
         }
         if std::mem::take(&mut inbox.wants_room) {
             return Work::Grow;
+        }
+        if std::mem::take(&mut inbox.wants_segment) {
+            return Work::BeginSegment;
         }
         if std::mem::take(&mut inbox.looks_again) {
             return Work::LookAgain;
@@ -179,13 +184,23 @@ fn length_of_first(records: &[u8], most: usize) -> usize {
     end.map_or(records.len(), |end| end + 1)
 }
 
+/// Has the log begin another segment, where the last one is worth it. While segments are being written anew, what a full disk
+/// has free is left to them.
+fn begin_segment_of_its_own(log: &mut Log<Files>, journal: &Journal) -> Result<(), JournalError> {
+    if log.active().end >= worth_closing(journal) && !locked(&journal.0.rewriting).goes_on {
+        begin_segment(log, journal)?;
+    }
+    journal.0.grown.send_replace(());
+    Ok(())
+}
+
 /// Has the log begin another segment. Where the disk is full, that one has less space: as much as there is, and what
 /// this one doesn't need. False if there is too little.
 fn begin_segment(log: &mut Log<Files>, journal: &Journal) -> Result<bool, JournalError> {
     let before = log.room();
     let is_begun = begin_smaller_segment(log, journal)?;
     if log.room() < before {
-        // What the old one had is free by now.
+        // What the old one had is free by now, but for what the new one takes of the disk beside.
         change_room(journal, log, |log| log.reach(before));
     }
     Ok(is_begun)
@@ -408,11 +423,16 @@ fn rewrite_closed(journal: &Journal, removed: &HashSet<StoreName>, rests_on: u64
         let spans = locked(&shared.spans);
         spans[..spans.len().saturating_sub(1)].to_vec()
     };
-    let mut done = 0;
+    let (mut done, mut length_of_one) = (0, REWRITTEN);
     loop {
-        let rewritten = match rewrite(&shared.files, &closed, removed, rests_on, REWRITTEN) {
+        let rewritten = match rewrite(&shared.files, &closed, removed, rests_on, length_of_one) {
             Ok(Some(rewritten)) => rewritten,
             Ok(None) => return Ok(None),
+            // Each segment by itself takes less space, and gives back its own before the next one is written.
+            Err(NotRewritten { .. }) if length_of_one > 0 && closed.len() > 1 => {
+                length_of_one = 0;
+                continue;
+            }
             Err(NotRewritten { why, length }) => {
                 // A full disk: nothing has changed, and it is tried again later.
                 tracing::warn!("the journal isn't written anew: {why}");

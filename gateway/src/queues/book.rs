@@ -135,8 +135,6 @@ struct Book {
     number: u64,
     /// What its entries take of memory.
     bytes: u64,
-    /// What their records take of the journal.
-    record_bytes: u64,
 }
 
 /// The books of all programs, by their places: the last of each is the one that is written to, and the others are to be
@@ -151,7 +149,7 @@ impl Books {
 
     /// The store has this one, and from now on it is written to.
     pub fn add(&self, place: usize, number: u64) {
-        self.books().entry(place).or_default().push(Book { number, bytes: 0, record_bytes: 0 });
+        self.books().entry(place).or_default().push(Book { number, bytes: 0 });
     }
 
     /// The store hasn't got it any more. Tells what its entries took of memory.
@@ -163,19 +161,13 @@ impl Books {
         removed
     }
 
-    /// An entry of this size stands in it. Tells what it takes of memory.
-    pub fn count(&self, place: usize, number: u64, size: Size) -> u64 {
+    /// An entry stands in it that takes so much of memory. Tells what it takes where the store has the book.
+    pub fn count(&self, place: usize, number: u64, bytes: u64) -> u64 {
         if let Some(book) = self.books().entry(place).or_default().iter_mut().find(|book| book.number == number) {
-            book.bytes += size.memory;
-            book.record_bytes += size.journal;
-            return size.memory;
+            book.bytes += bytes;
+            return bytes;
         }
         0
-    }
-
-    /// What the records of all books take of the journal.
-    pub fn record_bytes(&self) -> u64 {
-        self.books().values().flatten().map(|book| book.record_bytes).sum()
     }
 
     /// The number of the one that is written to.
@@ -258,15 +250,12 @@ mod tests {
         assert_eq!((books.current(0), books.earlier(0)), (None, vec![]));
         books.add(0, 2);
         books.add(1, 3);
-        let size = Size::of("0123456789");
-        assert_eq!((books.count(0, 2, size), books.count(0, 4, size)), (10 + MESSAGE_BYTES, 0));
+        assert_eq!((books.count(0, 2, 10), books.count(0, 4, 10)), (10, 0));
         books.add(0, 4);
         assert_eq!((books.current(0), books.earlier(0), books.current(1)), (Some(4), vec![2], Some(3)));
         // One that was asked before.
-        assert_eq!(books.count(0, 2, Size::of(r#"{"removed":"\"}"#)), 15 + MESSAGE_BYTES);
-        assert_eq!(books.record_bytes(), 10 + 15 + 5 + 2 * RECORD_BYTES, "quotes and backslashes are escaped");
-        assert_eq!((books.bytes_of_current(0), books.remove(0, 2)), (0, 25 + 2 * MESSAGE_BYTES));
+        assert_eq!(books.count(0, 2, 15), 15);
+        assert_eq!((books.bytes_of_current(0), books.remove(0, 2)), (0, 25));
         assert_eq!((books.current(0), books.earlier(0), books.remove(0, 2)), (Some(4), vec![], 0));
-        assert_eq!(books.record_bytes(), 0);
     }
 }

@@ -143,6 +143,8 @@ pub struct Queues {
     left_over: LeftOver,
     /// What all queues take of memory, in bytes.
     bytes_in_use: AtomicU64,
+    /// What the journal needs once more for what books say, in bytes.
+    kept: AtomicU64,
     jumps: Jumps,
     copies: Copies,
     parts: Parts,
@@ -304,7 +306,7 @@ impl Queues {
             }
             (Ask::Say { book, entry, text }, StoreReply::Sent(_)) => {
                 let size = Size::of(text);
-                let bytes = self.books.count(place, *book, size);
+                let bytes = self.books.count(place, *book, size.memory);
                 self.bytes_in_use.fetch_add(bytes, Ordering::Relaxed);
                 self.said(place, queue, entry, *book, size);
                 Ok((Outcome::Done, true))
@@ -330,7 +332,7 @@ impl Queues {
             Entry::Queue(entry) => self.said_of_queue(place, queue, entry, book, size),
             Entry::Removed(removal) => self.remove(place, queue, removal),
             Entry::Task(_, task) => {
-                queue.state().said_of_task(task, book, size);
+                self.counted(queue, |state| state.said_of_task(task, book, size));
                 self.remember_tasked(place, queue);
             }
         }
@@ -362,7 +364,7 @@ impl Queues {
         let earlier = queue.store_names();
         let is_new = !self.find(&queue.name).is_some_and(|found| Arc::ptr_eq(&found, queue));
         let said = if is_new {
-            let said = queue.state().said(entry, book, size);
+            let said = self.count_kept(&mut queue.state(), |state| state.said(entry, book, size));
             self.insert(queue);
             said
         } else {
@@ -447,14 +449,27 @@ impl Queues {
         }
     }
 
-    /// Does something to a queue, and counts what it takes of memory from then on.
+    /// Does something to a queue, and counts what it takes of memory from then on, and what books need for it.
     fn counted<T>(&self, queue: &Queue, act: impl FnOnce(&mut State) -> T) -> T {
         let mut state = queue.state();
         let before = state.bytes_of_all();
-        let done = act(&mut state);
+        let done = self.count_kept(&mut state, act);
         // The difference may be below zero: it wraps, and the sum wraps back.
         self.bytes_in_use.fetch_add(state.bytes_of_all().wrapping_sub(before), Ordering::Relaxed);
         done
+    }
+
+    fn count_kept<T>(&self, state: &mut State, act: impl FnOnce(&mut State) -> T) -> T {
+        let before = state.kept();
+        let done = act(state);
+        self.kept.fetch_add(state.kept().wrapping_sub(before), Ordering::Relaxed);
+        done
+    }
+
+    /// What the journal needs, in bytes, so that all that counts in books can be said once more, and each purge that goes on
+    /// can come to its end.
+    pub fn kept_for_books(&self) -> u64 {
+        self.kept.load(Ordering::Relaxed)
     }
 
     /// What all queues take of memory, in bytes. What has become too old to count may be in it until `look_at_ages`.

@@ -176,6 +176,21 @@ impl Store {
         Ok(())
     }
 
+    /// Whether the journal's disk is full and has room for a book of so many bytes all the same, and nothing waits to be
+    /// written anew, which would need room, too.
+    pub fn has_room_on_full_disk(&self, bytes: u64) -> bool {
+        let waits_for_nothing = |journal: &Journal| journal.is_disk_full() && journal.has_let_go();
+        self.journal.as_ref().is_some_and(waits_for_nothing)
+            && self.has_room(Need::Free, bytes + KEPT_FOR_DELETES) == Ok(true)
+    }
+
+    /// Has a book that is begun next stand in a segment of its own where the journal's disk is full.
+    pub async fn begin_segment(&self) {
+        if let Some(journal) = &self.journal {
+            journal.begin_segment().await;
+        }
+    }
+
     /// Refuses to send so many bytes where that would be refused in the end.
     pub fn test_room_to_send(&self, bytes: u64) -> Result<(), SqsError> {
         self.admission.test(bytes, self.clock.now())?;

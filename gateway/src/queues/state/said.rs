@@ -114,6 +114,16 @@ impl State {
         of_tasks.chain([self.entry_size]).sum()
     }
 
+    /// What the journal needs once more for what books say of the queue, and for the end of a purge that goes on; nothing
+    /// where no book says anything of it.
+    pub fn kept(&self) -> u64 {
+        if self.removed || self.said_in == 0 {
+            return 0;
+        }
+        let of_end = if self.entry.purging.is_some() { self.entry_size.journal } else { 0 };
+        self.size_of_entries().journal + of_end
+    }
+
     /// Of a queue beside one that is being purged: which of its messages are being deleted, if any still are.
     pub fn purge_with(&mut self, purging: Option<Purging>) {
         self.entry.purging = purging.map(|main| Purging { up_to: main.delayed_up_to, delayed_up_to: 0 });

@@ -103,6 +103,7 @@ struct Shown {
     used: BTreeSet<StoreName>,
     books: Vec<(Option<u64>, Vec<u64>)>,
     bytes: u64,
+    kept: u64,
 }
 
 fn shown(queues: &Queues, shards: Shards, now: Moment) -> Shown {
@@ -123,6 +124,7 @@ fn shown(queues: &Queues, shards: Shards, now: Moment) -> Shown {
         used: all.iter().flat_map(|queue| queue.store_names()).collect(),
         books: places.map(|place| (queues.books().current(place), queues.books().earlier(place))).collect(),
         bytes: queues.bytes_in_use(),
+        kept: queues.kept_for_books(),
     }
 }
 
