@@ -23,7 +23,7 @@ use crate::cq::{test_built, test_version, Cq};
 use crate::delays;
 use crate::ending::End;
 use crate::http::{is_of_this_machine, listen, Addresses, Door, Hosts, Places, Service};
-use crate::journal::{self, CommitBatch, Journal, LockedJournal, Record};
+use crate::journal::{self, CommitBatch, Journal, LockedJournal, Opened, Record};
 use crate::limits::Bounds;
 use crate::metrics::Metrics;
 use crate::move_tasks;
@@ -34,7 +34,7 @@ use crate::purges;
 use crate::queues::shards::Shards;
 use crate::queues::Queues;
 use crate::retention;
-use crate::store::{self, Ended, Replayed, Start, Store, Tables};
+use crate::store::{self, Ended, ReplayError, Replayed, Start, Store, Tables};
 use crate::tls::Certificate;
 
 /// What a gateway is told at its start.
@@ -235,16 +235,15 @@ async fn begin(settings: &Settings, health: &Health, mut cqs: Vec<Cq>) -> Result
         Some(path) => Clock::of_file(path),
         None => Clock::new(),
     });
-    let queues = Arc::new(Queues::new(settings.peek));
+    let mut queues = Arc::new(Queues::new(settings.peek));
     let locked = lock_journal(settings).await?;
     let shards = settings.shards;
     let (journal, replayed) = match locked {
         Some(locked) => {
             let opened = locked.open(shards)?;
-            let (queues, clock, progress) = (queues.clone(), clock.clone(), health.replayed.clone());
-            let tables = Tables { queues, clock, progress };
-            let (fed, replayed) = store::replay_all(cqs, shards, &opened, &tables).await?;
-            cqs = fed;
+            let mut tables = Tables { queues, clock: clock.clone(), progress: health.replayed.clone() };
+            let (fed, replayed) = feed(settings, &opened, &mut tables, cqs).await?;
+            (cqs, queues) = (fed, tables.queues.clone());
             let journal = opened.begin(replayed.records, end_at_once)?;
             if let Some(uncounted) = retention::uncounted(replayed.latest, tables.clock.now()) {
                 record_jump(&journal, &tables, uncounted)?;
@@ -266,6 +265,25 @@ async fn begin(settings: &Settings, health: &Health, mut cqs: Vec<Cq>) -> Result
     purges::finish(&store).await;
     delays::take_over(&store).await;
     Ok(RunningStore { store, ended, journal })
+}
+
+/// Feeds the journal to the programs, and to the tables. Where a program ends on the way, all are started again and fed once more,
+/// and the tables made anew: at the second such end in a row the gateway ends.
+async fn feed(
+    settings: &Settings,
+    opened: &Opened,
+    tables: &mut Tables,
+    cqs: Vec<Cq>,
+) -> Result<(Vec<Cq>, Replayed), ReplayError> {
+    match store::replay_all(cqs, settings.shards, opened, tables).await {
+        Err(error) if error.is_of_program() => tracing::error!("{error}"),
+        fed => return fed,
+    }
+    tables.queues = Arc::new(Queues::new(settings.peek));
+    let cqs = Cq::start_all(&settings.program, settings.shards.count(), settings.cq_timeout)?;
+    let fed = store::replay_all(cqs, settings.shards, opened, tables).await?;
+    tracing::warn!("cq was started again, and is where the journal is");
+    Ok(fed)
 }
 
 /// The clock is more than a day ahead of the journal: of that time a day counts for retention, now and at later starts.

@@ -141,6 +141,38 @@ def test_a_program_that_ends_at_whatever_it_is_asked_ends_the_gateway(tmp_path):
     assert gateway.process.wait(60) == 1 and cq.ends() == 9
 
 
+@pytest.mark.parametrize("shards", ["1", "3"])
+def test_a_program_that_ends_while_a_start_feeds_it_is_started_again_once(tmp_path, shards):
+    """It is killed behind seven of the twenty sends of the journal: the first one, and then each."""
+    cq = SteeredCq(tmp_path)
+    words = ["--journal", str(tmp_path / "journal"), "--shards", shards, "--memory", "1GiB", "--admin", "0", *cq.words()]
+    gateway = Started(*words)
+    call = ByJson(gateway.url)
+    for name in ("q.fifo", "other.fifo", "third.fifo"):
+        call("CreateQueue", QueueName=name, Attributes=FIFO)
+    for number in range(20):
+        send(call, number)
+    used = metric(get(admin_url(gateway) + "/metrics")[1], "hobbychair_memory_used_bytes")
+    gateway.kill()
+    cq.tell(each=['"group":"g"'], kill=True, **{"pass": 7})
+    gateway.start()
+    assert cq.ends() == 1
+    # Nothing counts twice.
+    assert metric(get(admin_url(gateway) + "/metrics")[1], "hobbychair_memory_used_bytes") == used
+    call, bodies = ByJson(gateway.url), []
+    while messages := call("ReceiveMessage", QueueUrl="q.fifo", MaxNumberOfMessages=10).get("Messages"):
+        for message in messages:
+            bodies.append(message["Body"])
+            call("DeleteMessage", QueueUrl="q.fifo", ReceiptHandle=message["ReceiptHandle"])
+    assert bodies == [str(number) for number in range(20)]
+    gateway.kill()
+    cq.tell(end='"group":"g"', behind=10)
+    ended = subprocess.run(command("--port", "0", *words), env=environment(), capture_output=True, text=True, timeout=60)
+    said = ended.stderr.splitlines()
+    assert ended.returncode == 1 and said[-1].startswith("hobbychair: cq is gone: it ended with")
+    assert cq.ends() == 3 and sum("cq is gone" in line for line in said) == 2
+
+
 @pytest.mark.parametrize("number", [signal.SIGTERM, signal.SIGKILL])
 @pytest.mark.parametrize("what", ["hang", "close"])
 def test_no_program_outlives_the_gateway(tmp_path, stand_in, number, what):

@@ -6,7 +6,7 @@
 //! and the tables of a queue follow the records of that queue alone. So each program is fed its own records in their
 //! order, by a replay of its own that passes the others over.
 
-use std::collections::{HashMap, HashSet, VecDeque};
+use std::collections::{BTreeMap, HashMap, HashSet, VecDeque};
 use std::sync::atomic::{AtomicU64, Ordering};
 use std::sync::Arc;
 
@@ -14,6 +14,7 @@ use bytes::{Buf, BytesMut};
 use thiserror::Error;
 use tokio::io::{AsyncReadExt, AsyncWriteExt};
 use tokio::sync::mpsc;
+use tokio::task::JoinSet;
 
 use crate::clock::{Clock, Moment};
 use crate::cq::{Cq, CqError};
@@ -38,6 +39,13 @@ pub enum ReplayError {
     OtherReply(u64),
     #[error("record {0} of the journal can't be read")]
     BadRecord(u64),
+}
+
+impl ReplayError {
+    /// Whether the program is gone, or as good as that: another one may do better.
+    pub fn is_of_program(&self) -> bool {
+        matches!(self, ReplayError::Cq(_) | ReplayError::BadOutput(_))
+    }
 }
 
 /// What a replay found.
@@ -125,23 +133,23 @@ pub async fn replay_all(
     tables: &Tables,
 ) -> Result<(Vec<Cq>, Replayed), ReplayError> {
     let known = Arc::new(read_books(opened.records()?)?);
-    let mut begun = Vec::new();
+    // Where one of them fails, the others are ended.
+    let mut begun = JoinSet::new();
     for (mut cq, shard) in cqs.into_iter().zip(shards.all()) {
         let (records, tables, known) = (opened.records()?, tables.clone(), known.clone());
-        begun.push(tokio::spawn(async move {
+        begun.spawn(async move {
             let replayed = replay(&mut cq, records, shard, Some((tables, known))).await?;
-            Ok::<_, ReplayError>((cq, replayed))
-        }));
+            Ok::<_, ReplayError>((shard.place(), cq, replayed))
+        });
     }
-    let (mut ready, mut all) = (Vec::new(), Replayed::default());
-    for replay in begun {
-        let (cq, replayed) = replay.await.map_err(|error| JournalError::Io(error.to_string()))??;
-        ready.push(cq);
+    let (mut ready, mut all) = (BTreeMap::new(), Replayed::default());
+    while let Some(replay) = begun.join_next().await {
+        let (place, cq, replayed) = replay.map_err(|error| JournalError::Io(error.to_string()))??;
+        ready.insert(place, cq);
         // Each of them has seen all records.
-        all.records = replayed.records;
-        all.latest = replayed.latest;
+        all = replayed;
     }
-    Ok((ready, all))
+    Ok((ready.into_values().collect(), all))
 }
 
 /// What the books that are there say first of each name of the store. The entries may stand behind records of its queue.
