@@ -5,6 +5,7 @@ from __future__ import annotations
 
 import gzip
 import json
+import os
 import select
 import subprocess
 import time
@@ -14,6 +15,7 @@ import pytest
 
 from started import START, ByJson, Refused, Started, command, environment, handing, run
 from steered import SteeredCq
+from test_full_disk import fill
 from test_standard import sent_by_call
 
 LARGE = "large" * 60_000
@@ -266,3 +268,74 @@ def test_what_an_older_journal_says_of_queues_goes_to_the_store(tmp_path, passin
     assert older.call("ListQueueTags", QueueUrl="plain")["Tags"] == {"a": "1", "b": "2"}
     assert "again" not in str(older.call("ListQueues"))
     assert older.gateway.stop() == 0
+
+
+class ToUpgrade:
+    """A journal of version 1, 2 or 3, at the beginning of names or in a file of its own, in this folder."""
+
+    def __init__(self, version: int, room: Path, clock: Path) -> None:
+        self.old = gzip.decompress(Path(__file__).with_name(f"version{version}.journal.gz").read_bytes())
+        self.words = ["--journal", str(room / "journal"), "--clock-file", str(clock)]
+        self.file = room / ("journal" if version == 1 else "journal.1")
+        self.file.write_bytes(self.old)
+        clock.write_text(str(START + 20_000))
+
+    def start(self) -> None:
+        self.gateway = Started(*self.words)
+        self.call = ByJson(self.gateway.url)
+
+    def told(self) -> dict[str, dict]:
+        """What queues there are, and their attributes, counts and tags."""
+        names = [url.rsplit("/", 1)[-1] for url in self.call("ListQueues")["QueueUrls"]]
+        return {name: {**self.call("GetQueueAttributes", QueueUrl=name, AttributeNames=["All"]),
+                       **self.call("ListQueueTags", QueueUrl=name)} for name in names}
+
+    def send(self, dedup: str) -> None:
+        """To the first queue of all, which is a FIFO queue."""
+        self.call("SendMessage", QueueUrl=min(self.told()), MessageBody="sent", MessageGroupId="new",
+                  MessageDeduplicationId=dedup)
+
+    def messages(self, name: str) -> list[dict]:
+        found = self.call("ReceiveMessage", QueueUrl=name, MaxNumberOfMessages=10, VisibilityTimeout=0,
+                          AttributeNames=["All"], MessageAttributeNames=["All"]).get("Messages", [])
+        return [{key: value for key, value in one.items() if key != "ReceiptHandle"} for one in found]
+
+
+# With so much of the disk free. The segment into which version 1 is written has 272,879 bytes.
+@pytest.mark.parametrize("version, free", [(1, 0), (1, 100_000), (1, 300_000), (2, 0), (2, 5000), (3, 0), (3, 5000)])
+def test_an_upgrade_on_a_full_disk_says_what_it_lacks_and_loses_nothing(tmp_path, small_disk, capfd, version, free):
+    (tmp_path / "roomy").mkdir()
+    roomy = ToUpgrade(version, tmp_path / "roomy", tmp_path / "clock")
+    roomy.start()
+    expected = roomy.told()
+    messages = {name: roomy.messages(name) for name in expected}
+    assert roomy.gateway.stop() == 0
+    disk = small_disk("40m")
+    upgrade = ToUpgrade(version, disk, tmp_path / "clock")
+    (disk / "spare").write_bytes(b"\0" * free)
+    filler = fill(disk)
+    (disk / "spare").unlink()
+    for _ in range(3):
+        capfd.readouterr()
+        if (version, free < 272_879) == (1, True):
+            ended = run("serve", "--port", "0", *upgrade.words)
+            assert ended.returncode == 1 and "takes 272879 bytes more" in ended.stderr and "No space left" in ended.stderr
+            assert sorted(os.listdir(disk)) == ["filler", "journal", "journal.lock"] and upgrade.file.read_bytes() == upgrade.old
+            continue
+        upgrade.start()
+        assert "the disk of the journal is full: of the 12582912 bytes that are to be ahead it has" in capfd.readouterr().err
+        assert upgrade.told() == expected
+        assert version == 1 or upgrade.file.read_bytes()[: len(upgrade.old)] == upgrade.old
+        with pytest.raises(Refused, match="OverLimit 403"):
+            upgrade.send("refused")
+        upgrade.gateway.kill()
+    filler.unlink()
+    upgrade.start()
+    assert upgrade.told() == expected
+    assert {name: upgrade.messages(name) for name in expected} == messages
+    for dedup in "ab":
+        upgrade.send(dedup)
+        upgrade.gateway.kill()
+        upgrade.start()
+    assert [one["Body"] for one in upgrade.messages(min(expected))][-2:] == ["sent", "sent"]
+    assert upgrade.gateway.stop() == 0

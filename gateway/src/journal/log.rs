@@ -191,6 +191,11 @@ impl<F: Folder> Log<F> {
         self.room() < self.ahead()
     }
 
+    /// How much space there is ahead, and how much there should be, where it is too little.
+    pub fn lacks_room(&self) -> Option<(u64, u64)> {
+        self.is_short().then(|| (self.room(), self.ahead()))
+    }
+
     /// Allocates one more piece, or at least as much as there should be ahead, if the disk has it. Of a disk that is full it
     /// takes what there is of that, and tells false.
     pub fn grow(&mut self) -> bool {

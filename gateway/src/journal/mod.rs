@@ -189,6 +189,9 @@ impl LockedJournal {
     pub fn open(self, shards: Shards) -> Result<Opened, JournalError> {
         version1::take_over(&self.files, &self.path)?;
         let (log, scanned) = Log::open(Arc::new(self.files.clone()), Sizes::default(), shards)?;
+        if let Some((room, ahead)) = log.lacks_room() {
+            tracing::warn!("the disk of the journal is full: of the {ahead} bytes that are to be ahead it has {room}");
+        }
         let Scanned { spans, removed, .. } = scanned;
         let shared = Shared {
             files: self.files,

@@ -27,6 +27,8 @@ pub enum JournalError {
     NoJournal(String),
     #[error("{0} is a journal of version {1}, and this gateway reads versions 1 to 8")]
     NewerVersion(String, u32),
+    #[error("the journal of version 1 stays as it is: written anew it takes {bytes} bytes more of its disk. {why}")]
+    NotConverted { bytes: usize, why: String },
     #[error("segment {segment} of the journal is damaged at byte {place}, and there are good commits behind it")]
     Damaged { segment: u64, place: u64 },
     #[error("segment {0} of the journal is missing")]

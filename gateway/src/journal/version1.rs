@@ -180,8 +180,11 @@ pub async fn convert(program: &str, path: &Path, shards: Shards) -> Result<(), R
 
 fn write_segment(files: &Files, bytes: &[u8]) -> Result<(), JournalError> {
     let file = files.create(1)?;
-    file.write_at(0, bytes)?;
-    file.sync()?;
+    if let Err(error) = file.write_at(0, bytes).and_then(|()| file.sync()) {
+        // What a full disk took of it is wanted by others. The next start begins it anew.
+        let _ = files.clear();
+        return Err(JournalError::NotConverted { bytes: bytes.len(), why: error.to_string() });
+    }
     files.publish(1)?;
     Ok(files.sync()?)
 }
