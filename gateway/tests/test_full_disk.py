@@ -260,9 +260,8 @@ def test_a_book_is_made_smaller_where_tags_alone_fill_a_disk(tmp_path, disk):
             call("CreateQueue", QueueName=f"t{number}", tags=TAGS)
             expected.append(dict(TAGS))
     sent = 2
-    while sends(call):
+    while sends_in_time(call, 2):
         sent += 1
-    assert not sends_in_time(call, 2)
     subprocess.run(["mount", "-o", "remount,size=48m", str(disk)], check=True)
     assert sends_in_time(call)
     for _ in range(2):
@@ -277,10 +276,9 @@ def test_a_book_is_made_smaller_where_tags_alone_fill_a_disk(tmp_path, disk):
     assert gateway.stop() == 0
 
 
-def test_what_says_queues_once_more_leaves_space_for_deletes_and_removals(tmp_path, small_disk):
-    """Queues of which tags take much are purged and untagged until that is refused."""
+def test_what_says_queues_once_more_leaves_space_for_receives_deletes_and_removals(tmp_path, small_disk):
+    """Queues of which tags take much are purged, untagged and tagged until that is refused."""
     full = FilledBesideTags(tmp_path, small_disk("40m"), 0)
-    handles = full.receive_all()
 
     def untag(turn: int) -> None:
         full.call("UntagQueue", QueueUrl=f"t{turn % 200}", TagKeys=[KEYS[turn // 200]])
@@ -293,10 +291,11 @@ def test_what_says_queues_once_more_leaves_space_for_deletes_and_removals(tmp_pa
     while full.is_done(untag, turn):
         del full.expected[turn % 200][KEYS[turn // 200]]
         turn += 1
-    assert not full.is_done(purge, 199)
+    tag = lambda turn: full.call("TagQueue", QueueUrl=f"t{turn}", Tags={KEYS[1]: "changed"})
+    assert not full.is_done(purge, 199) and not full.is_done(tag, 199)
     # What was refused has changed nothing.
     full.look_at_queues()
-    for handle in handles:
+    for handle in full.receive_all():
         full.call("DeleteMessage", QueueUrl="q.fifo", ReceiptHandle=handle)
     for number in range(100):
         full.call("DeleteQueue", QueueUrl=f"t{number}")

@@ -68,9 +68,9 @@ impl CommitBatch {
 pub enum Need {
     /// It adds something that stays.
     More,
-    /// It moves what is there.
+    /// It moves what is there, or all that is said of a queue is said once more.
     Same,
-    /// A client takes something away of what is said of a queue, so all of that is said once more.
+    /// A message is received, as it has to be before it can be deleted, or its timeout is changed.
     Less,
     /// A message is deleted, or the gateway gives back one that it was handed.
     Delete,
@@ -78,10 +78,10 @@ pub enum Need {
     Free,
 }
 
-/// What is kept of the space ahead for requests that take something away or move it, beside what is kept for books.
+/// What is kept of the space ahead for requests that add nothing, beside what is kept for books.
 const RESERVE: i64 = 8 << 20;
 
-/// What is kept of it for those that take something away, beside that.
+/// What is kept of it for receives and those that take something away, beside that.
 const LAST_PART: i64 = 4 << 20;
 
 /// What is kept of it for deletes, and for what has records go, beside that.
@@ -101,8 +101,9 @@ struct Shared {
     ended: Notify,
     /// Space that is allocated, less what was promised to records. A batch has at most one frame a record.
     room: AtomicI64,
-    /// What is kept of it so that books can be begun or written anew.
+    /// What is kept of it so that books can be begun or written anew, and the part of that which receives leave.
     kept: AtomicU64,
+    kept_from_receives: AtomicU64,
     /// The disk had no more space when it was last asked.
     is_full: AtomicBool,
     /// Changes when the disk was asked for space.
@@ -201,6 +202,7 @@ impl LockedJournal {
             ended: Notify::new(),
             room: AtomicI64::new(log.room() as i64),
             kept: AtomicU64::new(0),
+            kept_from_receives: AtomicU64::new(0),
             is_full: AtomicBool::new(false),
             grown: watch::channel(()).0,
             promised: AtomicU64::new(0),
@@ -319,9 +321,11 @@ impl Journal {
     }
 
     /// Keeps so much of the space ahead for books: as much as the records take of what counts in them. That may have to be
-    /// written once more before a full disk comes free.
-    pub fn keep(&self, bytes: u64) {
+    /// written once more before a full disk comes free. Receives leave no more of it than `old` entries take: where a book has just
+    /// been begun, messages can be received and deleted, though nothing is kept for another one.
+    pub fn keep(&self, bytes: u64, old: u64) {
         self.0.kept.store(bytes, Ordering::Relaxed);
+        self.0.kept_from_receives.store(bytes.min(old), Ordering::Relaxed);
     }
 
     /// How many bytes the segments have and will have by what is on its way.
@@ -383,7 +387,7 @@ impl Journal {
         let least = match need {
             Need::More => RESERVE + kept,
             Need::Same => LAST_PART + kept,
-            Need::Less => FOR_DELETES + kept,
+            Need::Less => FOR_DELETES + self.0.kept_from_receives.load(Ordering::Relaxed) as i64,
             Need::Delete => FOR_REMOVALS,
             Need::Free => 0,
         };

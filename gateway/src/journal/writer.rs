@@ -554,8 +554,12 @@ mod tests {
         let (mut log, journal) = opened(&room);
         assert!(needs_with_room(&journal, 1 << 20) == NEEDS && !log.is_short());
         for (books, from) in [(6, 0), (8, 1), (11, 2), (13, 3)] {
-            journal.keep(books << 20);
+            journal.keep(books << 20, u64::MAX);
             assert_eq!(needs_with_room(&journal, 1 << 20), NEEDS[from..], "{books} MiB");
+        }
+        for (old, from) in [(14 << 20, 3), (13 << 20, 3), (12 << 20, 2), (0, 2)] {
+            journal.keep(16 << 20, old);
+            assert_eq!(needs_with_room(&journal, 1 << 20), NEEDS[from..], "{old}");
         }
         log.keep(5 << 20);
         assert!(log.is_short() && log.grow() && !log.is_short());

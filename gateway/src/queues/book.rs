@@ -133,8 +133,8 @@ impl std::iter::Sum for Size {
 #[derive(Clone, Copy, Debug)]
 struct Book {
     number: u64,
-    /// What its entries take of memory.
-    bytes: u64,
+    /// What its entries take.
+    size: Size,
 }
 
 /// The books of all programs, by their places: the last of each is the one that is written to, and the others are to be
@@ -149,25 +149,30 @@ impl Books {
 
     /// The store has this one, and from now on it is written to.
     pub fn add(&self, place: usize, number: u64) {
-        self.books().entry(place).or_default().push(Book { number, bytes: 0 });
+        self.books().entry(place).or_default().push(Book { number, size: Size::default() });
     }
 
     /// The store hasn't got it any more. Tells what its entries took of memory.
     pub fn remove(&self, place: usize, number: u64) -> u64 {
         let mut books = self.books();
         let books = books.entry(place).or_default();
-        let removed: u64 = books.iter().filter(|book| book.number == number).map(|book| book.bytes).sum();
+        let removed: u64 = books.iter().filter(|book| book.number == number).map(|book| book.size.memory).sum();
         books.retain(|book| book.number != number);
         removed
     }
 
-    /// An entry stands in it that takes so much of memory. Tells what it takes where the store has the book.
-    pub fn count(&self, place: usize, number: u64, bytes: u64) -> u64 {
+    /// An entry of this size stands in it. Tells what it takes of memory.
+    pub fn count(&self, place: usize, number: u64, size: Size) -> u64 {
         if let Some(book) = self.books().entry(place).or_default().iter_mut().find(|book| book.number == number) {
-            book.bytes += bytes;
-            return bytes;
+            book.size = [book.size, size].into_iter().sum();
+            return size.memory;
         }
         0
+    }
+
+    /// What the records of all books take of the journal.
+    pub fn journal_bytes(&self) -> u64 {
+        self.books().values().flatten().map(|book| book.size.journal).sum()
     }
 
     /// The number of the one that is written to.
@@ -177,7 +182,7 @@ impl Books {
 
     /// What its entries take of memory.
     pub fn bytes_of_current(&self, place: usize) -> u64 {
-        self.books().get(&place).and_then(|books| books.last()).map_or(0, |book| book.bytes)
+        self.books().get(&place).and_then(|books| books.last()).map_or(0, |book| book.size.memory)
     }
 
     /// The numbers of those before it.
@@ -250,12 +255,13 @@ mod tests {
         assert_eq!((books.current(0), books.earlier(0)), (None, vec![]));
         books.add(0, 2);
         books.add(1, 3);
-        assert_eq!((books.count(0, 2, 10), books.count(0, 4, 10)), (10, 0));
+        let size = |memory| Size { memory, journal: 2 * memory };
+        assert_eq!((books.count(0, 2, size(10)), books.count(0, 4, size(10))), (10, 0));
         books.add(0, 4);
         assert_eq!((books.current(0), books.earlier(0), books.current(1)), (Some(4), vec![2], Some(3)));
         // One that was asked before.
-        assert_eq!(books.count(0, 2, 15), 15);
-        assert_eq!((books.bytes_of_current(0), books.remove(0, 2)), (0, 25));
+        assert_eq!((books.count(0, 2, size(15)), books.journal_bytes()), (15, 50));
+        assert_eq!((books.bytes_of_current(0), books.remove(0, 2), books.journal_bytes()), (0, 25, 0));
         assert_eq!((books.current(0), books.earlier(0), books.remove(0, 2)), (Some(4), vec![], 0));
     }
 }

@@ -19,6 +19,7 @@ use crate::clock::Moment;
 use crate::delays::Alarms;
 use crate::errors::SqsError;
 use crate::handles::{Handle, Mark, Receipt};
+use crate::journal::Journal;
 use crate::lines::StoreReply;
 use crate::messages::{message_id, own_id};
 use crate::moves::{Copies, Origin};
@@ -306,7 +307,7 @@ impl Queues {
             }
             (Ask::Say { book, entry, text }, StoreReply::Sent(_)) => {
                 let size = Size::of(text);
-                let bytes = self.books.count(place, *book, size.memory);
+                let bytes = self.books.count(place, *book, size);
                 self.bytes_in_use.fetch_add(bytes, Ordering::Relaxed);
                 self.said(place, queue, entry, *book, size);
                 Ok((Outcome::Done, true))
@@ -470,6 +471,12 @@ impl Queues {
     /// can come to its end.
     pub fn kept_for_books(&self) -> u64 {
         self.kept.load(Ordering::Relaxed)
+    }
+
+    /// Has the journal keep that.
+    pub fn keep_for_books(&self, journal: &Journal) {
+        let kept = self.kept_for_books();
+        journal.keep(kept, self.books.journal_bytes().saturating_sub(kept));
     }
 
     /// What all queues take of memory, in bytes. What has become too old to count may be in it until `look_at_ages`.

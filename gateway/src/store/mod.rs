@@ -176,12 +176,15 @@ impl Store {
         Ok(())
     }
 
-    /// Whether the journal's disk is full and has room for a book of so many bytes all the same, and nothing waits to be
-    /// written anew, which would need room, too.
+    /// Whether the journal's disk is full and has room for a book of so many bytes all the same, and for all records beside books,
+    /// so that they can be written anew without the earlier one. Nothing else may wait for that.
     pub fn has_room_on_full_disk(&self, bytes: u64) -> bool {
-        let waits_for_nothing = |journal: &Journal| journal.is_disk_full() && journal.has_let_go();
-        self.journal.as_ref().is_some_and(waits_for_nothing)
-            && self.has_room(Need::Free, bytes + KEPT_FOR_DELETES) == Ok(true)
+        let Some(journal) = self.journal.as_ref().filter(|journal| journal.is_disk_full() && journal.has_let_go())
+        else {
+            return false;
+        };
+        let beside = journal.figures().bytes.saturating_sub(self.queues.books().journal_bytes());
+        self.has_room(Need::Free, bytes + beside + KEPT_FOR_DELETES) == Ok(true)
     }
 
     /// Has a book that is begun next stand in a segment of its own where the journal's disk is full.

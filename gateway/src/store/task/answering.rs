@@ -124,7 +124,7 @@ impl Task {
     /// Has the journal keep space for what the books say by now.
     fn keep_for_books(&self, ask: &Ask) {
         if let (Some(journal), Ask::Say { .. } | Ask::Remove { .. }) = (&self.journal, ask) {
-            journal.keep(self.queues.kept_for_books());
+            self.queues.keep_for_books(journal);
         }
     }
 

@@ -119,7 +119,7 @@ pub fn start(start: Start) -> (Store, oneshot::Receiver<Ended>) {
     let admission = Arc::new(Admission::new(start.queues.clone(), start.bounds.memory));
     if let Some(journal) = &start.journal {
         journal.set_bound(start.bounds.journal);
-        journal.keep(start.queues.kept_for_books());
+        start.queues.keep_for_books(journal);
     }
     let counters = Arc::new(Counters::default());
     let (ended, mut reasons) = mpsc::unbounded_channel();

@@ -21,13 +21,13 @@ pub(super) fn need_of(ask: &Ask) -> Need {
         },
         Ask::Parts { .. } | Ask::Remove { .. } => Need::Free,
         Ask::Receive { reach: Reach::Own(_), .. } | Ask::Delete { .. } => Need::Delete,
-        Ask::Say { .. } | Ask::Send { .. } | Ask::Receive { .. } | Ask::ChangeVisibility { .. } => Need::Same,
+        Ask::Receive { .. } | Ask::ChangeVisibility { .. } => Need::Less,
+        Ask::Say { .. } | Ask::Send { .. } => Need::Same,
     }
 }
 
 pub(super) fn need_of_change(change: &TableChange) -> Need {
     match change {
-        TableChange::Untag(_) | TableChange::Purging(_) => Need::Less,
         // Records go when this is said. Those of a queue that is being purged don't before.
         TableChange::GoneOver(_) | TableChange::Removed | TableChange::Again(_) | TableChange::Purged => Need::Free,
         _ => Need::Same,
