@@ -117,16 +117,24 @@ KEYS = [f"{place:02}" + "k" * 118 for place in range(50)]
 TAGS = {key: "é" * 24 + "v" * 232 for key in KEYS}
 
 
+def use(call, queue: str) -> None:
+    call("SendMessage", QueueUrl=queue, MessageBody="b")
+    (message,) = call("ReceiveMessage", QueueUrl=queue)["Messages"]
+    call("DeleteMessage", QueueUrl=queue, ReceiptHandle=message["ReceiptHandle"])
+
+
 class FilledBesideTags(Filled):
     """A disk of 40 MiB that is full, of which 200 queues take a tenth or a fifth: each has 20 KB of tags, and some are
-    changed."""
+    changed. Where they are used, each has had a message."""
 
-    def __init__(self, room: Path, disk: Path, changed: int) -> None:
+    def __init__(self, room: Path, disk: Path, changed: int, used: bool = False) -> None:
         self.expected = [dict(TAGS) for _ in range(200)]
 
         def tag(call: ByJson) -> None:
             for number in range(200):
                 call("CreateQueue", QueueName=f"t{number}", tags=TAGS)
+                if used:
+                    use(call, f"t{number}")
             for turn in range(changed):
                 self.expected[turn % 200][KEYS[0]] = str(turn)
                 call("TagQueue", QueueUrl=f"t{turn % 200}", Tags={KEYS[0]: str(turn)})
@@ -216,6 +224,18 @@ def test_a_full_disk_comes_free_whenever_the_gateway_is_killed(tmp_path, small_d
         time.sleep(moments.uniform(0, 0.4))
         full.restart()
         full.look_at_queues()
+    assert full.sends_again(20)
+    full.restart()
+    full.look()
+    assert full.gateway.stop() == 0
+
+
+def test_a_disk_comes_free_where_queues_with_many_tags_have_gone_over_to_other_names(tmp_path, small_disk):
+    """Each of them is said once more for that, while the messages that fill the disk are there."""
+    full = FilledBesideTags(tmp_path, small_disk("40m"), 0, used=True)
+    full.gateway.set_clock(full.gateway.moment + WINDOW)
+    time.sleep(3)
+    full.leave(0)
     assert full.sends_again(20)
     full.restart()
     full.look()

@@ -353,11 +353,16 @@ impl Journal {
         self.0.is_full.load(Ordering::Relaxed)
     }
 
-    /// Whether all records that can go have gone.
-    pub fn has_let_go(&self) -> bool {
+    /// How many bytes would stay if all were written anew: what the last try that failed told, or all, where nothing can go. None
+    /// where that isn't known.
+    pub fn staying(&self) -> Option<u64> {
         let removed = locked(&self.0.removed).len();
         let rewriting = locked(&self.0.rewriting);
-        !rewriting.goes_on && rewriting.lacked.is_none() && rewriting.removed >= removed
+        match rewriting.lacked {
+            _ if rewriting.goes_on => None,
+            Some(length) => Some(length).filter(|length| *length > 0),
+            None => (rewriting.removed >= removed).then(|| self.bytes()),
+        }
     }
 
     /// Has what is written from then on stand in a segment of its own where the disk is full, if the last one is long enough to

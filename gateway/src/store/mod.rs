@@ -176,14 +176,12 @@ impl Store {
         Ok(())
     }
 
-    /// Whether the journal's disk is full and has room for a book of so many bytes all the same, and for all records beside books,
-    /// so that they can be written anew without the earlier one. Nothing else may wait for that.
+    /// Whether the journal's disk is full and has room for a book of so many bytes all the same, and for what stays beside books
+    /// when the journal is written anew: so the earlier one can go.
     pub fn has_room_on_full_disk(&self, bytes: u64) -> bool {
-        let Some(journal) = self.journal.as_ref().filter(|journal| journal.is_disk_full() && journal.has_let_go())
-        else {
-            return false;
-        };
-        let beside = journal.figures().bytes.saturating_sub(self.queues.books().journal_bytes());
+        let full = self.journal.as_ref().filter(|journal| journal.is_disk_full());
+        let Some(staying) = full.and_then(Journal::staying) else { return false };
+        let beside = staying.saturating_sub(self.queues.books().journal_bytes());
         self.has_room(Need::Free, bytes + beside + KEPT_FOR_DELETES) == Ok(true)
     }
 
