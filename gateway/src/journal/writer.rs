@@ -343,7 +343,7 @@ fn rewrite_aside(log: &mut Log<Files>, journal: &Journal, failed: fn(&str)) -> R
     let thread = std::thread::Builder::new().name("rewriting".into());
     thread.spawn(move || {
         let since = Instant::now();
-        let found = rewrite_closed(&journal, &removed, rests_on).unwrap_or_else(|error| {
+        let found = rewrite_closed(&journal, &removed, rests_on, lacked.is_some()).unwrap_or_else(|error| {
             failed(&format!("the journal can't be written anew: {error}"));
             Some(0)
         });
@@ -416,14 +416,20 @@ fn closed_bytes(journal: &Journal) -> u64 {
     spans[..spans.len().saturating_sub(1)].iter().map(|span| span.end).sum()
 }
 
-/// Tells how many bytes couldn't be written, if it must be tried again. An error leaves it open which segments there are.
-fn rewrite_closed(journal: &Journal, removed: &HashSet<StoreName>, rests_on: u64) -> Result<Option<u64>, JournalError> {
+/// Tells how many bytes couldn't be written, if it must be tried again. An error leaves it open which segments there are. Where
+/// the last time failed, each segment is written by itself.
+fn rewrite_closed(
+    journal: &Journal,
+    removed: &HashSet<StoreName>,
+    rests_on: u64,
+    has_failed: bool,
+) -> Result<Option<u64>, JournalError> {
     let shared = &journal.0;
     let mut closed = {
         let spans = locked(&shared.spans);
         spans[..spans.len().saturating_sub(1)].to_vec()
     };
-    let (mut done, mut length_of_one) = (0, REWRITTEN);
+    let (mut done, mut length_of_one) = (0, if has_failed { 0 } else { REWRITTEN });
     loop {
         let rewritten = match rewrite(&shared.files, &closed, removed, rests_on, length_of_one) {
             Ok(Some(rewritten)) => rewritten,
