@@ -275,14 +275,14 @@ async fn feed(
     tables: &mut Tables,
     cqs: Vec<Cq>,
 ) -> Result<(Vec<Cq>, Replayed), ReplayError> {
-    match store::replay_all(cqs, settings.shards, opened, tables).await {
-        Err(error) if error.is_of_program() => tracing::error!("{error}"),
+    let ended = match store::replay_all(cqs, settings.shards, opened, tables).await {
+        Err(error) if error.is_of_program() => error,
         fed => return fed,
-    }
+    };
     tables.queues = Arc::new(Queues::new(settings.peek));
     let cqs = Cq::start_all(&settings.program, settings.shards.count(), settings.cq_timeout)?;
     let fed = store::replay_all(cqs, settings.shards, opened, tables).await?;
-    tracing::warn!("cq was started again, and is where the journal is");
+    tracing::warn!("cq was started again, and is where the journal is. Before, {ended}");
     Ok(fed)
 }
 

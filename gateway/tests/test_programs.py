@@ -170,7 +170,7 @@ def test_a_program_that_ends_while_a_start_feeds_it_is_started_again_once(tmp_pa
     ended = subprocess.run(command("--port", "0", *words), env=environment(), capture_output=True, text=True, timeout=60)
     said = ended.stderr.splitlines()
     assert ended.returncode == 1 and said[-1].startswith("hobbychair: cq is gone: it ended with")
-    assert cq.ends() == 3 and sum("cq is gone" in line for line in said) == 2
+    assert cq.ends() == 3 and sum("cq is gone" in line for line in said) == 1
 
 
 @pytest.mark.parametrize("number", [signal.SIGTERM, signal.SIGKILL])
