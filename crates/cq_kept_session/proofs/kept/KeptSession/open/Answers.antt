@@ -1,5 +1,5 @@
 -- The journal is opened, and its last line ended.
-use Rattle.std.proofs.Common.{◌≡◌, ◌⊎◌, inl, inr, ⊎_elim, ℕ, List, sym, ◌∙◌, ap, subst}
+use Rattle.std.proofs.Common.{◌≡◌, ◌⊎◌, inl, inr, ⊎_elim, ℕ, List, Some, sym, ◌∙◌, ap, subst}
 use Rattle.std.specs.Prelude.{IsTrue}
 use Rattle.cq_disk.specs.Device.{LeavesOnly}
 use Rattle.cq_disk.proofs.Moments.{runs_on, weakened}
@@ -31,3 +31,14 @@ returns-clause-any_moment g c = λ honest rs is.
     (subst (λ it. LeavesOnly d.moment d.left_since device (journal_device it) P) (sym begun_is) opened)
     (weakened d.moment d.left_since (journal_device begun) (journal_device new) _ P (c.in_ok-restore.ensures.any_moment honest)
     (λ f either. inr (either_at half len (journal_half begun) (region_len begun) rs (journal_records begun) f (ap journal_half begun_is ∙ o.lengths.0) (ap region_len begun_is ∙ o.lengths.1) found either)))
+
+pub returns-clause-records : goal.returns-clause-records
+returns-clause-records g c = λ honest.
+    let d = g.D.Device in
+    let j = c.in_ok-journal.journal in
+    let begun = c.in_ok-session.session.journal in
+    let begun_is : begun ≡ j = c.in_ok-session.ensures.journal in
+    let honest_begun : IsTrue (d.is_honest (journal_device begun)) = c.restore.ensures.honest honest in
+    let honest_j : IsTrue (d.is_honest (journal_device j)) = subst (λ it. IsTrue (d.is_honest (journal_device it))) begun_is honest_begun in
+    let found : kept c.args.half c.args.len (d.seen c.args.device) ≡ Some (journal_records begun) = c.in_ok-journal.ensures.kept honest_j ∙ ap (λ it. Some (journal_records it)) (sym begun_is) in
+    (journal_records begun, found, c.in_ok-restore.ensures.records honest)

@@ -72,3 +72,9 @@ returns-clause-kept g c =
 
 pub returns-in_err-self-clause-rests : goal.returns-in_err-self-clause-rests
 returns-in_err-self-clause-rests g c = rests_on c.args.self.now.journal c.loop-index.self.journal c.read_region.new.self c.loop-index.invariant.rests c.read_region.ensures.rests
+
+pub returns-in_err-read_region-clause-rests : goal.returns-in_err-read_region-clause-rests
+returns-in_err-read_region-clause-rests g c = rests_on c.args.self.now.journal c.loop-index.self.journal c.read_region.new.self c.loop-index.invariant.rests c.read_region.ensures.rests
+
+pub returns-in_err-restore-clause-rests : goal.returns-in_err-restore-clause-rests
+returns-in_err-restore-clause-rests g c = rests_on c.args.self.now.journal c.loop-index.self.journal c.read_region.new.self c.loop-index.invariant.rests c.read_region.ensures.rests
