@@ -27,6 +27,10 @@ partial_of line_len is_overlong kept = if is_overlong then overlong line_len els
 abbrev pub nothing_read : {T : Type 0} → Limits → Progress T
 nothing_read limits = record { limits = limits; values = []; lines = 0; partial = [] }
 
+-- so many lines have ended, none has begun, and no value is there
+abbrev pub lines_read : {T : Type 0} → Limits → ℕ → Progress T
+lines_read limits lines = record { limits = limits; values = []; lines = lines; partial = [] }
+
 -- with the values cleared
 abbrev pub without_values : {T : Type 0} → Progress T → Progress T
 without_values s = record { limits = s.limits; values = []; lines = s.lines; partial = s.partial }

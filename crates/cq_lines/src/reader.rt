@@ -1,7 +1,7 @@
 //! A text that comes chunk by chunk, and the values of its lines.
-ghost use Rattle.std.specs.Prelude.{◌≡◌, ◌+◌, ◌<◌, ◌++◌, nat_lt, Option, [], length, OnOk, OnErr};
+ghost use Rattle.std.specs.Prelude.{◌≡◌, ◌+◌, ◌<◌, ◌≤◌, ◌++◌, nat_lt, Option, false, [], length, OnOk, OnErr};
 ghost use Rattle.cq_lines.specs.Grammars.{IsLineFault, IsParsedAs, Yields, value_or_fault, values_of};
-ghost use Rattle.cq_lines.specs.Progress.{FeedsChunk, nothing_read, parse_after, without_values};
+ghost use Rattle.cq_lines.specs.Progress.{FeedsChunk, lines_read, nothing_read, parse_after, without_values};
 ghost use Rattle.cq_lines.specs.within.Steps.{Follows, line_completed, line_end, overlong_outcome, part_of, partial_overlong};
 
 use crate::fault::ScriptFault;
@@ -49,6 +49,34 @@ impl<T: Drop> LineReader<T> {
             partial: Vec::new(alloc),
             is_overlong: false,
         }
+    }
+
+    /// Behind so many lines that were read before, which have all ended.
+    pub fn behind(alloc: Global, limits: Limits, lines: u64) -> LineReader<T>
+        requires { lines ≤ limits.line_count }
+        ensures { result ≡ lines_read limits lines }
+    {
+        LineReader {
+            limits,
+            values: Vec::new(alloc),
+            lines,
+            partial: Vec::new(alloc),
+            is_overlong: false,
+        }
+    }
+
+    /// How many lines have ended: O(1).
+    pub fn line_count(&self) -> u64
+        ensures { result ≡ self.now.lines }
+    {
+        self.lines
+    }
+
+    /// Whether a line has begun and hasn't ended yet: O(1).
+    pub fn is_in_line(&self) -> bool
+        ensures { result ≡ false → self.now.partial ≡ [] }
+    {
+        self.is_overlong || !self.partial.is_empty()
     }
 
     /// The values of the lines that have ended since values were last cleared.
