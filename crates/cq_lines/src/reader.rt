@@ -65,6 +65,13 @@ impl<T: Drop> LineReader<T> {
         }
     }
 
+    /// The limits that it keeps: O(1).
+    pub fn limits(&self) -> Limits
+        ensures { result ≡ self.now.limits }
+    {
+        self.limits
+    }
+
     /// How many lines have ended: O(1).
     pub fn line_count(&self) -> u64
         ensures { result ≡ self.now.lines }
