@@ -1,3 +1,5 @@
+pub mod Alone
+pub mod Fifos
 pub mod Mailing
 pub mod MasterStands
 pub mod Neighbours

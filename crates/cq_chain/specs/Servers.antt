@@ -51,6 +51,20 @@ first_member size id = record {
   down = false;
 }
 
+-- the server of a chain of one, at rest behind these entries
+abbrev pub alone : List Entry → Server
+alone entries = record {
+  entries = entries;
+  acked = length entries;
+  floor = length entries;
+  pred = None;
+  succ = None;
+  head = true;
+  at_least = Some 0;
+  full = true;
+  down = false;
+}
+
 -- a server that joins the chain later
 abbrev pub joining : Server
 joining = record {

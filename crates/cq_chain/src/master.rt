@@ -8,6 +8,7 @@ ghost use Rattle.cq_chain.specs.Masters.{first_master, detected, joined, hears, 
 ghost use Rattle.cq_chain.specs.Messages as sent;
 ghost use Rattle.cq_chain.specs.Stands.{MasterStandsFor, Orders, KeepsMaster, IsRefusedBy, IsFirst, Means, drained};
 
+mod alone;
 mod change;
 mod first;
 mod hear;

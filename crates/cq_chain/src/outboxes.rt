@@ -1,5 +1,7 @@
 //! What waits at a server, or at the master, for each party.
-ghost use Rattle.std.specs.Prelude.{◌≡◌, ◌<◌, ◌≤◌, List, [], ◌∷◌, length, false, None, OnOk};
+ghost use Rattle.std.specs.Prelude.{◌≡◌, ◌<◌, ◌≤◌, ◌==◌, List, [], ◌∷◌, length, false, None, OnOk};
+ghost use Rattle.std.specs.List.{list_all};
+ghost use Rattle.std.specs.Map.{values_of};
 ghost use Rattle.cq_base.specs.declared.party.Party as rust_party;
 ghost use Rattle.cq_chain.specs.within.Boxes.{messages_for, room_for, fifo_for};
 ghost use Rattle.cq_chain.specs.Messages as sent;
@@ -58,6 +60,13 @@ impl Outboxes {
             Some(fifo) => fifo.len(),
             None => 0,
         }
+    }
+
+    /// Whether nothing waits for anyone: O(parties).
+    pub fn is_empty(&self) -> bool
+        ensures { result ≡ list_all (λ fifo. length fifo.messages == 0) (values_of self.now) }
+    {
+        self.fifos.values().all(|fifo| fifo.len() == 0)
     }
 
     /// A fifo for a party that has none, with room for so many messages.

@@ -54,6 +54,16 @@ impl Replica {
         })
     }
 
+    /// With the history of a store, of which no entry is kept. It keeps the allocator.
+    pub fn of_store(alloc: Global, store: Store) -> Replica
+        ensures { (history : List rust_entry.Entry) → stores.StandsFor store history → Recalls result history (length history) }
+    {
+        Replica {
+            store,
+            entries: VecDeque::new(alloc),
+        }
+    }
+
     /// How many entries the history has: O(1).
     pub fn count(&self) -> u64
         ensures { result ≡ count_of self.now.store }

@@ -8,6 +8,7 @@ ghost use Rattle.cq_chain.specs.Servers.{first_member, joining, acts, kept};
 ghost use Rattle.cq_chain.specs.Stands.{StandsFor, IsFirst, drained};
 ghost use Rattle.cq_store.specs.Stands.{count_of};
 
+mod alone;
 mod append;
 mod arrive;
 mod crash;

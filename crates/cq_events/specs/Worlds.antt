@@ -1,5 +1,6 @@
 -- The world: all servers, what waits in their outboxes, and what stands in the links between parties.
-use Rattle.std.specs.Prelude.{ℕ, ◌==◌, ◌&&◌, List, [], ◌++◌, if◌then◌else◌}
+use Rattle.std.specs.Prelude.{◌≡◌, ℕ, ◌==◌, ◌&&◌, List, [], ◌++◌, false, if◌then◌else◌}
+use Rattle.cq_base.specs.declared.ask.Entry.{Entry}
 use Rattle.cq_base.specs.declared.party.Party.{Party}
 use Rattle.cq_base.specs.declared.party.Party.TheVariants as parties
 use Rattle.cq_chain.specs.Masters.{Master, Order, first_master}
@@ -7,7 +8,7 @@ pub use Rattle.cq_chain.specs.Masters.{is_in}
 unfoldable pub use Rattle.cq_chain.specs.Masters.{numbers_from}
 use Rattle.cq_chain.specs.Messages.{Message}
 use Rattle.cq_chain.specs.Parties.{same, addressed}
-use Rattle.cq_chain.specs.Servers.{Server, first_member, joining}
+use Rattle.cq_chain.specs.Servers.{Server, alone, first_member, joining}
 use Rattle.cq_chain.specs.Steps.{Step}
 
 -- The world at one moment.
@@ -59,3 +60,11 @@ ordered w order = record w {
 -- All that is on its way from one party to another: first what stands in the link, then what waits.
 abbrev pub channel : World → Party → Party → List Message
 channel w from to = w.link from to ++ w.outbox from to
+
+-- One server alone, at rest behind these entries: nothing is on its way.
+pub record IsAlone (entries : List Entry) (w : World) : Type 0 where
+  pub server : w.server 1 ≡ alone entries
+  pub others : (id : ℕ) → (1 == id) ≡ false → w.server id ≡ joining
+  pub outbox : (from to : Party) → w.outbox from to ≡ []
+  pub link : (from to : Party) → w.link from to ≡ []
+  pub master : w.master ≡ first_master 1

@@ -1,4 +1,5 @@
 -- What the contracts of `Sim` rest on.
+pub mod Alone
 pub mod FirstWorld
 pub mod Joining
 pub mod LinksKept

@@ -1,5 +1,7 @@
 //! The links between parties.
-ghost use Rattle.std.specs.Prelude.{◌≡◌, ◌<◌, ◌++◌, ◌∷◌, [], drop, length, slice_get, option_map, OnOk};
+ghost use Rattle.std.specs.Prelude.{◌≡◌, ◌<◌, ◌++◌, ◌==◌, ◌∷◌, [], drop, length, slice_get, option_map, OnOk};
+ghost use Rattle.std.specs.List.{list_all};
+ghost use Rattle.std.specs.Map.{values_of};
 ghost use Rattle.cq_base.specs.declared.party.Party as rust_party;
 ghost use Rattle.cq_world.specs.within.Kept.{messages_at, room_at};
 ghost use Rattle.cq_events.specs.Worlds.{set_pair};
@@ -47,6 +49,13 @@ impl Links {
         Links {
             fifos: IndexMap::new(alloc),
         }
+    }
+
+    /// Whether nothing stands in any link: O(links).
+    pub fn is_empty(&self) -> bool
+        ensures { result ≡ list_all (λ fifo. length fifo.messages == 0) (values_of self.now) }
+    {
+        self.fifos.values().all(|fifo| fifo.len() == 0)
     }
 
     /// How many messages stand in the link: O(1).

@@ -14,6 +14,7 @@ ghost use Rattle.cq_events.specs.Worlds.{first_world};
 ghost use Rattle.cq_events.specs.declared.event.Event.{Event};
 ghost use Rattle.cq_events.specs.declared.event.Event.TheVariants.{Crash};
 
+mod alone;
 mod changes;
 mod passing;
 mod requests;
