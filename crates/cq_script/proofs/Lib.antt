@@ -5,5 +5,6 @@ pub mod Outcomes
 pub mod RunTold
 pub mod Played
 pub mod Answered
+pub mod Bases
 -- worked lines
 pub mod Examples

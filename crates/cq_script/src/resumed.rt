@@ -1,16 +1,19 @@
 //! A session that was cut short, and goes on behind what was kept of its lines.
-ghost use Rattle.std.specs.Prelude.{◌≡◌, ◌≤◌, ◌++◌, [], ℕ, List, true, false, Err, IfOk, OnOk};
+ghost use Rattle.std.specs.Prelude.{◌≡◌, ◌≤◌, ◌++◌, [], ℕ, List, true, false, option_map, Err, IfOk, IfSome, OnOk};
 ghost use Rattle.std.specs.Io.KnownBytes.{Consumes, Appends};
 ghost use Rattle.cq_lines.specs.declared.fault.ScriptFault.TheVariants.{ReadFailed, WriteFailed};
-ghost use Rattle.cq_script.specs.Resumed.{HasRun, GoesOn, GoesOnByOneObject};
+ghost use Rattle.cq_lines.specs.declared.text.TheConstants.{BYTES_LIMIT};
+ghost use Rattle.cq_script.specs.Resumed.{HasRun, GoesOn, GoesOnByOneObject, IsBaseOf, lines_ended};
 ghost use Rattle.cq_script.specs.Runs.{OnWritten};
 ghost use Rattle.cq_script.specs.Sessions.{IsSessionEndedPrefix, session_text};
+ghost use Rattle.cq_script.specs.within.Played.{session_limits};
 ghost use Rattle.cq_lines.specs.Lines.{ended_part};
 
 use crate::running::{run_chunk, run_on};
 use crate::script_line::{ScriptLine, SessionParser};
 use cq_base::{ChainSize, NoMemory};
 use cq_lines::{BYTES_LIMIT, Checked, LINE_LIMIT, Limits, LineReader, ScriptFault, Sink, Source};
+use cq_store::Store;
 use cq_world::Sim;
 use std::alloc::Global;
 use std::io;
@@ -22,6 +25,26 @@ pub struct ResumedSession {
     parser: SessionParser,
     lines: LineReader<ScriptLine>,
     sim: Sim,
+}
+
+/// Whether a reader keeps the limits of a session: all do that are begun here.
+fn has_session_limits(lines: &LineReader<ScriptLine>) -> bool
+    ensures { result ≡ true → lines.now.limits ≡ session_limits }
+{
+    let limits = lines.limits();
+    limits.line_len == LINE_LIMIT && limits.line_count == BYTES_LIMIT
+}
+
+/// Whether all that a reader of a session knows is how many lines have ended: none has begun, and no value is left.
+fn is_between_lines(lines: &LineReader<ScriptLine>) -> bool
+    ensures limits { result ≡ true → lines.now.limits ≡ session_limits }
+    ensures values { result ≡ true → lines.now.values ≡ [] }
+    ensures partial { result ≡ true → lines.now.partial ≡ [] }
+{
+    if lines.is_in_line() || !lines.values().is_empty() {
+        return false;
+    }
+    has_session_limits(lines)
 }
 
 impl ResumedSession {
@@ -41,6 +64,47 @@ impl ResumedSession {
             lines,
             sim,
         })
+    }
+
+    /// A session that goes on behind so many lines, which left that store: `store_at_rest` gave it. O(1).
+    pub fn behind(alloc: Global, store: Store, lines: u64) -> Result<ResumedSession, NoMemory>
+        requires { lines ≤ BYTES_LIMIT }
+        ensures { (size : ℕ) (bytes : List ℕ) → IsBaseOf size store lines bytes → IfOk result (HasRun size bytes) }
+    {
+        let sim = Sim::alone(alloc, store)?;
+        let limits = Limits {
+            line_len: LINE_LIMIT,
+            line_count: BYTES_LIMIT,
+        };
+        let lines = LineReader::behind(alloc, limits, lines);
+        Ok(ResumedSession {
+            alloc,
+            parser: SessionParser::new(alloc),
+            lines,
+            sim,
+        })
+    }
+
+    /// How many lines have ended: O(1).
+    pub fn line_count(&self) -> u64
+        ensures { result ≡ lines_ended self.now }
+    {
+        self.lines.line_count()
+    }
+
+    /// The store by which it can be begun again, with the number of its lines: none while a line has begun, while a message or an
+    /// answer is on its way, or where there ever was another server than one. O(links).
+    pub fn store_at_rest(&self) -> Option<&Store>
+        ensures base { (size : ℕ) (bytes : List ℕ) → HasRun size bytes self.now
+            → IfSome (option_map (λ s. s.now) result) (λ store. IsBaseOf size store (lines_ended self.now) bytes) }
+
+        // The session has run all bytes for which these stand, whichever it did run.
+        ensures again { (size : ℕ) (bytes : List ℕ) → IfSome (option_map (λ s. s.now) result) (λ store. IsBaseOf size store (lines_ended self.now) bytes → HasRun size bytes self.now) }
+    {
+        if !is_between_lines(&self.lines) {
+            return None;
+        }
+        self.sim.store_alone()
     }
 
     /// Runs the lines that end in these bytes, and writes nothing of them. After a fault the session is to be begun anew:
