@@ -135,7 +135,11 @@ fn passed(alloc: Global, draws: &mut Draws, store: &Store) -> io::Result<Store> 
         writer
             .next(store, &mut bytes, enough)
             .map_err(|_| stop("no memory"))?;
-        reader = reader.feed(&bytes).map_err(|_| stop("a chunk isn't read"))?;
+        reader = match reader.feed(&bytes) {
+            Ok(next) => next,
+            Err(ReadFault::NoMemory) => return Err(stop("no memory")),
+            Err(ReadFault::Bad(_)) => return Err(stop("a chunk isn't read")),
+        };
     }
     reader.store().map_err(|_| stop("a store isn't read"))
 }
