@@ -233,7 +233,7 @@ impl Bench {
     #[inline(never)]
     fn write(&self, rt: &HostRuntime, alloc: Global) -> io::Result<(u64, Vec<Vec<u8>>)> {
         let mut chunks = Vec::new(alloc);
-        let mut writer = StoreWriter::new();
+        let mut writer = StoreWriter::new(alloc);
         let start = Instant::now(rt)?;
         for _ in 0..CHUNKS {
             if writer.is_done() {

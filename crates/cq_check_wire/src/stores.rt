@@ -112,7 +112,7 @@ fn made(alloc: Global, draws: &mut Draws) -> io::Result<Store> {
 /// The store as one chunk.
 fn whole(alloc: Global, store: &Store) -> io::Result<Vec<u8>> {
     let mut bytes = Vec::new(alloc);
-    let mut writer = StoreWriter::new();
+    let mut writer = StoreWriter::new(alloc);
     writer
         .next(store, &mut bytes, usize::MAX)
         .map_err(|_| stop("no memory"))?;
@@ -124,7 +124,7 @@ fn whole(alloc: Global, store: &Store) -> io::Result<Vec<u8>> {
 
 /// The store that is read from chunks, each written as the reader comes to it.
 fn passed(alloc: Global, draws: &mut Draws, store: &Store) -> io::Result<Store> {
-    let mut writer = StoreWriter::new();
+    let mut writer = StoreWriter::new(alloc);
     let mut reader = StoreReader::new(alloc);
     for _ in 0..CHUNKS {
         if writer.is_done() {

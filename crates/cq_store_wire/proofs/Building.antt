@@ -1,5 +1,5 @@
 -- What may come next is put, and what may not is refused.
-use Rattle.std.proofs.Common.{◌≡◌, ℕ, ◌+◌, ◌<◌, ◌≤◌, Bool, true, false, cond, ltb, leb, leb-true, le-leb, ltb-true, lt-ltb, List, [], ◌∷◌, length, Option, None, Some, Result, Ok, Err, refl, sym, subst, ap, ◌∙◌, arith}
+use Rattle.std.proofs.Common.{◌≡◌, ℕ, ◌<◌, ◌≤◌, Bool, true, false, cond, ltb, leb, leb-true, le-leb, ltb-true, lt-ltb, List, [], ◌∷◌, length, Option, None, Some, Result, Ok, Err, refl, sym, subst, ap, ◌∙◌, arith}
 use Rattle.std.specs.Prelude.{◌&&◌, slice_get, is_none}
 use Rattle.std.specs.Option.{is_some, option_map}
 use Rattle.std.specs.List.{All, find, list_all}
@@ -8,14 +8,18 @@ use Rattle.std.proofs.lemmas.List.Elements.{All-cons, All-head, All-nil, All-tai
 use Rattle.cq_base.specs.queue.Incarnations.{Accepted, Incarnation}
 use Rattle.cq_base.specs.queue.Messages.{Message}
 use Rattle.cq_queue.specs.Parts.{IsNextAccepted, IsNextMessage, and_accepted, and_message}
-use Rattle.cq_store.specs.Parts.{IsNextName, IsQueueWithin, IsWithin, and_client, and_name}
+use Rattle.cq_store.specs.Parts.{IsNextName, IsQueueWithin, and_client, and_name}
 use Rattle.cq_store.specs.Stands.{ClientRecord, QueueRecord, StoreKept, client_at, name_at}
+use Rattle.cq_base.specs.declared.reply.Reply.{Reply}
 use Rattle.cq_wire.specs.declared.fault.WireFault.{WireFault}
 use Rattle.cq_wire.specs.declared.fault.WireFault.TheVariants.{BadTag, BadNumber}
+use Rattle.cq_wire.specs.Reading.{◌>>=◌}
+use Rattle.cq_wire.proofs.Fronts.{ok_is}
 use Rattle.cq_store_wire.specs.declared.part.NameRecord.{NameRecord}
-use Rattle.cq_store_wire.specs.declared.build.State.{State}
-use Rattle.cq_store_wire.specs.declared.build.State.TheVariants as states
-use Rattle.cq_store_wire.specs.Building.{closed, is_empty, is_living_within, is_next_accepted, is_next_message, is_next_name, record_of, with_accepted, with_client, with_message}
+use Rattle.cq_store_wire.specs.declared.reply.ReplyRecord.{ReplyRecord}
+use Rattle.cq_store_wire.specs.Bodies.{and_reply, bodies_of, reply_resolved}
+use Rattle.cq_store_wire.specs.Building.{closed, is_empty, is_living_within, is_next_accepted, is_next_message, is_next_name, record_of, with_accepted, with_client, with_message, with_reply}
+use Rattle.cq_store_wire.proofs.Mentions.{bodies-more}
 
 -- ---- tests
 
@@ -171,35 +175,45 @@ name-refused kept n one same never =
 
 -- ---- clients
 
-abbrev state_or : Bool → State → Result State WireFault
-state_or is s = cond is (Ok s) (Err BadNumber)
-
-abbrev state_or_late : Bool → Result State WireFault → Result State WireFault
-state_or_late is r = cond is r (Err BadTag)
-
-no-names : (queues : List (List ℕ × QueueRecord)) → length queues ≤ 0 → is_empty queues ≡ true
+pub no-names : (queues : List (List ℕ × QueueRecord)) → length queues ≤ 0 → is_empty queues ≡ true
 no-names [] none = refl
 no-names (q ∷ qs) none = absurd (omega (arith, none))
 
-some-names : (queues : List (List ℕ × QueueRecord)) → 0 < length queues → is_empty queues ≡ false
+pub some-names : (queues : List (List ℕ × QueueRecord)) → 0 < length queues → is_empty queues ≡ false
 some-names [] some = absurd (omega (arith, some))
 some-names (q ∷ qs) some = refl
 
-pub client-put : (client : ℕ) (one : ClientRecord) (kept after : StoreKept) → length kept.queues ≤ 0 → client_at kept.clients client ≡ None → after ≡ and_client client one kept
-    → with_client client one kept ≡ Ok (states.Begun after None)
-unfolding with_client
-client-put client one kept after none new is =
-    ap (λ (b : Bool). state_or_late b (state_or (is_none (client_at kept.clients client)) (states.Begun (and_client client one kept) None))) (no-names kept.queues none)
-    ∙ ap (λ (b : Bool). state_or b (states.Begun (and_client client one kept) None)) (ap is_none new)
-    ∙ ap (λ (s : StoreKept). state_or true (states.Begun s None)) (sym is)
+pub client-put : (client number : ℕ) (reply : Reply) (kept after : StoreKept) → client_at kept.clients client ≡ None → after ≡ and_client client (record { number = number; reply = reply }) kept
+    → with_reply client number reply kept ≡ Ok after
+unfolding with_reply
+client-put client number reply kept after new is =
+    ap (λ (b : Bool). store_or b (and_client client (record { number = number; reply = reply }) kept)) (ap is_none new) ∙ ap (λ (s : StoreKept). store_or true s) (sym is)
 
-pub client-refused : (client : ℕ) (one : ClientRecord) (kept : StoreKept) → length kept.queues ≤ 0 → (client_at kept.clients client ≡ None → ⊥) → with_client client one kept ≡ Err BadNumber
-unfolding with_client
-client-refused client one kept none never =
-    ap (λ (b : Bool). state_or_late b (state_or (is_none (client_at kept.clients client)) (states.Begun (and_client client one kept) None))) (no-names kept.queues none)
-    ∙ ap (λ (b : Bool). state_or b (states.Begun (and_client client one kept) None)) (is_false (is_none (client_at kept.clients client)) (λ e. never (tested-none (client_at kept.clients client) e)))
+pub client-refused : (client number : ℕ) (reply : Reply) (kept : StoreKept) → (client_at kept.clients client ≡ None → ⊥) → with_reply client number reply kept ≡ Err BadNumber
+unfolding with_reply
+client-refused client number reply kept never =
+    ap (λ (b : Bool). store_or b (and_client client (record { number = number; reply = reply }) kept))
+    (is_false (is_none (client_at kept.clients client)) (λ e. never (tested-none (client_at kept.clients client) e)))
 
-pub client-late : (client : ℕ) (one : ClientRecord) (kept : StoreKept) → 0 < length kept.queues → with_client client one kept ≡ Err BadTag
+put-is : (b : Bool) (made after : StoreKept) → store_or b made ≡ Ok after → made ≡ after
+put-is true made after e = ok_is made after e
+put-is false made after e = absurd cc
+
+-- the bodies so far are those of the clients so far
+pub client-bodies : (client number : ℕ) (reply : Reply) (kept after : StoreKept) (known more : List (List ℕ)) → known ≡ bodies_of kept.clients → more ≡ and_reply known reply → with_reply client number reply kept ≡ Ok after → more ≡ bodies_of after.clients
+unfolding with_reply
+client-bodies client number reply kept after known more so_far and e =
+    let one : ClientRecord = record { number = number; reply = reply } in
+    and ∙ ap (λ (ks : List (List ℕ)). and_reply ks reply) so_far ∙ sym (bodies-more kept.clients (client, one))
+    ∙ ap (λ (s : StoreKept). bodies_of s.clients) (put-is (is_none (client_at kept.clients client)) (and_client client one kept) after e)
+
+-- what comes of a client before all names
+pub client-early : (client number : ℕ) (one : ReplyRecord) (kept : StoreKept) → length kept.queues ≤ 0 → with_client client number one kept ≡ (reply_resolved (bodies_of kept.clients) one >>= λ reply. with_reply client number reply kept)
 unfolding with_client
-client-late client one kept some =
-    ap (λ (b : Bool). state_or_late b (state_or (is_none (client_at kept.clients client)) (states.Begun (and_client client one kept) None))) (some-names kept.queues some)
+client-early client number one kept none =
+    ap (λ (b : Bool). cond b (reply_resolved (bodies_of kept.clients) one >>= λ reply. with_reply client number reply kept) (Err BadTag)) (no-names kept.queues none)
+
+pub client-late : (client number : ℕ) (one : ReplyRecord) (kept : StoreKept) → 0 < length kept.queues → with_client client number one kept ≡ Err BadTag
+unfolding with_client
+client-late client number one kept some =
+    ap (λ (b : Bool). cond b (reply_resolved (bodies_of kept.clients) one >>= λ reply. with_reply client number reply kept) (Err BadTag)) (some-names kept.queues some)

@@ -1,3 +1,6 @@
+pub mod Mentions
+pub mod ReplyLaws
+pub mod Resolving
 pub mod PartLaws
 pub mod Building
 pub mod Places

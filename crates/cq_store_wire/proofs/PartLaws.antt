@@ -1,27 +1,27 @@
 -- Parts that are read were written so, and what was written is read.
-use Rattle.std.proofs.Common.{◌≡◌, ℕ, ◌^◌, ◌<◌, ◌≤◌, Bool, true, false, cond, eqb, ltb, leb, leb-true, le-leb, ltb-true, lt-ltb, List, [], ◌∷◌, ◌++◌, Option, Result, Ok, Err, refl, sym, subst, append_assoc, arith, ◌∙◌, ap}
+use Rattle.std.proofs.Common.{◌≡◌, ℕ, ◌^◌, ◌<◌, ◌≤◌, Bool, true, false, cond, eqb, ltb, leb, leb-true, le-leb, ltb-true, lt-ltb, List, [], ◌∷◌, ◌++◌, Option, Result, Ok, Err, refl, sym, subst, arith, ◌∙◌, ap}
 use Rattle.std.specs.Prelude.{⊤, ◌&&◌}
 use Rattle.std.specs.Int.{w32, w64}
 use Rattle.std.proofs.lemmas.Bool.{eqb-true}
 use Rattle.cq_base.specs.declared.limits.TheConstants.{HISTORY_LIMIT, MOMENT_LIMIT}
-use Rattle.cq_base.specs.declared.reply.Reply.{Reply}
 use Rattle.cq_base.specs.queue.Incarnations.{Accepted, Incarnation}
 use Rattle.cq_base.specs.queue.Messages.{Message}
 use Rattle.cq_wire.specs.declared.fault.WireFault.{WireFault}
 use Rattle.cq_wire.specs.declared.fault.WireFault.TheVariants.{BadTag, BadNumber}
-use Rattle.cq_wire.specs.Layout.{number32, number64, text, flag, optional, reply}
-use Rattle.cq_wire.specs.Limits.{IfThere, IsName, IsId, IsBody, IsSeconds, IsReply}
-use Rattle.cq_wire.specs.Reading.{◌>>=◌, Reader, kept, number_at, moment_at, seconds_at, flag_at, name_at, id_at, body_at, optional_at, reply_at}
+use Rattle.cq_wire.specs.Layout.{number32, number64, text, flag, optional}
+use Rattle.cq_wire.specs.Limits.{IfThere, IsName, IsId, IsBody, IsSeconds}
+use Rattle.cq_wire.specs.Reading.{number_at, moment_at, seconds_at, flag_at, name_at, id_at, body_at, optional_at}
 use Rattle.cq_wire.proofs.Fronts.{IsBytes, IsBytes-rest, Takes, Takes-nothing, Takes-tagged, Reads, IsRead, ok_is, either, read_as}
 use Rattle.cq_wire.proofs.Sequences.{kept_reads, kept_is_read, one, two, three, four, one_read, two_read, three_read, four_read}
 use Rattle.cq_wire.proofs.PartLaws.{reads32, reads64, is_read32, is_read64, flag_reads, flag_is_read, optional_reads, optional_is_read, moment_reads, moment_is_read, seconds_reads, seconds_is_read, name_reads, name_is_read, id_reads, id_is_read, body_reads, body_is_read}
-use Rattle.cq_wire.proofs.ReplyLaws.{reply_reads, reply_is_read}
 use Rattle.cq_store_wire.specs.declared.part.NameRecord.{NameRecord}
 use Rattle.cq_store_wire.specs.declared.part.Part.{Part}
 use Rattle.cq_store_wire.specs.declared.part.Part.TheVariants as parts
-use Rattle.cq_store_wire.specs.Layout.{accepted, handings, message, name, part, queue, uses}
-use Rattle.cq_store_wire.specs.Limits.{IsAccepted, IsBare, IsMessage, IsMoment, IsNameRecord, IsPart}
-use Rattle.cq_store_wire.specs.Reading.{a_message_at, a_name_at, accepted_at, an_accepted_at, any_message_at, any_queue_at, bare, client_at, handings_at, is_message, is_queue, made, message_at, name_record_at, part_at, queue_at, start_at, uses_at}
+use Rattle.cq_store_wire.specs.declared.reply.ReplyRecord.{ReplyRecord}
+use Rattle.cq_store_wire.specs.Layout.{accepted, handings, message, name, part, queue, reply_record, uses}
+use Rattle.cq_store_wire.specs.Limits.{IsAccepted, IsBare, IsMessage, IsMoment, IsNameRecord, IsPart, IsReplyRecord}
+use Rattle.cq_store_wire.specs.Reading.{a_message_at, a_name_at, accepted_at, an_accepted_at, any_message_at, any_queue_at, bare, client_at, handings_at, is_message, is_queue, made, message_at, name_record_at, part_at, queue_at, reply_record_at, start_at, uses_at}
+use Rattle.cq_store_wire.proofs.ReplyLaws.{reply_record_is_read, reply_record_reads}
 
 -- ---- three numbers
 
@@ -192,7 +192,7 @@ accepted_is_read a rest fits = three_read text id_at IsId number64 moment_at IsM
 abbrev IsPartRead : ℕ → List ℕ → Part × List ℕ → Type 0
 IsPartRead kind bytes x = Takes (kind ∷ bytes) (part x.0) x.1 × IsPart x.0
 
-abbrev made_client : ℕ → ℕ → Reply → Part
+abbrev made_client : ℕ → ℕ → ReplyRecord → Part
 made_client client number one = parts.Client client number one
 
 start_reads : (bytes : List ℕ) (x : Part × List ℕ) → IsBytes bytes → start_at bytes ≡ Ok x → IsPartRead 0 bytes x
@@ -204,8 +204,8 @@ start_reads bytes x fits e =
 client_reads : (bytes : List ℕ) (x : Part × List ℕ) → IsBytes bytes → client_at bytes ≡ Ok x → IsPartRead 1 bytes x
 unfolding client_at part
 client_reads bytes x fits e =
-    three number32 (number_at w32) (λ n. n < 2 ^ 32) number64 (number_at w64) (λ n. n < 2 ^ 64) reply reply_at IsReply made_client reads32 reads64 reply_reads bytes x fits e (IsPartRead 1 bytes)
-    (λ client number r rest t f. (Takes-tagged 1 bytes (number32 client ++ (number64 number ++ reply r)) rest t, f))
+    three number32 (number_at w32) (λ n. n < 2 ^ 32) number64 (number_at w64) (λ n. n < 2 ^ 64) reply_record reply_record_at IsReplyRecord made_client reads32 reads64 reply_record_reads bytes x fits e (IsPartRead 1 bytes)
+    (λ client number r rest t f. (Takes-tagged 1 bytes (number32 client ++ (number64 number ++ reply_record r)) rest t, f))
 
 a_name_reads : (bytes : List ℕ) (x : Part × List ℕ) → IsBytes bytes → a_name_at bytes ≡ Ok x → IsPartRead 2 bytes x
 unfolding a_name_at part
@@ -256,7 +256,7 @@ part_reads (kind ∷ rest) x fits e =
 pub part_is_read : IsRead part part_at IsPart
 unfolding part part_at start_at client_at a_name_at a_message_at an_accepted_at
 part_is_read (parts.Start count last) rest fits = two_read number64 (number_at w64) (λ n. n < 2 ^ 64) number64 moment_at IsMoment parts.Start is_read64 moment_is_read count last rest fits
-part_is_read (parts.Client client number r) rest fits = three_read number32 (number_at w32) (λ n. n < 2 ^ 32) number64 (number_at w64) (λ n. n < 2 ^ 64) reply reply_at IsReply made_client is_read32 is_read64 reply_is_read client number r rest fits
+part_is_read (parts.Client client number r) rest fits = three_read number32 (number_at w32) (λ n. n < 2 ^ 32) number64 (number_at w64) (λ n. n < 2 ^ 64) reply_record reply_record_at IsReplyRecord made_client is_read32 is_read64 reply_record_is_read client number r rest fits
 part_is_read (parts.Name n) rest fits = one_read name name_record_at IsNameRecord parts.Name name_record_is_read n rest fits
 part_is_read (parts.Message m) rest fits = one_read message message_at IsMessage parts.Message message_is_read m rest fits
 part_is_read (parts.Accepted a) rest fits = one_read accepted accepted_at IsAccepted parts.Accepted accepted_is_read a rest fits

@@ -1,8 +1,7 @@
 -- What is written at each place of a store, and what follows it.
-use Rattle.std.proofs.Common.{◌≡◌, ◌⊎◌, ℕ, zero, suc, ◌+◌, ◌<◌, ◌≤◌, ◌^◌, List, [], ◌∷◌, ◌++◌, length, drop, map, Option, None, Some, Result, Ok, Err, refl, sym, subst, ap, ◌∙◌, append_assoc, arith, inl, inr}
+use Rattle.std.proofs.Common.{◌≡◌, ◌⊎◌, ℕ, zero, suc, ◌<◌, ◌≤◌, List, [], ◌∷◌, ◌++◌, length, drop, Option, None, Some, Result, Ok, Err, refl, sym, subst, ap, ◌∙◌, append_assoc, arith, inl, inr}
 use Rattle.std.specs.Prelude.{slice_get, IfOk}
 use Rattle.std.specs.List.{AllByRecursion, flat_map}
-use Rattle.std.specs.Option.{option_map}
 use Rattle.std.proofs.lemmas.List.{append-nil}
 use Rattle.cq_base.specs.declared.fault.NoMemory.{NoMemory}
 use Rattle.cq_base.specs.queue.Incarnations.{Accepted, Incarnation}
@@ -14,6 +13,7 @@ use Rattle.cq_store_wire.specs.declared.part.Part.{Part}
 use Rattle.cq_store_wire.specs.declared.part.Part.TheVariants as parts
 use Rattle.cq_store_wire.specs.declared.writer.Place.{Place}
 use Rattle.cq_store_wire.specs.declared.writer.Place.TheVariants as places
+use Rattle.cq_store_wire.specs.Bodies.{and_reply}
 use Rattle.cq_store_wire.specs.Chunks.{IsChunk, IsNext}
 use Rattle.cq_store_wire.specs.Layout.{chunk, part}
 use Rattle.cq_store_wire.specs.Limits.{IsAccepted, IsMessage, IsNameRecord, IsPart}
@@ -56,28 +56,31 @@ same-next (Err f) before other after old new e h = tt
 
 -- ---- clients
 
-client-next : (kept : StoreKept) (i : ℕ) (c : ℕ × ClientRecord) (old new : List ℕ) → slice_get kept.clients i ≡ Some c → IsPart (client_part c) → new ≡ old ++ part (client_part c)
-    → IsNext (parts_from kept (places.Clients i)) (parts_from kept (places.Clients (suc i))) old new
+client-next : (kept : StoreKept) (known : List (List ℕ)) (i : ℕ) (c : ℕ × ClientRecord) (old new : List ℕ) → slice_get kept.clients i ≡ Some c → IsPart (client_part known c) → new ≡ old ++ part (client_part known c)
+    → IsNext (parts_from kept known (places.Clients i)) (parts_from kept (and_reply known c.1.reply) (places.Clients (suc i))) old new
 unfolding parts_from all_clients
-client-next kept i c old new e fits written =
-    is_next (client_part c) (map client_part (drop i kept.clients) ++ all_names kept.queues) (map client_part (drop (suc i) kept.clients) ++ all_names kept.queues) (map client_part (drop (suc i) kept.clients) ++ all_names kept.queues) old new
-    (ap (λ (cs : List (ℕ × ClientRecord)). map client_part cs ++ all_names kept.queues) (drop-some kept.clients i c e)) refl fits written
+client-next kept known i c old new e fits written =
+    let rest : List Part = all_clients (and_reply known c.1.reply) (drop (suc i) kept.clients) ++ all_names kept.queues in
+    is_next (client_part known c) (all_clients known (drop i kept.clients) ++ all_names kept.queues) rest rest old new
+    (ap (λ (cs : List (ℕ × ClientRecord)). all_clients known cs ++ all_names kept.queues) (drop-some kept.clients i c e)) refl fits written
 
-pub client-next-at : (kept : StoreKept) (i j : ℕ) (c : ℕ × ClientRecord) (old new : List ℕ) → suc i ≡ j → slice_get kept.clients i ≡ Some c → IsPart (client_part c) → new ≡ old ++ part (client_part c)
-    → IsNext (parts_from kept (places.Clients i)) (parts_from kept (places.Clients j)) old new
-client-next-at kept i j c old new next e fits written = subst (λ (k : ℕ). IsNext (parts_from kept (places.Clients i)) (parts_from kept (places.Clients k)) old new) next (client-next kept i c old new e fits written)
+pub client-next-at : (kept : StoreKept) (known after : List (List ℕ)) (i j : ℕ) (c : ℕ × ClientRecord) (old new : List ℕ) → suc i ≡ j → slice_get kept.clients i ≡ Some c → after ≡ and_reply known c.1.reply
+    → IsPart (client_part known c) → new ≡ old ++ part (client_part known c) → IsNext (parts_from kept known (places.Clients i)) (parts_from kept after (places.Clients j)) old new
+client-next-at kept known after i j c old new next e more fits written =
+    subst (λ (ks : List (List ℕ)). IsNext (parts_from kept known (places.Clients i)) (parts_from kept ks (places.Clients j)) old new) (sym more)
+    (subst (λ (k : ℕ). IsNext (parts_from kept known (places.Clients i)) (parts_from kept (and_reply known c.1.reply) (places.Clients k)) old new) next (client-next kept known i c old new e fits written))
 
-pub clients-end : (kept : StoreKept) (i : ℕ) → drop i kept.clients ≡ [] → parts_from kept (places.Clients i) ≡ parts_from kept (places.Names 0)
+pub clients-end : (kept : StoreKept) (known : List (List ℕ)) (i : ℕ) → drop i kept.clients ≡ [] → parts_from kept known (places.Clients i) ≡ parts_from kept known (places.Names 0)
 unfolding parts_from all_clients
-clients-end kept i e = ap (λ (cs : List (ℕ × ClientRecord)). map client_part cs ++ all_names kept.queues) e
+clients-end kept known i e = ap (λ (cs : List (ℕ × ClientRecord)). all_clients known cs ++ all_names kept.queues) e
 
 -- ---- names
 
-pub name-next : (kept : StoreKept) (i : ℕ) (n : List ℕ × QueueRecord) (old new : List ℕ) → slice_get kept.queues i ≡ Some n → IsNameRecord (name_record n.0 n.1)
+pub name-next : (kept : StoreKept) (known : List (List ℕ)) (i : ℕ) (n : List ℕ × QueueRecord) (old new : List ℕ) → slice_get kept.queues i ≡ Some n → IsNameRecord (name_record n.0 n.1)
     → all_after 0 (messages_of n.1.living) ≡ messages_of n.1.living → new ≡ old ++ part (parts.Name (name_record n.0 n.1))
-    → IsNext (parts_from kept (places.Names i)) (parts_from kept (places.Messages i 0)) old new
+    → IsNext (parts_from kept known (places.Names i)) (parts_from kept known (places.Messages i 0)) old new
 unfolding parts_from all_names name_parts
-name-next kept i n old new e fits follow written =
+name-next kept known i n old new e fits follow written =
     let rest : List (List ℕ × QueueRecord) = drop (suc i) kept.queues in
     let ms : List Part = all_messages (messages_of n.1.living) in
     let xs : List Part = all_accepted (accepted_of n.1.living) in
@@ -92,26 +95,26 @@ name-next kept i n old new e fits follow written =
     is_next (parts.Name (name_record n.0 n.1)) (flat_map name_parts (drop i kept.queues) ++ parts.End ∷ []) (((ms ++ xs) ++ flat_map name_parts rest) ++ parts.End ∷ [])
     (all_messages (all_after 0 (messages_of (living_at kept i))) ++ (all_accepted (accepted_of (living_at kept i)) ++ behind)) old new first (grouped ∙ after) fits written
 
-pub end-next : (kept : StoreKept) (queues : List (List ℕ × QueueRecord)) (old new : List ℕ) → queues ≡ [] → new ≡ old ++ part parts.End
-    → IsNext (all_names queues) (parts_from kept places.End) old new
+pub end-next : (kept : StoreKept) (known : List (List ℕ)) (queues : List (List ℕ × QueueRecord)) (old new : List ℕ) → queues ≡ [] → new ≡ old ++ part parts.End
+    → IsNext (all_names queues) (parts_from kept known places.End) old new
 unfolding parts_from all_names
-end-next kept queues old new e written =
+end-next kept known queues old new e written =
     is_next parts.End (flat_map name_parts queues ++ parts.End ∷ []) [] [] old new (ap (λ (ns : List (List ℕ × QueueRecord)). flat_map name_parts ns ++ parts.End ∷ []) e) refl tt written
 
-pub end-here : (kept : StoreKept) (i : ℕ) (old new : List ℕ) → slice_get kept.queues i ≡ None → new ≡ old ++ part parts.End → IsNext (parts_from kept (places.Names i)) (parts_from kept places.End) old new
+pub end-here : (kept : StoreKept) (known : List (List ℕ)) (i : ℕ) (old new : List ℕ) → slice_get kept.queues i ≡ None → new ≡ old ++ part parts.End → IsNext (parts_from kept known (places.Names i)) (parts_from kept known places.End) old new
 unfolding parts_from
-end-here kept i old new e written = end-next kept (drop i kept.queues) old new (drop-none kept.queues i e) written
+end-here kept known i old new e written = end-next kept known (drop i kept.queues) old new (drop-none kept.queues i e) written
 
-pub names-from : (kept : StoreKept) (i j : ℕ) → j ≡ suc i → all_names (drop (suc i) kept.queues) ≡ parts_from kept (places.Names j)
+pub names-from : (kept : StoreKept) (known : List (List ℕ)) (i j : ℕ) → j ≡ suc i → all_names (drop (suc i) kept.queues) ≡ parts_from kept known (places.Names j)
 unfolding parts_from
-names-from kept i j e = ap (λ (k : ℕ). all_names (drop k kept.queues)) (sym e)
+names-from kept known i j e = ap (λ (k : ℕ). all_names (drop k kept.queues)) (sym e)
 
 -- ---- the messages of a queue
 
-message-next : (kept : StoreKept) (i after : ℕ) (q : Incarnation) (m : Message) (old new : List ℕ) → living_at kept i ≡ Some q → all_after after q.messages ≡ m ∷ all_after m.sequence q.messages
-    → IsMessage m → new ≡ old ++ part (parts.Message m) → IsNext (parts_from kept (places.Messages i after)) (parts_from kept (places.Messages i m.sequence)) old new
+message-next : (kept : StoreKept) (known : List (List ℕ)) (i after : ℕ) (q : Incarnation) (m : Message) (old new : List ℕ) → living_at kept i ≡ Some q → all_after after q.messages ≡ m ∷ all_after m.sequence q.messages
+    → IsMessage m → new ≡ old ++ part (parts.Message m) → IsNext (parts_from kept known (places.Messages i after)) (parts_from kept known (places.Messages i m.sequence)) old new
 unfolding parts_from
-message-next kept i after q m old new living e fits written =
+message-next kept known i after q m old new living e fits written =
     let behind : List Part = all_accepted (accepted_of (living_at kept i)) ++ all_names (drop (suc i) kept.queues) in
     let own : messages_of (living_at kept i) ≡ q.messages = ap messages_of living in
     let first : all_messages (all_after after (messages_of (living_at kept i))) ++ behind ≡ parts.Message m ∷ (all_messages (all_after m.sequence q.messages) ++ behind) =
@@ -121,28 +124,28 @@ message-next kept i after q m old new living e fits written =
     is_next (parts.Message m) (all_messages (all_after after (messages_of (living_at kept i))) ++ behind) (all_messages (all_after m.sequence q.messages) ++ behind)
     (all_messages (all_after m.sequence (messages_of (living_at kept i))) ++ behind) old new first rest fits written
 
-pub message-next-at : (kept : StoreKept) (i after n : ℕ) (q : Incarnation) (m : Message) (ms : List Message) (old new : List ℕ) → m.sequence ≡ n → ms ≡ q.messages → living_at kept i ≡ Some q → all_after after ms ≡ m ∷ all_after m.sequence ms
-    → IsMessage m → new ≡ old ++ part (parts.Message m) → IsNext (parts_from kept (places.Messages i after)) (parts_from kept (places.Messages i n)) old new
-message-next-at kept i after n q m ms old new number own living e fits written =
+pub message-next-at : (kept : StoreKept) (known : List (List ℕ)) (i after n : ℕ) (q : Incarnation) (m : Message) (ms : List Message) (old new : List ℕ) → m.sequence ≡ n → ms ≡ q.messages → living_at kept i ≡ Some q → all_after after ms ≡ m ∷ all_after m.sequence ms
+    → IsMessage m → new ≡ old ++ part (parts.Message m) → IsNext (parts_from kept known (places.Messages i after)) (parts_from kept known (places.Messages i n)) old new
+message-next-at kept known i after n q m ms old new number own living e fits written =
     let there = subst (λ (all : List Message). all_after after all ≡ m ∷ all_after m.sequence all) own e in
-    subst (λ (k : ℕ). IsNext (parts_from kept (places.Messages i after)) (parts_from kept (places.Messages i k)) old new) number (message-next kept i after q m old new living there fits written)
+    subst (λ (k : ℕ). IsNext (parts_from kept known (places.Messages i after)) (parts_from kept known (places.Messages i k)) old new) number (message-next kept known i after q m old new living there fits written)
 
-messages-end : (kept : StoreKept) (i after : ℕ) → all_after after (messages_of (living_at kept i)) ≡ [] → parts_from kept (places.Messages i after) ≡ parts_from kept (places.Accepted i 0)
+messages-end : (kept : StoreKept) (known : List (List ℕ)) (i after : ℕ) → all_after after (messages_of (living_at kept i)) ≡ [] → parts_from kept known (places.Messages i after) ≡ parts_from kept known (places.Accepted i 0)
 unfolding parts_from
-messages-end kept i after e = ap (λ (ms : List Message). all_messages ms ++ (all_accepted (accepted_of (living_at kept i)) ++ all_names (drop (suc i) kept.queues))) e
+messages-end kept known i after e = ap (λ (ms : List Message). all_messages ms ++ (all_accepted (accepted_of (living_at kept i)) ++ all_names (drop (suc i) kept.queues))) e
 
-pub messages-done : (kept : StoreKept) (i after : ℕ) (q : Incarnation) (ms : List Message) → ms ≡ q.messages → living_at kept i ≡ Some q → all_after after ms ≡ [] → parts_from kept (places.Messages i after) ≡ parts_from kept (places.Accepted i 0)
-messages-done kept i after q ms own living e = messages-end kept i after (ap (λ (l : Option Incarnation). all_after after (messages_of l)) living ∙ ap (λ (all : List Message). all_after after all) (sym own) ∙ e)
+pub messages-done : (kept : StoreKept) (known : List (List ℕ)) (i after : ℕ) (q : Incarnation) (ms : List Message) → ms ≡ q.messages → living_at kept i ≡ Some q → all_after after ms ≡ [] → parts_from kept known (places.Messages i after) ≡ parts_from kept known (places.Accepted i 0)
+messages-done kept known i after q ms own living e = messages-end kept known i after (ap (λ (l : Option Incarnation). all_after after (messages_of l)) living ∙ ap (λ (all : List Message). all_after after all) (sym own) ∙ e)
 
-pub messages-none : (kept : StoreKept) (i after : ℕ) → living_at kept i ≡ None → parts_from kept (places.Messages i after) ≡ parts_from kept (places.Accepted i 0)
-messages-none kept i after living = messages-end kept i after (ap (λ (l : Option Incarnation). all_after after (messages_of l)) living)
+pub messages-none : (kept : StoreKept) (known : List (List ℕ)) (i after : ℕ) → living_at kept i ≡ None → parts_from kept known (places.Messages i after) ≡ parts_from kept known (places.Accepted i 0)
+messages-none kept known i after living = messages-end kept known i after (ap (λ (l : Option Incarnation). all_after after (messages_of l)) living)
 
 -- ---- and its accepted sends
 
-accepted-next : (kept : StoreKept) (i next : ℕ) (q : Incarnation) (a : Accepted) (old new : List ℕ) → living_at kept i ≡ Some q → slice_get q.accepted next ≡ Some a
-    → IsAccepted a → new ≡ old ++ part (parts.Accepted a) → IsNext (parts_from kept (places.Accepted i next)) (parts_from kept (places.Accepted i (suc next))) old new
+accepted-next : (kept : StoreKept) (known : List (List ℕ)) (i next : ℕ) (q : Incarnation) (a : Accepted) (old new : List ℕ) → living_at kept i ≡ Some q → slice_get q.accepted next ≡ Some a
+    → IsAccepted a → new ≡ old ++ part (parts.Accepted a) → IsNext (parts_from kept known (places.Accepted i next)) (parts_from kept known (places.Accepted i (suc next))) old new
 unfolding parts_from
-accepted-next kept i next q a old new living e fits written =
+accepted-next kept known i next q a old new living e fits written =
     let behind : List Part = all_names (drop (suc i) kept.queues) in
     let own : accepted_of (living_at kept i) ≡ q.accepted = ap accepted_of living in
     let first : all_accepted (drop next (accepted_of (living_at kept i))) ++ behind ≡ parts.Accepted a ∷ (all_accepted (drop (suc next) q.accepted) ++ behind) =
@@ -152,34 +155,34 @@ accepted-next kept i next q a old new living e fits written =
     is_next (parts.Accepted a) (all_accepted (drop next (accepted_of (living_at kept i))) ++ behind) (all_accepted (drop (suc next) q.accepted) ++ behind)
     (all_accepted (drop (suc next) (accepted_of (living_at kept i))) ++ behind) old new first rest fits written
 
-pub accepted-next-at : (kept : StoreKept) (i next j : ℕ) (q : Incarnation) (a : Accepted) (old new : List ℕ) → suc next ≡ j → living_at kept i ≡ Some q → slice_get q.accepted next ≡ Some a
-    → IsAccepted a → new ≡ old ++ part (parts.Accepted a) → IsNext (parts_from kept (places.Accepted i next)) (parts_from kept (places.Accepted i j)) old new
-accepted-next-at kept i next j q a old new more living e fits written =
-    subst (λ (k : ℕ). IsNext (parts_from kept (places.Accepted i next)) (parts_from kept (places.Accepted i k)) old new) more (accepted-next kept i next q a old new living e fits written)
+pub accepted-next-at : (kept : StoreKept) (known : List (List ℕ)) (i next j : ℕ) (q : Incarnation) (a : Accepted) (old new : List ℕ) → suc next ≡ j → living_at kept i ≡ Some q → slice_get q.accepted next ≡ Some a
+    → IsAccepted a → new ≡ old ++ part (parts.Accepted a) → IsNext (parts_from kept known (places.Accepted i next)) (parts_from kept known (places.Accepted i j)) old new
+accepted-next-at kept known i next j q a old new more living e fits written =
+    subst (λ (k : ℕ). IsNext (parts_from kept known (places.Accepted i next)) (parts_from kept known (places.Accepted i k)) old new) more (accepted-next kept known i next q a old new living e fits written)
 
-accepted-end : (kept : StoreKept) (i next : ℕ) → drop next (accepted_of (living_at kept i)) ≡ [] → parts_from kept (places.Accepted i next) ≡ all_names (drop (suc i) kept.queues)
+accepted-end : (kept : StoreKept) (known : List (List ℕ)) (i next : ℕ) → drop next (accepted_of (living_at kept i)) ≡ [] → parts_from kept known (places.Accepted i next) ≡ all_names (drop (suc i) kept.queues)
 unfolding parts_from
-accepted-end kept i next e = ap (λ (xs : List Accepted). all_accepted xs ++ all_names (drop (suc i) kept.queues)) e
+accepted-end kept known i next e = ap (λ (xs : List Accepted). all_accepted xs ++ all_names (drop (suc i) kept.queues)) e
 
-pub accepted-done : (kept : StoreKept) (i next : ℕ) (q : Incarnation) → living_at kept i ≡ Some q → slice_get q.accepted next ≡ None → parts_from kept (places.Accepted i next) ≡ all_names (drop (suc i) kept.queues)
-accepted-done kept i next q living e = accepted-end kept i next (ap (λ (l : Option Incarnation). drop next (accepted_of l)) living ∙ drop-none q.accepted next e)
+pub accepted-done : (kept : StoreKept) (known : List (List ℕ)) (i next : ℕ) (q : Incarnation) → living_at kept i ≡ Some q → slice_get q.accepted next ≡ None → parts_from kept known (places.Accepted i next) ≡ all_names (drop (suc i) kept.queues)
+accepted-done kept known i next q living e = accepted-end kept known i next (ap (λ (l : Option Incarnation). drop next (accepted_of l)) living ∙ drop-none q.accepted next e)
 
-pub accepted-none : (kept : StoreKept) (i next : ℕ) → living_at kept i ≡ None → parts_from kept (places.Accepted i next) ≡ all_names (drop (suc i) kept.queues)
-accepted-none kept i next living = accepted-end kept i next (ap (λ (l : Option Incarnation). drop next (accepted_of l)) living ∙ drop-past [] next (omega arith))
+pub accepted-none : (kept : StoreKept) (known : List (List ℕ)) (i next : ℕ) → living_at kept i ≡ None → parts_from kept known (places.Accepted i next) ≡ all_names (drop (suc i) kept.queues)
+accepted-none kept known i next living = accepted-end kept known i next (ap (λ (l : Option Incarnation). drop next (accepted_of l)) living ∙ drop-past [] next (omega arith))
 
 -- ---- the start
 
-start-next : (kept : StoreKept) (old new : List ℕ) → IsPart (parts.Start kept.count kept.last) → new ≡ old ++ part (parts.Start kept.count kept.last)
-    → IsNext (parts_from kept places.Start) (parts_from kept (places.Clients 0)) old new
+start-next : (kept : StoreKept) (known : List (List ℕ)) (old new : List ℕ) → IsPart (parts.Start kept.count kept.last) → new ≡ old ++ part (parts.Start kept.count kept.last)
+    → IsNext (parts_from kept known places.Start) (parts_from kept known (places.Clients 0)) old new
 unfolding parts_from parts_of
-start-next kept old new fits written = (fits, (refl, written))
+start-next kept known old new fits written = (fits, (refl, written))
 
-pub start-at : (kept : StoreKept) (place : Place) (count last : ℕ) (old new : List ℕ) → place ≡ places.Start → count ≡ kept.count → last ≡ kept.last → IsPart (parts.Start count last) → new ≡ old ++ part (parts.Start count last)
-    → IsNext (parts_from kept place) (parts_from kept (places.Clients 0)) old new
-start-at kept place count last old new start same-count same-last fits written =
+pub start-at : (kept : StoreKept) (known : List (List ℕ)) (place : Place) (count last : ℕ) (old new : List ℕ) → place ≡ places.Start → count ≡ kept.count → last ≡ kept.last → IsPart (parts.Start count last) → new ≡ old ++ part (parts.Start count last)
+    → IsNext (parts_from kept known place) (parts_from kept known (places.Clients 0)) old new
+start-at kept known place count last old new start same-count same-last fits written =
     let G : ℕ → ℕ → Type 0 = λ c l. IsPart (parts.Start c l) × (new ≡ old ++ part (parts.Start c l)) in
     let own : G kept.count kept.last = subst (λ (l : ℕ). G kept.count l) same-last (subst (λ (c : ℕ). G c last) same-count (fits, written)) in
-    subst (λ (p : Place). IsNext (parts_from kept p) (parts_from kept (places.Clients 0)) old new) (sym start) (start-next kept old new own.0 own.1)
+    subst (λ (p : Place). IsNext (parts_from kept known p) (parts_from kept known (places.Clients 0)) old new) (sym start) (start-next kept known old new own.0 own.1)
 
 -- ---- chunks
 
@@ -210,9 +213,9 @@ next-shorter [] after old new next = absurd next
 next-shorter (p ∷ rest) after old new next = let same : length rest ≡ length after = ap length next.1.0 in omega (arith, same)
 
 -- behind a part the place has moved on
-pub moved : (kept : StoreKept) (first place next : Place) (old new value : List ℕ) → ((place ≡ first) × (length value ≡ 1)) ⊎ (length (parts_from kept place) < length (parts_from kept first))
-    → IsNext (parts_from kept place) (parts_from kept next) old new → length (parts_from kept next) < length (parts_from kept first)
-moved kept first place next old new value (inl same) n =
-    let here : length (parts_from kept place) ≡ length (parts_from kept first) = ap (λ (p : Place). length (parts_from kept p)) same.0 in
-    omega (arith, here, next-shorter (parts_from kept place) (parts_from kept next) old new n)
-moved kept first place next old new value (inr less) n = omega (arith, less, next-shorter (parts_from kept place) (parts_from kept next) old new n)
+pub moved : (kept : StoreKept) (known more after : List (List ℕ)) (first place next : Place) (old new value : List ℕ) → ((place ≡ first) × ((more ≡ known) × (length value ≡ 1))) ⊎ (length (parts_from kept more place) < length (parts_from kept known first))
+    → IsNext (parts_from kept more place) (parts_from kept after next) old new → length (parts_from kept after next) < length (parts_from kept known first)
+moved kept known more after first place next old new value (inl same) n =
+    let here : length (parts_from kept more place) ≡ length (parts_from kept known first) = ap (λ (p : Place). length (parts_from kept more p)) same.0 ∙ ap (λ (ks : List (List ℕ)). length (parts_from kept ks first)) same.1.0 in
+    omega (arith, here, next-shorter (parts_from kept more place) (parts_from kept after next) old new n)
+moved kept known more after first place next old new value (inr less) n = omega (arith, less, next-shorter (parts_from kept more place) (parts_from kept after next) old new n)

@@ -1,5 +1,5 @@
 -- The parts of a store, put one after another, make the store.
-use Rattle.std.proofs.Common.{◌≡◌, ℕ, zero, suc, ◌+◌, ◌<◌, ◌≤◌, Bool, true, false, cond, eqb, List, [], ◌∷◌, ◌++◌, length, map, Option, None, Some, Result, Ok, Err, refl, sym, subst, ap, ◌∙◌, append_assoc, arith}
+use Rattle.std.proofs.Common.{◌≡◌, ℕ, ◌+◌, ◌<◌, ◌≤◌, Bool, true, false, cond, eqb, List, [], ◌∷◌, ◌++◌, length, Option, None, Some, Result, Ok, refl, sym, ap, ◌∙◌, append_assoc, arith}
 use Rattle.std.specs.Prelude.{nat_eq}
 use Rattle.std.specs.List.{All, AllByRecursion, IsDistinct, find, flat_map}
 use Rattle.std.specs.Map.{keys_of, lookup, values_of}
@@ -8,11 +8,12 @@ use Rattle.std.proofs.lemmas.Bool.{eqb-true}
 use Rattle.std.proofs.lemmas.List.{append-nil, length-append}
 use Rattle.std.proofs.lemmas.List.Elements.{All-head, All-nil, All-push, All-tail, All-weaker}
 use Rattle.std.proofs.lemmas.Slice.Eq.{bytes_eq-Decides}
+use Rattle.cq_base.specs.declared.reply.Reply.{Reply}
 use Rattle.cq_base.specs.queue.Incarnations.{Accepted, Incarnation}
 use Rattle.cq_base.specs.queue.Messages.{Message}
 use Rattle.cq_messages.specs.Ordered.{IsRising}
-use Rattle.cq_queue.specs.Parts.{AreInOrder, IsNextAccepted, IsNextMessage, and_accepted, and_message}
-use Rattle.cq_store.specs.Parts.{IsNextName, IsWithin, and_client, and_name}
+use Rattle.cq_queue.specs.Parts.{AreInOrder, IsNextAccepted, IsNextMessage}
+use Rattle.cq_store.specs.Parts.{IsWithin}
 use Rattle.cq_store.specs.Stands.{ClientRecord, QueueRecord, StoreKept, name_at}
 use Rattle.cq_wire.specs.declared.fault.WireFault.{WireFault}
 use Rattle.cq_wire.specs.Reading.{◌>>=◌}
@@ -22,11 +23,12 @@ use Rattle.cq_store_wire.specs.declared.part.Part.{Part}
 use Rattle.cq_store_wire.specs.declared.part.Part.TheVariants as parts
 use Rattle.cq_store_wire.specs.declared.build.State.{State}
 use Rattle.cq_store_wire.specs.declared.build.State.TheVariants as states
-use Rattle.cq_store_wire.specs.Building.{built, client_into, closed, in_name, put, put_client, put_end, put_name, put_start, put_step, step_into, with_accepted, with_living, with_message}
+use Rattle.cq_store_wire.specs.Building.{built, client_into, closed, in_name, put, put_client, put_end, put_name, put_start, put_step, step_into, with_client, with_living, with_reply}
+use Rattle.cq_store_wire.specs.Bodies.{and_reply, bodies_of, reply_recorded}
 use Rattle.cq_store_wire.specs.Laws.{IsName, IsQueue, IsStore}
-use Rattle.cq_store_wire.specs.Order.{accepted_of, all_accepted, all_clients, all_messages, all_names, client_part, emptied, messages_of, name_parts, name_record, parts_of}
-use Rattle.cq_store_wire.proofs.Building.{accepted-put, client-put, message-put, name-put}
-use Rattle.cq_store_wire.proofs.Chunked.{built-append}
+use Rattle.cq_store_wire.specs.Order.{accepted_of, all_accepted, all_clients, all_messages, all_names, messages_of, name_parts, name_record, parts_of}
+use Rattle.cq_store_wire.proofs.Mentions.{bodies-more, reply-means}
+use Rattle.cq_store_wire.proofs.Building.{accepted-put, client-early, client-put, message-put, name-put}
 
 abbrev ready : State → Result State WireFault
 ready s = Ok s
@@ -85,13 +87,20 @@ texts-turn x y e = other (bytes_eq y x) refl
 abbrev store_of : ℕ → ℕ → List (ℕ × ClientRecord) → List (List ℕ × QueueRecord) → StoreKept
 store_of count last clients queues = record { count = count; last = last; clients = clients; queues = queues }
 
+one-client : (c : ℕ × ClientRecord) (count last : ℕ) (done : List (ℕ × ClientRecord)) → lookup (eqb c.0) done ≡ None
+    → with_client c.0 c.1.number (reply_recorded (bodies_of done) c.1.reply) (store_of count last done []) ≡ Ok (store_of count last (done ++ c ∷ []) [])
+one-client c count last done new =
+    client-early c.0 c.1.number (reply_recorded (bodies_of done) c.1.reply) (store_of count last done []) (omega arith)
+    ∙ ap (λ (r : Result Reply WireFault). r >>= λ reply. with_reply c.0 c.1.number reply (store_of count last done [])) (reply-means (bodies_of done) c.1.reply)
+    ∙ client-put c.0 c.1.number c.1.reply (store_of count last done []) (store_of count last (done ++ c ∷ []) []) new refl
+
 clients-built : (count last : ℕ) (done more : List (ℕ × ClientRecord)) (rest : List Part) → Apart eqb done more
-    → built (all_clients more ++ rest) (states.Begun (store_of count last done []) None) ≡ built rest (states.Begun (store_of count last (done ++ more) []) None)
+    → built (all_clients (bodies_of done) more ++ rest) (states.Begun (store_of count last done []) None) ≡ built rest (states.Begun (store_of count last (done ++ more) []) None)
 unfolding all_clients built put put_client client_into
 clients-built count last done [] rest new = ap (λ (cs : List (ℕ × ClientRecord)). built rest (states.Begun (store_of count last cs []) None)) (sym (append-nil done))
 clients-built count last done (c ∷ cs) rest new =
-    ap (λ (r : Result State WireFault). r >>= λ next. built (map client_part cs ++ rest) next)
-    (client-put c.0 c.1 (store_of count last done []) (store_of count last (done ++ c ∷ []) []) (omega arith) new.0 refl)
+    ap (λ (r : Result StoreKept WireFault). (r >>= λ more. ready (states.Begun more None)) >>= λ next. built (all_clients (and_reply (bodies_of done) c.1.reply) cs ++ rest) next) (one-client c count last done new.0)
+    ∙ ap (λ (known : List (List ℕ)). built (all_clients known cs ++ rest) (states.Begun (store_of count last (done ++ c ∷ []) []) None)) (sym (bodies-more done c))
     ∙ clients-built count last (done ++ c ∷ []) cs rest new.1
     ∙ ap (λ (all : List (ℕ × ClientRecord)). built rest (states.Begun (store_of count last all []) None)) (append_assoc done (c ∷ []) cs)
 

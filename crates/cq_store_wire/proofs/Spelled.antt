@@ -1,8 +1,9 @@
 -- What was put so far can be told from what was made of it: so a store is made of its own parts alone.
 use Rattle.std.proofs.Common.{◌≡◌, ℕ, Bool, true, false, cond, List, [], ◌∷◌, ◌++◌, map, Option, None, Some, Result, Ok, Err, refl, sym, subst, ap, ◌∙◌, append_assoc}
 use Rattle.std.specs.Prelude.{is_none}
-use Rattle.std.specs.List.{AllByRecursion, flat_map}
+use Rattle.std.specs.List.{AllByRecursion, flat_map, fold}
 use Rattle.std.proofs.lemmas.List.{append-nil}
+use Rattle.cq_base.specs.declared.reply.Reply.{Reply}
 use Rattle.cq_base.specs.queue.Incarnations.{Accepted, Incarnation}
 use Rattle.cq_base.specs.queue.Messages.{Message}
 use Rattle.cq_queue.specs.Parts.{and_accepted, and_message}
@@ -18,12 +19,15 @@ use Rattle.cq_store_wire.specs.declared.part.Part.{Part}
 use Rattle.cq_store_wire.specs.declared.part.Part.TheVariants as parts
 use Rattle.cq_store_wire.specs.declared.build.State.{State}
 use Rattle.cq_store_wire.specs.declared.build.State.TheVariants as states
-use Rattle.cq_store_wire.specs.Building.{built, client_into, closed, in_name, is_empty, is_next_accepted, is_next_message, is_next_name, put, put_client, put_end, put_name, put_start, put_step, record_of, step_into, with_accepted, with_client, with_living, with_message}
-use Rattle.cq_store_wire.specs.Limits.{IsBare, IsNameRecord, IsPart}
-use Rattle.cq_store_wire.specs.Order.{accepted_of, all_accepted, all_clients, all_messages, all_names, client_part, emptied, emptied_if, messages_of, name_parts, name_record, parts_of}
+use Rattle.cq_store_wire.specs.declared.reply.ReplyRecord.{ReplyRecord}
+use Rattle.cq_store_wire.specs.Bodies.{and_reply, bodies_of, reply_resolved}
+use Rattle.cq_store_wire.specs.Building.{built, client_into, closed, in_name, is_empty, is_next_accepted, is_next_message, is_next_name, put, put_client, put_end, put_name, put_start, put_step, record_of, step_into, with_accepted, with_client, with_living, with_message, with_reply}
+use Rattle.cq_store_wire.specs.Limits.{IsBare, IsNameRecord, IsPart, IsReplyRecord}
+use Rattle.cq_store_wire.specs.Order.{all_accepted, all_clients, all_messages, all_names, client_part, emptied, name_parts, name_record, parts_of}
+use Rattle.cq_store_wire.proofs.Mentions.{distinct-bodies, means-reply}
 
 abbrev front : StoreKept → List Part → List Part
-front kept rest = parts.Start kept.count kept.last ∷ (map client_part kept.clients ++ rest)
+front kept rest = parts.Start kept.count kept.last ∷ (all_clients [] kept.clients ++ rest)
 
 abbrev newest_parts : Option NameRecord → List Part
 newest_parts None = []
@@ -41,7 +45,7 @@ passed true r f y e = (refl, e)
 passed false r f y e = absurd cc
 
 front-more : (kept : StoreKept) (rest : List Part) (p : Part) → front kept (rest ++ p ∷ []) ≡ front kept rest ++ p ∷ []
-front-more kept rest p = ap (λ (ps : List Part). parts.Start kept.count kept.last ∷ ps) (sym (append_assoc (map client_part kept.clients) rest (p ∷ [])))
+front-more kept rest p = ap (λ (ps : List Part). parts.Start kept.count kept.last ∷ ps) (sym (append_assoc (all_clients [] kept.clients) rest (p ∷ [])))
 
 -- ---- lists with one more
 
@@ -84,7 +88,7 @@ bare-parts name creations removed (Some q) bare =
 -- ---- each part
 
 start-spelled : (count last : ℕ) (state after : State) → put_start count last state ≡ Ok after → spelled after ≡ spelled state ++ parts.Start count last ∷ []
-unfolding put_start spelled
+unfolding put_start spelled all_clients
 start-spelled count last states.Empty after e =
     subst (λ (s : State). spelled s ≡ parts.Start count last ∷ []) (ok_is (states.Begun (record { count = count; last = last; clients = []; queues = [] }) None) after e) refl
 start-spelled count last (states.Begun kept newest) after e = absurd cc
@@ -94,22 +98,39 @@ no-queues : (queues : List (List ℕ × QueueRecord)) → is_empty queues ≡ tr
 no-queues [] e = refl
 no-queues (q ∷ qs) e = absurd cc
 
-client-spelled : (client : ℕ) (one : ClientRecord) (state after : State) → put_client client one state ≡ Ok after → spelled after ≡ spelled state ++ client_part (client, one) ∷ []
-unfolding put_client client_into with_client spelled
-client-spelled client one states.Empty after e = absurd cc
-client-spelled client one (states.Whole kept) after e = absurd cc
-client-spelled client one (states.Begun kept (Some n)) after e = absurd cc
-client-spelled client one (states.Begun kept None) after e =
-    let made : State = states.Begun (and_client client one kept) None in
-    let late = passed (is_empty kept.queues) (cond (is_none (client_at kept.clients client)) (Ok made) (Err BadNumber)) BadTag after e in
-    let new = passed (is_none (client_at kept.clients client)) (Ok made) BadNumber after late.1 in
+abbrev with_clients : List (List ℕ) → List (ℕ × ClientRecord) → List (List ℕ)
+with_clients known clients = fold (λ so_far c. and_reply so_far c.1.reply) known clients
+
+clients-more : (known : List (List ℕ)) (clients : List (ℕ × ClientRecord)) (c : ℕ × ClientRecord) → all_clients known (clients ++ c ∷ []) ≡ all_clients known clients ++ client_part (with_clients known clients) c ∷ []
+unfolding all_clients
+clients-more known [] c = refl
+clients-more known (d ∷ ds) c = ap (λ (ps : List Part). client_part known d ∷ ps) (clients-more (and_reply known d.1.reply) ds c)
+
+-- a client that was put is spelled as it was
+client-as : (client number : ℕ) (one : ReplyRecord) (reply : Reply) (kept : StoreKept) → IsReplyRecord one → reply_resolved (bodies_of kept.clients) one ≡ Ok reply
+    → client_part (bodies_of kept.clients) (client, record { number = number; reply = reply }) ≡ parts.Client client number one
+client-as client number one reply kept fits e = ap (λ (r : ReplyRecord). parts.Client client number r) (means-reply (bodies_of kept.clients) one reply (distinct-bodies kept.clients) fits e)
+
+client-spelled : (client number : ℕ) (one : ReplyRecord) (state after : State) → IsReplyRecord one → put_client client number one state ≡ Ok after → spelled after ≡ spelled state ++ parts.Client client number one ∷ []
+unfolding put_client client_into with_client with_reply spelled
+client-spelled client number one states.Empty after fits e = absurd cc
+client-spelled client number one (states.Whole kept) after fits e = absurd cc
+client-spelled client number one (states.Begun kept (Some n)) after fits e = absurd cc
+client-spelled client number one (states.Begun kept None) after fits e =
+    let x = bind_ok (with_client client number one kept) (λ more. Ok (states.Begun more None)) after e in
+    let late = passed (is_empty kept.queues) (reply_resolved (bodies_of kept.clients) one >>= λ reply. with_reply client number reply kept) BadTag x.0 x.1 in
+    let r = bind_ok (reply_resolved (bodies_of kept.clients) one) (λ reply. with_reply client number reply kept) x.0 late.1 in
+    let c : ℕ × ClientRecord = (client, record { number = number; reply = r.0 }) in
+    let made : StoreKept = and_client client c.1 kept in
+    let new = passed (is_none (client_at kept.clients client)) (Ok made) BadNumber x.0 r.2 in
     let none : flat_map name_parts kept.queues ++ [] ≡ [] = ap (λ (qs : List (List ℕ × QueueRecord)). flat_map name_parts qs ++ []) (no-queues kept.queues late.0) in
-    let p : Part = client_part (client, one) in
-    let cs : List Part = map client_part kept.clients in
+    let p : Part = parts.Client client number one in
+    let cs : List Part = all_clients [] kept.clients in
     let begin : List Part → List Part = λ ps. parts.Start kept.count kept.last ∷ ps in
-    subst (λ (s : State). spelled s ≡ begin (cs ++ (flat_map name_parts kept.queues ++ [])) ++ p ∷ []) (ok_is made after new.1)
-    (ap (λ (ps : List Part). begin (map client_part (kept.clients ++ (client, one) ∷ []) ++ ps)) none
-    ∙ ap begin (append-nil (map client_part (kept.clients ++ (client, one) ∷ [])) ∙ map-more client_part kept.clients (client, one))
+    let more : all_clients [] (kept.clients ++ c ∷ []) ≡ cs ++ p ∷ [] = clients-more [] kept.clients c ∙ ap (λ (q : Part). cs ++ q ∷ []) (client-as client number one r.0 kept fits r.1) in
+    subst (λ (s : State). spelled s ≡ begin (cs ++ (flat_map name_parts kept.queues ++ [])) ++ p ∷ []) (ap (λ (k : StoreKept). states.Begun k None) (ok_is made x.0 new.1) ∙ ok_is (states.Begun x.0 None) after x.2)
+    (ap (λ (ps : List Part). begin (all_clients [] (kept.clients ++ c ∷ []) ++ ps)) none
+    ∙ ap begin (append-nil (all_clients [] (kept.clients ++ c ∷ [])) ∙ more)
     ∙ ap (λ (ps : List Part). begin (ps ++ p ∷ [])) (sym (append-nil cs))
     ∙ ap (λ (ps : List Part). begin ((cs ++ ps) ++ p ∷ [])) (sym none))
 
@@ -199,7 +220,7 @@ step-spelled step p adds (states.Begun kept (Some n)) after e = name-steps step 
 part-spelled : (p : Part) (state after : State) → IsPart p → put p state ≡ Ok after → spelled after ≡ spelled state ++ p ∷ []
 unfolding put
 part-spelled (parts.Start count last) state after fits e = start-spelled count last state after e
-part-spelled (parts.Client client number one) state after fits e = client-spelled client (record { number = number; reply = one }) state after e
+part-spelled (parts.Client client number one) state after fits e = client-spelled client number one state after fits.1.1 e
 part-spelled (parts.Name n) state after fits e = name-spelled n state after fits e
 part-spelled (parts.Message m) state after fits e = step-spelled (with_message m) (parts.Message m) (λ name creations removed q r h. message-parts name creations removed q r m h) state after e
 part-spelled (parts.Accepted a) state after fits e = step-spelled (with_accepted a) (parts.Accepted a) (λ name creations removed q r h. accepted-parts name creations removed q r a h) state after e

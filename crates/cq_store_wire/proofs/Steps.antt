@@ -1,18 +1,17 @@
 -- Chunks are read a part after another.
-use Rattle.std.proofs.Common.{◌≡◌, ℕ, zero, suc, ◌+◌, ◌<◌, ◌≤◌, Bool, true, false, eqb, List, [], ◌∷◌, ◌++◌, length, get_or, Result, Ok, Err, refl, sym, subst, ap, ◌∙◌, arith}
+use Rattle.std.proofs.Common.{◌≡◌, ℕ, zero, suc, ◌+◌, ◌<◌, ◌≤◌, Bool, true, false, eqb, List, [], ◌∷◌, length, Result, Ok, Err, refl, sym, ap, ◌∙◌, arith}
 use Rattle.std.proofs.lemmas.Bool.{eqb-true}
 use Rattle.std.proofs.lemmas.List.{length-append}
 use Rattle.cq_wire.specs.declared.fault.WireFault.{WireFault}
 use Rattle.cq_wire.specs.declared.fault.ReadFault.{ReadFault}
 use Rattle.cq_wire.specs.declared.fault.ReadFault.TheVariants as faults
-use Rattle.cq_wire.specs.Reading.{◌>>=◌, Reader, Fails, Gives}
-use Rattle.cq_wire.proofs.Fronts.{IsBytes, Takes, bind_ok}
+use Rattle.cq_wire.specs.Reading.{◌>>=◌, Fails}
+use Rattle.cq_wire.proofs.Fronts.{IsBytes}
 use Rattle.cq_store_wire.specs.declared.part.Part.{Part}
 use Rattle.cq_store_wire.specs.declared.part.Part.TheVariants as parts
 use Rattle.cq_store_wire.specs.declared.build.State.{State}
 use Rattle.cq_store_wire.specs.Building.{put, read_into}
 use Rattle.cq_store_wire.specs.Layout.{part}
-use Rattle.cq_store_wire.specs.Limits.{IsPart}
 use Rattle.cq_store_wire.specs.Reading.{part_at}
 use Rattle.cq_store_wire.proofs.PartLaws.{part_reads}
 

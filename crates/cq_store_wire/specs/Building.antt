@@ -7,7 +7,7 @@ use Rattle.cq_base.specs.queue.Incarnations.{Accepted, Incarnation}
 use Rattle.cq_base.specs.queue.Messages.{Message}
 use Rattle.cq_queue.specs.Parts.{and_accepted, and_message}
 use Rattle.cq_store.specs.Parts.{and_client, and_name}
-use Rattle.cq_store.specs.Stands.{ClientRecord, QueueRecord, StoreKept, client_at, name_at}
+use Rattle.cq_store.specs.Stands.{QueueRecord, StoreKept, client_at, name_at}
 use Rattle.cq_wire.specs.declared.version.TheConstants.{VERSION}
 use Rattle.cq_wire.specs.declared.fault.WireFault.{WireFault}
 use Rattle.cq_wire.specs.declared.fault.WireFault.TheVariants.{Truncated, BadTag, BadNumber, OtherVersion}
@@ -15,8 +15,10 @@ use Rattle.cq_wire.specs.Reading.{◌>>=◌}
 use Rattle.cq_store_wire.specs.declared.part.NameRecord.{NameRecord}
 use Rattle.cq_store_wire.specs.declared.part.Part.{Part}
 use Rattle.cq_store_wire.specs.declared.part.Part.TheVariants as parts
+use Rattle.cq_store_wire.specs.declared.reply.ReplyRecord.{ReplyRecord}
 use Rattle.cq_store_wire.specs.declared.build.State.{State}
 use Rattle.cq_store_wire.specs.declared.build.State.TheVariants as states
+use Rattle.cq_store_wire.specs.Bodies.{bodies_of, reply_resolved}
 use Rattle.cq_store_wire.specs.Reading.{part_at}
 
 abbrev pub is_empty : {A : Type 0} → List A → Bool
@@ -74,18 +76,21 @@ put_start count last states.Empty = Ok (states.Begun (record { count = count; la
 put_start count last (states.Begun kept newest) = Err BadTag
 put_start count last (states.Whole kept) = Err BadTag
 
--- clients come before names
-unfoldable pub with_client : ℕ → ClientRecord → StoreKept → Result State WireFault
-with_client client one kept = if is_empty kept.queues then (if is_none (client_at kept.clients client) then Ok (states.Begun (and_client client one kept) None) else Err BadNumber) else Err BadTag
+unfoldable pub with_reply : ℕ → ℕ → Reply → StoreKept → Result StoreKept WireFault
+with_reply client number reply kept = if is_none (client_at kept.clients client) then Ok (and_client client (record { number = number; reply = reply }) kept) else Err BadNumber
 
-unfoldable pub client_into : ℕ → ClientRecord → StoreKept → Option NameRecord → Result State WireFault
-client_into client one kept None = with_client client one kept
-client_into client one kept (Some n) = Err BadTag
+-- clients come before names, and the reply to one mentions bodies of those before
+unfoldable pub with_client : ℕ → ℕ → ReplyRecord → StoreKept → Result StoreKept WireFault
+with_client client number one kept = if is_empty kept.queues then (reply_resolved (bodies_of kept.clients) one >>= λ reply. with_reply client number reply kept) else Err BadTag
 
-unfoldable pub put_client : ℕ → ClientRecord → State → Result State WireFault
-put_client client one states.Empty = Err BadTag
-put_client client one (states.Begun kept newest) = client_into client one kept newest
-put_client client one (states.Whole kept) = Err BadTag
+unfoldable pub client_into : ℕ → ℕ → ReplyRecord → StoreKept → Option NameRecord → Result State WireFault
+client_into client number one kept None = with_client client number one kept >>= λ more. Ok (states.Begun more None)
+client_into client number one kept (Some n) = Err BadTag
+
+unfoldable pub put_client : ℕ → ℕ → ReplyRecord → State → Result State WireFault
+put_client client number one states.Empty = Err BadTag
+put_client client number one (states.Begun kept newest) = client_into client number one kept newest
+put_client client number one (states.Whole kept) = Err BadTag
 
 unfoldable pub put_name : NameRecord → State → Result State WireFault
 put_name n states.Empty = Err BadTag
@@ -109,7 +114,7 @@ put_end (states.Whole kept) = Err BadTag
 
 unfoldable pub put : Part → State → Result State WireFault
 put (parts.Start count last) state = put_start count last state
-put (parts.Client client number one) state = put_client client (record { number = number; reply = one }) state
+put (parts.Client client number one) state = put_client client number one state
 put (parts.Name n) state = put_name n state
 put (parts.Message m) state = put_step (with_message m) state
 put (parts.Accepted a) state = put_step (with_accepted a) state

@@ -1,5 +1,5 @@
 -- The parts of a store in their order, all of them, and those from a place on.
-use Rattle.std.specs.Prelude.{ℕ, suc, ◌+◌, List, [], ◌∷◌, ◌++◌, map, drop, Option, None, Some, slice_get}
+use Rattle.std.specs.Prelude.{ℕ, suc, List, [], ◌∷◌, ◌++◌, map, drop, Option, None, Some, slice_get}
 use Rattle.std.specs.List.{flat_map}
 use Rattle.cq_base.specs.queue.Incarnations.{Accepted, Incarnation}
 use Rattle.cq_base.specs.queue.Messages.{Message}
@@ -8,6 +8,7 @@ use Rattle.cq_store.specs.Stands.{ClientRecord, QueueRecord, StoreKept}
 use Rattle.cq_store_wire.specs.declared.part.NameRecord.{NameRecord}
 use Rattle.cq_store_wire.specs.declared.part.Part.{Part}
 use Rattle.cq_store_wire.specs.declared.part.Part.TheVariants as parts
+use Rattle.cq_store_wire.specs.Bodies.{and_reply, reply_recorded}
 use Rattle.cq_store_wire.specs.declared.writer.Place.{Place}
 use Rattle.cq_store_wire.specs.declared.writer.Place.TheVariants as places
 
@@ -19,8 +20,9 @@ abbrev pub emptied_if : Option Incarnation → Option Incarnation
 emptied_if None = None
 emptied_if (Some q) = Some (emptied q)
 
-abbrev pub client_part : ℕ × ClientRecord → Part
-client_part c = parts.Client c.0 c.1.number c.1.reply
+-- its reply as it is spelled where these bodies were mentioned
+abbrev pub client_part : List (List ℕ) → ℕ × ClientRecord → Part
+client_part known c = parts.Client c.0 c.1.number (reply_recorded known c.1.reply)
 
 abbrev pub name_record : List ℕ → QueueRecord → NameRecord
 name_record name kept = record { name = name; creations = kept.creations; removed = kept.removed; living = emptied_if kept.living }
@@ -47,13 +49,19 @@ name_parts n = parts.Name (name_record n.0 n.1) ∷ (all_messages (messages_of n
 unfoldable pub all_names : List (List ℕ × QueueRecord) → List Part
 all_names queues = flat_map name_parts queues ++ parts.End ∷ []
 
-unfoldable pub all_clients : List (ℕ × ClientRecord) → List Part
-all_clients clients = map client_part clients
+-- these clients, where those bodies were mentioned before
+unfoldable pub all_clients : List (List ℕ) → List (ℕ × ClientRecord) → List Part
+all_clients known [] = []
+all_clients known (c ∷ cs) = client_part known c ∷ all_clients (and_reply known c.1.reply) cs
+
+-- all of them, where those bodies were mentioned before
+abbrev pub all_parts : List (List ℕ) → StoreKept → List Part
+all_parts known kept = parts.Start kept.count kept.last ∷ (all_clients known kept.clients ++ all_names kept.queues)
 
 unfoldable pub parts_of : StoreKept → List Part
-parts_of kept = parts.Start kept.count kept.last ∷ (all_clients kept.clients ++ all_names kept.queues)
+parts_of kept = all_parts [] kept
 
--- ---- from a place on
+-- ---- from a place on, where those bodies were mentioned before
 
 -- the queue of the name at that place, if it lives
 abbrev pub living_of : Option (List ℕ × QueueRecord) → Option Incarnation
@@ -63,10 +71,10 @@ living_of (Some n) = n.1.living
 abbrev pub living_at : StoreKept → ℕ → Option Incarnation
 living_at kept index = living_of (slice_get kept.queues index)
 
-unfoldable pub parts_from : StoreKept → Place → List Part
-parts_from kept places.Start = parts_of kept
-parts_from kept (places.Clients index) = all_clients (drop index kept.clients) ++ all_names kept.queues
-parts_from kept (places.Names index) = all_names (drop index kept.queues)
-parts_from kept (places.Messages index after) = all_messages (all_after after (messages_of (living_at kept index))) ++ (all_accepted (accepted_of (living_at kept index)) ++ all_names (drop (suc index) kept.queues))
-parts_from kept (places.Accepted index next) = all_accepted (drop next (accepted_of (living_at kept index))) ++ all_names (drop (suc index) kept.queues)
-parts_from kept places.End = []
+unfoldable pub parts_from : StoreKept → List (List ℕ) → Place → List Part
+parts_from kept known places.Start = all_parts known kept
+parts_from kept known (places.Clients index) = all_clients known (drop index kept.clients) ++ all_names kept.queues
+parts_from kept known (places.Names index) = all_names (drop index kept.queues)
+parts_from kept known (places.Messages index after) = all_messages (all_after after (messages_of (living_at kept index))) ++ (all_accepted (accepted_of (living_at kept index)) ++ all_names (drop (suc index) kept.queues))
+parts_from kept known (places.Accepted index next) = all_accepted (drop next (accepted_of (living_at kept index))) ++ all_names (drop (suc index) kept.queues)
+parts_from kept known places.End = []

@@ -1,14 +1,19 @@
 -- Reading parts of a store from left to right, up to the first fault.
-use Rattle.std.specs.Prelude.{ℕ, zero, suc, ◌==◌, ◌&&◌, List, [], ◌∷◌, length, Bool, Ok, Err, nat_le, nat_lt, if◌then◌else◌}
+use Rattle.std.specs.Prelude.{ℕ, ◌==◌, ◌&&◌, List, [], ◌∷◌, Bool, Ok, Err, nat_le, nat_lt, if◌then◌else◌}
 use Rattle.std.specs.Int.{w32, w64}
 use Rattle.cq_base.specs.declared.limits.TheConstants.{HISTORY_LIMIT}
 use Rattle.cq_base.specs.queue.Incarnations.{Accepted, Incarnation}
 use Rattle.cq_base.specs.queue.Messages.{Message}
 use Rattle.cq_wire.specs.declared.fault.WireFault.TheVariants.{Truncated, BadTag, BadNumber}
-use Rattle.cq_wire.specs.Reading.{◌>>=◌, Reader, kept, number_at, moment_at, seconds_at, flag_at, name_at, id_at, body_at, optional_at, reply_at}
+use Rattle.cq_wire.specs.Reading.{◌>>=◌, Reader, kept, number_at, moment_at, seconds_at, flag_at, name_at, id_at, body_at, optional_at, listed_at, receipt_at, reply_at}
 use Rattle.cq_store_wire.specs.declared.part.NameRecord.{NameRecord}
 use Rattle.cq_store_wire.specs.declared.part.Part.{Part}
 use Rattle.cq_store_wire.specs.declared.part.Part.TheVariants as parts
+use Rattle.cq_store_wire.specs.declared.reply.DeliveryRecord.{DeliveryRecord}
+use Rattle.cq_store_wire.specs.declared.reply.Mention.{Mention}
+use Rattle.cq_store_wire.specs.declared.reply.Mention.TheVariants.{First, Again}
+use Rattle.cq_store_wire.specs.declared.reply.ReplyRecord.{ReplyRecord}
+use Rattle.cq_store_wire.specs.declared.reply.ReplyRecord.TheVariants as records
 
 -- ---- names and their queues
 
@@ -97,6 +102,44 @@ accepted_at bytes = do
   sequence ← number_at w64 moment.1
   Ok (record { dedup = dedup.0; moment = moment.0; sequence = sequence.0 }, sequence.1)
 
+-- ---- kept replies
+
+unfoldable pub first_at : Reader Mention
+first_at bytes = do
+  body ← body_at bytes
+  Ok (First body.0, body.1)
+
+unfoldable pub again_at : Reader Mention
+again_at bytes = do
+  number ← number_at w64 bytes
+  Ok (Again number.0, number.1)
+
+unfoldable pub mention_at : Reader Mention
+mention_at [] = Err Truncated
+mention_at (kind ∷ rest) = if kind == 0 then first_at rest else (if kind == 1 then again_at rest else Err BadTag)
+
+unfoldable pub delivery_record_at : Reader DeliveryRecord
+delivery_record_at bytes = do
+  handle ← receipt_at bytes
+  group ← id_at handle.1
+  body ← mention_at group.1
+  Ok (record { receipt = handle.0; group = group.0; body = body.0 }, body.1)
+
+unfoldable pub received_at : Reader ReplyRecord
+received_at bytes = do
+  deliveries ← listed_at delivery_record_at bytes
+  Ok (records.Received deliveries.0, deliveries.1)
+
+unfoldable pub other_at : Reader ReplyRecord
+other_at bytes = do
+  one ← reply_at bytes
+  Ok (records.Other one.0, one.1)
+
+-- by the byte for the kind
+unfoldable pub reply_record_at : Reader ReplyRecord
+reply_record_at [] = Err Truncated
+reply_record_at (kind ∷ rest) = if kind == 3 then received_at rest else other_at (kind ∷ rest)
+
 -- ---- parts
 
 unfoldable pub start_at : Reader Part
@@ -109,7 +152,7 @@ unfoldable pub client_at : Reader Part
 client_at bytes = do
   client ← number_at w32 bytes
   number ← number_at w64 client.1
-  one ← reply_at number.1
+  one ← reply_record_at number.1
   Ok (parts.Client client.0 number.0 one.0, one.1)
 
 unfoldable pub a_name_at : Reader Part

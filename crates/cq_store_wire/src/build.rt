@@ -1,10 +1,12 @@
 //! A store that is made of its parts, one after another.
 ghost use Rattle.std.specs.Prelude.{◌≡◌};
 ghost use Rattle.cq_wire.specs.Reading.{Gives};
-ghost use Rattle.cq_store_wire.specs.Building.{client_into, closed, put_client, put_end, put_name, put_start, put_step, step_into, whole_of, with_accepted, with_client, with_message};
+ghost use Rattle.cq_store_wire.specs.Building.{client_into, put_client, put_end, put_name, put_start, put_step, step_into, whole_of, with_accepted, with_message};
 
 use crate::part::NameRecord;
-use cq_base::{Moment, Reply};
+use crate::partial_store::PartialStore;
+use crate::reply::ReplyRecord;
+use cq_base::Moment;
 use cq_messages::Message;
 use cq_queue::Accepted;
 use cq_store::Store;
@@ -17,7 +19,7 @@ pub enum State {
     Empty,
     /// The store so far, and the name that came last, to whose queue messages and accepted sends may come.
     Begun {
-        store: Store,
+        store: PartialStore,
         newest: Option<NameRecord>,
     },
     /// All came.
@@ -38,52 +40,29 @@ impl Drop for State {
     }
 }
 
-#[tactic(auto, unfolding(crate::specs::Building::closed))]
-fn closed(store: Store, newest: Option<NameRecord>) -> Result<Store, ReadFault>
-    ensures { Gives (λ s. s) result (closed store newest) }
-{
-    match newest {
-        Some(named) => named.close(store),
-        None => Ok(store),
-    }
-}
-
-fn with_client(store: Store, client: u32, number: u64, reply: Reply) -> Result<State, ReadFault>
-    ensures { Gives (λ s. s) result (with_client client (record { number = number; reply = reply }) store) }
-{
-    if store.name_count() > 0 {
-        return Err(ReadFault::Bad(WireFault::BadTag));
-    }
-    let mut store = store;
-    match store.restore_client(client, number, reply) {
-        Ok(true) => Ok(State::Begun {
-            store,
-            newest: None,
-        }),
-        Ok(false) => Err(ReadFault::Bad(WireFault::BadNumber)),
-        Err(_) => Err(ReadFault::NoMemory),
-    }
-}
-
 #[tactic(auto, unfolding(crate::specs::Building::client_into))]
 fn client_into(
-    store: Store,
+    alloc: Global,
+    store: PartialStore,
     newest: Option<NameRecord>,
     client: u32,
     number: u64,
-    reply: Reply,
+    reply: ReplyRecord,
 ) -> Result<State, ReadFault>
-    ensures { Gives (λ s. s) result (client_into client (record { number = number; reply = reply }) store newest) }
+    ensures { Gives (λ s. s) result (client_into client number reply store newest) }
 {
     match newest {
         Some(_) => Err(ReadFault::Bad(WireFault::BadTag)),
-        None => with_client(store, client, number, reply),
+        None => Ok(State::Begun {
+            store: store.with_client(alloc, client, number, reply)?,
+            newest: None,
+        }),
     }
 }
 
 #[tactic(auto, unfolding(crate::specs::Building::step_into))]
 fn message_into(
-    store: Store,
+    store: PartialStore,
     newest: Option<NameRecord>,
     message: Message,
 ) -> Result<State, ReadFault>
@@ -100,7 +79,7 @@ fn message_into(
 
 #[tactic(auto, unfolding(crate::specs::Building::step_into))]
 fn accepted_into(
-    store: Store,
+    store: PartialStore,
     newest: Option<NameRecord>,
     accepted: Accepted,
 ) -> Result<State, ReadFault>
@@ -122,7 +101,7 @@ impl State {
     {
         match self {
             State::Empty => Ok(State::Begun {
-                store: Store::restored(alloc, count, last),
+                store: PartialStore::new(alloc, count, last),
                 newest: None,
             }),
             _ => Err(ReadFault::Bad(WireFault::BadTag)),
@@ -130,11 +109,19 @@ impl State {
     }
 
     #[tactic(auto, unfolding(crate::specs::Building::put_client))]
-    pub fn put_client(self, client: u32, number: u64, reply: Reply) -> Result<State, ReadFault>
-        ensures { Gives (λ s. s) result (put_client client (record { number = number; reply = reply }) self) }
+    pub fn put_client(
+        self,
+        alloc: Global,
+        client: u32,
+        number: u64,
+        reply: ReplyRecord,
+    ) -> Result<State, ReadFault>
+        ensures { Gives (λ s. s) result (put_client client number reply self) }
     {
         match self {
-            State::Begun { store, newest } => client_into(store, newest, client, number, reply),
+            State::Begun { store, newest } => {
+                client_into(alloc, store, newest, client, number, reply)
+            }
             _ => Err(ReadFault::Bad(WireFault::BadTag)),
         }
     }
@@ -145,7 +132,7 @@ impl State {
     {
         match self {
             State::Begun { store, newest } => Ok(State::Begun {
-                store: closed(store, newest)?,
+                store: store.closed(newest)?,
                 newest: Some(named),
             }),
             _ => Err(ReadFault::Bad(WireFault::BadTag)),
@@ -177,7 +164,7 @@ impl State {
         ensures { Gives (λ s. s) result (put_end self) }
     {
         match self {
-            State::Begun { store, newest } => Ok(State::Whole(closed(store, newest)?)),
+            State::Begun { store, newest } => Ok(State::Whole(store.closed(newest)?.whole())),
             _ => Err(ReadFault::Bad(WireFault::BadTag)),
         }
     }

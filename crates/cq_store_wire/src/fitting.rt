@@ -1,11 +1,13 @@
 //! What holds of each store, so that all its parts have bytes.
-ghost use Rattle.std.specs.Prelude.{◌≡◌, slice_get};
+ghost use Rattle.std.specs.Prelude.{◌≡◌, ℕ, List, slice_get};
 ghost use Rattle.cq_wire.specs.Limits.{IfThere};
 ghost use Rattle.cq_store_wire.specs.declared.part.Part.TheVariants as parts;
+ghost use Rattle.cq_store_wire.specs.Bodies.{and_reply};
 ghost use Rattle.cq_store_wire.specs.Laws.{IsName, IsQueue, IsStore};
 ghost use Rattle.cq_store_wire.specs.Limits.{IsAccepted, IsBare, IsMessage, IsMoment, IsNameRecord, IsPart};
 ghost use Rattle.cq_store_wire.specs.Order.{client_part, emptied, emptied_if, name_record};
 
+use crate::bodies::Bodies;
 use cq_base::{Moment, QueueName};
 use cq_messages::Message;
 use cq_queue::{Accepted, Queue};
@@ -51,12 +53,13 @@ pub fn accepted_fits(accepted: &Accepted)
     let _sequence = accepted.sequence;
 }
 
-/// The part of each client has bytes.
-pub fn client_fits(client: u32, kept: &ClientRecord)
-    ensures { IsPart (client_part (client, kept.now)) }
+/// The part of each client has bytes, whatever bodies were known before its reply, if these are known behind it.
+pub fn client_fits(client: u32, kept: &ClientRecord, bodies: &Bodies)
+    ensures { (known : List (List ℕ)) → bodies.now ≡ and_reply known kept.now.reply → IsPart (client_part known (client, kept.now)) }
 {
     let _client = client;
     let _number = kept.number;
+    let _count = bodies.len();
     reply_fits(&kept.reply);
 }
 

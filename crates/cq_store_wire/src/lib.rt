@@ -3,14 +3,20 @@
 //! any bytes, and `specs/Building.antt` the store that is made of the parts, or the fault. `cq_wire` has numbers and texts.
 #![tactic(auto)]
 
+mod bodies;
 mod build;
 mod fitting;
 pub mod laws;
 mod part;
+mod partial_store;
 mod parts;
 mod pass;
 mod put;
+mod put_reply;
 mod reader;
+mod replies;
+mod reply;
+mod resolved;
 mod writer;
 
 pub use fitting::store_fits;

@@ -4,7 +4,8 @@ ghost use Rattle.cq_wire.specs.Reading.{Gives};
 ghost use Rattle.cq_store_wire.specs.Building.{closed, in_name, put, with_accepted, with_message};
 
 use crate::build::State;
-use cq_base::{Moment, QueueName, Reply};
+use crate::reply::ReplyRecord;
+use cq_base::{Moment, QueueName};
 use cq_messages::Message;
 use cq_queue::{Accepted, Queue};
 use cq_store::{QueueRecord, Store};
@@ -134,7 +135,7 @@ pub enum Part {
     Client {
         client: u32,
         number: u64,
-        reply: Reply,
+        reply: ReplyRecord,
     },
     /// A name; its queue has no messages yet, and no accepted sends.
     Name(NameRecord),
@@ -176,7 +177,7 @@ impl Part {
                 client,
                 number,
                 reply,
-            } => state.put_client(client, number, reply),
+            } => state.put_client(alloc, client, number, reply),
             Part::Name(named) => state.put_name(named),
             Part::Message(message) => state.put_message(message),
             Part::Accepted(accepted) => state.put_accepted(accepted),

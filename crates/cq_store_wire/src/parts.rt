@@ -4,12 +4,13 @@ ghost use Rattle.cq_wire.specs.Reading.{Gives, optional_at, moment_at};
 ghost use Rattle.cq_store_wire.specs.Reading.{a_message_at, a_name_at, accepted_at, an_accepted_at, client_at, handings_at, message_at, name_record_at, part_at, queue_at, start_at, uses_at};
 
 use crate::part::{NameRecord, Part};
+use crate::replies::reply_record_of;
 use cq_base::{HISTORY_LIMIT, Moment};
 use cq_messages::Message;
 use cq_queue::{Accepted, Queue};
 use cq_wire::{
-    ReadFault, WireFault, body_of, dedup_of, flag_of, group_of, moment_of, name_of, reply_of,
-    seconds_of, u32_of, u64_of,
+    ReadFault, WireFault, body_of, dedup_of, flag_of, group_of, moment_of, name_of, seconds_of,
+    u32_of, u64_of,
 };
 use std::alloc::Global;
 
@@ -176,7 +177,7 @@ fn client_of(alloc: Global, bytes: &[u8]) -> Result<(Part, &[u8]), ReadFault>
 {
     let (client, rest) = u32_of(bytes)?;
     let (number, rest) = u64_of(rest)?;
-    let (reply, rest) = match reply_of(alloc, rest) {
+    let (reply, rest) = match reply_record_of(alloc, rest) {
         Ok(read) => read,
         Err(fault) => return Err(fault),
     };

@@ -14,7 +14,7 @@ pub fn passed(alloc: Global, store: &Store, enough: usize) -> Result<Store, NoMe
     ensures { IfOk result (λ other. other ≡ store.now) }
 {
     store_fits(store);
-    let mut writer = StoreWriter::new();
+    let mut writer = StoreWriter::new(alloc);
     let mut reader = StoreReader::new(alloc);
     while !writer.is_done() {
         let mut bytes = Vec::new(alloc);

@@ -1,15 +1,19 @@
 //! Parts of a store, each put behind what is there.
 ghost use Rattle.std.specs.Prelude.{◌≡◌, ◌++◌, OnOk};
+ghost use Rattle.cq_base.specs.Relations.{IsPrefix};
 ghost use Rattle.cq_wire.specs.Layout.{number64, optional};
 ghost use Rattle.cq_store_wire.specs.declared.part.Part.TheVariants as parts;
+ghost use Rattle.cq_store_wire.specs.Bodies.{and_reply};
 ghost use Rattle.cq_store_wire.specs.Layout.{accepted, handings, message, name, part, queue, uses};
 ghost use Rattle.cq_store_wire.specs.Order.{client_part, emptied_if, name_record};
 
+use crate::bodies::Bodies;
+use crate::put_reply::put_kept_reply;
 use cq_base::{Moment, NoMemory, QueueName};
 use cq_messages::Message;
 use cq_queue::{Accepted, Queue};
 use cq_store::{ClientRecord, QueueRecord};
-use cq_wire::{Writer, put_reply};
+use cq_wire::Writer;
 
 #[tactic(auto, unfolding(cq_wire::specs::Layout::optional))]
 fn put_moment_if(out: &mut Writer, moment: Option<Moment>) -> Result<(), NoMemory>
@@ -71,14 +75,21 @@ pub fn put_start(out: &mut Writer, count: u64, last: Moment) -> Result<(), NoMem
 }
 
 #[tactic(auto, unfolding(crate::specs::Layout::part))]
-pub fn put_client(out: &mut Writer, client: u32, value: &ClientRecord) -> Result<(), NoMemory>
-    ensures ok { OnOk result (out.new.value ≡ out.old.value ++ part (client_part (client, value.now))) }
+pub fn put_client(
+    out: &mut Writer,
+    bodies: &mut Bodies,
+    client: u32,
+    value: &ClientRecord,
+) -> Result<(), NoMemory>
+    ensures ok { OnOk result (out.new.value ≡ out.old.value ++ part (client_part bodies.old (client, value.now))) }
+    ensures known { OnOk result (bodies.new ≡ and_reply bodies.old value.now.reply) }
+    ensures more { IsPrefix bodies.old bodies.new }
     ensures before { out.new.before ≡ out.old.before }
 {
     out.put(&[1])?;
     out.put_u32(client)?;
     out.put_u64(value.number)?;
-    put_reply(out, &value.reply)
+    put_kept_reply(out, bodies, &value.reply)
 }
 
 #[tactic(auto, unfolding(crate::specs::Layout::part, crate::specs::Layout::name))]

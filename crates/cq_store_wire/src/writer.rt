@@ -2,17 +2,20 @@
 ghost use Rattle.std.specs.Prelude.{◌≡◌, ℕ, suc, ◌<◌, List, [], ◌++◌, length, drop, true, false, IfOk, OnOk, OnErr};
 ghost use Rattle.std.specs.Option.{option_map};
 ghost use Rattle.cq_messages.specs.Ordered.{all_after};
+ghost use Rattle.cq_base.specs.Relations.{IsPrefix};
 ghost use Rattle.cq_store_wire.specs.Chunks.{IsChunk, IsNext};
 ghost use Rattle.cq_store_wire.specs.Layout.{chunk};
 ghost use Rattle.cq_store_wire.specs.Order.{all_names, living_at, messages_of, parts_from};
 ghost use Rattle.cq_store_wire.specs.declared.writer.Place.TheVariants as places;
 
+use crate::bodies::Bodies;
 use crate::fitting::{accepted_fits, client_fits, message_fits, record_fits, start_fits};
 use crate::put::{put_accepted, put_client, put_end, put_message, put_name, put_start};
 use cq_base::NoMemory;
 use cq_queue::Queue;
 use cq_store::{QueueRecord, Store};
 use cq_wire::{VERSION, Writer};
+use std::alloc::Global;
 use std::mem;
 
 /// The part of a store that is written next.
@@ -54,7 +57,7 @@ fn all_follow(kept: &QueueRecord)
 }
 
 fn put_name_at(out: &mut Writer, store: &Store, index: usize) -> Result<Place, NoMemory>
-    ensures ok { IfOk result (λ next. IsNext (parts_from store.now (places.Names index)) (parts_from store.now next) out.old.value out.new.value) }
+    ensures ok { (known : List (List ℕ)) → IfOk result (λ next. IsNext (parts_from store.now known (places.Names index)) (parts_from store.now known next) out.old.value out.new.value) }
     ensures before { out.new.before ≡ out.old.before }
 {
     match store.name(index) {
@@ -76,7 +79,7 @@ fn put_name_at(out: &mut Writer, store: &Store, index: usize) -> Result<Place, N
 
 /// Puts the name behind that one, or the end.
 fn put_name_behind(out: &mut Writer, store: &Store, name: usize) -> Result<Place, NoMemory>
-    ensures ok { IfOk result (λ next. IsNext (all_names (drop (suc name) store.now.queues)) (parts_from store.now next) out.old.value out.new.value) }
+    ensures ok { (known : List (List ℕ)) → IfOk result (λ next. IsNext (all_names (drop (suc name) store.now.queues)) (parts_from store.now known next) out.old.value out.new.value) }
     ensures before { out.new.before ≡ out.old.before }
 {
     if name < store.name_count() {
@@ -87,8 +90,14 @@ fn put_name_behind(out: &mut Writer, store: &Store, name: usize) -> Result<Place
     }
 }
 
-fn put_client_at(out: &mut Writer, store: &Store, index: usize) -> Result<Place, NoMemory>
-    ensures ok { IfOk result (λ next. IsNext (parts_from store.now (places.Clients index)) (parts_from store.now next) out.old.value out.new.value) }
+fn put_client_at(
+    out: &mut Writer,
+    store: &Store,
+    bodies: &mut Bodies,
+    index: usize,
+) -> Result<Place, NoMemory>
+    ensures ok { IfOk result (λ next. IsNext (parts_from store.now bodies.old (places.Clients index)) (parts_from store.now bodies.new next) out.old.value out.new.value) }
+    ensures more { IsPrefix bodies.old bodies.new }
     ensures before { out.new.before ≡ out.old.before }
 {
     if index >= store.client_count() {
@@ -96,8 +105,8 @@ fn put_client_at(out: &mut Writer, store: &Store, index: usize) -> Result<Place,
     }
     match store.client(index) {
         Some((client, kept)) => {
-            client_fits(*client, kept);
-            put_client(out, *client, kept)?;
+            put_client(out, bodies, *client, kept)?;
+            client_fits(*client, kept, bodies);
             Ok(Place::Clients(index + 1))
         }
         None => put_name_at(out, store, 0),
@@ -110,7 +119,7 @@ fn put_accepted_at(
     name: usize,
     next: usize,
 ) -> Result<Place, NoMemory>
-    ensures ok { IfOk result (λ then. IsNext (parts_from store.now (places.Accepted name next)) (parts_from store.now then) out.old.value out.new.value) }
+    ensures ok { (known : List (List ℕ)) → IfOk result (λ then. IsNext (parts_from store.now known (places.Accepted name next)) (parts_from store.now known then) out.old.value out.new.value) }
     ensures before { out.new.before ≡ out.old.before }
 {
     match living_at(store, name) {
@@ -138,7 +147,7 @@ fn put_message_at(
     name: usize,
     after: u64,
 ) -> Result<Place, NoMemory>
-    ensures ok { IfOk result (λ next. IsNext (parts_from store.now (places.Messages name after)) (parts_from store.now next) out.old.value out.new.value) }
+    ensures ok { (known : List (List ℕ)) → IfOk result (λ next. IsNext (parts_from store.now known (places.Messages name after)) (parts_from store.now known next) out.old.value out.new.value) }
     ensures before { out.new.before ≡ out.old.before }
 {
     match living_at(store, name) {
@@ -158,9 +167,15 @@ fn put_message_at(
 }
 
 /// Puts the part at that place, and answers the next place.
-fn put_at(out: &mut Writer, store: &Store, place: Place) -> Result<Place, NoMemory>
+fn put_at(
+    out: &mut Writer,
+    store: &Store,
+    bodies: &mut Bodies,
+    place: Place,
+) -> Result<Place, NoMemory>
     requires { place ≡ places.End → ⊥ }
-    ensures ok { IfOk result (λ next. IsNext (parts_from store.now place) (parts_from store.now next) out.old.value out.new.value) }
+    ensures ok { IfOk result (λ next. IsNext (parts_from store.now bodies.old place) (parts_from store.now bodies.new next) out.old.value out.new.value) }
+    ensures more { IsPrefix bodies.old bodies.new }
     ensures before { out.new.before ≡ out.old.before }
 {
     match place {
@@ -171,7 +186,7 @@ fn put_at(out: &mut Writer, store: &Store, place: Place) -> Result<Place, NoMemo
             put_start(out, count, last)?;
             Ok(Place::Clients(0))
         }
-        Place::Clients(index) => put_client_at(out, store, index),
+        Place::Clients(index) => put_client_at(out, store, bodies, index),
         Place::Names(index) => put_name_at(out, store, index),
         Place::Messages { name, after } => put_message_at(out, store, name, after),
         Place::Accepted { name, next } => put_accepted_at(out, store, name, next),
@@ -183,35 +198,41 @@ fn put_at(out: &mut Writer, store: &Store, place: Place) -> Result<Place, NoMemo
 fn put_chunk(
     out: &mut Writer,
     store: &Store,
+    bodies: &mut Bodies,
     start: Place,
     enough: usize,
 ) -> Result<Place, NoMemory>
     requires { out.old.value ≡ [] }
-    ensures ok { IfOk result (λ next. IsChunk (parts_from store.now start) (parts_from store.now next) out.new.value) }
-    ensures moves { IfOk result (λ next. (start ≡ places.End → ⊥) → length (parts_from store.now next) < length (parts_from store.now start)) }
+    ensures ok { IfOk result (λ next. IsChunk (parts_from store.now bodies.old start) (parts_from store.now bodies.new next) out.new.value) }
+    ensures moves { IfOk result (λ next. (start ≡ places.End → ⊥) → length (parts_from store.now bodies.new next) < length (parts_from store.now bodies.old start)) }
+    ensures more { IsPrefix bodies.old bodies.new }
     ensures before { out.new.before ≡ out.old.before }
 {
     out.put(&[VERSION])?;
     let least = enough.max(2);
     let mut place = start;
     while place != Place::End && out.len() < least {
-        place = put_at(out, store, place)?;
+        place = put_at(out, store, bodies, place)?;
     }
     Ok(place)
 }
 
-/// Writes a store as chunks, one at a time: it keeps no more than its place in the store.
+/// Writes a store as chunks, one at a time: it keeps its place in the store, and the bodies of the kept replies before that,
+/// whose texts it shares.
 #[derive(Drop)]
 pub struct StoreWriter {
+    bodies: Bodies,
     place: Place,
 }
 
 impl StoreWriter {
     /// Nothing of a store is written.
-    pub fn new() -> StoreWriter
-        ensures { result.place ≡ places.Start }
+    pub fn new(alloc: Global) -> StoreWriter
+        ensures start { result.place ≡ places.Start }
+        ensures bodies { result.bodies ≡ [] }
     {
         StoreWriter {
+            bodies: Bodies::new(alloc),
             place: Place::Start,
         }
     }
@@ -235,19 +256,21 @@ impl StoreWriter {
         enough: usize,
     ) -> Result<(), NoMemory>
         ensures ok { OnOk result ((one : List ℕ) × (bytes.new.items ≡ bytes.old.items ++ one)
-            × IsChunk (parts_from store.now self.old.place) (parts_from store.now self.new.place) one) }
-        ensures moves { OnOk result ((self.old.place ≡ places.End → ⊥) → length (parts_from store.now self.new.place) < length (parts_from store.now self.old.place)) }
+            × IsChunk (parts_from store.now self.old.bodies self.old.place) (parts_from store.now self.new.bodies self.new.place) one) }
+        ensures moves { OnOk result ((self.old.place ≡ places.End → ⊥) → length (parts_from store.now self.new.bodies self.new.place) < length (parts_from store.now self.old.bodies self.old.place)) }
         ensures err { OnErr result ((bytes.new.items ≡ bytes.old.items) × (self.new ≡ self.old)) }
     {
         let empty = Vec::new(*bytes.allocator());
         let mut out = Writer::after(mem::replace(bytes, empty));
-        match put_chunk(&mut out, store, self.place, enough) {
+        let known = self.bodies.len();
+        match put_chunk(&mut out, store, &mut self.bodies, self.place, enough) {
             Ok(place) => {
                 self.place = place;
                 *bytes = out.whole();
                 Ok(())
             }
             Err(_) => {
+                self.bodies.truncate(known);
                 *bytes = out.undone();
                 Err(NoMemory)
             }

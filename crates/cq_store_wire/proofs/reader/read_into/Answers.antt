@@ -1,4 +1,4 @@
-use Rattle.std.proofs.Common.{arith, subst, sym, ◌∙◌}
+use Rattle.std.proofs.Common.{subst, sym, ◌∙◌}
 use Rattle.cq_wire.specs.Reading.{Fails}
 use Rattle.cq_store_wire.proofs.Steps.{not-empty, of-nothing, shorter, turn-ok, turn-rest, turn-unput, turn-unread}
 use Rattle.cq_store_wire.proofs.reader.read_into.Goals as goal
