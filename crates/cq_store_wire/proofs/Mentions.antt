@@ -134,7 +134,8 @@ and_reply-is known _ = refl
 and_reply-distinct : (known : Bodies) (reply : Reply) → IsDistinct bytes_eq known → IsDistinct bytes_eq (and_reply known reply)
 and_reply-distinct known reply distinct = subst (λ (ks : Bodies). IsDistinct bytes_eq ks) (sym (and_reply-is known reply)) (and_bodies-distinct known (in_reply reply) distinct)
 
-abbrev with_clients : Bodies → List (ℕ × ClientRecord) → Bodies
+-- those of clients, too
+abbrev pub with_clients : List (List ℕ) → List (ℕ × ClientRecord) → List (List ℕ)
 with_clients known clients = fold (λ so_far c. and_reply so_far c.1.reply) known clients
 
 clients-distinct : (known : Bodies) (clients : List (ℕ × ClientRecord)) → IsDistinct bytes_eq known → IsDistinct bytes_eq (with_clients known clients)
@@ -277,7 +278,7 @@ mention-fits known body small fits = by (is_known known body) refl
     by true h = let less = below known body h in omega (arith, small, less)
     by false h = fits
 
-recorded-length : (known : Bodies) (ds : List Delivery) → length (all_recorded known ds) ≡ length ds
+pub recorded-length : (known : Bodies) (ds : List Delivery) → length (all_recorded known ds) ≡ length ds
 unfolding all_recorded
 recorded-length known [] = refl
 recorded-length known (d ∷ ds) = ap suc (recorded-length (and_body known d.body) ds)

@@ -14,6 +14,7 @@ use Rattle.cq_store_wire.specs.declared.reply.DeliveryRecord.{DeliveryRecord}
 use Rattle.cq_store_wire.specs.Bodies.{all_recorded, all_resolved, and_bodies, and_body, recorded, resolved}
 use Rattle.cq_store_wire.specs.declared.reply.ReplyRecord.TheVariants as records
 use Rattle.cq_store_wire.specs.Layout.{delivery_record, reply_record}
+use Rattle.cq_store_wire.proofs.Mentions.{recorded-length}
 
 -- ---- deliveries that are resolved
 
@@ -81,11 +82,6 @@ written-more known ds all d start old new now is so_far known_is written =
     ∙ ap (λ (xs : List Delivery). start ++ flat_map delivery_record (all_recorded known xs)) (sym is)
 
 -- ---- and all of them
-
-recorded-length : (known : List (List ℕ)) (ds : List Delivery) → length (all_recorded known ds) ≡ length ds
-unfolding all_recorded
-recorded-length known [] = refl
-recorded-length known (d ∷ ds) = ap suc (recorded-length (and_body known d.body) ds)
 
 pub received-written : {A E : Type 0} (r : Result A E) (known : List (List ℕ)) (ds : List Delivery) (start tagged counted end : List ℕ) → tagged ≡ start ++ 3 ∷ [] → counted ≡ tagged ++ number64 (length ds)
     → OnOk r (end ≡ counted ++ flat_map delivery_record (all_recorded known ds)) → OnOk r (end ≡ start ++ reply_record (records.Received (all_recorded known ds)))

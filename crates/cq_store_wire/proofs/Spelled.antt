@@ -1,7 +1,7 @@
 -- What was put so far can be told from what was made of it: so a store is made of its own parts alone.
 use Rattle.std.proofs.Common.{◌≡◌, ℕ, Bool, true, false, cond, List, [], ◌∷◌, ◌++◌, map, Option, None, Some, Result, Ok, Err, refl, sym, subst, ap, ◌∙◌, append_assoc}
 use Rattle.std.specs.Prelude.{is_none}
-use Rattle.std.specs.List.{AllByRecursion, flat_map, fold}
+use Rattle.std.specs.List.{AllByRecursion, flat_map}
 use Rattle.std.proofs.lemmas.List.{append-nil}
 use Rattle.cq_base.specs.declared.reply.Reply.{Reply}
 use Rattle.cq_base.specs.queue.Incarnations.{Accepted, Incarnation}
@@ -24,7 +24,7 @@ use Rattle.cq_store_wire.specs.Bodies.{and_reply, bodies_of, reply_resolved}
 use Rattle.cq_store_wire.specs.Building.{built, client_into, closed, in_name, is_empty, is_next_accepted, is_next_message, is_next_name, put, put_client, put_end, put_name, put_start, put_step, record_of, step_into, with_accepted, with_client, with_living, with_message, with_reply}
 use Rattle.cq_store_wire.specs.Limits.{IsBare, IsNameRecord, IsPart, IsReplyRecord}
 use Rattle.cq_store_wire.specs.Order.{all_accepted, all_clients, all_messages, all_names, client_part, emptied, name_parts, name_record, parts_of}
-use Rattle.cq_store_wire.proofs.Mentions.{distinct-bodies, means-reply}
+use Rattle.cq_store_wire.proofs.Mentions.{distinct-bodies, means-reply, with_clients}
 
 abbrev front : StoreKept → List Part → List Part
 front kept rest = parts.Start kept.count kept.last ∷ (all_clients [] kept.clients ++ rest)
@@ -97,9 +97,6 @@ start-spelled count last (states.Whole kept) after e = absurd cc
 no-queues : (queues : List (List ℕ × QueueRecord)) → is_empty queues ≡ true → queues ≡ []
 no-queues [] e = refl
 no-queues (q ∷ qs) e = absurd cc
-
-abbrev with_clients : List (List ℕ) → List (ℕ × ClientRecord) → List (List ℕ)
-with_clients known clients = fold (λ so_far c. and_reply so_far c.1.reply) known clients
 
 clients-more : (known : List (List ℕ)) (clients : List (ℕ × ClientRecord)) (c : ℕ × ClientRecord) → all_clients known (clients ++ c ∷ []) ≡ all_clients known clients ++ client_part (with_clients known clients) c ∷ []
 unfolding all_clients
