@@ -31,14 +31,6 @@ fn bytes_of(alloc: Global, digits: &[u8]) -> io::Result<Vec<u8>> {
     Ok(bytes)
 }
 
-/// The kind and the bytes that the words say.
-fn given(alloc: Global, words: &mut SplitWhitespace<'_>) -> io::Result<(Kind, Vec<u8>)> {
-    let name = words.next().ok_or(stop("no kind"))?;
-    let kind = Kind::named(name).ok_or(stop("no such kind"))?;
-    let digits = words.next().unwrap_or("");
-    Ok((kind, bytes_of(alloc, digits.as_bytes())?))
-}
-
 /// Tells the value that the bytes are, or the fault. The value may be a store.
 pub fn tell_read(
     rt: &impl Print,
@@ -75,18 +67,34 @@ fn tell_store(rt: &impl Print, alloc: Global, bytes: &[u8]) -> io::Result<()> {
     }
 }
 
-/// Tells how many bytes there are, and whether they are read as a value, which is held until then.
+/// Tells how many bytes there are, and whether they were read.
+fn tell_count(rt: &impl Print, bytes: &[u8], is_read: bool) -> io::Result<()> {
+    println!(rt; "{} bytes, read: {is_read}", bytes.len())
+}
+
+/// Holds the value that the bytes are while it tells of them. The value may be a store.
+fn tell_while_held(rt: &impl Print, alloc: Global, name: &str, bytes: &[u8]) -> io::Result<()> {
+    if name == "store" {
+        let _store = read_store(alloc, bytes).map_err(|_| stop("no store"))?;
+        return tell_count(rt, bytes, true);
+    }
+    let kind = Kind::named(name).ok_or(stop("no such kind"))?;
+    let _value = read(alloc, kind, bytes).map_err(|_| stop("no value"))?;
+    tell_count(rt, bytes, true)
+}
+
+/// Tells how many bytes there are, and whether they are read as a value, which is held until then. The value may be a store.
 pub fn tell_held(
     rt: &impl Print,
     alloc: Global,
     words: &mut SplitWhitespace<'_>,
     reads: bool,
 ) -> io::Result<()> {
-    let (kind, bytes) = given(alloc, words)?;
-    let value = if reads {
-        Some(read(alloc, kind, &bytes).map_err(|_| stop("no value"))?)
+    let name = words.next().ok_or(stop("no kind"))?;
+    let bytes = bytes_of(alloc, words.next().unwrap_or("").as_bytes())?;
+    if reads {
+        tell_while_held(rt, alloc, name, &bytes)
     } else {
-        None
-    };
-    println!(rt; "{} bytes, read: {}", bytes.len(), value.is_some())
+        tell_count(rt, &bytes, false)
+    }
 }
