@@ -1,4 +1,5 @@
 mod Chunks
+mod Escapes
 mod Runs
 mod Histories
 mod Mending

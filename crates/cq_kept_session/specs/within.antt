@@ -1,3 +1,4 @@
 -- What only the private functions cite.
 pub mod Settled
 pub mod Room
+pub mod Stuffing

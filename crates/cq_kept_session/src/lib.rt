@@ -12,6 +12,7 @@ mod room;
 mod serve;
 mod serving;
 mod starting;
+mod stuffing;
 mod text;
 
 pub use calls::take_takes;
