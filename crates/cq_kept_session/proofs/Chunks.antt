@@ -1,51 +1,78 @@
 -- Texts that are kept, one behind the other.
-use Rattle.std.proofs.Common.{◌≡◌, ℕ, zero, suc, ◌+◌, ◌<◌, ◌≤◌, true, List, [], ◌∷◌, ◌++◌, length, take, refl, ◌∙◌, ap, arith, append-nil, le-leb}
-use Rattle.std.specs.Prelude.{max, nat_le, get_or}
-use Rattle.std.proofs.lemmas.Bool.{and_parts, and_from}
+use Rattle.std.proofs.Common.{◌≡◌, ℕ, zero, suc, ◌+◌, ◌<◌, ◌≤◌, Bool, true, false, List, [], ◌∷◌, ◌++◌, length, take, Option, None, Some, refl, ◌∙◌, ap, arith, append-nil, le-leb}
+use Rattle.std.specs.Prelude.{◌||◌, nat_eq, nat_le, not, get_or, is_some, slice_index}
+use Rattle.std.proofs.lemmas.Bool.{and_parts, and_from, true≢false}
 use Rattle.std.proofs.lemmas.Bool.Decides.{nat_tests}
+use Rattle.memchr.specs.Find.{IsFirstByte, is_byte}
 use Rattle.cq_records.specs.Frames.{has_no_zero, is_text, joined}
 use Rattle.cq_records.specs.declared.frame.TheConstants.{TEXT_LIMIT}
 use Rattle.cq_records.proofs.Frames.{joined_append}
-use Rattle.cq_kept_session.specs.Texts.{without_zeros}
+use Rattle.cq_kept_session.specs.Texts.{as_kept, has_mark, kept_byte}
 
 pub joined_more : (rs : List (List ℕ)) (r : List ℕ) → joined (rs ++ r ∷ []) ≡ joined rs ++ r
 joined_more rs r = joined_append rs (r ∷ []) ∙ ap (λ (l : List ℕ). joined rs ++ l) (append-nil r)
 
--- ---- bytes without zeros
+-- ---- bytes as they are kept
 
-zeros_long : (bytes : List ℕ) → length (without_zeros bytes) ≡ length bytes
-zeros_long [] = refl
-zeros_long (b ∷ bytes) = omega (arith, zeros_long bytes)
+kept_long : (bytes : List ℕ) → length (as_kept bytes) ≡ length bytes
+kept_long [] = refl
+kept_long (b ∷ bytes) = omega (arith, kept_long bytes)
 
-above_zero : (b : ℕ) → nat_le 1 (max b 1) ≡ true
+above_zero : (b : ℕ) → nat_le 1 (kept_byte b) ≡ true
 above_zero b = grind (arith, nat_tests)
 
-zeros_gone : (bytes : List ℕ) → has_no_zero (without_zeros bytes) ≡ true
+no_mark : (b : ℕ) → nat_eq (kept_byte b) 2 ≡ false
+no_mark b = grind (arith, nat_tests)
+
+zeros_gone : (bytes : List ℕ) → has_no_zero (as_kept bytes) ≡ true
 zeros_gone [] = refl
 zeros_gone (b ∷ bytes) = and_from _ _ (above_zero b) (zeros_gone bytes)
 
-pub text_without : (bytes : List ℕ) → length bytes ≤ TEXT_LIMIT → is_text (without_zeros bytes) ≡ true
-text_without bytes short = and_from _ _ (le-leb _ _ (omega (arith, zeros_long bytes, short))) (zeros_gone bytes)
+pub text_kept : (bytes : List ℕ) → length bytes ≤ TEXT_LIMIT → is_text (as_kept bytes) ≡ true
+text_kept bytes short = and_from _ _ (le-leb _ _ (omega (arith, kept_long bytes, short))) (zeros_gone bytes)
 
-same_above : (b : ℕ) → nat_le 1 b ≡ true → max b 1 ≡ b
-same_above b above = grind (arith, nat_tests)
+pub unmarked_kept : (bytes : List ℕ) → has_mark (as_kept bytes) ≡ false
+unmarked_kept [] = refl
+unmarked_kept (b ∷ bytes) = rw (no_mark b) (unmarked_kept bytes)
 
-no_zeros : (bytes : List ℕ) → has_no_zero bytes ≡ true → without_zeros bytes ≡ bytes
-no_zeros [] full = refl
-no_zeros (b ∷ bytes) full =
+pub neither : (here later : Bool) → (here || later) ≡ false → (here ≡ false) × (later ≡ false)
+neither true later none = absurd (true≢false none)
+neither false later none = (refl, none)
+
+same_above : (b : ℕ) → nat_le 1 b ≡ true → nat_eq b 2 ≡ false → kept_byte b ≡ b
+same_above b above other = grind (arith, nat_tests)
+
+none_changed : (bytes : List ℕ) → has_no_zero bytes ≡ true → has_mark bytes ≡ false → as_kept bytes ≡ bytes
+none_changed [] full unmarked = refl
+none_changed (b ∷ bytes) full unmarked =
     let parts = and_parts (nat_le 1 b) (has_no_zero bytes) full in
-    λ i. (same_above b parts.0 i) ∷ (no_zeros bytes parts.1 i)
+    let both = neither (nat_eq b 2) (has_mark bytes) unmarked in
+    λ i. (same_above b parts.0 both.0 i) ∷ (none_changed bytes parts.1 both.1 i)
 
-pub text_is_same : (bytes : List ℕ) → is_text bytes ≡ true → without_zeros bytes ≡ bytes
-text_is_same bytes is = no_zeros bytes (and_parts (nat_le (length bytes) TEXT_LIMIT) (has_no_zero bytes) is).1
+pub text_is_same : (bytes : List ℕ) → is_text bytes ≡ true → has_mark bytes ≡ false → as_kept bytes ≡ bytes
+text_is_same bytes is unmarked = none_changed bytes (and_parts (nat_le (length bytes) TEXT_LIMIT) (has_no_zero bytes) is).1 unmarked
 
-pub zeros_next : (bytes : List ℕ) (i : ℕ) → i < length bytes → without_zeros (take (i + 1) bytes) ≡ without_zeros (take i bytes) ++ max (get_or bytes i 0) 1 ∷ []
-zeros_next bytes i below = ap (λ (k : ℕ). without_zeros (take k bytes)) next ∙ go bytes i below
+pub kept_next : (bytes : List ℕ) (i : ℕ) → i < length bytes → as_kept (take (i + 1) bytes) ≡ as_kept (take i bytes) ++ kept_byte (get_or bytes i 0) ∷ []
+kept_next bytes i below = ap (λ (k : ℕ). as_kept (take k bytes)) next ∙ go bytes i below
   where
     next : i + 1 ≡ suc i
     next = omega arith
 
-    go : (bytes : List ℕ) (i : ℕ) → i < length bytes → without_zeros (take (suc i) bytes) ≡ without_zeros (take i bytes) ++ max (get_or bytes i 0) 1 ∷ []
+    go : (bytes : List ℕ) (i : ℕ) → i < length bytes → as_kept (take (suc i) bytes) ≡ as_kept (take i bytes) ++ kept_byte (get_or bytes i 0) ∷ []
     go [] i below = absurd (omega (arith, below))
     go (b ∷ bytes) zero below = refl
-    go (b ∷ bytes) (suc i) below = ap (λ (more : List ℕ). max b 1 ∷ more) (go bytes i (omega (arith, below)))
+    go (b ∷ bytes) (suc i) below = ap (λ (more : List ℕ). kept_byte b ∷ more) (go bytes i (omega (arith, below)))
+
+-- ---- a search for the mark
+
+nowhere_none : (bytes : List ℕ) → ((k : ℕ) → 0 ≤ k → k < length bytes → ¬ (nat_eq (slice_index bytes k) 2 ≡ true)) → has_mark bytes ≡ false
+nowhere_none [] nowhere = refl
+nowhere_none (b ∷ bs) nowhere = first (nat_eq b 2) refl (nowhere_none bs (λ k low high. nowhere (suc k) (omega arith) (omega (arith, high))))
+  where
+    first : (here : Bool) → nat_eq b 2 ≡ here → has_mark bs ≡ false → has_mark (b ∷ bs) ≡ false
+    first true is none = absurd (nowhere 0 (omega arith) (omega arith) is)
+    first false is none = rw is none
+
+pub found_none : (bytes : List ℕ) (found : Option ℕ) (none : Bool) → IsFirstByte (is_byte 2) bytes found → is_some found ≡ not none → none ≡ true → has_mark bytes ≡ false
+found_none bytes None none is are all = nowhere_none bytes is
+found_none bytes (Some place) none is are all = absurd (true≢false (are ∙ ap not all))

@@ -1,6 +1,9 @@
+mod Bases
 mod Chunks
 mod Escapes
-mod Runs
 mod Histories
 mod Mending
 mod Pieces
+mod Readings
+mod Runs
+mod Stages

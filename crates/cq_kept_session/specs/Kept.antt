@@ -1,5 +1,5 @@
 -- A session and the lines that its journal has.
-use Rattle.std.specs.Prelude.{◌≡◌, ℕ, List, IsTrue}
+use Rattle.std.specs.Prelude.{◌≡◌, ℕ, List, [], ◌∷◌, true, IsTrue, if◌then◌else◌}
 use Rattle.cq_disk.specs.declared.device.Device.{Ghosts}
 use Rattle.cq_records.specs.Frames.{joined}
 use Rattle.cq_journal.specs.declared.journal.Journal.{Journal}
@@ -7,6 +7,7 @@ use Rattle.cq_journal.specs.Journal.{IsJournal, journal_device, journal_records}
 use Rattle.cq_lines.specs.Lines.{ended_part}
 use Rattle.cq_script.specs.Resumed.{HasRun}
 use Rattle.cq_script.specs.Sessions.{session_text}
+use Rattle.cq_kept_session.specs.Bases.{AreOf, fresh, is_at_lines, read}
 use Rattle.cq_kept_session.specs.Texts.{is_ended}
 use Rattle.cq_kept_session.specs.declared.kept.KeptSession.{KeptSession}
 
@@ -25,17 +26,26 @@ module _ {D : Type 0} {g : Ghosts D} where
   abbrev pub kept_records : KeptSession D g → List (List ℕ)
   kept_records k = journal_records k.journal
 
-  -- the bytes of its lines, one record behind the other
+  -- their bytes, one record behind the other
   abbrev pub kept_bytes : KeptSession D g → List ℕ
   kept_bytes k = joined (kept_records k)
 
-  -- what one session writes on these lines
-  abbrev pub kept_text : KeptSession D g → List ℕ
-  kept_text k = session_text k.size (ended_part (kept_bytes k))
+  -- they stand for these bytes, the lines of the session from the first one on
+  abbrev pub StandsFor : KeptSession D g → List ℕ → Type 0
+  StandsFor k bytes = AreOf k.size (kept_bytes k) bytes
 
-  -- All that it has run is in its journal, and all of that was run. A journal has its records on the medium. It knows whether the last
-  -- line has ended.
+  -- what one session writes on these lines
+  abbrev pub told_text : KeptSession D g → List ℕ → List ℕ
+  told_text k bytes = session_text k.size (ended_part bytes)
+
+  -- the line feed that its last line lacks
+  abbrev pub missing_end : KeptSession D g → List ℕ
+  missing_end k = if is_ended (kept_bytes k) then [] else 10 ∷ []
+
+  -- All that it has run is in its journal, and all of that was run, whatever bytes it stands for. A journal has its records on the medium.
+  -- Its base, if there is one, is whole. It knows whether the last line has ended.
   pub record IsKept (k : KeptSession D g) : Type 0 where
     pub journal : IsJournal k.journal
-    pub run : IsTrue (g.is_honest (session_device k)) → HasRun k.size (kept_bytes k) k.session
+    pub whole : IsTrue (g.is_honest (session_device k)) → is_at_lines (read fresh (kept_bytes k)) ≡ true
+    pub run : IsTrue (g.is_honest (session_device k)) → (bytes : List ℕ) → StandsFor k bytes → HasRun k.size bytes k.session
     pub ended : IsTrue (g.is_honest (session_device k)) → k.ended ≡ is_ended (kept_bytes k)

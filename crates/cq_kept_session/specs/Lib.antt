@@ -1,4 +1,6 @@
+pub mod Bases
 pub mod Classes
+pub mod Examples
 pub mod Kept
 pub mod Outcomes
 pub mod Served

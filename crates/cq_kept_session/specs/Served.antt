@@ -1,10 +1,12 @@
 -- What is written of lines, of which some are kept and some refused.
-use Rattle.std.specs.Prelude.{◌≡◌, ◌⊎◌, ℕ, List, [], ◌∷◌, ◌++◌, Option, codes}
+use Rattle.std.specs.Prelude.{◌≡◌, ◌⊎◌, ℕ, List, [], ◌∷◌, ◌++◌, Option, IsTrue, codes}
 use Rattle.std.specs.Io.KnownBytes.{Appends}
 use Rattle.cq_disk.specs.declared.device.Device.{Ghosts}
+use Rattle.cq_records.specs.Frames.{joined}
 use Rattle.cq_answers.specs.Answers.{refused_text}
 use Rattle.cq_kept_session.specs.declared.kept.KeptSession.{KeptSession}
-use Rattle.cq_kept_session.specs.Takes.{Continues, Taken}
+use Rattle.cq_kept_session.specs.Kept.{StandsFor, session_device, session_size, told_text}
+use Rattle.cq_kept_session.specs.Takes.{Taken, chunks, outputs}
 
 -- lines that were kept, or a line that was refused, and the number that its refusal has
 pub data Piece : Type 0 where
@@ -33,12 +35,21 @@ taken [] = []
 taken (took t ∷ ps) = t ∷ taken ps
 taken (refused n line ∷ ps) = taken ps
 
--- These lines were kept and answered, or refused: those that were refused change nothing, and nothing of them is kept.
-pub record Serves {D : Type 0} {g : Ghosts D} (old new : KeptSession D g) (before after : Option (List ℕ)) (lines : List ℕ) : Type 0 where
-  pub pieces : List Piece
-  pub are : texts pieces ≡ lines
-  pub appends : Appends before after (written pieces)
-  pub continues : Continues (taken pieces) old new
+module _ {D : Type 0} {g : Ghosts D} where
+  -- Where the records stood for these bytes: these lines were kept behind them and answered, or refused. Those that were refused change
+  -- nothing, and nothing of them is kept.
+  pub record ServesBehind (bytes : List ℕ) (old new : KeptSession D g) (before after : Option (List ℕ)) (lines : List ℕ) : Type 0 where
+    pub pieces : List Piece
+    pub are : texts pieces ≡ lines
+    pub appends : Appends before after (written pieces)
+    pub stands : StandsFor new (bytes ++ joined (chunks (taken pieces)))
+    pub text : told_text new (bytes ++ joined (chunks (taken pieces))) ≡ told_text old bytes ++ outputs (taken pieces)
+
+  -- So it is for all bytes for which the records stood.
+  pub record Serves (old new : KeptSession D g) (before after : Option (List ℕ)) (lines : List ℕ) : Type 0 where
+    pub size : session_size new ≡ session_size old
+    pub honest : IsTrue (g.is_honest (session_device new)) → IsTrue (g.is_honest (session_device old))
+    pub behind : IsTrue (g.is_honest (session_device new)) → (bytes : List ℕ) → StandsFor old bytes → ServesBehind bytes old new before after lines
 
 -- nothing, or a line feed
 abbrev pub IsEnd : List ℕ → Type 0

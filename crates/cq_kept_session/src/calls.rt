@@ -1,9 +1,9 @@
 //! The call that takes a chunk, as the law of kept sessions has it.
-ghost use Rattle.std.specs.Prelude.{◌≡◌, ◌≤◌, length, IsTrue, OnOk};
+ghost use Rattle.std.specs.Prelude.{◌≡◌, ◌≤◌, ℕ, List, length, IsTrue, OnOk};
 ghost use Rattle.std.specs.Io.KnownBytes.{Appends};
-ghost use Rattle.cq_kept_session.specs.Kept.{IsKept, session_device};
+ghost use Rattle.cq_kept_session.specs.Kept.{IsKept, StandsFor, session_device};
 ghost use Rattle.cq_kept_session.specs.Takes.{Taken, Takes};
-ghost use Rattle.cq_kept_session.specs.Texts.{without_zeros};
+ghost use Rattle.cq_kept_session.specs.Texts.{as_kept};
 
 use crate::{KeptSession, TakeFault};
 use cq_disk::Device;
@@ -19,8 +19,8 @@ pub fn take_takes<D: Device, W: Sink>(
     requires kept { IsKept session.old }
     requires short { length chunk.now ≤ TEXT_LIMIT }
     ensures kept { OnOk result (IsKept session.new) }
-    ensures takes { OnOk result (IsTrue (D.is_honest (session_device session.new)) → (taken : Taken) × (taken.chunk ≡ without_zeros chunk.now)
-        × Appends (W.contents writer.old) (W.contents writer.new) taken.output × Takes taken session.old session.new) }
+    ensures takes { OnOk result (IsTrue (D.is_honest (session_device session.new)) → (bytes : List ℕ) → StandsFor session.old bytes → (taken : Taken) × (taken.chunk ≡ as_kept chunk.now)
+        × Appends (W.contents writer.old) (W.contents writer.new) taken.output × Takes bytes taken session.old session.new) }
 {
     session.take(chunk, writer)
 }

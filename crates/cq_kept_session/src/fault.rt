@@ -7,6 +7,7 @@ use cq_base::NoMemory;
 use cq_journal::{OpenFault, RegionFault};
 use cq_records::LogFault;
 use cq_script::ScriptFault;
+use cq_wire::ReadFault;
 use std::alloc::{AllocError, AllocFailed};
 use thiserror::Error;
 
@@ -48,6 +49,15 @@ impl From<ScriptFault> for StartFault {
 impl From<LogFault> for StartFault {
     fn from(fault: LogFault) -> StartFault {
         StartFault::Write(fault)
+    }
+}
+
+impl From<ReadFault> for StartFault {
+    fn from(fault: ReadFault) -> StartFault {
+        match fault {
+            ReadFault::NoMemory => StartFault::Run(ScriptFault::NoMemory),
+            ReadFault::Bad(_) => StartFault::Open(OpenFault::Damaged),
+        }
     }
 }
 

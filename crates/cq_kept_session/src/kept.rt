@@ -1,5 +1,5 @@
 //! A session that keeps each chunk of lines before it runs and answers it.
-ghost use Rattle.std.specs.Prelude.{◌≡◌, ◌≤◌, ◌++◌, ◌<◌, [], ◌∷◌, ℕ, List, true, length, Err, IsTrue, OnOk, IsErrOf};
+ghost use Rattle.std.specs.Prelude.{◌≡◌, ◌≤◌, ◌++◌, ◌<◌, [], ◌∷◌, ℕ, List, true, false, length, Err, IsTrue, OnOk, IsErrOf};
 ghost use Rattle.std.specs.Io.KnownBytes.{Appends};
 ghost use Rattle.cq_base.specs.Relations.{IsPrefix};
 ghost use Rattle.cq_records.specs.Frames.{is_text, joined};
@@ -12,10 +12,10 @@ ghost use Rattle.cq_records.specs.declared.fault.LogFault.TheVariants.{Full};
 ghost use Rattle.cq_script.specs.Resumed.{HasRun};
 ghost use Rattle.cq_script.specs.Sessions.{IsSessionEndedPrefix, session_text};
 ghost use Rattle.cq_kept_session.specs.Outcomes.{OnKept, OnNotKept};
-ghost use Rattle.cq_kept_session.specs.Texts.{is_ended, mended, without_zeros};
+ghost use Rattle.cq_kept_session.specs.Texts.{as_kept, has_mark, is_ended, mended};
 ghost use Rattle.cq_kept_session.specs.declared.fault.TakeFault.TheVariants.{NotKept, NotTold};
 
-use crate::text::{has_ended, line_feeds, without_zeros};
+use crate::text::{as_kept, has_ended, is_unmarked};
 use crate::{Highest, TakeFault};
 use cq_base::ChainSize;
 use cq_disk::Device;
@@ -33,19 +33,17 @@ pub struct KeptSession<D: Device> {
     pub(crate) session: ResumedSession,
     /// Whether the last line that is kept has ended.
     pub(crate) ended: bool,
-    /// How many lines have ended.
-    pub(crate) lines: u64,
     /// The highest numbers of clients that it had as it was opened.
     pub(crate) highest: Highest,
 }
 
 impl<D: Device> KeptSession<D> {
-    ghost use Rattle.cq_kept_session.specs.Kept.{IsKept, kept_records, kept_text, session_device, session_journal, session_size};
+    ghost use Rattle.cq_kept_session.specs.Kept.{IsKept, StandsFor, kept_records, missing_end, session_device, session_journal, session_size, told_text};
     ghost use Rattle.cq_kept_session.specs.within.Settled.{IsSettled};
 
     /// Takes what one read brought: keeps it, runs the lines that end in it, writes what comes of them, and flushes it. Nothing is
-    /// written before all that it rests on is on the medium. A zero byte is kept and run as a byte of 1: a line with either
-    /// is a bad one. `NotKept(Full)`: there is no space, and the session goes on without the chunk. After any other fault it is to be
+    /// written before all that it rests on is on the medium. A byte of 0 or 2 is kept and run as a byte of 1: a line with any of
+    /// them is a bad one. `NotKept(Full)`: there is no space, and the session goes on without the chunk. After any other fault it is to be
     /// opened anew. It takes memory for two copies of the chunk, and what its lines take.
     pub fn take<W: Sink>(&mut self, chunk: &[u8], writer: &mut W) -> Result<(), TakeFault>
         requires kept { IsKept self.old }
@@ -53,25 +51,27 @@ impl<D: Device> KeptSession<D> {
 
         ensures kept { OnOk result (IsKept self.new) }
         ensures size { session_size self.new ≡ session_size self.old }
-        ensures records { OnKept result (kept_records self.new ≡ kept_records self.old ++ without_zeros chunk.now ∷ []) }
+        ensures records { OnKept result (kept_records self.new ≡ kept_records self.old ++ as_kept chunk.now ∷ []) }
 
-        // What was written goes on behind what one session writes on the lines from before: all of it after `Ok`.
-        ensures told { OnKept result (IsTrue (D.is_honest (session_device self.new)) → (output : List ℕ)
+        // Whatever bytes it stood for, it stands for these and the chunk. What was written goes on behind what one session writes on those
+        // bytes: all of it after `Ok`.
+        ensures stands { OnKept result (IsTrue (D.is_honest (session_device self.new)) → (bytes : List ℕ) → StandsFor self.old bytes → StandsFor self.new (bytes ++ as_kept chunk.now)) }
+        ensures told { OnKept result (IsTrue (D.is_honest (session_device self.new)) → (bytes : List ℕ) → StandsFor self.old bytes → (output : List ℕ)
             × Appends (W.contents writer.old) (W.contents writer.new) output
-            × IsPrefix (kept_text self.old ++ output) (kept_text self.new)
-            × OnOk result (kept_text self.new ≡ kept_text self.old ++ output)) }
+            × IsPrefix (told_text self.old bytes ++ output) (told_text self.new (bytes ++ as_kept chunk.now))
+            × OnOk result (told_text self.new (bytes ++ as_kept chunk.now) ≡ told_text self.old bytes ++ output)) }
         ensures not_told { OnNotKept result (writer.new ≡ writer.old) }
         ensures flushed { OnOk result (W.has_flushed writer.new ≡ true) }
         ensures write_failed { result ≡ Err (NotTold WriteFailed) → W.has_failed writer.new ≡ true }
 
         // A crash at any moment leaves the records from before, or these and the chunk.
-        ensures tries { Tries (adds (without_zeros chunk.now ∷ [])) (session_journal self.old) (session_journal self.new) }
+        ensures tries { Tries (adds (as_kept chunk.now ∷ [])) (session_journal self.old) (session_journal self.new) }
         ensures full { result ≡ Err (NotKept Full) → IsKept self.new × (kept_records self.new ≡ kept_records self.old) }
     {
-        if is_text(chunk) {
+        if is_text(chunk) && is_unmarked(chunk) {
             return self.take_text(chunk, writer);
         }
-        let text = without_zeros(self.alloc, chunk)?;
+        let text = as_kept(self.alloc, chunk)?;
         self.take_text(&text, writer)
     }
 
@@ -83,10 +83,11 @@ impl<D: Device> KeptSession<D> {
         ensures kept { OnOk result (IsKept self.new) }
         ensures size { session_size self.new ≡ session_size self.old }
         ensures records { OnKept result (IsTrue (D.is_honest (session_device self.new)) → kept_records self.new ≡ mended (kept_records self.old)) }
-        ensures told { OnKept result (IsTrue (D.is_honest (session_device self.new)) → (output : List ℕ)
+        ensures stands { OnKept result (IsTrue (D.is_honest (session_device self.new)) → (bytes : List ℕ) → StandsFor self.old bytes → StandsFor self.new (bytes ++ missing_end self.old)) }
+        ensures told { OnKept result (IsTrue (D.is_honest (session_device self.new)) → (bytes : List ℕ) → StandsFor self.old bytes → (output : List ℕ)
             × Appends (W.contents writer.old) (W.contents writer.new) output
-            × IsPrefix (kept_text self.old ++ output) (kept_text self.new)
-            × OnOk result (kept_text self.new ≡ kept_text self.old ++ output)) }
+            × IsPrefix (told_text self.old bytes ++ output) (told_text self.new (bytes ++ missing_end self.old))
+            × OnOk result (told_text self.new (bytes ++ missing_end self.old) ≡ told_text self.old bytes ++ output)) }
         ensures not_told { OnNotKept result (writer.new ≡ writer.old) }
         ensures tries { Tries (adds ((10 ∷ []) ∷ [])) (session_journal self.old) (session_journal self.new) }
     {
@@ -96,9 +97,9 @@ impl<D: Device> KeptSession<D> {
         self.take_text(b"\n", writer)
     }
 
-    /// How many lines have ended in all that is kept.
+    /// How many lines have ended in all that was taken.
     pub fn line_count(&self) -> u64 {
-        self.lines
+        self.session.line_count()
     }
 
     /// The highest numbers of clients in the lines that were kept as the session was opened.
@@ -117,14 +118,16 @@ impl<D: Device> KeptSession<D> {
     fn take_text<W: Sink>(&mut self, chunk: &[u8], writer: &mut W) -> Result<(), TakeFault>
         requires kept { IsKept self.old }
         requires text { is_text chunk.now ≡ true }
+        requires unmarked { has_mark chunk.now ≡ false }
 
         ensures kept { OnOk result (IsKept self.new) }
         ensures size { session_size self.new ≡ session_size self.old }
         ensures records { OnKept result (kept_records self.new ≡ kept_records self.old ++ chunk.now ∷ []) }
-        ensures told { OnKept result (IsTrue (D.is_honest (session_device self.new)) → (output : List ℕ)
+        ensures stands { OnKept result (IsTrue (D.is_honest (session_device self.new)) → (bytes : List ℕ) → StandsFor self.old bytes → StandsFor self.new (bytes ++ chunk.now)) }
+        ensures told { OnKept result (IsTrue (D.is_honest (session_device self.new)) → (bytes : List ℕ) → StandsFor self.old bytes → (output : List ℕ)
             × Appends (W.contents writer.old) (W.contents writer.new) output
-            × IsPrefix (kept_text self.old ++ output) (kept_text self.new)
-            × OnOk result (kept_text self.new ≡ kept_text self.old ++ output)) }
+            × IsPrefix (told_text self.old bytes ++ output) (told_text self.new (bytes ++ chunk.now))
+            × OnOk result (told_text self.new (bytes ++ chunk.now) ≡ told_text self.old bytes ++ output)) }
         ensures not_told { OnNotKept result (writer.new ≡ writer.old) }
         ensures flushed { OnOk result (W.has_flushed writer.new ≡ true) }
         ensures write_failed { result ≡ Err (NotTold WriteFailed) → W.has_failed writer.new ≡ true }
@@ -169,7 +172,6 @@ impl<D: Device> KeptSession<D> {
         ensures write_failed { result ≡ Err WriteFailed → W.has_failed writer.new ≡ true }
     {
         self.ended = has_ended(self.ended, chunk);
-        self.lines = self.lines.saturating_add(line_feeds(chunk));
         self.session.feed(chunk, writer)
     }
 }

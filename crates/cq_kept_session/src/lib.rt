@@ -2,6 +2,7 @@
 //! `specs/` holds the rules.
 #![tactic(auto)]
 
+mod base;
 mod calls;
 mod class;
 mod clients;
@@ -20,5 +21,5 @@ pub use class::{LineClass, class_of_line};
 pub use clients::Highest;
 pub use fault::{ServeFault, StartFault, TakeFault};
 pub use kept::KeptSession;
-pub use laws::what_is_told_is_of_what_is_kept;
+pub use laws::{bases_are_read_so, what_is_told_is_of_what_is_kept};
 pub use serving::NO_ROOM;

@@ -5,7 +5,7 @@ ghost use Rattle.cq_lines.specs.declared.fault.ScriptFault.TheVariants.{ReadFail
 ghost use Rattle.cq_lines.specs.declared.limits.TheConstants.{LINE_LIMIT};
 ghost use Rattle.cq_lines.specs.declared.text.TheConstants.{CHUNK_SIZE};
 ghost use Rattle.cq_kept_session.specs.Served.{IsEnd, Serves};
-ghost use Rattle.cq_kept_session.specs.Texts.{without_zeros};
+ghost use Rattle.cq_kept_session.specs.Texts.{as_kept};
 
 use crate::{KeptSession, ServeFault, TakeFault};
 use cq_disk::Device;
@@ -39,7 +39,7 @@ impl<D: Device> KeptSession<D> {
         ensures kept { OnOk result (IsKept self.new) }
         ensures size { session_size self.new ≡ session_size self.old }
         ensures serves { OnOk result ((input : List ℕ) × (end : List ℕ) × Consumes (R.remaining reader.old) (R.remaining reader.new) input × IsAtEnd (R.remaining reader.new) × IsEnd end
-            × (IsTrue (D.is_honest (session_device self.new)) → Serves self.old self.new (W.contents writer.old) (W.contents writer.new) (without_zeros (input ++ end)))) }
+            × Serves self.old self.new (W.contents writer.old) (W.contents writer.new) (as_kept (input ++ end))) }
         ensures reader_sound { OnOk result (R.has_failed reader.new ≡ false) }
     {
         let mut partial = Vec::new(self.alloc);
@@ -74,8 +74,8 @@ impl<D: Device> KeptSession<D> {
         ensures kept { OnOk result (IsKept self.new) }
         ensures size { session_size self.new ≡ session_size self.old }
         ensures partial { OnOk result (length partial.new.items ≤ LINE_LIMIT) }
-        ensures serves { OnOk result (IsTrue (D.is_honest (session_device self.new)) → (done : List ℕ) × (done ++ partial.new.items ≡ partial.old.items ++ chunk.now)
-            × Serves self.old self.new (W.contents writer.old) (W.contents writer.new) (without_zeros done)) }
+        ensures serves { OnOk result ((done : List ℕ) × (done ++ partial.new.items ≡ partial.old.items ++ chunk.now)
+            × Serves self.old self.new (W.contents writer.old) (W.contents writer.new) (as_kept done)) }
     {
         let (ended, rest) = cut_behind_lines(chunk);
         self.take_more(partial, ended, 0, writer)?;
@@ -98,8 +98,8 @@ impl<D: Device> KeptSession<D> {
         ensures kept { OnOk result (IsKept self.new) }
         ensures size { session_size self.new ≡ session_size self.old }
         ensures partial { OnOk result (length partial.new.items ≤ LINE_LIMIT) }
-        ensures serves { OnOk result (IsTrue (D.is_honest (session_device self.new)) → (done : List ℕ) × (done ++ partial.new.items ≡ partial.old.items ++ bytes.now)
-            × Serves self.old self.new (W.contents writer.old) (W.contents writer.new) (without_zeros done)) }
+        ensures serves { OnOk result ((done : List ℕ) × (done ++ partial.new.items ≡ partial.old.items ++ bytes.now)
+            × Serves self.old self.new (W.contents writer.old) (W.contents writer.new) (as_kept done)) }
     {
         if bytes.is_empty() {
             return Ok(());
@@ -120,8 +120,7 @@ impl<D: Device> KeptSession<D> {
 
         ensures kept { OnOk result (IsKept self.new) }
         ensures size { session_size self.new ≡ session_size self.old }
-        ensures serves { OnOk result ((end : List ℕ) × IsEnd end × (IsTrue (D.is_honest (session_device self.new))
-            → Serves self.old self.new (W.contents writer.old) (W.contents writer.new) (without_zeros (partial.old.items ++ end)))) }
+        ensures serves { OnOk result ((end : List ℕ) × IsEnd end × Serves self.old self.new (W.contents writer.old) (W.contents writer.new) (as_kept (partial.old.items ++ end))) }
     {
         if partial.as_slice().is_empty() && self.ended {
             return Ok(());

@@ -4,7 +4,7 @@ ghost use Rattle.std.specs.Io.KnownBytes.{Appends};
 ghost use Rattle.cq_lines.specs.declared.fault.ScriptFault.TheVariants.{WriteFailed};
 ghost use Rattle.cq_records.specs.declared.frame.TheConstants.{TEXT_LIMIT};
 ghost use Rattle.cq_kept_session.specs.Served.{Serves, no_room_text};
-ghost use Rattle.cq_kept_session.specs.Texts.{without_zeros};
+ghost use Rattle.cq_kept_session.specs.Texts.{as_kept};
 
 use crate::class::{LineClass, class_of_line};
 use crate::{KeptSession, TakeFault};
@@ -28,7 +28,7 @@ impl<D: Device> KeptSession<D> {
 
         ensures kept { OnOk result (IsKept self.new) }
         ensures size { session_size self.new ≡ session_size self.old }
-        ensures serves { OnOk result (IsTrue (D.is_honest (session_device self.new)) → Serves self.old self.new (W.contents writer.old) (W.contents writer.new) (without_zeros lines.now)) }
+        ensures serves { OnOk result (Serves self.old self.new (W.contents writer.old) (W.contents writer.new) (as_kept lines.now)) }
     {
         if self.take_if_room(LineClass::Adds, lines, writer)? {
             return Ok(());
@@ -43,7 +43,7 @@ impl<D: Device> KeptSession<D> {
 
         ensures kept { OnOk result (IsKept self.new) }
         ensures size { session_size self.new ≡ session_size self.old }
-        ensures serves { OnOk result (IsTrue (D.is_honest (session_device self.new)) → Serves self.old self.new (W.contents writer.old) (W.contents writer.new) (without_zeros lines.now)) }
+        ensures serves { OnOk result (Serves self.old self.new (W.contents writer.old) (W.contents writer.new) (as_kept lines.now)) }
     {
         let mut rest = lines;
         while let Some((line, _)) = cut_line(rest) {
@@ -69,7 +69,7 @@ impl<D: Device> KeptSession<D> {
 
         ensures kept { OnOk result (IsKept self.new) }
         ensures size { session_size self.new ≡ session_size self.old }
-        ensures serves { OnOk result (IsTrue (D.is_honest (session_device self.new)) → Serves self.old self.new (W.contents writer.old) (W.contents writer.new) (without_zeros whole.now)) }
+        ensures serves { OnOk result (Serves self.old self.new (W.contents writer.old) (W.contents writer.new) (as_kept whole.now)) }
     {
         let class = class_of_line(self.alloc, line)?;
         if self.take_if_room(class, whole, writer)? {
@@ -91,7 +91,7 @@ impl<D: Device> KeptSession<D> {
 
         ensures kept { OnOk result (IsKept self.new) }
         ensures size { session_size self.new ≡ session_size self.old }
-        ensures serves { IfOk result (λ is_taken. IsTrue (D.is_honest (session_device self.new)) → Serves self.old self.new (W.contents writer.old) (W.contents writer.new) (if is_taken then without_zeros chunk.now else [])) }
+        ensures serves { IfOk result (λ is_taken. Serves self.old self.new (W.contents writer.old) (W.contents writer.new) (if is_taken then as_kept chunk.now else [])) }
     {
         if !self.has_room(class, chunk.len()) {
             return Ok(false);
@@ -108,7 +108,12 @@ impl<D: Device> KeptSession<D> {
         ensures told { OnOk result ((number : ℕ) × Appends (W.contents writer.old) (W.contents writer.new) (no_room_text number)) }
         ensures flushed { OnOk result (W.has_flushed writer.new ≡ true) }
     {
-        let text = refused_line(self.alloc, self.lines.saturating_add(1), NO_ROOM, "NoRoom")?;
+        let text = refused_line(
+            self.alloc,
+            self.session.line_count().saturating_add(1),
+            NO_ROOM,
+            "NoRoom",
+        )?;
         write_text(writer, &text)?;
         finish_writing(writer)
     }

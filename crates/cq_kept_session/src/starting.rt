@@ -1,5 +1,5 @@
 //! How a kept session begins, and goes on behind what was kept.
-ghost use Rattle.std.specs.Prelude.{◌≡◌, ◌⊎◌, ◌≤◌, ◌<◌, ◌+◌, ◌++◌, [], ◌∷◌, ℕ, List, true, length, Some, IsTrue, IfOk, OnOk};
+ghost use Rattle.std.specs.Prelude.{◌≡◌, ◌⊎◌, ◌≤◌, ◌<◌, ◌+◌, ◌++◌, [], ◌∷◌, ℕ, List, true, length, Option, Some, IsTrue, IfOk, OnOk};
 ghost use Rattle.cq_disk.specs.Device.{LeavesOnly};
 ghost use Rattle.cq_journal.specs.Base.{HasEitherRecords};
 ghost use Rattle.cq_journal.specs.Changes.{adds};
@@ -8,13 +8,19 @@ ghost use Rattle.cq_journal.specs.Journal.{IsJournal, journal_device, journal_ha
 ghost use Rattle.cq_journal.specs.Regions.{kept};
 ghost use Rattle.cq_journal.specs.Rests.{Rests};
 ghost use Rattle.cq_script.specs.Resumed.{HasRun};
+ghost use Rattle.cq_store.specs.Stands.{StoreKept};
+ghost use Rattle.cq_kept_session.specs.Bases.{AreLines, Stage, fresh, lined, read, whole};
 ghost use Rattle.cq_kept_session.specs.Texts.{mended};
+ghost use Rattle.cq_kept_session.specs.declared.base.Header.{Header};
+ghost use Rattle.cq_kept_session.specs.within.Readers.{IsRead, IsRun, reader_stage};
 
-use crate::text::{has_ended, line_feeds};
+use crate::base::{BaseReader, Reading};
+use crate::text::{MARK, has_ended};
 use crate::{Highest, KeptSession, StartFault};
 use cq_base::{ChainSize, NoMemory};
 use cq_disk::Device;
-use cq_journal::{Journal, NUMBER_LIMIT};
+use cq_journal::{Journal, NUMBER_LIMIT, OpenFault};
+use cq_lines::BYTES_LIMIT;
 use cq_script::ResumedSession;
 use std::alloc::Global;
 
@@ -85,7 +91,6 @@ impl<D: Device> KeptSession<D> {
             journal,
             session,
             ended: true,
-            lines: 0,
             highest: Highest::none(),
         })
     }
@@ -106,7 +111,7 @@ impl<D: Device> KeptSession<D> {
         if self.ended { Ok(()) } else { self.end_line() }
     }
 
-    /// Runs what is kept, region by region.
+    /// Runs what is kept, region by region. `Open(Damaged)`: it has a base that isn't whole, or is none.
     fn run_kept(&mut self) -> Result<(), StartFault>
         requires journal { IsJournal (session_journal self.old) }
         requires run { HasRun (session_size self.old) [] self.old.session }
@@ -116,17 +121,85 @@ impl<D: Device> KeptSession<D> {
         ensures rests { Rests (session_journal self.old) (session_journal self.new) }
     {
         let mut text = Vec::new(self.alloc);
+        let mut reading = Reading::Fresh;
         let mut index = 0;
         while index < self.journal.region_count() {
             text.clear();
             self.journal.read_region(self.alloc, index, &mut text)?;
-            self.session.restore(&text)?;
+            reading = self.run_text(reading, &text)?;
             self.ended = has_ended(self.ended, &text);
-            self.lines = self.lines.saturating_add(line_feeds(&text));
-            self.highest = self.highest.with_lines(self.alloc, &text)?;
             index += 1;
         }
+        if reading.is_base() {
+            return Err(StartFault::Open(OpenFault::Damaged));
+        }
         Ok(())
+    }
+
+    /// Runs what comes behind what was read.
+    fn run_text(&mut self, reading: Reading, text: &[u8]) -> Result<Reading, StartFault>
+        ensures same { (self.new.journal ≡ self.old.journal) × (session_size self.new ≡ session_size self.old) × (self.new.ended ≡ self.old.ended) }
+        ensures run { (size : ℕ) (stage : Stage) → IsRead size stage reading self.old.session → IfOk result (λ next. IsRead size (read stage text.now) next self.new.session) }
+    {
+        match reading {
+            Reading::Fresh => self.begin_text(text),
+            Reading::Base(reader) => self.run_base(reader, text),
+            Reading::Lines => self.run_lines(text),
+        }
+    }
+
+    /// Runs what is kept from its first byte on.
+    fn begin_text(&mut self, text: &[u8]) -> Result<Reading, StartFault>
+        ensures same { (self.new.journal ≡ self.old.journal) × (session_size self.new ≡ session_size self.old) × (self.new.ended ≡ self.old.ended) }
+        ensures run { (size : ℕ) → HasRun size [] self.old.session → IfOk result (λ next. IsRead size (read fresh text.now) next self.new.session) }
+    {
+        let Some((first, rest)) = text.split_first() else {
+            return Ok(Reading::Fresh);
+        };
+        if *first == MARK {
+            return self.run_base(BaseReader::new(self.alloc), rest);
+        }
+        self.run_lines(text)
+    }
+
+    /// Reads on in a base, and goes on behind it where it has ended.
+    fn run_base(&mut self, reader: BaseReader, bytes: &[u8]) -> Result<Reading, StartFault>
+        ensures same { (self.new.journal ≡ self.old.journal) × (session_size self.new ≡ session_size self.old) × (self.new.ended ≡ self.old.ended) }
+        ensures run { (size : ℕ) → IfOk result (λ next. IsRead size (read (reader_stage reader) bytes.now) next self.new.session) }
+    {
+        let (reader, behind) = reader.feed(bytes)?;
+        match behind {
+            None => Ok(Reading::Base(reader)),
+            Some(lines) => {
+                self.begin_behind(reader)?;
+                self.run_lines(lines)
+            }
+        }
+    }
+
+    /// Goes on behind a base that has ended.
+    fn begin_behind(&mut self, reader: BaseReader) -> Result<(), StartFault>
+        ensures same { (self.new.journal ≡ self.old.journal) × (session_size self.new ≡ session_size self.old) × (self.new.ended ≡ self.old.ended) }
+        ensures run { (size : ℕ) → OnOk result (IsRun size (whole reader.header reader.store) self.new.session) }
+    {
+        let (header, store) = reader.whole()?;
+        if header.lines > BYTES_LIMIT {
+            return Err(StartFault::Open(OpenFault::Damaged));
+        }
+        self.session = ResumedSession::behind(self.alloc, store, header.lines)?;
+        self.highest = header.highest;
+        Ok(())
+    }
+
+    /// Runs lines.
+    fn run_lines(&mut self, bytes: &[u8]) -> Result<Reading, StartFault>
+        ensures same { (self.new.journal ≡ self.old.journal) × (session_size self.new ≡ session_size self.old) × (self.new.ended ≡ self.old.ended) }
+        ensures run { (size : ℕ) (base : Option (Header × StoreKept)) (lines : List ℕ) → ((before : List ℕ) → AreLines size base lines before → HasRun size before self.old.session)
+            → IfOk result (λ next. IsRead size (lined base (lines ++ bytes.now)) next self.new.session) }
+    {
+        self.session.restore(bytes)?;
+        self.highest = self.highest.with_lines(self.alloc, bytes)?;
+        Ok(Reading::Lines)
     }
 
     /// Keeps and runs a line feed.
@@ -141,7 +214,6 @@ impl<D: Device> KeptSession<D> {
         self.keep(b"\n")?;
         self.session.restore(b"\n")?;
         self.ended = has_ended(self.ended, b"\n");
-        self.lines = self.lines.saturating_add(1);
         Ok(())
     }
 }

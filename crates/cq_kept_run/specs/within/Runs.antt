@@ -1,11 +1,10 @@
 -- A session that was run on a device, to the end of its reader.
-use Rattle.std.specs.Prelude.{ℕ, List, ◌++◌, Option, IsTrue}
+use Rattle.std.specs.Prelude.{ℕ, List, ◌++◌, Option}
 use Rattle.std.specs.Io.KnownBytes.{Appends, Consumes, IsAtEnd}
 use Rattle.cq_disk.specs.declared.device.Device.{Ghosts}
 use Rattle.cq_kept_session.specs.declared.kept.KeptSession.{KeptSession}
-use Rattle.cq_kept_session.specs.Kept.{session_device}
 use Rattle.cq_kept_session.specs.Served.{IsEnd, Serves}
-use Rattle.cq_kept_session.specs.Texts.{without_zeros}
+use Rattle.cq_kept_session.specs.Texts.{as_kept}
 
 -- It told that it is ready. Then it served the lines of the reader, all of them, with the end of the last one.
 pub record Serving {D : Type 0} {g : Ghosts D} (first last : KeptSession D g) (unread left before after : Option (List ℕ)) : Type 0 where
@@ -15,4 +14,4 @@ pub record Serving {D : Type 0} {g : Ghosts D} (first last : KeptSession D g) (u
   pub ready : List ℕ
   pub told : Option (List ℕ)
   pub tells : Appends before told ready
-  pub serves : IsTrue (g.is_honest (session_device last)) → Serves first last told after (without_zeros (input ++ end))
+  pub serves : Serves first last told after (as_kept (input ++ end))

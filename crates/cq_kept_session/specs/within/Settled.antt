@@ -4,6 +4,7 @@ use Rattle.cq_disk.specs.declared.device.Device.{Ghosts}
 use Rattle.cq_records.specs.Frames.{joined}
 use Rattle.cq_journal.specs.Journal.{IsJournal}
 use Rattle.cq_script.specs.Resumed.{HasRun}
+use Rattle.cq_kept_session.specs.Bases.{AreOf}
 use Rattle.cq_kept_session.specs.declared.kept.KeptSession.{KeptSession}
 use Rattle.cq_kept_session.specs.Kept.{kept_records, session_device}
 
@@ -12,4 +13,4 @@ pub record IsSettled {D : Type 0} {g : Ghosts D} (k : KeptSession D g) (chunk : 
   pub journal : IsJournal k.journal
   pub before : List (List ℕ)
   pub records : kept_records k ≡ before ++ chunk ∷ []
-  pub run : IsTrue (g.is_honest (session_device k)) → HasRun k.size (joined before) k.session
+  pub run : IsTrue (g.is_honest (session_device k)) → (bytes : List ℕ) → AreOf k.size (joined before) bytes → HasRun k.size bytes k.session

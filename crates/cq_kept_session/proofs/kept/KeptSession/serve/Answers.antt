@@ -1,11 +1,10 @@
 -- One chunk more was taken, and at the end the partial line.
-use Rattle.std.proofs.Common.{◌≡◌, ◌≤◌, ℕ, List, [], ◌++◌, length, take, refl, sym, ◌∙◌, ap, subst, arith, append_assoc, append-nil}
+use Rattle.std.proofs.Common.{◌≡◌, ℕ, List, [], ◌++◌, length, take, refl, sym, ◌∙◌, ap, subst, arith, append_assoc}
 use Rattle.std.proofs.KnownBytes.{Consumes-nil, Consumes-trans}
 use Rattle.cq_lines.proofs.Endings.{Consumes-nothing}
-use Rattle.cq_lines.specs.declared.limits.TheConstants.{LINE_LIMIT}
 use Rattle.cq_kept_session.specs.Served.{Serves}
-use Rattle.cq_kept_session.specs.Texts.{without_zeros}
-use Rattle.cq_kept_session.proofs.Pieces.{serves_both, serves_none, zeros_both}
+use Rattle.cq_kept_session.specs.Texts.{as_kept}
+use Rattle.cq_kept_session.proofs.Pieces.{serves_both, serves_none, kept_both}
 use Rattle.cq_kept_session.proofs.kept.KeptSession.serve.Goals as goal
 
 -- what was done, and then what is left with a chunk behind it
@@ -16,7 +15,7 @@ next_are first second last partial chunk input one two =
 pub loop-init : goal.loop-init
 loop-init g c =
     let none = c.new-partial.ensures.items in
-    (c.requires, omega (arith, ap length none), refl, ([], Consumes-nil _, λ honest. ([], none, serves_none c.args.self.now (g.W.Write.contents c.args.writer.now))))
+    (c.requires, omega (arith, ap length none), refl, ([], Consumes-nil _, ([], none, serves_none c.args.self.now (g.W.Write.contents c.args.writer.now))))
 
 pub loop-preserved : goal.loop-preserved
 loop-preserved g c =
@@ -29,13 +28,12 @@ loop-preserved g c =
       (
         i.3.0 ++ chunk,
         Consumes-trans _ _ _ i.3.0 chunk i.3.1 c.in-Ok.ensures.bytes.0,
-        λ honest.
-            let here = t.serves honest in
-            let w = i.3.2 (here.2.continues.honest honest) in (
+        let here = t.serves in
+            let w = i.3.2 in (
               w.0 ++ here.0,
               next_are w.0 here.0 c.take_chunk.new.partial.items c.loop.partial.items chunk i.3.0 w.1 here.1,
-              subst (λ (bytes : List ℕ). Serves c.args.self.now c.take_chunk.new.self (g.W.Write.contents c.args.writer.now) (g.W.Write.contents c.take_chunk.new.writer) bytes) (sym (zeros_both w.0 here.0))
-                  (serves_both _ _ _ _ _ _ (without_zeros w.0) (without_zeros here.0) w.2 here.2),
+              subst (λ (bytes : List ℕ). Serves c.args.self.now c.take_chunk.new.self (g.W.Write.contents c.args.writer.now) (g.W.Write.contents c.take_chunk.new.writer) bytes) (sym (kept_both w.0 here.0))
+                  (serves_both _ _ _ _ _ _ (as_kept w.0) (as_kept here.0) w.2 here.2),
             ),
       ),
     )
@@ -52,11 +50,10 @@ returns-in-Ok-eq0-clause-serves g c =
       input,
       end,
       e.1,
-      λ honest.
-          let here = e.2 honest in
-          let w = i.3.2 (here.continues.honest honest) in
+      let here = e.2 in
+          let w = i.3.2 in
           let all : w.0 ++ (partial ++ e.0) ≡ i.3.0 ++ e.0 = sym (append_assoc w.0 partial e.0) ∙ ap (λ (l : List ℕ). l ++ e.0) w.1 in
           subst (λ (bytes : List ℕ). Serves c.args.self.now c.take_end.new.self (g.W.Write.contents c.args.writer.now) (g.W.Write.contents c.take_end.new.writer) bytes)
-          (sym (zeros_both w.0 (partial ++ e.0)) ∙ ap without_zeros all)
-          (serves_both _ _ _ _ _ _ (without_zeros w.0) (without_zeros (partial ++ e.0)) w.2 here),
+          (sym (kept_both w.0 (partial ++ e.0)) ∙ ap as_kept all)
+          (serves_both _ _ _ _ _ _ (as_kept w.0) (as_kept (partial ++ e.0)) w.2 here),
     )

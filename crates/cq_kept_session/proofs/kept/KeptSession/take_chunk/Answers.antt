@@ -1,8 +1,8 @@
 -- What ends with a line feed is taken, and then what is behind it if it is too long.
-use Rattle.std.proofs.Common.{◌≡◌, ℕ, List, [], ◌++◌, refl, sym, ◌∙◌, ap, subst, append_assoc}
+use Rattle.std.proofs.Common.{◌≡◌, ℕ, List, ◌++◌, sym, ◌∙◌, ap, subst, append_assoc}
 use Rattle.cq_kept_session.specs.Served.{Serves}
-use Rattle.cq_kept_session.specs.Texts.{without_zeros}
-use Rattle.cq_kept_session.proofs.Pieces.{if_ok, serves_both, zeros_both}
+use Rattle.cq_kept_session.specs.Texts.{as_kept}
+use Rattle.cq_kept_session.proofs.Pieces.{if_ok, serves_both, kept_both}
 use Rattle.cq_kept_session.proofs.kept.KeptSession.take_chunk.Goals as goal
 
 -- two parts, one behind the other
@@ -12,11 +12,10 @@ parts_are first second old new last ended rest chunk one two is =
     ∙ append_assoc old ended rest ∙ ap (λ (l : List ℕ). old ++ l) is
 
 pub returns-clause-serves : goal.returns-clause-serves
-returns-clause-serves g c = if_ok c.take_more-2.result c.take_more-2.ensures.serves (λ serves honest.
-    let here = serves honest in
-    let w = c.in_ok-take_more.ensures.serves (here.2.continues.honest honest) in (
+returns-clause-serves g c = if_ok c.take_more-2.result c.take_more-2.ensures.serves (λ here.
+    let w = c.in_ok-take_more.ensures.serves in (
       w.0 ++ here.0,
       parts_are w.0 here.0 c.args.partial.now.items c.take_more.new.partial.items c.take_more-2.new.partial.items c.cut_behind_lines.result.0.now c.cut_behind_lines.result.1.now c.args.chunk.now w.1 here.1 c.cut_behind_lines.ensures,
-      subst (λ (bytes : List ℕ). Serves c.args.self.now c.take_more-2.new.self (g.W.Write.contents c.args.writer.now) (g.W.Write.contents c.take_more-2.new.writer) bytes) (sym (zeros_both w.0 here.0))
-          (serves_both _ _ _ _ _ _ (without_zeros w.0) (without_zeros here.0) w.2 here.2),
+      subst (λ (bytes : List ℕ). Serves c.args.self.now c.take_more-2.new.self (g.W.Write.contents c.args.writer.now) (g.W.Write.contents c.take_more-2.new.writer) bytes) (sym (kept_both w.0 here.0))
+          (serves_both _ _ _ _ _ _ (as_kept w.0) (as_kept here.0) w.2 here.2),
     ))

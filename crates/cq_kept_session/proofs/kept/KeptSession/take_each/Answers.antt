@@ -1,10 +1,10 @@
 -- One line more was taken or refused.
 use Rattle.std.proofs.lemmas.List.{length-append}
-use Rattle.std.proofs.Common.{◌≡◌, ◌≤◌, ◌+◌, ℕ, List, [], ◌++◌, length, take, drop, refl, sym, ◌∙◌, ap, subst, arith, append_assoc, append-nil, take-append-drop}
+use Rattle.std.proofs.Common.{◌≡◌, ◌≤◌, ℕ, List, [], ◌++◌, length, take, drop, refl, sym, ◌∙◌, ap, subst, arith, append_assoc, append-nil, take-append-drop}
 use Rattle.cq_records.specs.declared.frame.TheConstants.{TEXT_LIMIT}
 use Rattle.cq_kept_session.specs.Served.{Serves}
-use Rattle.cq_kept_session.specs.Texts.{without_zeros}
-use Rattle.cq_kept_session.proofs.Pieces.{if_ok, no_bytes, serves_both, serves_none, zeros_both}
+use Rattle.cq_kept_session.specs.Texts.{as_kept}
+use Rattle.cq_kept_session.proofs.Pieces.{if_ok, no_bytes, serves_both, serves_none, kept_both}
 use Rattle.cq_kept_session.proofs.kept.KeptSession.take_each.Goals as goal
 
 both_parts : (first later rest : List ℕ) (n : ℕ) → first ≡ take n rest → later ≡ drop n rest → first ++ later ≡ rest
@@ -14,7 +14,7 @@ shorter : (first later rest : List ℕ) → first ++ later ≡ rest → length r
 shorter first later rest is short = omega (arith, ap length is, length-append first later, short)
 
 pub loop-line-init : goal.loop-line-init
-loop-line-init g c = (c.requires.kept, c.requires.short, refl, λ honest. ([], refl, serves_none c.args.self.now (g.W.Write.contents c.args.writer.now)))
+loop-line-init g c = (c.requires.kept, c.requires.short, refl, ([], refl, serves_none c.args.self.now (g.W.Write.contents c.args.writer.now)))
 
 pub loop-line-preserved : goal.loop-line-preserved
 loop-line-preserved g c =
@@ -27,28 +27,26 @@ loop-line-preserved g c =
       t.kept,
       shorter whole later rest parts i.1,
       c.take_or_refuse.ensures.size ∙ i.2,
-      λ honest.
-          let here = t.serves honest in
-          let w = i.3 (here.continues.honest honest) in (
+      let here = t.serves in
+          let w = i.3 in (
             w.0 ++ whole,
             append_assoc w.0 whole later ∙ ap (λ (more : List ℕ). w.0 ++ more) parts ∙ w.1,
-            subst (λ (bytes : List ℕ). Serves c.args.self.now c.take_or_refuse.new.self (g.W.Write.contents c.args.writer.now) (g.W.Write.contents c.take_or_refuse.new.writer) bytes) (sym (zeros_both w.0 whole))
-                (serves_both _ _ _ _ _ _ (without_zeros w.0) (without_zeros whole) w.2 here),
+            subst (λ (bytes : List ℕ). Serves c.args.self.now c.take_or_refuse.new.self (g.W.Write.contents c.args.writer.now) (g.W.Write.contents c.take_or_refuse.new.writer) bytes) (sym (kept_both w.0 whole))
+                (serves_both _ _ _ _ _ _ (as_kept w.0) (as_kept whole) w.2 here),
           ),
     )
 
 pub returns-then-is_empty-clause-serves : goal.returns-then-is_empty-clause-serves
-returns-then-is_empty-clause-serves g c = λ honest.
-    let w = c.loop-line.invariant.3 honest in
+returns-then-is_empty-clause-serves g c =
+    let w = c.loop-line.invariant.3 in
     let none : c.loop-line.rest.now ≡ [] = no_bytes c.loop-line.rest.now (sym c.is_empty.ensures ∙ c.if-is_empty.true) in
     let all : w.0 ≡ c.args.lines.now = sym (append-nil w.0) ∙ ap (λ (more : List ℕ). w.0 ++ more) (sym none) ∙ w.1 in
-    subst (λ (bytes : List ℕ). Serves c.args.self.now c.loop-line.self (g.W.Write.contents c.args.writer.now) (g.W.Write.contents c.loop-line.writer) (without_zeros bytes)) all w.2
+    subst (λ (bytes : List ℕ). Serves c.args.self.now c.loop-line.self (g.W.Write.contents c.args.writer.now) (g.W.Write.contents c.loop-line.writer) (as_kept bytes)) all w.2
 
 pub returns-clause-serves : goal.returns-clause-serves
-returns-clause-serves g c = if_ok c.take_or_refuse-2.result c.take_or_refuse-2.ensures.serves (λ serves honest.
-    let here = serves honest in
-    let w = c.loop-line.invariant.3 (here.continues.honest honest) in
+returns-clause-serves g c = if_ok c.take_or_refuse-2.result c.take_or_refuse-2.ensures.serves (λ here.
+    let w = c.loop-line.invariant.3 in
     let rest = c.loop-line.rest.now in
     subst (λ (bytes : List ℕ). Serves c.args.self.now c.take_or_refuse-2.new.self (g.W.Write.contents c.args.writer.now) (g.W.Write.contents c.take_or_refuse-2.new.writer) bytes)
-    (sym (zeros_both w.0 rest) ∙ ap without_zeros w.1)
-    (serves_both _ _ _ _ _ _ (without_zeros w.0) (without_zeros rest) w.2 here))
+    (sym (kept_both w.0 rest) ∙ ap as_kept w.1)
+    (serves_both _ _ _ _ _ _ (as_kept w.0) (as_kept rest) w.2 here))

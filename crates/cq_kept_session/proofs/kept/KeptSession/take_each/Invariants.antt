@@ -1,17 +1,16 @@
 -- The lines before the rest were taken or refused.
 use Rattle.std.proofs.Common.{◌≡◌, ◌≤◌, List, ℕ, ◌++◌, length}
-use Rattle.std.specs.Prelude.{IsTrue}
 use Rattle.cq_records.specs.declared.frame.TheConstants.{TEXT_LIMIT}
-use Rattle.cq_kept_session.specs.Kept.{IsKept, session_device, session_size}
+use Rattle.cq_kept_session.specs.Kept.{IsKept, session_size}
 use Rattle.cq_kept_session.specs.Served.{Serves}
-use Rattle.cq_kept_session.specs.Texts.{without_zeros}
+use Rattle.cq_kept_session.specs.Texts.{as_kept}
 use Rattle.cq_kept_session.proofs.kept.KeptSession.take_each.Given as goal
 
 abbrev pub invariant-loop-line : goal.invariant-loop-line
 invariant-loop-line g l =
     IsKept l.self × (length l.rest ≤ TEXT_LIMIT) × (session_size l.self ≡ session_size l.initial.self)
-    × (IsTrue (g.D.Device.is_honest (session_device l.self)) → (done : List ℕ) × (done ++ l.rest ≡ l.initial.rest)
-    × Serves l.initial.self l.self (g.W.Write.contents l.initial.writer) (g.W.Write.contents l.writer) (without_zeros done))
+    × ((done : List ℕ) × (done ++ l.rest ≡ l.initial.rest)
+    × Serves l.initial.self l.self (g.W.Write.contents l.initial.writer) (g.W.Write.contents l.writer) (as_kept done))
 
 abbrev pub decreases-loop-line : goal.decreases-loop-line
 decreases-loop-line g l = length l.rest

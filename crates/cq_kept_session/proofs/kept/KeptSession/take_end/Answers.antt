@@ -1,7 +1,7 @@
 -- There is no partial line.
-use Rattle.std.proofs.Common.{◌≡◌, ℕ, List, [], ◌++◌, inl, refl, sym, ◌∙◌, ap, subst, append-nil}
+use Rattle.std.proofs.Common.{◌≡◌, ℕ, List, [], inl, refl, sym, ◌∙◌, subst, append-nil}
 use Rattle.cq_kept_session.specs.Served.{Serves}
-use Rattle.cq_kept_session.specs.Texts.{without_zeros}
+use Rattle.cq_kept_session.specs.Texts.{as_kept}
 use Rattle.cq_kept_session.proofs.Pieces.{no_bytes, serves_none}
 use Rattle.cq_kept_session.proofs.kept.KeptSession.take_end.Goals as goal
 
@@ -11,4 +11,4 @@ returns-then-self-clause-serves g c =
     let a = g.W.Write.contents c.args.writer.now in
     let partial = c.args.partial.now.items in
     let none : partial ≡ [] = sym c.as_slice.ensures.value ∙ no_bytes c.as_slice.result.now (sym c.is_empty.ensures ∙ c.if-is_empty.true) in
-    ([], inl refl, λ honest. subst (λ (bytes : List ℕ). Serves k k a a (without_zeros bytes)) (sym (append-nil partial ∙ none)) (serves_none k a))
+    ([], inl refl, subst (λ (bytes : List ℕ). Serves k k a a (as_kept bytes)) (sym (append-nil partial ∙ none)) (serves_none k a))

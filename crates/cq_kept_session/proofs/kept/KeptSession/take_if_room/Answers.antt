@@ -1,9 +1,8 @@
 -- The lines were taken, or nothing has changed.
-use Rattle.std.proofs.Common.{◌≡◌, ◌∙◌, ap, refl, subst}
+use Rattle.std.proofs.Common.{◌≡◌, ◌∙◌, ap, subst}
 use Rattle.std.specs.Prelude.{Result, Err}
 use Rattle.cq_kept_session.specs.Outcomes.{OnNotKept}
-use Rattle.cq_kept_session.specs.Takes.{Taken}
-use Rattle.cq_kept_session.specs.Texts.{without_zeros}
+use Rattle.cq_kept_session.specs.Texts.{as_kept}
 use Rattle.cq_kept_session.specs.declared.fault.TakeFault.{TakeFault}
 use Rattle.cq_kept_session.specs.declared.fault.TakeFault.TheVariants.{NotKept}
 use Rattle.cq_kept_session.proofs.Pieces.{serves_nothing, serves_took}
@@ -13,15 +12,14 @@ abbrev faulty : TakeFault → Result (Unit {0}) TakeFault
 faulty f = Err f
 
 pub returns-in-Ok-clause-serves : goal.returns-in-Ok-clause-serves
-returns-in-Ok-clause-serves g c = λ honest.
+returns-in-Ok-clause-serves g c =
     let e = c.take.ensures in
-    let w = c.in-Ok.ensures.told honest in
-    let t : Taken = record { chunk = without_zeros c.args.chunk.now; output = w.0 } in
-    serves_took c.args.self.now c.take.new.self (g.W.Write.contents c.args.writer.now) (g.W.Write.contents c.take.new.writer) t t.chunk refl w.1
-    (record { size = e.size; records = c.in-Ok.ensures.records; honest = e.tries.honest; text = λ _. w.3 })
+    serves_took c.args.self.now c.take.new.self (g.W.Write.contents c.args.writer.now) (g.W.Write.contents c.take.new.writer) (as_kept c.args.chunk.now) e.size e.tries.honest
+    c.in-Ok.ensures.stands
+    (λ honest bytes stands. let w = c.in-Ok.ensures.told honest bytes stands in (w.0, w.1, w.3))
 
 pub returns-in-Err-NotKept-Full-clause-serves : goal.returns-in-Err-NotKept-Full-clause-serves
-returns-in-Err-NotKept-Full-clause-serves g c = λ honest.
+returns-in-Err-NotKept-Full-clause-serves g c =
     let e = c.take.ensures in
     let k = c.in-Err-NotKept-Full in
     let same : c.take.new.writer ≡ c.args.writer.now = subst (λ f. OnNotKept (faulty f) (c.take.new.writer ≡ c.args.writer.now)) k.field-0-is k.ensures.not_told in

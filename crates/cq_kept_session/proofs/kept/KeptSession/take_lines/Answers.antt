@@ -1,8 +1,8 @@
 -- Where they weren't taken as a whole, each of them was taken or refused.
-use Rattle.std.proofs.Common.{ℕ, List, [], Bool, subst}
+use Rattle.std.proofs.Common.{[], Bool, subst}
 use Rattle.std.specs.Prelude.{if◌then◌else◌}
 use Rattle.cq_kept_session.specs.Served.{Serves}
-use Rattle.cq_kept_session.specs.Texts.{without_zeros}
+use Rattle.cq_kept_session.specs.Texts.{as_kept}
 use Rattle.cq_kept_session.proofs.Pieces.{if_ok, serves_both}
 use Rattle.cq_kept_session.proofs.kept.KeptSession.take_lines.Goals as goal
 
@@ -13,7 +13,6 @@ returns-clause-serves g c =
     let a = g.W.Write.contents c.args.writer.now in
     let b = g.W.Write.contents c.take_if_room.new.writer in
     let lines = c.args.lines.now in
-    if_ok c.take_each.result c.take_each.ensures.serves (λ serves honest.
-    let rest = serves honest in
-    let none : Serves old mid a b [] = subst (λ (is : Bool). Serves old mid a b (if is then without_zeros lines else [])) c.if-branch.false (c.in_ok-take_if_room.ensures.serves (rest.continues.honest honest)) in
-    serves_both old mid c.take_each.new.self a b _ [] (without_zeros lines) none rest)
+    if_ok c.take_each.result c.take_each.ensures.serves (λ rest.
+    let none : Serves old mid a b [] = subst (λ (is : Bool). Serves old mid a b (if is then as_kept lines else [])) c.if-branch.false c.in_ok-take_if_room.ensures.serves in
+    serves_both old mid c.take_each.new.self a b _ [] (as_kept lines) none rest)

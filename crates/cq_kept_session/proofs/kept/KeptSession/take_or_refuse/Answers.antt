@@ -1,18 +1,18 @@
 -- Where nothing was taken, the line is refused.
-use Rattle.std.proofs.Common.{ℕ, List, [], Bool, subst}
+use Rattle.std.proofs.Common.{[], Bool, subst}
 use Rattle.std.specs.Prelude.{if◌then◌else◌}
 use Rattle.cq_kept_session.specs.Served.{Serves}
-use Rattle.cq_kept_session.specs.Texts.{without_zeros}
+use Rattle.cq_kept_session.specs.Texts.{as_kept}
 use Rattle.cq_kept_session.proofs.Pieces.{serves_both, serves_refused}
 use Rattle.cq_kept_session.proofs.kept.KeptSession.take_or_refuse.Goals as goal
 
 pub returns-clause-serves : goal.returns-clause-serves
-returns-clause-serves g c = λ honest.
+returns-clause-serves g c =
     let old = c.args.self.now in
     let new = c.take_if_room.new.self in
     let a = g.W.Write.contents c.args.writer.now in
     let b = g.W.Write.contents c.take_if_room.new.writer in
     let whole = c.args.whole.now in
     let told = c.in_ok-refuse.ensures.told in
-    let none : Serves old new a b [] = subst (λ (is : Bool). Serves old new a b (if is then without_zeros whole else [])) c.if-branch.false (c.in_ok-take_if_room.ensures.serves honest) in
-    serves_both old new new a b (g.W.Write.contents c.refuse.new.writer) [] (without_zeros whole) none (serves_refused new b _ told.0 (without_zeros whole) told.1)
+    let none : Serves old new a b [] = subst (λ (is : Bool). Serves old new a b (if is then as_kept whole else [])) c.if-branch.false c.in_ok-take_if_room.ensures.serves in
+    serves_both old new new a b (g.W.Write.contents c.refuse.new.writer) [] (as_kept whole) none (serves_refused new b _ told.0 (as_kept whole) told.1)
