@@ -1,13 +1,22 @@
--- Worked layouts, one for each kind of message, and what is read of bytes that are none.
-use Rattle.std.proofs.Common.{◌≡◌, ℕ, false, true, List, [], ◌∷◌, ◌++◌, Some, None, Err, refl}
+-- Worked layouts, one for each kind of message, and what is read of bytes that are none; the pieces of a snapshot, and of what isn't one.
+use Rattle.std.proofs.Common.{◌≡◌, ℕ, false, List, [], ◌∷◌, ◌++◌, map, Some, None, Ok, Err, refl}
 use Rattle.std.specs.Prelude.{codes}
 use Rattle.cq_base.specs.declared.ask.Ask.TheVariants.{Remove}
 use Rattle.cq_base.specs.declared.reply.Reply.TheVariants.{Sent}
 use Rattle.cq_chain.specs.declared.message.Message.TheVariants as kinds
-use Rattle.cq_wire.specs.declared.fault.WireFault.TheVariants.{BadTag, BadNumber}
-use Rattle.cq_wire.specs.Layout.{number32, number64, text, flag, optional, ask, request, entry, reply, whole}
-use Rattle.cq_wire.specs.Reading.{number_at, whole_at, all_of}
+use Rattle.cq_store.specs.Stands.{StoreKept}
+use Rattle.cq_store_wire.specs.declared.part.Part.TheVariants as parts
+use Rattle.cq_store_wire.specs.Building.{closed, fed, put, put_end, put_start, read_into}
+use Rattle.cq_store_wire.specs.Layout.{chunk, part}
+use Rattle.cq_store_wire.specs.Order.{all_clients, all_names, parts_of}
+use Rattle.cq_store_wire.specs.Reading.{part_at, start_at}
+use Rattle.cq_wire.specs.declared.fault.WireFault.TheVariants.{BadTag, BadNumber, BytesLeft, Truncated}
+use Rattle.cq_wire.specs.Layout.{number32, number64, text, flag, optional, ask, request, entry, reply}
+use Rattle.cq_wire.specs.Reading.{number_at, moment_at, whole_at, all_of}
+use Rattle.cq_chain_wire.specs.declared.reader.Progress.TheVariants.{More, Whole}
+use Rattle.cq_chain_wire.specs.Feeding.{all_fed, chunk_fed, end_fed, kind_fed, piece_fed, plain_fed}
 use Rattle.cq_chain_wire.specs.Layout.{answer, message}
+use Rattle.cq_chain_wire.specs.Pieces.{snapshot_end, snapshot_piece}
 use Rattle.cq_chain_wire.specs.Reading.{server_at, report_at, message_at}
 
 -- the number 7 in four bytes, and 258 in eight
@@ -81,3 +90,56 @@ no_snapshot = refl
 no_server_0 : whole_at message_at (1 ∷ 4 ∷ 0 ∷ 0 ∷ 0 ∷ 0 ∷ []) ≡ Err BadNumber
 unfolding whole_at all_of message_at report_at server_at number_at
 no_server_0 = refl
+
+-- ---- pieces
+
+-- a store that took 258 entries, the last at moment 258, and has no client and no name
+few : StoreKept
+few = record { count = 258; last = 258; clients = []; queues = [] }
+
+-- its parts, in one chunk and in two
+its_parts : parts_of few ≡ parts.Start 258 258 ∷ parts.End ∷ []
+unfolding parts_of all_clients all_names few
+its_parts = refl
+
+the_whole_store : snapshot_piece (parts.Start 258 258 ∷ parts.End ∷ []) ≡ 1 ∷ 1 ∷ 1 ∷ 0 ∷ (many ++ (many ++ (5 ∷ [])))
+unfolding snapshot_piece chunk part number64 many
+the_whole_store = refl
+
+the_two_chunks : map snapshot_piece ((parts.Start 258 258 ∷ []) ∷ (parts.End ∷ []) ∷ []) ≡ (1 ∷ 1 ∷ 1 ∷ 0 ∷ (many ++ many)) ∷ (1 ∷ 1 ∷ 1 ∷ 5 ∷ []) ∷ []
+unfolding snapshot_piece chunk part number64 many
+the_two_chunks = refl
+
+the_end : snapshot_end ≡ 1 ∷ 13 ∷ []
+unfolding snapshot_end
+the_end = refl
+
+-- both are read as the snapshot
+started : List ℕ
+started = 1 ∷ 1 ∷ 1 ∷ 0 ∷ (many ++ many)
+
+read_whole : all_fed ((started ++ 5 ∷ []) ∷ (1 ∷ 13 ∷ []) ∷ []) (More None) ≡ Ok (Whole (kinds.Snap few))
+unfolding all_fed piece_fed kind_fed chunk_fed end_fed fed read_into part_at start_at number_at moment_at put put_start put_end closed started many few
+read_whole = refl
+
+read_in_two : all_fed (started ∷ (1 ∷ 1 ∷ 1 ∷ 5 ∷ []) ∷ (1 ∷ 13 ∷ []) ∷ []) (More None) ≡ Ok (Whole (kinds.Snap few))
+unfolding all_fed piece_fed kind_fed chunk_fed end_fed fed read_into part_at start_at number_at moment_at put put_start put_end closed started many few
+read_in_two = refl
+
+-- no plain message is within a snapshot, no end before its store's, and none without one
+no_plain_within : all_fed (started ∷ (1 ∷ 3 ∷ []) ∷ []) (More None) ≡ Err BadTag
+unfolding all_fed piece_fed kind_fed chunk_fed plain_fed fed read_into part_at start_at number_at moment_at put put_start started many
+no_plain_within = refl
+
+no_end_within : all_fed (started ∷ (1 ∷ 13 ∷ []) ∷ []) (More None) ≡ Err Truncated
+unfolding all_fed piece_fed kind_fed chunk_fed end_fed fed read_into part_at start_at number_at moment_at put put_start started many
+no_end_within = refl
+
+no_end_alone : all_fed ((1 ∷ 13 ∷ []) ∷ []) (More None) ≡ Err BadTag
+unfolding all_fed piece_fed kind_fed end_fed
+no_end_alone = refl
+
+-- no piece is behind a whole message
+nothing_behind : all_fed ((1 ∷ 3 ∷ []) ∷ (1 ∷ 3 ∷ []) ∷ []) (More None) ≡ Err BytesLeft
+unfolding all_fed piece_fed kind_fed plain_fed all_of message_at
+nothing_behind = refl

@@ -1,2 +1,5 @@
 pub mod MessageLaws
+pub mod PieceLaws
 pub mod Examples
+pub mod Writing
+pub mod Passing

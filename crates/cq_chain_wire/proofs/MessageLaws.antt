@@ -1,5 +1,5 @@
 -- Messages that are read were written so, and what was written is read.
-use Rattle.std.proofs.Common.{◌≡◌, ℕ, ◌^◌, ◌<◌, ◌≤◌, Bool, true, cond, eqb, leb, leb-true, le-leb, List, [], ◌∷◌, ◌++◌, Result, Ok, Err, refl, sym, subst, append_assoc}
+use Rattle.std.proofs.Common.{◌≡◌, ℕ, ◌^◌, ◌<◌, Bool, true, cond, eqb, leb, leb-true, le-leb, List, [], ◌∷◌, ◌++◌, Result, Ok, Err, refl, sym, subst, append_assoc}
 use Rattle.std.specs.Prelude.{⊤}
 use Rattle.std.specs.Int.{w32, w64}
 use Rattle.std.proofs.lemmas.Bool.{eqb-true}
@@ -11,7 +11,7 @@ use Rattle.cq_wire.specs.declared.fault.WireFault.{WireFault}
 use Rattle.cq_wire.specs.declared.fault.WireFault.TheVariants.{BadTag, BadNumber}
 use Rattle.cq_wire.specs.Layout.{number32, number64, flag, optional, entry, reply}
 use Rattle.cq_wire.specs.Limits.{IfThere, IsEntry, IsReply}
-use Rattle.cq_wire.specs.Reading.{◌>>=◌, Reader, number_at, flag_at, optional_at, entry_at, reply_at}
+use Rattle.cq_wire.specs.Reading.{◌>>=◌, number_at, flag_at, optional_at, entry_at, reply_at}
 use Rattle.cq_wire.proofs.Fronts.{IsBytes, IsBytes-rest, Takes, Takes-then, Takes-nothing, Takes-tagged, Reads, IsRead, bind_ok, ok_is, either, read_as}
 use Rattle.cq_wire.proofs.Sequences.{kept_reads, kept_is_read, one, two, four, one_read, two_read, four_read}
 use Rattle.cq_wire.proofs.PartLaws.{reads32, reads64, is_read32, is_read64, flag_reads, flag_is_read, optional_reads, optional_is_read}

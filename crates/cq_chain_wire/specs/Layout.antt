@@ -1,4 +1,4 @@
--- The bytes of each message but a snapshot.
+-- The bytes of each message but a snapshot, which comes in pieces (`Pieces`).
 use Rattle.std.specs.Prelude.{ℕ, List, [], ◌∷◌, ◌++◌}
 use Rattle.cq_chain.specs.declared.message.Answer.{Answer}
 use Rattle.cq_chain.specs.declared.message.Message.{Message}
@@ -8,7 +8,7 @@ use Rattle.cq_wire.specs.Layout.{number32, number64, flag, optional, entry, repl
 unfoldable pub answer : Answer → List ℕ
 answer a = number32 a.client ++ (number64 a.number ++ (flag a.is_query ++ (number64 a.length ++ reply a.reply)))
 
--- A byte for the kind, and the parts in their order. A snapshot has no bytes here: 1 is kept for it.
+-- A byte for the kind, and the parts in their order. A snapshot has no bytes here: 1 and 13 are kept for its pieces.
 unfoldable pub message : Message → List ℕ
 message (kinds.Fwd place one) = 0 ∷ (number64 place ++ entry one)
 message (kinds.Snap state) = []

@@ -1,10 +1,12 @@
-//! Each message but a snapshot has bytes.
+//! What holds of each message, so that it has bytes.
 ghost use Rattle.std.specs.Prelude.{◌≡◌, ◌≤◌, ◌<◌, ◌^◌, true, false};
 ghost use Rattle.cq_wire.specs.Limits.{IfThere};
+ghost use Rattle.cq_chain_wire.specs.Laws.{IsSound};
 ghost use Rattle.cq_chain_wire.specs.Limits.{IsServer, IsAnswer, IsPlain, IsMessage};
 
 use cq_base::ServerId;
 use cq_chain::{Answer, Message};
+use cq_store_wire::store_fits;
 use cq_wire::{entry_fits, reply_fits};
 
 /// Whether the message isn't a snapshot: O(1).
@@ -80,5 +82,15 @@ pub fn message_fits(message: &Message)
         }
         Message::Ready => (),
         Message::Answer(answer) => answer_fits(answer),
+    }
+}
+
+/// What holds of each message, so that it is read back: O(1), and of a snapshot O(names).
+pub fn message_holds(message: &Message)
+    ensures { IsSound message.now }
+{
+    match message {
+        Message::Snap { state } => store_fits(state.store()),
+        _ => message_fits(message),
     }
 }

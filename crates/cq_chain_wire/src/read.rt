@@ -12,8 +12,9 @@ use cq_chain::Message;
 use cq_wire::{ReadFault, VERSION, WireFault};
 use std::alloc::Global;
 
+/// The message that the bytes behind the version are, all of them.
 #[tactic(auto, unfolding(cq_wire::specs::Reading::all_of))]
-fn all_of_message(alloc: Global, bytes: &[u8]) -> Result<Message, ReadFault>
+pub fn all_of_message(alloc: Global, bytes: &[u8]) -> Result<Message, ReadFault>
     ensures { Gives (λ x. x) result (all_of message_at bytes.now) }
 {
     let (message, rest) = match message_of(alloc, bytes) {

@@ -1,6 +1,7 @@
 //! Values as hex digits and as words.
 use crate::kinds::Value;
 use crate::made::{Draws, value};
+use crate::stored::add_store;
 use cq_base::{Ask, DedupId, Delivery, Entry, Query, Receipt, Reply, Request, Seconds, ServerId};
 use cq_chain::{Answer, Message};
 use std::alloc::Global;
@@ -162,13 +163,17 @@ fn add_answer(text: &mut String, answer: &Answer) -> io::Result<()> {
     add_reply(text, &answer.reply)
 }
 
-fn add_message(text: &mut String, message: &Message) -> io::Result<()> {
+/// Adds the words of a message.
+pub fn add_message(text: &mut String, message: &Message) -> io::Result<()> {
     match message {
         Message::Fwd { place, entry } => {
             write!(text, " fwd {place}")?;
             add_entry(text, entry)?;
         }
-        Message::Snap { state: _ } => text.push_str(" snap")?,
+        Message::Snap { state } => {
+            text.push_str(" snap ")?;
+            add_store(text, state.store())?;
+        }
         Message::Ack { place } => write!(text, " ack {place}")?,
         Message::BeHead => text.push_str(" be-head")?,
         Message::Report { pred } => write!(text, " report {}", pred.get())?,

@@ -1,6 +1,7 @@
 //! Bytes that are given as hex digits.
-use crate::dump::add_value;
+use crate::dump::{add_message, add_value};
 use crate::kinds::{Kind, read};
+use crate::pieces::read_pieces;
 use crate::stop;
 use crate::stored::add_store;
 use crate::stores::read_store;
@@ -31,13 +32,16 @@ fn bytes_of(alloc: Global, digits: &[u8]) -> io::Result<Vec<u8>> {
     Ok(bytes)
 }
 
-/// Tells the value that the bytes are, or the fault. The value may be a store.
+/// Tells the value that the bytes are, or the fault. The value may be a store, or a message in pieces.
 pub fn tell_read(
     rt: &impl Print,
     alloc: Global,
     words: &mut SplitWhitespace<'_>,
 ) -> io::Result<()> {
     let name = words.next().ok_or(stop("no kind"))?;
+    if name == "pieces" {
+        return tell_pieces(rt, alloc, words);
+    }
     let bytes = bytes_of(alloc, words.next().unwrap_or("").as_bytes())?;
     if name == "store" {
         return tell_store(rt, alloc, &bytes);
@@ -60,6 +64,32 @@ fn tell_store(rt: &impl Print, alloc: Global, bytes: &[u8]) -> io::Result<()> {
         Ok(store) => {
             let mut text = String::new(alloc);
             add_store(&mut text, &store)?;
+            println!(rt; "{text}")
+        }
+        Err(ReadFault::NoMemory) => Err(stop("no memory")),
+        Err(ReadFault::Bad(fault)) => println!(rt; "{} {}", fault.code(), fault.name()),
+    }
+}
+
+/// The pieces of those digits, a word each; one without bytes is `-`.
+fn pieces_of(alloc: Global, words: &mut SplitWhitespace<'_>) -> io::Result<Vec<Vec<u8>>> {
+    let mut pieces = Vec::new(alloc);
+    for word in words {
+        let digits = if word == "-" { "" } else { word };
+        let piece = bytes_of(alloc, digits.as_bytes())?;
+        pieces.push(piece).map_err(|_| stop("no memory"))?;
+    }
+    Ok(pieces)
+}
+
+/// Tells the message that the pieces are, or the fault.
+fn tell_pieces(rt: &impl Print, alloc: Global, words: &mut SplitWhitespace<'_>) -> io::Result<()> {
+    let pieces = pieces_of(alloc, words)?;
+    match read_pieces(alloc, &pieces) {
+        Ok(message) => {
+            let mut text = String::new(alloc);
+            text.push_str("pieces")?;
+            add_message(&mut text, &message)?;
             println!(rt; "{text}")
         }
         Err(ReadFault::NoMemory) => Err(stop("no memory")),

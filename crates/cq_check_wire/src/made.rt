@@ -283,7 +283,7 @@ fn report(draws: &mut Draws) -> io::Result<Message> {
 }
 
 /// A message that isn't a snapshot.
-fn message(alloc: Global, draws: &mut Draws) -> io::Result<Message> {
+pub fn message(alloc: Global, draws: &mut Draws) -> io::Result<Message> {
     Ok(match draws.below(5) {
         0 => Message::Fwd {
             place: draws.number(),

@@ -6,20 +6,25 @@
 //! - `bytes SEED COUNT`: so many texts of bytes are read as each kind of value.
 //! - `stores SEED COUNT`: so many stores, which requests came to by the seed, are written in chunks and read. Then of each all
 //!   fronts are read, and it is read with each of its bytes changed.
-//! - `dump SEED COUNT`, `dump-stores SEED COUNT`: so many values, or stores, are written as hex digits, with words that say them,
-//!   for a reader in another language.
+//! - `pieces SEED COUNT`: so many messages, snapshots among them, are written in pieces and read. Then of each all fronts are read,
+//!   and it is read with each of its bytes changed.
+//! - `pass SEED COUNT`: so many of both are written and read, and nothing else.
+//! - `dump SEED COUNT`, `dump-stores SEED COUNT`, `dump-pieces SEED COUNT`: so many values, stores, or messages in pieces, are
+//!   written as hex digits, with words that say them, for a reader in another language.
 //! - `read KIND HEX`: those bytes are read as a value of that kind, and the words of the value are told, or the fault.
+//! - `read pieces HEX ..`: a message is read from those pieces. `-` is one without bytes.
 //! - `hold KIND HEX`, `skip KIND HEX`: the bytes are read, and the value is held; or they aren't read. What the one takes more
 //!   than the other is the memory of the value.
 //!
-//! What is read has to be written as just the bytes that it was read from. Told is how many reads gave a value, and how many each
-//! fault. The status is 1 where a value is written otherwise.
+//! What is read has to be written as just the bytes that it was read from, wherever a message was cut. Told is how many reads gave
+//! a value, and how many each fault. The status is 1 where a value is written otherwise.
 #![tactic(auto)]
 
 mod dump;
 mod given;
 mod kinds;
 mod made;
+mod pieces;
 mod reads;
 mod stored;
 mod stores;
@@ -56,8 +61,11 @@ fn run_drawn(
         "values" => trials::try_values(rt, alloc, &mut draws, count),
         "bytes" => trials::try_bytes(rt, alloc, &mut draws, count),
         "stores" => stores::try_stores(rt, alloc, &mut draws, count),
+        "pieces" => pieces::try_pieces(rt, alloc, &mut draws, count),
+        "pass" => pieces::pass(rt, alloc, &mut draws, count),
         "dump" => dump::dump(rt, alloc, &mut draws, count),
         "dump-stores" => stores::dump_stores(rt, alloc, &mut draws, count),
+        "dump-pieces" => pieces::dump_pieces(rt, alloc, &mut draws, count),
         _ => Err(stop("no such job")),
     }
 }

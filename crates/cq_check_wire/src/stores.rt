@@ -101,7 +101,7 @@ fn apply_one(alloc: Global, draws: &mut Draws, store: &mut Store, number: u64) -
 }
 
 /// A store that some requests came to.
-fn made(alloc: Global, draws: &mut Draws) -> io::Result<Store> {
+pub fn made(alloc: Global, draws: &mut Draws) -> io::Result<Store> {
     let mut store = Store::new(alloc).map_err(|_| stop("no memory"))?;
     for number in 0..draws.below(60) {
         apply_one(alloc, draws, &mut store, number)?;
@@ -212,15 +212,21 @@ struct Tallies {
     changed: Tally,
 }
 
-/// Passes a store by chunks, and reads spoilt bytes of it.
-fn try_store(alloc: Global, draws: &mut Draws, tallies: &mut Tallies) -> io::Result<()> {
+/// The bytes of a store, which was passed by chunks.
+pub fn pass_store(alloc: Global, draws: &mut Draws, tally: &mut Tally) -> io::Result<Vec<u8>> {
     let store = made(alloc, draws)?;
-    let mut bytes = whole(alloc, &store)?;
+    let bytes = whole(alloc, &store)?;
     let other = passed(alloc, draws, &store)?;
     if whole(alloc, &other)?.as_slice() != bytes.as_slice() {
         return Err(stop("a store isn't read as it was written"));
     }
-    tallies.passed.add_value();
+    tally.add_value();
+    Ok(bytes)
+}
+
+/// Passes a store by chunks, and reads spoilt bytes of it.
+fn try_store(alloc: Global, draws: &mut Draws, tallies: &mut Tallies) -> io::Result<()> {
+    let mut bytes = pass_store(alloc, draws, &mut tallies.passed)?;
     read_fronts(alloc, &mut tallies.fronts, &bytes)?;
     read_all_changed(alloc, draws, &mut tallies.changed, &mut bytes)
 }
