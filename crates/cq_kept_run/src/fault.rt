@@ -131,12 +131,21 @@ impl From<StartFault> for KeptFault {
     }
 }
 
+impl From<TakeFault> for KeptFault {
+    fn from(fault: TakeFault) -> KeptFault {
+        match fault {
+            TakeFault::NotKept(fault) => KeptFault::from(fault),
+            TakeFault::NotTold(fault) => KeptFault::from(fault),
+        }
+    }
+}
+
 impl From<ServeFault> for KeptFault {
     fn from(fault: ServeFault) -> KeptFault {
         match fault {
             ServeFault::Read(fault) => KeptFault::from(fault),
-            ServeFault::Take(TakeFault::NotKept(fault)) => KeptFault::from(fault),
-            ServeFault::Take(TakeFault::NotTold(fault)) => KeptFault::from(fault),
+            ServeFault::Take(fault) => KeptFault::from(fault),
+            ServeFault::Rewrite(fault) => KeptFault::from(fault),
         }
     }
 }

@@ -5,5 +5,7 @@ mod Histories
 mod Mending
 mod Pieces
 mod Readings
+mod Rewritten
 mod Runs
 mod Stages
+mod Written

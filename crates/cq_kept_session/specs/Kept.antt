@@ -5,7 +5,7 @@ use Rattle.cq_records.specs.Frames.{joined}
 use Rattle.cq_journal.specs.declared.journal.Journal.{Journal}
 use Rattle.cq_journal.specs.Journal.{IsJournal, journal_device, journal_records}
 use Rattle.cq_lines.specs.Lines.{ended_part}
-use Rattle.cq_script.specs.Resumed.{HasRun}
+use Rattle.cq_script.specs.Resumed.{HasRun, lines_ended}
 use Rattle.cq_script.specs.Sessions.{session_text}
 use Rattle.cq_kept_session.specs.Bases.{AreOf, fresh, is_at_lines, read}
 use Rattle.cq_kept_session.specs.Texts.{is_ended}
@@ -17,6 +17,10 @@ module _ {D : Type 0} {g : Ghosts D} where
 
   abbrev pub session_device : KeptSession D g → D
   session_device k = journal_device k.journal
+
+  -- how many lines have ended
+  abbrev pub session_lines : KeptSession D g → ℕ
+  session_lines k = lines_ended k.session
 
   -- on so many servers
   abbrev pub session_size : KeptSession D g → ℕ

@@ -127,10 +127,19 @@ pub enum ServeFault {
     /// Lines weren't taken.
     #[error("{0}")]
     Take(TakeFault),
+    /// A base wasn't written. All that came before is answered.
+    #[error("{0}")]
+    Rewrite(LogFault),
 }
 
 impl From<TakeFault> for ServeFault {
     fn from(fault: TakeFault) -> ServeFault {
         ServeFault::Take(fault)
+    }
+}
+
+impl From<LogFault> for ServeFault {
+    fn from(fault: LogFault) -> ServeFault {
+        ServeFault::Rewrite(fault)
     }
 }

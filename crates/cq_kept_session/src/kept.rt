@@ -1,5 +1,5 @@
 //! A session that keeps each chunk of lines before it runs and answers it.
-ghost use Rattle.std.specs.Prelude.{◌≡◌, ◌≤◌, ◌++◌, ◌<◌, [], ◌∷◌, ℕ, List, true, false, length, Err, IsTrue, OnOk, IsErrOf};
+ghost use Rattle.std.specs.Prelude.{◌≡◌, ◌≤◌, ◌++◌, ◌<◌, [], ◌∷◌, ℕ, List, true, false, length, option_map, Err, IfSome, IsTrue, OnOk, IsErrOf};
 ghost use Rattle.std.specs.Io.KnownBytes.{Appends};
 ghost use Rattle.cq_base.specs.Relations.{IsPrefix};
 ghost use Rattle.cq_records.specs.Frames.{is_text, joined};
@@ -9,12 +9,13 @@ ghost use Rattle.cq_journal.specs.Journal.{IsJournal, journal_device, journal_ha
 ghost use Rattle.cq_lines.specs.Lines.{ended_part};
 ghost use Rattle.cq_lines.specs.declared.fault.ScriptFault.TheVariants.{WriteFailed};
 ghost use Rattle.cq_records.specs.declared.fault.LogFault.TheVariants.{Full};
-ghost use Rattle.cq_script.specs.Resumed.{HasRun};
+ghost use Rattle.cq_script.specs.Resumed.{HasRun, IsBaseOf};
 ghost use Rattle.cq_script.specs.Sessions.{IsSessionEndedPrefix, session_text};
 ghost use Rattle.cq_kept_session.specs.Outcomes.{OnKept, OnNotKept};
 ghost use Rattle.cq_kept_session.specs.Texts.{as_kept, has_mark, is_ended, mended};
 ghost use Rattle.cq_kept_session.specs.declared.fault.TakeFault.TheVariants.{NotKept, NotTold};
 
+use crate::schedule::Schedule;
 use crate::text::{as_kept, has_ended, is_unmarked};
 use crate::{Highest, TakeFault};
 use cq_base::ChainSize;
@@ -22,6 +23,7 @@ use cq_disk::Device;
 use cq_journal::Journal;
 use cq_records::{Batch, LogFault, TEXT_LIMIT, is_text};
 use cq_script::{ResumedSession, ScriptFault, Sink};
+use cq_store::Store;
 use std::alloc::Global;
 
 /// A session and the journal that has its lines: a record for each chunk that came.
@@ -35,10 +37,12 @@ pub struct KeptSession<D: Device> {
     pub(crate) ended: bool,
     /// The highest numbers of clients that it had as it was opened.
     pub(crate) highest: Highest,
+    /// When the next rewrite is due.
+    pub(crate) schedule: Schedule,
 }
 
 impl<D: Device> KeptSession<D> {
-    ghost use Rattle.cq_kept_session.specs.Kept.{IsKept, StandsFor, kept_records, missing_end, session_device, session_journal, session_size, told_text};
+    ghost use Rattle.cq_kept_session.specs.Kept.{IsKept, StandsFor, kept_records, missing_end, session_device, session_journal, session_lines, session_size, told_text};
     ghost use Rattle.cq_kept_session.specs.within.Settled.{IsSettled};
 
     /// Takes what one read brought: keeps it, runs the lines that end in it, writes what comes of them, and flushes it. Nothing is
@@ -98,13 +102,25 @@ impl<D: Device> KeptSession<D> {
     }
 
     /// How many lines have ended in all that was taken.
-    pub fn line_count(&self) -> u64 {
+    pub fn line_count(&self) -> u64
+        ensures { result ≡ session_lines self.now }
+    {
         self.session.line_count()
     }
 
     /// The highest numbers of clients in the lines that were kept as the session was opened.
     pub fn highest(&self) -> Highest {
         self.highest
+    }
+
+    /// The store by which the session can be begun again, behind as many lines as there are: none while a line has begun, while a
+    /// message or an answer is on its way, or where there ever was another server than one. O(links).
+    pub fn store_at_rest(&self) -> Option<&Store>
+        requires { IsKept self.now }
+        ensures { IsTrue (D.is_honest (session_device self.now)) → (bytes : List ℕ) → StandsFor self.now bytes
+            → IfSome (option_map (λ s. s.now) result) (λ store. IsBaseOf (session_size self.now) store (session_lines self.now) bytes) }
+    {
+        self.session.store_at_rest()
     }
 
     /// The journal, to be handed on.
@@ -152,6 +168,7 @@ impl<D: Device> KeptSession<D> {
         ensures tries { Tries (adds (text.now ∷ [])) (session_journal self.old) (session_journal self.new) }
         ensures full { IsErrOf result Full → IsJournal (session_journal self.new) × (kept_records self.new ≡ kept_records self.old) }
     {
+        self.schedule.count(text.len());
         let mut batch = Batch::new(self.alloc);
         batch.add(text)?;
         self.journal.append(self.alloc, &batch)

@@ -28,7 +28,8 @@ impl<D: Device> KeptSession<D> {
 
     /// Takes the lines of a reader as they come, up to its end or to a fault. What one read brings is kept by one sync, up to its last
     /// line feed, and answered before more is read; so the lines that come meanwhile are the next to be kept. The last line is ended
-    /// where it has no line feed. Beside what the lines take it holds the line that has begun, and one read.
+    /// where it has no line feed. Beside what the lines take it holds the line that has begun, and one read. Where so many lines have come
+    /// that it is worth its time, a base takes the place of all that is kept, before more is read: `rewrite`.
     pub fn serve<R: Source, W: Sink>(
         &mut self,
         reader: &mut R,
@@ -52,7 +53,10 @@ impl<D: Device> KeptSession<D> {
                     }
                     return Ok(self.take_end(&mut partial, writer)?);
                 }
-                Ok(count) => self.take_chunk(&mut partial, &chunk[..count], writer)?,
+                Ok(count) => {
+                    self.take_chunk(&mut partial, &chunk[..count], writer)?;
+                    self.rewrite_if_due()?;
+                }
                 Err(_) => return Err(ServeFault::Read(read_fault(reader))),
             }
         }

@@ -15,6 +15,7 @@ ghost use Rattle.cq_kept_session.specs.declared.base.Header.{Header};
 ghost use Rattle.cq_kept_session.specs.within.Readers.{IsRead, IsRun, reader_stage};
 
 use crate::base::{BaseReader, Reading};
+use crate::schedule::Schedule;
 use crate::text::{MARK, has_ended};
 use crate::{Highest, KeptSession, StartFault};
 use cq_base::{ChainSize, NoMemory};
@@ -43,8 +44,9 @@ impl<D: Device> KeptSession<D> {
         ensures size { IfOk result (λ session. session_size session ≡ size) }
         ensures lengths { IfOk result (λ session. (journal_half (session_journal session) ≡ half) × (region_len (session_journal session) ≡ len)) }
     {
+        let schedule = Schedule::new(len, device.len().saturating_sub(half).saturating_sub(half));
         let journal = Journal::create(alloc, device, half, len)?;
-        Ok(KeptSession::begin(alloc, size, journal)?)
+        Ok(KeptSession::begin(alloc, size, journal, schedule)?)
     }
 
     /// Goes on with the session whose journal a device has, with halves of the root and regions of these lengths: its lines are
@@ -67,8 +69,9 @@ impl<D: Device> KeptSession<D> {
         ensures any_moment { IfOk result (λ session. IsTrue (D.is_honest (session_device session)) → (rs : List (List ℕ)) → kept half len (D.seen device) ≡ Some rs
             → LeavesOnly D.moment D.left_since device (session_device session) (λ c. D.may_leave device c ⊎ HasEitherRecords half len rs (mended rs) c)) }
     {
+        let schedule = Schedule::new(len, device.len().saturating_sub(half).saturating_sub(half));
         let journal = Journal::open(alloc, device, half, len)?;
-        let mut session = KeptSession::begin(alloc, size, journal)?;
+        let mut session = KeptSession::begin(alloc, size, journal, schedule)?;
         session.restore()?;
         Ok(session)
     }
@@ -78,6 +81,7 @@ impl<D: Device> KeptSession<D> {
         alloc: Global,
         size: ChainSize,
         journal: Journal<D>,
+        schedule: Schedule,
     ) -> Result<KeptSession<D>, NoMemory>
         ensures journal { IfOk result (λ begun. session_journal begun ≡ journal) }
         ensures size { IfOk result (λ begun. session_size begun ≡ size) }
@@ -92,6 +96,7 @@ impl<D: Device> KeptSession<D> {
             session,
             ended: true,
             highest: Highest::none(),
+            schedule,
         })
     }
 
@@ -199,6 +204,7 @@ impl<D: Device> KeptSession<D> {
     {
         self.session.restore(bytes)?;
         self.highest = self.highest.with_lines(self.alloc, bytes)?;
+        self.schedule.count(bytes.len());
         Ok(Reading::Lines)
     }
 

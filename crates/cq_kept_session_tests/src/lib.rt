@@ -9,6 +9,8 @@ mod crashes;
 #[cfg(test)]
 mod openings;
 #[cfg(test)]
+mod rewriting;
+#[cfg(test)]
 mod rooms;
 #[cfg(test)]
 mod taking;

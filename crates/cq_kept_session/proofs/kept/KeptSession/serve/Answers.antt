@@ -1,5 +1,5 @@
 -- One chunk more was taken, and at the end the partial line.
-use Rattle.std.proofs.Common.{◌≡◌, ℕ, List, [], ◌++◌, length, take, refl, sym, ◌∙◌, ap, subst, arith, append_assoc}
+use Rattle.std.proofs.Common.{◌≡◌, ℕ, List, [], ◌++◌, length, take, refl, sym, ◌∙◌, ap, subst, arith, append_assoc, append-nil}
 use Rattle.std.proofs.KnownBytes.{Consumes-nil, Consumes-trans}
 use Rattle.cq_lines.proofs.Endings.{Consumes-nothing}
 use Rattle.cq_kept_session.specs.Served.{Serves}
@@ -21,19 +21,22 @@ pub loop-preserved : goal.loop-preserved
 loop-preserved g c =
     let i = c.loop.invariant in
     let t = c.in_ok-take_chunk-in-Ok.ensures in
+    let r = c.in_ok-rewrite_if_due-in-Ok.ensures in
     let chunk = take c.in-Ok.count c.read.new.buf in (
-      t.kept,
+      r.kept,
       t.partial,
-      c.take_chunk.ensures.size ∙ i.2,
+      c.rewrite_if_due.ensures.size ∙ c.take_chunk.ensures.size ∙ i.2,
       (
         i.3.0 ++ chunk,
         Consumes-trans _ _ _ i.3.0 chunk i.3.1 c.in-Ok.ensures.bytes.0,
         let here = t.serves in
-            let w = i.3.2 in (
+            let w = i.3.2 in
+            let both = serves_both _ _ _ _ _ _ (as_kept here.0) [] here.2 (r.serves (g.W.Write.contents c.take_chunk.new.writer)) in (
               w.0 ++ here.0,
               next_are w.0 here.0 c.take_chunk.new.partial.items c.loop.partial.items chunk i.3.0 w.1 here.1,
-              subst (λ (bytes : List ℕ). Serves c.args.self.now c.take_chunk.new.self (g.W.Write.contents c.args.writer.now) (g.W.Write.contents c.take_chunk.new.writer) bytes) (sym (kept_both w.0 here.0))
-                  (serves_both _ _ _ _ _ _ (as_kept w.0) (as_kept here.0) w.2 here.2),
+              subst (λ (bytes : List ℕ). Serves c.args.self.now c.rewrite_if_due.new.self (g.W.Write.contents c.args.writer.now) (g.W.Write.contents c.take_chunk.new.writer) bytes)
+                  (ap (λ (l : List ℕ). as_kept w.0 ++ l) (append-nil (as_kept here.0)) ∙ sym (kept_both w.0 here.0))
+                  (serves_both _ _ _ _ _ _ (as_kept w.0) (as_kept here.0 ++ []) w.2 both),
             ),
       ),
     )
