@@ -122,7 +122,7 @@ finds_none = (refl, refl, refl, tt)
 -- both commands, alone
 finds_name : Finds (codes "replay" ∷ []) (Replay 1) × Finds (codes "session" ∷ []) (Session 1)
 unfolding clap_on_literals
-finds_name = ((refl, refl, refl, tt), (refl, refl, refl, (refl, refl, refl)))
+finds_name = ((refl, refl, refl, tt), (refl, refl, refl, (refl, refl, refl, refl)))
 
 -- the arguments behind a command that ask for that many servers
 abbrev for_servers : ℕ → List Text
@@ -135,14 +135,14 @@ FindsServers n = Finds (codes "replay" ∷ for_servers n) (Replay n) × Finds (c
 finds_servers : (n : ℕ) → 1 ≤ n → n ≤ 8 → FindsServers n
 unfolding clap_on_literals
 finds_servers zero low high = absurd (omega arith)
-finds_servers (suc zero) low high = ((refl, refl, refl, tt), (refl, refl, refl, (refl, refl, refl)))
-finds_servers (suc (suc zero)) low high = ((refl, refl, refl, tt), (refl, refl, refl, (refl, refl, refl)))
-finds_servers (suc (suc (suc zero))) low high = ((refl, refl, refl, tt), (refl, refl, refl, (refl, refl, refl)))
-finds_servers (suc (suc (suc (suc zero)))) low high = ((refl, refl, refl, tt), (refl, refl, refl, (refl, refl, refl)))
-finds_servers (suc (suc (suc (suc (suc zero))))) low high = ((refl, refl, refl, tt), (refl, refl, refl, (refl, refl, refl)))
-finds_servers (suc (suc (suc (suc (suc (suc zero)))))) low high = ((refl, refl, refl, tt), (refl, refl, refl, (refl, refl, refl)))
-finds_servers (suc (suc (suc (suc (suc (suc (suc zero))))))) low high = ((refl, refl, refl, tt), (refl, refl, refl, (refl, refl, refl)))
-finds_servers (suc (suc (suc (suc (suc (suc (suc (suc zero)))))))) low high = ((refl, refl, refl, tt), (refl, refl, refl, (refl, refl, refl)))
+finds_servers (suc zero) low high = ((refl, refl, refl, tt), (refl, refl, refl, (refl, refl, refl, refl)))
+finds_servers (suc (suc zero)) low high = ((refl, refl, refl, tt), (refl, refl, refl, (refl, refl, refl, refl)))
+finds_servers (suc (suc (suc zero))) low high = ((refl, refl, refl, tt), (refl, refl, refl, (refl, refl, refl, refl)))
+finds_servers (suc (suc (suc (suc zero)))) low high = ((refl, refl, refl, tt), (refl, refl, refl, (refl, refl, refl, refl)))
+finds_servers (suc (suc (suc (suc (suc zero))))) low high = ((refl, refl, refl, tt), (refl, refl, refl, (refl, refl, refl, refl)))
+finds_servers (suc (suc (suc (suc (suc (suc zero)))))) low high = ((refl, refl, refl, tt), (refl, refl, refl, (refl, refl, refl, refl)))
+finds_servers (suc (suc (suc (suc (suc (suc (suc zero))))))) low high = ((refl, refl, refl, tt), (refl, refl, refl, (refl, refl, refl, refl)))
+finds_servers (suc (suc (suc (suc (suc (suc (suc (suc zero)))))))) low high = ((refl, refl, refl, tt), (refl, refl, refl, (refl, refl, refl, refl)))
 finds_servers (suc (suc (suc (suc (suc (suc (suc (suc (suc n))))))))) low high = absurd (omega arith)
 
 -- the arguments behind a command ask for so many servers: none for one, or a digit

@@ -62,9 +62,16 @@ two_syncs_rule = record (new_rule (codes "two-syncs")) {
   action = Some SetTrue;
 }
 
--- `session [--servers N] [--journal FILE] [--journal-size MIB] [--two-syncs]`, on 1 server if no number is given
+-- `--tell-store`
+abbrev pub tell_store_rule : Rule
+tell_store_rule = record (new_rule (codes "tell-store")) {
+  long = Some (codes "tell-store");
+  action = Some SetTrue;
+}
+
+-- `session [--servers N] [--journal FILE] [--journal-size MIB] [--two-syncs] [--tell-store]`, on 1 server if no number is given
 abbrev pub session_app : App
-session_app = with_rule (with_rule (with_rule (command_app (codes "session") (codes "1")) journal_rule) journal_size_rule) two_syncs_rule
+session_app = with_rule (with_rule (with_rule (with_rule (command_app (codes "session") (codes "1")) journal_rule) journal_size_rule) two_syncs_rule) tell_store_rule
 
 -- the most turns that may be asked for
 abbrev pub most_turns : ℕ
@@ -132,6 +139,7 @@ AsksJournal rows (Kept size journal) =
     (first_of (codes "journal") rows ≡ Some journal.path.now)
     × (IsNumber (one_of (codes "journal-size") rows) journal.mebibytes ⊎ (journal.mebibytes ≡ 256))
     × (one_of (codes "two-syncs") rows ≡ Some (codes "true") → journal.two_syncs ≡ true)
+    × (one_of (codes "tell-store") rows ≡ Some (codes "true") → journal.tell_store ≡ true)
 AsksJournal rows _ = ⊤
 
 -- and that is so of what a parse found
@@ -155,6 +163,7 @@ ReadsTurns found _ = ⊤
 -- nothing is said of a journal
 abbrev pub LacksJournal : List Row → Type 0
 LacksJournal rows = (first_of (codes "journal") rows ≡ None) × (one_of (codes "journal-size") rows ≡ None) × (one_of (codes "two-syncs") rows ≡ Some (codes "false"))
+    × (one_of (codes "tell-store") rows ≡ Some (codes "false"))
 
 -- if it is a session without one that is chosen
 abbrev pub LacksJournalIn : Option (Text × List Row) → Invocation → Type 0

@@ -6,7 +6,7 @@ ghost use Rattle.clap.specs.declared.builder.command.Command.TheViews.{out-Comma
 ghost use Rattle.clap.specs.declared.error.kind.ErrorKind.TheVariants.{OutOfMemory};
 ghost use Rattle.cq_args.specs.declared.invocation.TheConstants.{ZERO_DIGIT};
 ghost use Rattle.cq_args.specs.declared.invocation.Invocation.{Invocation};
-ghost use Rattle.cq_args.specs.CommandLine.{AsksJournal, IsAsked, LacksJournal, LacksJournalIn, IsNumber, IsSized, ReadsTurns, asked_invocation, command_app, journal_rule, journal_size_rule, live_app, name_in, name_of, program_app, session_app, session_name, size_of, text_in, turns_rule, turns_text, two_syncs_rule};
+ghost use Rattle.cq_args.specs.CommandLine.{AsksJournal, IsAsked, LacksJournal, LacksJournalIn, IsNumber, IsSized, ReadsTurns, asked_invocation, command_app, journal_rule, journal_size_rule, live_app, name_in, name_of, program_app, session_app, session_name, size_of, tell_store_rule, text_in, turns_rule, turns_text, two_syncs_rule};
 
 use clap::error::ErrorKind;
 use clap::{Arg, ArgAction, ArgMatches, Command, Error, value_parser};
@@ -29,6 +29,8 @@ pub struct JournalOptions<'a> {
     pub mebibytes: u64,
     /// Whether it is written with two syncs.
     pub two_syncs: bool,
+    /// Whether the store is told at the start.
+    pub tell_store: bool,
 }
 
 /// What the command line asks for.
@@ -70,6 +72,8 @@ const JOURNAL: &str = "journal";
 const JOURNAL_SIZE: &str = "journal-size";
 
 const TWO_SYNCS: &str = "two-syncs";
+
+const TELL_STORE: &str = "tell-store";
 
 /// The length of a journal that is made, in mebibytes, if none is given.
 const JOURNAL_SIZE_DEFAULT: u64 = 256;
@@ -136,7 +140,8 @@ fn session<'a>(alloc: Global) -> Result<Command<'a>, AllocError>
     )?;
     let command = command.arg(journal_option(alloc))?;
     let command = command.arg(journal_size_option(alloc))?;
-    command.arg(two_syncs_option(alloc))
+    let command = command.arg(two_syncs_option(alloc))?;
+    command.arg(tell_store_option(alloc))
 }
 
 /// The name of the journal's file, as an option.
@@ -179,6 +184,17 @@ fn two_syncs_option<'a>(alloc: Global) -> Arg<'a>
         .help(
             "Syncs twice for what one sync keeps: nothing is supposed of sectors that a crash tears",
         )
+}
+
+/// Whether the store is told at the start, as an option.
+fn tell_store_option<'a>(alloc: Global) -> Arg<'a>
+    ensures rule { rule_of result ≡ tell_store_rule }
+    ensures local { result.global ≡ false }
+{
+    Arg::new(alloc, TELL_STORE)
+        .long(TELL_STORE)
+        .action(ArgAction::SetTrue)
+        .help("Writes the bytes of the store first, a line for each of its chunks")
 }
 
 /// The subcommand for live runs, with the numbers of servers and of turns as its options.
@@ -248,6 +264,7 @@ fn session_in<'a>(options: &ArgMatches<'a>, size: ChainSize) -> Option<Invocatio
     ensures good { LacksJournal (rows_of (found_of options.now)) → result ≡ Some (Invocation.Session size) }
 {
     let two_syncs = options.get_flag(TWO_SYNCS);
+    let tell_store = options.get_flag(TELL_STORE);
     let mebibytes = options.get_one::<u64>(JOURNAL_SIZE);
     if let Some(path) = options.get_str(JOURNAL) {
         let mebibytes = mebibytes.unwrap_or(JOURNAL_SIZE_DEFAULT);
@@ -255,10 +272,14 @@ fn session_in<'a>(options: &ArgMatches<'a>, size: ChainSize) -> Option<Invocatio
             path,
             mebibytes,
             two_syncs,
+            tell_store,
         };
         return Some(Invocation::Kept { size, journal });
     }
     if two_syncs {
+        return None;
+    }
+    if tell_store {
         return None;
     }
     match mebibytes {

@@ -1,2 +1,3 @@
 -- What only the private functions cite.
 pub mod Runs
+pub mod Told

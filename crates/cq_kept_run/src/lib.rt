@@ -5,6 +5,7 @@
 mod blank;
 mod fault;
 mod run;
+mod store;
 
 pub use fault::{JournalFault, KeptFault};
 pub use run::run_kept;

@@ -3,10 +3,11 @@ ghost use Rattle.std.specs.Prelude.{◌≡◌, false, true, IfOk, OnOk, ℕ, Lis
 ghost use Rattle.std.specs.Io.KnownBytes.{Appends};
 ghost use Rattle.cq_lines.specs.Checks.{inner_of, is_failed};
 ghost use Rattle.cq_kept_session.specs.Kept.{IsKept, session_size};
-ghost use Rattle.cq_kept_run.specs.within.Runs.{Serving};
+ghost use Rattle.cq_kept_run.specs.within.Runs.{Serving, TellsRest};
 
 use crate::blank::{fill, is_blank};
 use crate::fault::{JournalFault, KeptFault};
+use crate::store::{settle, tell_store};
 use cq_base::ChainSize;
 use cq_disk::{Device, Host, Modelled, OpenFault, TornWrites, Unknown, create, open};
 use cq_kept_session::{Highest, KeptSession};
@@ -24,13 +25,15 @@ const REGION: usize = 16_777_216;
 /// Where there is one, its lines are run first, and nothing is written of them. Then a line such as
 /// `{"clients":2,"kind":"ready","lines":7,"queriers":0}` says how many lines that were, and the highest numbers of clients in their
 /// requests and queries. After that the lines of the reader are kept, run and answered, up to its end or to a fault. With two syncs
-/// nothing is supposed of torn writes.
+/// nothing is supposed of torn writes. With `tells_store` a session of one server is brought to rest, and lines such as
+/// `{"chunk":"0100..","kind":"store"}` come first, one for each chunk of its store.
 pub fn run_kept<R: Read, W: Write>(
     rt: &HostRuntime,
     size: ChainSize,
     path: &str,
     mebibytes: u64,
     two_syncs: bool,
+    tells_store: bool,
     reader: &mut Checked<R>,
     output: &mut Checked<W>,
 ) -> Result<(), KeptFault>
@@ -42,7 +45,7 @@ pub fn run_kept<R: Read, W: Write>(
         TornWrites::OldOrNew
     };
     let device = open_or_make(rt, path, mebibytes, torn)?;
-    run_on(rt.alloc(), size, device, reader, output)
+    run_on(rt.alloc(), size, device, tells_store, reader, output)
 }
 
 /// Opens the file, or makes one of so many mebibytes where there is none.
@@ -67,13 +70,51 @@ fn run_on<D: Device, R: Read, W: Write>(
     alloc: Global,
     size: ChainSize,
     device: D,
+    tells_store: bool,
     reader: &mut Checked<R>,
     output: &mut Checked<W>,
 ) -> Result<(), KeptFault>
     requires { is_failed output.old ≡ false }
 {
     let mut session = start(alloc, size, device)?;
+    begin_telling(alloc, tells_store, &mut session, output)?;
     run_session(&mut session, reader, output)
+}
+
+/// Brings a session to rest and tells its store, where that is wanted.
+fn begin_telling<D: Device, W: Write>(
+    alloc: Global,
+    tells_store: bool,
+    session: &mut KeptSession<D>,
+    output: &mut Checked<W>,
+) -> Result<(), KeptFault>
+    requires session { IsKept session.old }
+    requires output { is_failed output.old ≡ false }
+    ensures kept { OnOk result (IsKept session.new) }
+    ensures ok { OnOk result (is_failed output.new ≡ false) }
+{
+    if !tells_store {
+        return Ok(());
+    }
+    settle(session)?;
+    Ok(tell_store_of(alloc, session, output)?)
+}
+
+/// Tells the store of a session that is at rest.
+fn tell_store_of<D: Device, W: Write>(
+    alloc: Global,
+    session: &KeptSession<D>,
+    output: &mut Checked<W>,
+) -> Result<(), ScriptFault>
+    requires session { IsKept session.now }
+    requires output { is_failed output.old ≡ false }
+    ensures ok { OnOk result (is_failed output.new ≡ false) }
+    ensures told { OnOk result (TellsRest session.now (W.contents (inner_of output.old)) (W.contents (inner_of output.new))) }
+{
+    match session.store_at_rest() {
+        Some(store) => tell_store(alloc, store, output),
+        None => Ok(()),
+    }
 }
 
 /// Tells that a session is ready, and serves the lines of the reader.

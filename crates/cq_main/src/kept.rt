@@ -41,6 +41,7 @@ impl KeptSessions for HostRuntime {
             journal.path,
             journal.mebibytes,
             journal.two_syncs,
+            journal.tell_store,
             reader,
             output,
         )
