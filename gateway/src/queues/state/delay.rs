@@ -105,7 +105,7 @@ impl State {
     }
 
     /// What this call has sent in the last five minutes, with a delay or without.
-    pub fn sent_by(&mut self, call: &DedupId, now: Moment) -> Option<Outcome> {
+    pub fn sent_by(&self, call: &DedupId, now: Moment) -> Option<Outcome> {
         Some(match self.calls.find(call, now)? {
             First::Delayed(id) => Outcome::Sent { sequence: 0, id: Some(id) },
             First::Stored(sequence) => Outcome::Sent { sequence, id: self.own_id(sequence) },

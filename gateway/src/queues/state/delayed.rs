@@ -186,7 +186,7 @@ pub(super) enum First {
 /// queue to which it sent its message, and the queue's delay may have changed since.
 #[derive(Debug, Default)]
 pub(super) struct Calls {
-    firsts: HashMap<CallKey, First>,
+    firsts: HashMap<CallKey, (Moment, First)>,
     by_age: VecDeque<(Moment, CallKey)>,
 }
 
@@ -196,15 +196,15 @@ impl Calls {
         let Some(key) = call.call_key() else { return };
         self.forget_old(moment);
         if let std::collections::hash_map::Entry::Vacant(entry) = self.firsts.entry(key) {
-            entry.insert(first);
+            entry.insert((moment, first));
             self.by_age.push_back((moment, key));
         }
     }
 
-    pub(super) fn find(&mut self, call: &DedupId, now: Moment) -> Option<First> {
-        let key = call.call_key()?;
-        self.forget_old(now);
-        self.firsts.get(&key).copied()
+    /// What a call sent. Nothing is forgotten here, since nobody counts it here.
+    pub(super) fn find(&self, call: &DedupId, now: Moment) -> Option<First> {
+        let (moment, first) = self.firsts.get(&call.call_key()?)?;
+        (now < moment + WINDOW).then_some(*first)
     }
 
     pub(super) fn forget_old(&mut self, now: Moment) {

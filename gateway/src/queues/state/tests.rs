@@ -485,3 +485,19 @@ fn a_call_is_known_whether_it_sent_its_message_with_a_delay_or_without() {
         assert!(matches!(first, Some(Outcome::Sent { id, .. }) if id == Some(Uuid::from_u128(9))), "{first:?}");
     }
 }
+
+#[test]
+fn a_call_that_is_looked_up_when_it_is_old_counts_until_it_is_forgotten() {
+    let (queues, name) = (Queues::default(), QueueName::parse("q").unwrap());
+    let entry = QueueEntry::plain(StoreName(1), name, 1);
+    let queue = Arc::new(Queue::new(&entry));
+    queues.said(0, &queue, &Entry::Queue(entry), 1, Size::default());
+    let (group, call) = (GroupId::parse("g").unwrap(), DedupId::of_call(&[0; 32], None));
+    let envelope = Envelope::Whole("{\"sent\":0}\nbody".into());
+    let ask = Ask::Send { group, dedup: call.clone(), envelope, cause: Cause::Client };
+    queues.apply_reply(0, &queue, &ask, StoreReply::Sent(1), 0).unwrap();
+    let looked_up = [WINDOW - 1, WINDOW].map(|now| queue.state().sent_by(&call, now).is_some());
+    queues.look_at_ages(WINDOW);
+    let in_use = queue.state().bytes_of_all();
+    assert_eq!((looked_up, queues.bytes_in_use()), ([true, false], in_use));
+}

@@ -302,7 +302,7 @@ fn repeated(ask: &Ask, queue: &Queue, now: Moment) -> Option<Outcome> {
     match ask {
         Ask::Send { dedup, cause: Cause::Client, .. } if queue.name.kind() == QueueKind::Standard => {
             let main = queue.main();
-            let mut state = main.as_deref().unwrap_or(queue).state();
+            let state = main.as_deref().unwrap_or(queue).state();
             state.sent_by(dedup, now)
         }
         _ => None,
