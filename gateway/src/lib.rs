@@ -46,6 +46,8 @@ mod rolling;
 mod seeded;
 mod serve;
 mod store;
+#[cfg(test)]
+mod store_bytes;
 mod texts;
 mod tls;
 mod wire;

@@ -88,7 +88,7 @@ impl<'de> Deserialize<'de> for QueueName {
 }
 
 /// Whether a text has 1 to 128 bytes from `!` to `~`.
-fn is_short_and_printable(text: &str) -> bool {
+pub fn is_short_and_printable(text: &str) -> bool {
     (1..=128).contains(&text.len()) && text.bytes().all(|byte| (0x21..=0x7e).contains(&byte))
 }
 

@@ -1,0 +1,149 @@
+//! Stores that the proved program wrote, and such that are none.
+
+use proptest::prelude::*;
+use proptest::sample::Index;
+
+use super::written::{append, chunk};
+use super::*;
+use crate::seeded::{check, edits, spoilt};
+use crate::texts::hex;
+
+/// What the program that tries bytes was asked, and what it said.
+const ASKED: &str = include_str!(concat!(env!("CARGO_MANIFEST_DIR"), "/../crates/cq_check_wire/stdin"));
+const SAID: &str = include_str!(concat!(env!("CARGO_MANIFEST_DIR"), "/../crates/cq_check_wire/stdout"));
+
+fn bytes_of(digits: &str) -> Vec<u8> {
+    let byte = |place| u8::from_str_radix(&digits[place..place + 2], 16).unwrap();
+    (0..digits.len()).step_by(2).map(byte).collect()
+}
+
+/// The stores that it wrote, and their words.
+fn written_stores() -> Vec<(Vec<u8>, &'static str)> {
+    let pairs = SAID.lines().filter_map(|line| line.split_once(' '));
+    let stores = pairs.filter_map(|(digits, words)| Some((digits, words.strip_prefix("store ")?)));
+    let stores: Vec<_> = stores.map(|(digits, words)| (bytes_of(digits), words)).collect();
+    assert!(stores.len() >= 4);
+    stores
+}
+
+/// The words of a store as the page's reader tells them, without kept replies.
+fn words_of(part: &Part<'_>) -> String {
+    let text = |text: &str| hex(text.as_bytes());
+    let optional = |moment: &Option<Moment>| moment.map_or("none".to_string(), |moment| moment.to_string());
+    match part {
+        Part::Start { entries, last } => format!("{entries} {last}"),
+        Part::Client { client, number } => format!("client {client} {number}"),
+        Part::Name { name, creations, removed, queue } => {
+            let queue = queue.map_or("none".to_string(), |queue| {
+                let QueuePart { incarnation, timeout, makes_ids, sent, uses, last } = queue;
+                format!("{incarnation} {timeout} {makes_ids} {sent} {uses} {last}")
+            });
+            format!("name {} {creations} {} {queue}", text(name), optional(removed))
+        }
+        Part::Message { sequence, group, body, handings, handed, until } => {
+            format!("message {sequence} {} {} {handings} {handed} {until}", text(group), text(body))
+        }
+        Part::Accepted { id, moment, sequence } => format!("accepted {} {moment} {sequence}", text(id)),
+        Part::End => String::new(),
+    }
+}
+
+/// The words without kept replies: these stand behind a client's number.
+fn without_replies(words: &str) -> String {
+    let (mut kept, mut behind_client) = (Vec::new(), None);
+    for word in words.split(' ') {
+        match word {
+            "client" => behind_client = Some(0),
+            "name" => behind_client = None,
+            _ => {}
+        }
+        if behind_client.map_or(true, |count| count < 3) {
+            kept.push(word);
+        }
+        behind_client = behind_client.map(|count| count + 1);
+    }
+    kept.join(" ")
+}
+
+fn read(chunks: &[&[u8]]) -> Result<String, Fault> {
+    let (mut reader, mut words) = (StoreReader::default(), Vec::new());
+    for chunk in chunks {
+        reader.feed(chunk, |part| words.push(words_of(&part)))?;
+    }
+    reader.end()?;
+    words.retain(|words| !words.is_empty());
+    Ok(words.join(" "))
+}
+
+#[test]
+fn stores_are_read_as_what_they_are() {
+    for (bytes, words) in written_stores() {
+        assert_eq!(read(&[&bytes]).unwrap(), without_replies(words));
+    }
+}
+
+fn of_store(words: String) -> String {
+    format!("store {words}")
+}
+
+#[test]
+fn each_store_that_is_none_has_its_fault() {
+    let asked: Vec<_> = ASKED.lines().filter_map(|line| line.strip_prefix("read store ")).collect();
+    let told: Vec<_> = asked.iter().map(|digits| read(&[&bytes_of(digits)])).collect();
+    assert!(told.len() >= 9 && told.iter().filter(|told| told.is_err()).count() >= 8);
+    let told: Vec<_> = told.into_iter().map(|told| told.map_or_else(|fault| fault.to_string(), of_store)).collect();
+    // It said this of them, one after the other.
+    let said: Vec<_> = SAID.lines().map(without_replies).collect();
+    assert!(said.windows(told.len()).any(|said| said == told), "{told:#?}");
+    let (first, _) = &written_stores()[0];
+    let other = [&[2], &first[1..]].concat();
+    assert_eq!([read(&[&other]), read(&[])], [Err(Fault::OtherVersion), Err(Fault::Truncated)]);
+}
+
+#[test]
+fn no_front_of_a_store_is_one_and_nothing_comes_behind_its_end() {
+    for (bytes, _) in written_stores() {
+        for end in 0..bytes.len() {
+            assert_eq!(read(&[&bytes[..end]]), Err(Fault::Truncated), "{end}");
+        }
+        assert_eq!(read(&[&bytes, &[VERSION, 5]]), Err(Fault::BadTag));
+        assert!(read(&[&bytes, &[VERSION]]).is_ok());
+    }
+}
+
+#[test]
+fn where_a_store_is_cut_into_chunks_means_nothing() {
+    check(500, (any::<Index>(), proptest::collection::vec(any::<bool>(), 100)), |(which, cuts)| {
+        let stores = written_stores();
+        let (bytes, _) = &stores[which.index(stores.len())];
+        let mut chunks = vec![chunk()];
+        let (mut reader, mut cuts) = (StoreReader::default(), cuts.into_iter().cycle());
+        let told = reader.feed(bytes, |part| {
+            if cuts.next() == Some(true) {
+                chunks.push(chunk());
+            }
+            append(chunks.last_mut().unwrap(), &part);
+        });
+        prop_assert_eq!(told, Ok(()));
+        let chunks: Vec<_> = chunks.iter().map(Vec::as_slice).collect();
+        prop_assert_eq!(read(&chunks), read(&[bytes]));
+        Ok(())
+    });
+}
+
+#[test]
+fn any_bytes_are_read_or_refused() {
+    let stores = written_stores();
+    let (mut read_as_stores, mut faults) = (0, HashSet::new());
+    let seen = std::cell::RefCell::new((&mut read_as_stores, &mut faults));
+    check(100_000, (any::<Index>(), edits()), |(which, edits)| {
+        let (bytes, _) = &stores[which.index(stores.len())];
+        let mut seen = seen.borrow_mut();
+        match read(&[&spoilt(bytes, &edits)]) {
+            Ok(_) => *seen.0 += 1,
+            Err(fault) => drop(seen.1.insert(fault.to_string())),
+        }
+        Ok(())
+    });
+    assert!(read_as_stores > 1000 && faults.len() == 5, "{read_as_stores} {faults:?}");
+}
