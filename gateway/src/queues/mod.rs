@@ -3,6 +3,8 @@
 pub mod ask;
 pub mod book;
 mod groups;
+#[cfg(test)]
+mod image;
 mod parts;
 pub mod shards;
 mod state;
@@ -269,6 +271,13 @@ impl Queues {
         next_number(&self.last_book, shards, place)
     }
 
+    /// The last numbers that names of the store have: of queues, of books and of parts.
+    #[cfg(test)]
+    pub fn last_numbers(&self) -> [u64; 3] {
+        let [queue, book] = [&self.last_store_name, &self.last_book].map(|last| last.load(Ordering::Relaxed));
+        [queue, book, self.parts.last_number()]
+    }
+
     /// From now on this name of the store counts as used.
     pub fn saw_store_name(&self, name: StoreName) {
         let name = name.main().unwrap_or(name);
@@ -307,13 +316,18 @@ impl Queues {
             }
             (Ask::Say { book, entry, text }, StoreReply::Sent(_)) => {
                 let size = Size::of(text);
-                let bytes = self.books.count(place, *book, size);
-                self.bytes_in_use.fetch_add(bytes, Ordering::Relaxed);
+                self.count_entry(place, *book, size);
                 self.said(place, queue, entry, *book, size);
                 Ok((Outcome::Done, true))
             }
             (_, reply) => self.apply_to_messages(place, queue, ask, reply, moment),
         }
+    }
+
+    /// An entry of this size stands in this book.
+    fn count_entry(&self, place: usize, book: u64, size: Size) {
+        let bytes = self.books.count(place, book, size);
+        self.bytes_in_use.fetch_add(bytes, Ordering::Relaxed);
     }
 
     /// The store has this name. Of a queue the book says so later.

@@ -65,7 +65,7 @@ impl Parts {
         match (ask, reply) {
             (_, StoreReply::Refused(code)) => Err(SqsError::of_refusal(code)),
             (PartsAsk::Create(_), StoreReply::Created) => {
-                self.entries().by_number.entry(number).or_default().is_there = true;
+                self.found(number);
                 Ok((Outcome::Done, true))
             }
             (PartsAsk::Add(..), StoreReply::Sent(_)) => Ok((Outcome::Done, true)),
@@ -79,6 +79,26 @@ impl Parts {
             }
             _ => Err(SqsError::InternalFailure("The store's answer doesn't fit the request.".into())),
         }
+    }
+
+    /// All of them, in the order of their numbers.
+    #[cfg(test)]
+    pub fn told(&self) -> Vec<String> {
+        let mut told: Vec<_> =
+            self.entries().by_number.iter().map(|(number, entry)| format!("{number}: {entry:?}")).collect();
+        told.sort_unstable();
+        told
+    }
+
+    /// The last number that counts as used.
+    #[cfg(test)]
+    pub fn last_number(&self) -> u64 {
+        self.entries().last_number
+    }
+
+    /// The store has them.
+    pub fn found(&self, number: u64) {
+        self.entries().by_number.entry(number).or_default().is_there = true;
     }
 
     /// A message names them.
@@ -114,12 +134,17 @@ impl Parts {
         numbers.into_iter().for_each(|number| self.settle(number));
     }
 
-    /// Waits for parts that no message names any more, and takes them.
+    /// Takes the parts that no message names any more.
+    pub fn take_those_freed(&self) -> Vec<u64> {
+        std::mem::take(&mut self.entries().freed).into_iter().collect()
+    }
+
+    /// Waits for such parts, and takes them.
     pub async fn take_freed(&self) -> Vec<u64> {
         loop {
-            let freed = std::mem::take(&mut self.entries().freed);
+            let freed = self.take_those_freed();
             if !freed.is_empty() {
-                return freed.into_iter().collect();
+                return freed;
             }
             self.some_freed.notified().await;
         }
@@ -132,7 +157,7 @@ mod tests {
     use crate::queues::ask::PartsCause;
 
     fn freed(parts: &Parts) -> Vec<u64> {
-        let mut freed: Vec<_> = std::mem::take(&mut parts.entries().freed).into_iter().collect();
+        let mut freed = parts.take_those_freed();
         freed.sort_unstable();
         freed
     }

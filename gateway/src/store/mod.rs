@@ -1,7 +1,11 @@
 //! The store: asks in, answers out. One task owns each program's pipe.
 
 mod admission;
+#[cfg(test)]
+pub mod by_rules;
 mod figures;
+#[cfg(test)]
+pub mod living;
 mod replay;
 mod task;
 

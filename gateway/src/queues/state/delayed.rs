@@ -114,6 +114,12 @@ impl DueMessages {
         self.in_order.is_empty() && self.set_aside.is_empty()
     }
 
+    /// Those that are to be moved, in order.
+    #[cfg(test)]
+    pub(super) fn told(&self) -> Vec<Place> {
+        self.in_order.iter().copied().collect()
+    }
+
     /// Those up to this one aren't moved any more.
     pub(super) fn remove_up_to(&mut self, last: u64) {
         let going: Vec<_> = self.moments.keys().chain(&self.set_aside).filter(|own| **own <= last).copied().collect();
@@ -201,6 +207,16 @@ impl Calls {
         }
     }
 
+    /// Takes up what calls sent, of which nothing was known.
+    #[cfg(test)]
+    pub(super) fn take_up(&mut self, sends: impl Iterator<Item = (Moment, CallKey, First)>) {
+        for (moment, key, first) in sends {
+            self.firsts.insert(key, (moment, first));
+            self.by_age.push_back((moment, key));
+        }
+        self.by_age.make_contiguous().sort_by_key(|(moment, _)| *moment);
+    }
+
     /// What a call sent. Nothing is forgotten here, since nobody counts it here.
     pub(super) fn find(&self, call: &DedupId, now: Moment) -> Option<First> {
         let (moment, first) = self.firsts.get(&call.call_key()?)?;
@@ -212,6 +228,15 @@ impl Calls {
             self.firsts.remove(call);
             self.by_age.pop_front();
         }
+    }
+
+    /// The calls and what they sent, in the order of their moments.
+    #[cfg(test)]
+    pub(super) fn told(&self) -> Vec<String> {
+        let mut told: Vec<_> =
+            self.by_age.iter().map(|(moment, key)| format!("{moment:>20} {key:?} {:?}", self.firsts[key].1)).collect();
+        told.sort_unstable();
+        told
     }
 
     /// What they take of memory, in bytes.

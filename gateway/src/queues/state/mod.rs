@@ -11,6 +11,8 @@ mod peek;
 mod receipts;
 mod said;
 #[cfg(test)]
+mod stored;
+#[cfg(test)]
 mod tests;
 mod uncounted;
 

@@ -1,0 +1,265 @@
+//! Tables that are made of a store's bytes. All that the gateway has to know of queues and messages stands there: what is
+//! said of queues in books, and of messages in their places.
+
+#[cfg(test)]
+mod tests;
+
+use std::collections::{BTreeMap, HashMap};
+use std::sync::Arc;
+
+use thiserror::Error;
+
+use super::ask::StoreName;
+use super::book::{Entry, Size};
+use super::groups::Group;
+use super::{Queue, Queues};
+use crate::clock::Moment;
+use crate::messages::EnvelopeHead;
+use crate::move_tasks::MoveTask;
+use crate::moves::Origin;
+use crate::store_bytes::{Fault, Part, QueuePart, StoreReader};
+use crate::texts::{CallKey, DedupId};
+
+/// Why there are no tables of a store's bytes.
+#[derive(Debug, Error)]
+pub enum ImageError {
+    #[error("the store's bytes can't be read: {0}")]
+    Bytes(#[from] Fault),
+    #[error("the store has {0} as no gateway leaves it: {1}")]
+    Foreign(String, &'static str),
+}
+
+/// What the bytes of one program's store say, as far as the tables need it.
+#[derive(Default)]
+pub struct Image {
+    reader: StoreReader,
+    /// Messages are to be looked at, so their texts are kept.
+    keeps_copies: bool,
+    last: Moment,
+    largest_number: u64,
+    /// The names that the store has had, and those of their queues that live.
+    names: BTreeMap<StoreName, Option<StoredQueue>>,
+    current: Option<StoreName>,
+}
+
+/// A queue as the store has it.
+#[derive(Default)]
+pub(super) struct StoredQueue {
+    /// How many sends were accepted.
+    pub(super) sent: u64,
+    pub(super) messages: Vec<StoredMessage>,
+    /// The entries of a book, by their sequence numbers.
+    entries: Vec<String>,
+    pub(super) accepted: Vec<AcceptedSend>,
+}
+
+pub(super) struct StoredMessage {
+    pub(super) sequence: u64,
+    pub(super) group: Group,
+    pub(super) head: EnvelopeHead,
+    pub(super) bytes: u64,
+    pub(super) handings: u64,
+    /// When it was handed out last, and up to when it is hidden, or 0.
+    pub(super) handed: Moment,
+    pub(super) until: Moment,
+    /// The ids of its group and its envelope, where operators look at messages.
+    pub(super) copy: Option<(Box<str>, Arc<str>)>,
+}
+
+pub(super) struct AcceptedSend {
+    pub(super) call: Option<CallKey>,
+    pub(super) moment: Moment,
+    pub(super) sequence: u64,
+}
+
+/// What the messages of a queue name.
+#[derive(Default)]
+pub(super) struct Named {
+    pub(super) parts: Vec<u64>,
+    pub(super) origins: Vec<Origin>,
+}
+
+impl Image {
+    /// `keeps_copies`: messages are to be looked at.
+    pub fn new(keeps_copies: bool) -> Image {
+        Image { keeps_copies, ..Image::default() }
+    }
+
+    /// Takes up a chunk of the store.
+    pub fn feed(&mut self, chunk: &[u8]) -> Result<(), ImageError> {
+        let mut reader = std::mem::take(&mut self.reader);
+        let mut taken = Ok(());
+        reader.feed(chunk, |part| {
+            if taken.is_ok() {
+                taken = self.take(&part);
+            }
+        })?;
+        self.reader = reader;
+        taken
+    }
+
+    /// The moment of the last entry that the store took, or 0.
+    pub fn last(&self) -> Moment {
+        self.last
+    }
+
+    /// The largest number that a client has used, or 0.
+    pub fn largest_number(&self) -> u64 {
+        self.largest_number
+    }
+
+    fn take(&mut self, part: &Part<'_>) -> Result<(), ImageError> {
+        match part {
+            Part::Start { last, .. } => self.last = *last,
+            Part::Client { number, .. } => self.largest_number = self.largest_number.max(*number),
+            Part::Name { name, queue, .. } => self.take_name(name, queue.as_ref())?,
+            Part::Message { .. } => self.take_message(part)?,
+            Part::Accepted { id, moment, sequence } => {
+                if let Some(queue) = self.current_queue() {
+                    let call = DedupId::parse(id).ok().and_then(|id| id.call_key());
+                    queue.accepted.push(AcceptedSend { call, moment: *moment, sequence: *sequence });
+                }
+            }
+            Part::End => {}
+        }
+        Ok(())
+    }
+
+    /// Names that aren't the gateway's are passed over.
+    fn take_name(&mut self, name: &str, queue: Option<&QueuePart>) -> Result<(), ImageError> {
+        self.current = StoreName::parse(name);
+        if let Some(store) = self.current {
+            if queue.is_some_and(|queue| queue.incarnation != 1) {
+                return Err(ImageError::Foreign(name.into(), "it was created more than once"));
+            }
+            let queue = queue.map(|queue| StoredQueue { sent: queue.sent, ..StoredQueue::default() });
+            self.names.insert(store, queue);
+        }
+        Ok(())
+    }
+
+    fn current_queue(&mut self) -> Option<&mut StoredQueue> {
+        self.names.get_mut(&self.current?)?.as_mut()
+    }
+
+    fn take_message(&mut self, part: &Part<'_>) -> Result<(), ImageError> {
+        let (keeps_copies, store) = (self.keeps_copies, self.current);
+        let (Some(store), Some(queue)) = (store, self.current_queue()) else { return Ok(()) };
+        let Part::Message { sequence, group, body, handings, handed, until } = *part else { return Ok(()) };
+        if store.book().is_some() {
+            queue.entries.push(body.into());
+        } else if store.parts().is_none() {
+            let head = EnvelopeHead::of(body).filter(|head| head.sent.is_some());
+            let head = head.ok_or_else(|| ImageError::Foreign(store.text(), "a message of it is no envelope"))?;
+            queue.messages.push(StoredMessage {
+                sequence,
+                group: Group::of(group),
+                head,
+                bytes: body.len() as u64,
+                handings,
+                handed,
+                until,
+                copy: keeps_copies.then(|| (group.into(), body.into())),
+            });
+        }
+        Ok(())
+    }
+}
+
+impl Queues {
+    /// Takes up what the store of the program at this place has. Of no queue of it anything was known.
+    pub fn take_up(&self, place: usize, image: Image) -> Result<(), ImageError> {
+        image.reader.end()?;
+        image.names.keys().for_each(|name| self.saw_store_name(*name));
+        let living = image.names.into_iter().filter_map(|(name, queue)| Some((name, queue?)));
+        let (books, mut living): (BTreeMap<_, _>, BTreeMap<_, _>) = living.partition(|(name, _)| name.book().is_some());
+        for queue in self.take_up_books(place, books)? {
+            let store = queue.state().entry.store;
+            let not_there = || ImageError::Foreign(store.text(), "a book says of it, and it isn't there");
+            let stored = living.remove(&store).ok_or_else(not_there)?;
+            let copied = self.take_up_messages(&queue, stored, image.last);
+            if let Some(stored) = living.remove(&store.of_delays()) {
+                let delays = Arc::new(Queue::beside(&queue, store).0);
+                self.created(place, &delays, store.of_delays());
+                self.take_up_delayed(&queue, &delays, stored, image.last);
+                let mut state = delays.state();
+                let of_delayed = copied.iter().filter(|origin| origin.mark == delays.mark.0);
+                of_delayed.for_each(|origin| state.has_copy(origin.sequence));
+            }
+        }
+        living.keys().filter_map(|name| name.parts()).for_each(|number| self.parts.found(number));
+        // No queue goes by the others.
+        self.left_over.set(place, living.into_keys().filter(|name| name.parts().is_none()));
+        Ok(())
+    }
+
+    /// Takes up what books say, in their order. Tells the queues that are there.
+    fn take_up_books(
+        &self,
+        place: usize,
+        books: BTreeMap<StoreName, StoredQueue>,
+    ) -> Result<Vec<Arc<Queue>>, ImageError> {
+        let mut told = Told { queues: self, place, by_mark: HashMap::new(), tasks: HashMap::new() };
+        for (name, book) in books {
+            let Some(number) = name.book() else { continue };
+            self.books.add(place, number);
+            for text in book.entries {
+                let no_entry = |_| ImageError::Foreign(name.text(), "a message of it is no entry of a book");
+                let entry = serde_json::from_str(&text).map_err(no_entry)?;
+                self.count_entry(place, number, Size::of(&text));
+                told.take(&entry, number, Size::of(&text));
+            }
+        }
+        let is_there = |queue: &Arc<Queue>| self.find(&queue.name).is_some_and(|found| Arc::ptr_eq(&found, queue));
+        Ok(told.by_mark.into_values().filter(is_there).collect())
+    }
+
+    /// Takes up the messages of a queue. Tells of which messages they are copies.
+    fn take_up_messages(&self, queue: &Arc<Queue>, stored: StoredQueue, last: Moment) -> Vec<Origin> {
+        let Named { parts, origins } = self.counted(queue, |state| state.take_up(stored, last));
+        parts.into_iter().for_each(|number| self.parts.name(number));
+        origins.iter().for_each(|origin| self.copies.mark_copied(*origin));
+        origins
+    }
+
+    /// The same of a queue beside another, which has what is delayed.
+    fn take_up_delayed(&self, queue: &Arc<Queue>, delays: &Arc<Queue>, stored: StoredQueue, last: Moment) {
+        self.counted(queue, |state| state.take_up_delayed_calls(delays.mark, &stored.accepted, last));
+        self.take_up_messages(delays, stored, last);
+        let purging = queue.state().entry.purging;
+        delays.state().purge_with(purging);
+        self.alarms.set_next(delays);
+    }
+}
+
+/// What books have said so far.
+struct Told<'a> {
+    queues: &'a Queues,
+    place: usize,
+    by_mark: HashMap<u64, Arc<Queue>>,
+    /// Tasks of queues of which nothing was said yet: where a book was begun anew, they stand before their queue.
+    tasks: HashMap<u64, Vec<(MoveTask, u64, Size)>>,
+}
+
+impl Told<'_> {
+    fn take(&mut self, entry: &Entry, book: u64, size: Size) {
+        let (queues, place) = (self.queues, self.place);
+        match entry {
+            Entry::Queue(said) => {
+                let queue = self.by_mark.entry(said.mark).or_insert_with(|| Arc::new(Queue::new(said))).clone();
+                queues.said(place, &queue, entry, book, size);
+                for (task, book, size) in self.tasks.remove(&said.mark).unwrap_or_default() {
+                    queues.said(place, &queue, &Entry::Task(said.mark, task), book, size);
+                }
+            }
+            Entry::Removed(removal) => match self.by_mark.get(&removal.mark) {
+                Some(queue) => queues.said(place, queue, entry, book, size),
+                None => queues.remember_removal(removal),
+            },
+            Entry::Task(mark, task) => match self.by_mark.get(mark) {
+                Some(queue) => queues.said(place, queue, entry, book, size),
+                None => self.tasks.entry(*mark).or_default().push((task.clone(), book, size)),
+            },
+        }
+    }
+}

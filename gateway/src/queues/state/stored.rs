@@ -1,0 +1,117 @@
+//! Takes up what the store has of a queue, as its bytes tell it.
+
+use std::sync::Arc;
+
+use super::delayed::First;
+use super::message::{Handing, Message};
+use super::{State, WINDOW};
+use crate::clock::Moment;
+use crate::handles::Mark;
+use crate::messages::message_id;
+#[cfg(test)]
+use crate::move_tasks::MoveTask;
+use crate::queues::image::{AcceptedSend, Named, StoredMessage, StoredQueue};
+use crate::texts::{CallKey, QueueKind};
+
+impl State {
+    /// Takes up the messages that the store has, whose last entry is of the moment `last`. Tells what they name.
+    pub(in crate::queues) fn take_up(&mut self, stored: StoredQueue, last: Moment) -> Named {
+        self.last_sequence = self.entry.base + stored.sent;
+        let mut named = Named::default();
+        for message in stored.messages {
+            named.parts.extend(message.head.parts);
+            named.origins.extend(message.head.of);
+            self.take_up_message(message);
+        }
+        self.groups = self.groups_of_delayed();
+        self.take_up_sends(&stored.accepted);
+        if self.kind == QueueKind::Standard && self.entry.store.main().is_none() {
+            let base = self.entry.base;
+            self.calls.take_up(calls_of(&stored.accepted, last, |sequence| First::Stored(base + sequence)));
+        }
+        named
+    }
+
+    fn take_up_message(&mut self, stored: StoredMessage) {
+        let StoredMessage { group, head, handings, handed, until, copy, .. } = stored;
+        let sequence = self.entry.base + stored.sequence;
+        let source = head.source.map(Arc::new);
+        let bytes = stored.bytes + head.bytes.unwrap_or(0);
+        let mut message = Message::new(head.sent.unwrap_or(0), group, source, None, bytes).in_parts(head.parts);
+        message.ordinal = handings;
+        // Of the handings the store has the last one alone.
+        message.last = (handings > 0).then_some(Handing { moment: handed, first: handed, touched: false });
+        self.longest_envelope = self.longest_envelope.max(bytes);
+        if let Some((group_id, envelope)) = copy {
+            message.bytes += (group_id.len() + envelope.len()) as u64;
+            (message.group_id, message.envelope) = (Some(group_id), Some(envelope));
+        }
+        self.envelope_bytes += message.bytes;
+        self.messages.add(sequence, message);
+        if until > 0 {
+            self.messages.hide(sequence, until);
+        }
+        if let Some(due) = head.due {
+            self.due.add(sequence, due);
+        }
+    }
+
+    /// Takes up the sends whose ids may count: the last ones.
+    fn take_up_sends(&mut self, sends: &[AcceptedSend]) {
+        self.last_send = sends.last().map_or(0, |last| last.moment);
+        for send in sends.iter().rev() {
+            if self.entry.base + send.sequence + 1 != self.first_recent() {
+                break;
+            }
+            self.recent.push_front(send.moment);
+        }
+        let recent = self.first_recent()..=self.last_sequence;
+        self.left_ids = recent.filter(|sequence| !self.messages.has(*sequence)).count() as u64;
+    }
+
+    /// Takes up which calls have sent messages to the queue beside this one, of this mark.
+    pub(in crate::queues) fn take_up_delayed_calls(&mut self, delays: Mark, sends: &[AcceptedSend], last: Moment) {
+        self.calls.take_up(calls_of(sends, last, |sequence| First::Delayed(message_id(delays, sequence))));
+        self.last_send = sends.last().map_or(0, |send| send.moment).max(self.last_send);
+    }
+}
+
+#[cfg(test)]
+impl State {
+    /// What the tables have that the store's bytes tell, too, at this moment.
+    pub fn told_by_bytes(&mut self, now: Moment) -> String {
+        self.look_at_ages(now);
+        let groups_needed = self.groups_needed;
+        let messages: Vec<_> = self.messages.from(0).map(|(sequence, message)| told_of(sequence, message)).collect();
+        let next = self.next_up_to(u64::MAX, usize::MAX, now);
+        (self.groups, self.groups_needed) = (self.groups_of_delayed(), groups_needed);
+        // How many messages a task has moved is told as of its last entry.
+        let tasks: Vec<_> = self.tasks.iter().map(|task| MoveTask { moved: 0, ..task.clone() }).collect();
+        let said_in: std::collections::BTreeMap<_, _> = self.tasks_said_in.iter().collect();
+        // No book says anything of the queue beside another.
+        let entry = self.entry.store.main().is_none().then_some(&self.entry);
+        let of_entries = (self.said_in, self.entry_size, said_in);
+        let sends = (self.last_sequence, &self.recent, self.left_ids, self.calls.told());
+        format!("{entry:?} {of_entries:?} {tasks:?} {sends:?} {:?} {next:?} {messages:?}", self.due.told())
+    }
+}
+
+/// Of several handings the bytes tell the last one alone.
+#[cfg(test)]
+fn told_of(sequence: u64, message: &Message) -> String {
+    let Message { sent, group, ordinal, last, bytes, source, parts, .. } = message;
+    let handed = last.map(|last| (last.moment, (*ordinal == 1).then_some(last.first)));
+    let rest = (bytes, source, parts, &message.envelope, &message.group_id);
+    format!("{sequence}: {sent} {group:?} {ordinal} {handed:?} {} {rest:?}", message.until())
+}
+
+/// The calls among these sends that count at the moment `last`.
+fn calls_of(
+    sends: &[AcceptedSend],
+    last: Moment,
+    first: impl Fn(u64) -> First,
+) -> impl Iterator<Item = (Moment, CallKey, First)> + '_ {
+    let counting = sends.iter().filter(move |send| send.moment + WINDOW > last);
+    let calls: Vec<_> = counting.filter_map(|send| Some((send.moment, send.call?, first(send.sequence)))).collect();
+    calls.into_iter()
+}

@@ -1,0 +1,219 @@
+//! A store by the rules of `docs/QUEUES.md`, and its bytes, for tests.
+
+use std::borrow::Cow;
+use std::collections::{BTreeMap, BTreeSet};
+
+use serde_json::{json, Value};
+
+use crate::clock::Moment;
+use crate::lines::{AskFields, AskKind};
+use crate::queues::ask::StoreName;
+use crate::store_bytes::written::{append, chunk};
+use crate::store_bytes::{Part, QueuePart};
+
+const WINDOW: u64 = 300_000;
+
+#[derive(Clone, Default)]
+pub struct StoreByRules {
+    entries: u64,
+    last: Moment,
+    names: BTreeMap<StoreName, Name>,
+}
+
+#[derive(Clone, Default)]
+struct Name {
+    creations: u64,
+    removed: Option<Moment>,
+    queue: Option<LivingQueue>,
+}
+
+#[derive(Clone, Default)]
+struct LivingQueue {
+    incarnation: u64,
+    timeout: u32,
+    sent: u64,
+    uses: u64,
+    last: Moment,
+    messages: BTreeMap<u64, Message>,
+    accepted: Vec<(String, Moment, u64)>,
+}
+
+#[derive(Clone)]
+struct Message {
+    group: String,
+    body: String,
+    handings: u64,
+    handed: Moment,
+    until: Moment,
+}
+
+fn refused(code: u32) -> Value {
+    json!({"kind": "refused", "code": code})
+}
+
+impl StoreByRules {
+    /// The names whose queues live.
+    pub fn there(&self) -> BTreeSet<StoreName> {
+        self.names.iter().filter(|(_, name)| name.queue.is_some()).map(|(name, _)| *name).collect()
+    }
+
+    /// The reply to an ask of this moment.
+    pub fn reply(&mut self, fields: &AskFields<'_>, now: Moment) -> Value {
+        (self.entries, self.last) = (self.entries + 1, now);
+        let name = self.names.entry(StoreName::parse(&fields.queue).unwrap()).or_default();
+        match (fields.kind, &mut name.queue) {
+            (AskKind::Create, _) => name.create(fields.visibility.unwrap_or(30), now),
+            (_, None) => refused(1),
+            (AskKind::Remove, _) => {
+                (name.queue, name.removed) = (None, Some(now));
+                json!({"kind": "removed"})
+            }
+            (_, Some(queue)) => queue.reply(fields, now),
+        }
+    }
+
+    /// Its bytes, so many parts in a chunk.
+    pub fn bytes(&self, parts: usize, largest_number: u64) -> Vec<Vec<u8>> {
+        let (mut chunks, mut written) = (vec![chunk()], 0);
+        let mut write = |part: &Part<'_>| {
+            if written == parts {
+                chunks.push(chunk());
+                written = 0;
+            }
+            append(chunks.last_mut().unwrap(), part);
+            written += 1;
+        };
+        write(&Part::Start { entries: self.entries, last: self.last });
+        write(&Part::Client { client: 1, number: largest_number });
+        // In which order names stand isn't said.
+        let mut names: Vec<_> = self.names.iter().collect();
+        if self.entries % 2 == 0 {
+            names.reverse();
+        }
+        names.into_iter().for_each(|(store, name)| name.write(&store.text(), &mut write));
+        write(&Part::End);
+        chunks
+    }
+}
+
+impl Name {
+    fn create(&mut self, timeout: u32, now: Moment) -> Value {
+        match &self.queue {
+            Some(queue) if queue.timeout == timeout => json!({"kind": "created"}),
+            Some(_) => refused(2),
+            None if self.removed.is_some_and(|removed| now < removed + 60_000) => refused(3),
+            None => {
+                self.creations += 1;
+                let incarnation = self.creations;
+                self.queue = Some(LivingQueue { incarnation, timeout, ..LivingQueue::default() });
+                json!({"kind": "created"})
+            }
+        }
+    }
+
+    fn write(&self, text: &str, write: &mut impl FnMut(&Part<'_>)) {
+        let queue = self.queue.as_ref().map(|queue| {
+            let LivingQueue { incarnation, timeout, sent, uses, last, .. } = *queue;
+            QueuePart { incarnation, timeout, makes_ids: false, sent, uses, last }
+        });
+        let (creations, removed) = (self.creations, self.removed);
+        write(&Part::Name { name: text, creations, removed, queue });
+        let Some(queue) = &self.queue else { return };
+        for (sequence, message) in &queue.messages {
+            let Message { group, body, handings, handed, until } = message;
+            let (handings, handed, until) = (*handings, *handed, *until);
+            write(&Part::Message { sequence: *sequence, group, body, handings, handed, until });
+        }
+        for (id, moment, sequence) in &queue.accepted {
+            write(&Part::Accepted { id, moment: *moment, sequence: *sequence });
+        }
+    }
+}
+
+fn text(text: &Option<Cow<'_, str>>) -> String {
+    text.as_ref().unwrap().to_string()
+}
+
+impl LivingQueue {
+    fn reply(&mut self, fields: &AskFields<'_>, now: Moment) -> Value {
+        match fields.kind {
+            AskKind::Send => self.send(fields, now),
+            AskKind::Receive => self.receive(fields, now),
+            AskKind::Delete => self.delete(&text(&fields.receipt), now),
+            _ => self.change(&text(&fields.receipt), fields.visibility.unwrap(), now),
+        }
+    }
+
+    fn send(&mut self, fields: &AskFields<'_>, now: Moment) -> Value {
+        (self.uses, self.last) = (self.uses + 1, now);
+        self.accepted.retain(|(_, moment, _)| now < moment + WINDOW);
+        let id = text(&fields.dedup);
+        if let Some((_, _, first)) = self.accepted.iter().find(|(own, ..)| *own == id) {
+            return json!({"kind": "sent", "sequence": first});
+        }
+        self.sent += 1;
+        let (group, body) = (text(&fields.group), text(&fields.body));
+        self.messages.insert(self.sent, Message { group, body, handings: 0, handed: 0, until: 0 });
+        self.accepted.push((id, now, self.sent));
+        json!({"kind": "sent", "sequence": self.sent})
+    }
+
+    /// The messages of open groups, in the order in which they are handed out.
+    fn in_order(&self, now: Moment) -> Vec<u64> {
+        let mut groups: BTreeMap<&str, Vec<u64>> = BTreeMap::new();
+        self.messages.iter().for_each(|(sequence, one)| groups.entry(&one.group).or_default().push(*sequence));
+        let is_open = |own: &Vec<u64>| own.iter().all(|sequence| self.messages[sequence].until <= now);
+        let mut open: Vec<_> = groups.into_values().filter(is_open).collect();
+        open.sort_unstable();
+        open.concat()
+    }
+
+    fn receive(&mut self, fields: &AskFields<'_>, now: Moment) -> Value {
+        (self.uses, self.last) = (self.uses + 1, now);
+        let size = usize::from(fields.size.unwrap_or(1));
+        let until = now + 1000 * u64::from(fields.visibility.unwrap_or(self.timeout));
+        let next: Vec<_> = self.in_order(now).into_iter().take(size).collect();
+        let hand = |sequence| {
+            let message = self.messages.get_mut(&sequence).unwrap();
+            (message.handings, message.handed, message.until) = (message.handings + 1, now, until);
+            let receipt = format!("{}-{sequence}-{}", self.incarnation, message.handings);
+            json!({"body": message.body, "group": message.group, "receipt": receipt})
+        };
+        json!({"kind": "received", "messages": next.into_iter().map(hand).collect::<Vec<_>>()})
+    }
+
+    fn delete(&mut self, receipt: &str, now: Moment) -> Value {
+        let (sequence, ordinal) = numbers(receipt);
+        let is_deleted = match self.messages.get(&sequence) {
+            None if sequence <= self.sent => false,
+            Some(message) if ordinal <= message.handings => ordinal == message.handings,
+            _ => return refused(4),
+        };
+        if is_deleted {
+            self.messages.remove(&sequence);
+            self.last = now;
+        }
+        json!({"kind": "deleted", "removed": is_deleted})
+    }
+
+    fn change(&mut self, receipt: &str, visibility: u32, now: Moment) -> Value {
+        let ((sequence, ordinal), until) = (numbers(receipt), now + 1000 * u64::from(visibility));
+        match self.messages.get_mut(&sequence) {
+            None if sequence <= self.sent => refused(5),
+            Some(message) if ordinal != message.handings || ordinal == 0 => refused(4),
+            Some(message) if message.until <= now => refused(5),
+            Some(message) if until > message.handed + 43_200_000 => refused(6),
+            Some(message) => {
+                (message.until, self.last) = (until, now);
+                json!({"kind": "changed"})
+            }
+            None => refused(4),
+        }
+    }
+}
+
+/// The sequence number and the ordinal of a receipt.
+fn numbers(receipt: &str) -> (u64, u64) {
+    let numbers: Vec<u64> = receipt.split('-').map(|number| number.parse().unwrap()).collect();
+    (numbers[1], numbers[2])
+}

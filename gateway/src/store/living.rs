@@ -1,0 +1,521 @@
+//! Tables that live beside stores by the rules, and random work on both, for tests.
+
+use std::collections::{BTreeMap, BTreeSet};
+use std::sync::Arc;
+
+use proptest::prelude::*;
+use proptest::sample::{select, Index};
+use uuid::Uuid;
+
+use super::by_rules::StoreByRules;
+use crate::attributes::GivenAttributes;
+use crate::clock::Moment;
+use crate::errors::SqsError;
+use crate::handles::Receipt;
+use crate::journal::Record;
+use crate::lines::{self, AskFields, OutputLine, StoreReply};
+use crate::messages::{parts_of, Envelope, EnvelopeHead};
+use crate::move_tasks::{MoveTask, Status};
+use crate::moves::Origin;
+use crate::queues::ask::{Ask, Cause, Changer, Handed, Outcome, PartsAsk, PartsCause, Reach, StoreName, TableChange};
+use crate::queues::book::{Entry, QueueEntry};
+use crate::queues::shards::Shards;
+use crate::queues::{Queue, Queues};
+use crate::texts::{DedupId, GroupId, QueueKind, QueueName};
+
+/// So long ids count, in milliseconds.
+const WINDOW: u64 = 300_000;
+
+const NAMES: [&str; 4] = ["a", "b.fifo", "c", "d.fifo"];
+
+#[derive(Clone, Debug)]
+pub enum Step {
+    Create,
+    Remove,
+    Tag(u8),
+    Untag(u8),
+    Timeout(u8),
+    Purging,
+    Purged,
+    /// The last task, or a new one, stands so.
+    Task(bool, u64),
+    /// The first message is moved to the other queue of its kind, as a task does it.
+    Move,
+    /// The same, as a dead letter.
+    MoveDead,
+    /// The first delayed message is moved into its queue.
+    MoveDue,
+    Send,
+    /// A call sends it, which may be repeated.
+    SendByCall(u8),
+    /// It is too long for the store.
+    SendLarge,
+    Delay,
+    /// All messages of a FIFO queue are delayed so long.
+    DelayAll(u32),
+    /// So many messages are received, and hidden for so many seconds.
+    Receive(u8, u32),
+    /// A message that was received is hidden for so many seconds from now on.
+    Change(Index, u32),
+    /// It is deleted.
+    Delete(Index),
+    /// Parts go that no message names.
+    RemoveParts,
+    /// The first message is received, and deleted or not.
+    Take(bool),
+    /// The queue goes over to another name in the store, if it is empty.
+    GoOver,
+    BeginBook,
+    EndBook,
+    RemoveLeftOver,
+    Wait(u64),
+}
+
+/// What is done to a queue of this name, or to the books of the program that has it.
+pub type Steps = Vec<(&'static str, Step)>;
+
+pub fn steps() -> impl Strategy<Value = Steps> {
+    let step = prop_oneof![
+        6 => Just(Step::Create),
+        2 => Just(Step::Remove),
+        2 => (0..3u8).prop_map(Step::Tag),
+        1 => (0..3u8).prop_map(Step::Untag),
+        2 => (0..3u8).prop_map(Step::Timeout),
+        2 => Just(Step::Purging),
+        1 => Just(Step::Purged),
+        2 => (any::<bool>(), 0..9u64).prop_map(|(is_new, moved)| Step::Task(is_new, moved)),
+        4 => Just(Step::Move),
+        2 => Just(Step::MoveDead),
+        2 => Just(Step::MoveDue),
+        6 => Just(Step::Send),
+        3 => (0..3u8).prop_map(Step::SendByCall),
+        1 => Just(Step::SendLarge),
+        3 => Just(Step::Delay),
+        1 => select(vec![0u32, 5, 60]).prop_map(Step::DelayAll),
+        4 => (1..=3u8, select(vec![0u32, 1, 30, 43_200])).prop_map(|(size, visibility)| Step::Receive(size, visibility)),
+        2 => (any::<Index>(), select(vec![0u32, 30])).prop_map(|(which, visibility)| Step::Change(which, visibility)),
+        3 => any::<Index>().prop_map(Step::Delete),
+        1 => Just(Step::RemoveParts),
+        4 => any::<bool>().prop_map(Step::Take),
+        2 => Just(Step::GoOver),
+        2 => Just(Step::BeginBook),
+        2 => Just(Step::EndBook),
+        2 => Just(Step::RemoveLeftOver),
+        2 => select(vec![1u64, 1000, 30_000, 60_000, 240_000]).prop_map(Step::Wait),
+    ];
+    proptest::collection::vec((select(NAMES.to_vec()), step), 1..60)
+}
+
+/// All that the tables tell of queues, and what the store has.
+#[derive(Clone, Debug, Default, PartialEq)]
+pub struct Shown {
+    queues: Vec<String>,
+    removals: BTreeSet<String>,
+    pub used: BTreeSet<StoreName>,
+    books: Vec<(Option<u64>, Vec<u64>)>,
+    bytes: u64,
+    kept: u64,
+}
+
+pub fn shown(queues: &Queues, shards: Shards, now: Moment) -> Shown {
+    queues.look_at_ages(now);
+    let all = queues.all();
+    let of_queue = |queue: &Arc<Queue>| {
+        let delays = queue.delays().map(|delays| {
+            let state = delays.state();
+            (state.entry.store, state.messages_told(), state.purging().unwrap_or(0), state.count_due(Moment::MAX))
+        });
+        let state = queue.state();
+        let told = (state.messages_told(), state.last_sequence, state.said_in);
+        format!("{:?} {:?} {told:?} {delays:?}", state.entry, state.tasks())
+    };
+    let places = 0..shards.count() as usize;
+    Shown {
+        queues: all.iter().map(of_queue).collect(),
+        removals: queues.removals(now).iter().map(|removal| format!("{removal:?}")).collect(),
+        used: all.iter().flat_map(|queue| queue.store_names()).collect(),
+        books: places.map(|place| (queues.books().current(place), queues.books().earlier(place))).collect(),
+        bytes: queues.bytes_in_use(),
+        kept: queues.kept_for_books(),
+    }
+}
+
+/// The same, as far as the bytes of the stores tell it, and what it is used for.
+#[derive(Clone, Debug, PartialEq)]
+pub struct Told {
+    queues: Vec<String>,
+    removals: BTreeSet<String>,
+    books: Vec<(Option<u64>, Vec<u64>, u64)>,
+    parts: Vec<String>,
+    /// The last numbers of names.
+    numbers: [u64; 3],
+    bytes: u64,
+    kept: u64,
+}
+
+pub fn told(queues: &Queues, shards: Shards, now: Moment) -> Told {
+    queues.look_at_ages(now);
+    let of_queue = |queue: &Arc<Queue>| {
+        let delays = queue.delays().map(|delays| {
+            let purging = delays.state().purging().unwrap_or(0);
+            (purging, delays.mark, delays.state().told_by_bytes(now))
+        });
+        format!("{} {:?} {delays:?}", queue.state().told_by_bytes(now), queue.mark)
+    };
+    let book = |place| {
+        let books = queues.books();
+        (books.current(place), books.earlier(place), books.bytes_of_current(place))
+    };
+    Told {
+        queues: queues.all().iter().map(of_queue).collect(),
+        removals: queues.removals(now).iter().map(|removal| format!("{removal:?}")).collect(),
+        books: (0..shards.count() as usize).map(book).collect(),
+        parts: queues.parts().told(),
+        numbers: queues.last_numbers(),
+        bytes: queues.bytes_in_use(),
+        kept: queues.kept_for_books(),
+    }
+}
+
+/// What was there behind a line of the journal.
+pub struct Seen {
+    pub now: Moment,
+    pub shown: Shown,
+    /// What the bytes of the stores tell of it, and these stores.
+    pub told: Told,
+    pub stores: Vec<StoreByRules>,
+}
+
+impl Seen {
+    pub fn there(&self) -> BTreeSet<StoreName> {
+        self.stores.iter().flat_map(StoreByRules::there).collect()
+    }
+}
+
+/// Tables that live beside stores, and the journal of what changed something.
+pub struct Living {
+    pub queues: Queues,
+    pub shards: Shards,
+    stores: Vec<StoreByRules>,
+    now: Moment,
+    sends: u64,
+    tasks: u64,
+    /// The lines of the journal, the replies to these, and what was there behind each of them.
+    pub lines: Vec<(Vec<u8>, String)>,
+    pub seen: Vec<Seen>,
+}
+
+impl Living {
+    pub fn new(shards: Shards) -> Living {
+        let stores = vec![StoreByRules::default(); shards.count() as usize];
+        let (queues, lines, seen) = (Queues::default(), Vec::new(), Vec::new());
+        let mut living = Living { queues, shards, stores, now: 1000, sends: 0, tasks: 0, lines, seen };
+        shards.all().for_each(|shard| living.begin_book(shard.place()));
+        living
+    }
+
+    fn ask(&mut self, queue: &Arc<Queue>, ask: Ask) -> Result<Outcome, SqsError> {
+        let (place, own, base) = {
+            let state = queue.state();
+            (self.shards.place_of(&queue.name), state.entry.store, state.entry.base)
+        };
+        let place = match &ask {
+            Ask::Create { store, .. } | Ask::Remove { store } if store.book().is_some() => {
+                self.shards.place_of_number(store.book().unwrap())
+            }
+            Ask::Say { book: number, .. } | Ask::Parts { number, .. } => self.shards.place_of_number(*number),
+            _ => place,
+        };
+        let raw = serde_json::value::to_raw_value(&AskFields::of(own, base, &ask)).unwrap();
+        let text = self.stores[place].reply(&serde_json::from_str(raw.get()).unwrap(), self.now).to_string();
+        let line = format!("{{\"client\":1,\"number\":1,\"reply\":{text}}}");
+        let Ok(OutputLine::Answer { reply, .. }) = lines::read_output(line.as_bytes()) else { panic!("{line}") };
+        let refused = matches!(reply, StoreReply::Refused(_));
+        let (outcome, changed) = self.queues.apply_reply(place, queue, &ask, reply, self.now)?;
+        if changed && !refused {
+            let mut line = Vec::new();
+            Record::of_ask(self.now, &ask, &raw, &text).append(&mut line).unwrap();
+            line.pop();
+            self.lines.push((line, text));
+            let (now, shown) = (self.now, shown(&self.queues, self.shards, self.now));
+            let (told, stores) = (told(&self.queues, self.shards, self.now), self.stores.clone());
+            self.seen.push(Seen { now, shown, told, stores });
+        }
+        Ok(outcome)
+    }
+
+    fn nameless(&self) -> Arc<Queue> {
+        self.queues.nameless().unwrap()
+    }
+
+    fn say(&mut self, queue: &Arc<Queue>, place: usize, entry: Entry) {
+        let book = self.queues.books().current(place).unwrap();
+        let text = serde_json::to_string(&entry).unwrap();
+        self.ask(queue, Ask::Say { book, entry: Arc::new(entry), text }).unwrap();
+    }
+
+    fn change(&mut self, queue: &Arc<Queue>, change: TableChange) {
+        if let Some(entry) = queue.entry_after(&change, self.now) {
+            self.say(queue, self.shards.place_of(&queue.name), entry);
+        }
+    }
+
+    fn begin_book(&mut self, place: usize) {
+        let store = StoreName::of_book(self.queues.next_book(self.shards, place));
+        self.ask(&self.nameless(), Ask::Create { store, visibility: 0, bytes: 0 }).unwrap();
+    }
+
+    fn end_book(&mut self, place: usize) {
+        let current = self.queues.books().current(place);
+        for queue in self.queues.all() {
+            let unsaid = queue.state().unsaid_in(current.unwrap());
+            if self.shards.place_of(&queue.name) == place {
+                unsaid.into_iter().for_each(|change| self.change(&queue, change));
+            }
+        }
+        let earlier = self.queues.books().earlier(place);
+        if !earlier.is_empty() {
+            for removal in self.queues.removals(self.now) {
+                if self.shards.place_of(&removal.name) == place {
+                    self.say(&self.nameless(), place, Entry::Removed(removal));
+                }
+            }
+        }
+        for number in earlier {
+            self.ask(&self.nameless(), Ask::Remove { store: StoreName::of_book(number) }).unwrap();
+        }
+    }
+
+    fn create(&mut self, name: &QueueName, place: usize) {
+        let store = self.queues.next_store_name(self.shards, place);
+        let entry = QueueEntry::plain(store, name.clone(), rand::random());
+        let queue = Arc::new(Queue::new(&entry));
+        self.ask(&queue, Ask::Create { store, visibility: 30, bytes: 1 }).unwrap();
+        self.change(&queue, TableChange::Created);
+    }
+
+    /// The group of the next message. In a standard queue each has its own.
+    fn next_group(&self, queue: &Queue) -> GroupId {
+        let group = match queue.name.kind() {
+            QueueKind::Fifo => self.sends % 3,
+            QueueKind::Standard => self.sends,
+        };
+        GroupId::parse(&group.to_string()).unwrap()
+    }
+
+    fn send(&mut self, queue: &Arc<Queue>, due: Option<Moment>) {
+        self.sends += 1;
+        let dedup = DedupId::parse(&self.sends.to_string()).unwrap();
+        self.send_by(queue, dedup, due);
+    }
+
+    fn send_by(&mut self, queue: &Arc<Queue>, dedup: DedupId, due: Option<Moment>) {
+        let due = due.map_or(String::new(), |due| format!(",\"due\":{due}"));
+        let envelope = Envelope::Whole(format!("{{\"sent\":{}{due}}}\nbody {}", self.now, self.sends));
+        let group = self.next_group(queue);
+        let _ = self.ask(queue, Ask::Send { group, dedup, envelope, cause: Cause::Client });
+    }
+
+    fn send_by_call(&mut self, queue: &Arc<Queue>, call: u8) {
+        self.sends += 1;
+        let dedup = DedupId::of_call(&[call; 32], None);
+        if queue.name.kind() == QueueKind::Standard && queue.state().sent_by(&dedup, self.now).is_some() {
+            return;
+        }
+        match queue.delays() {
+            Some(delays) if self.sends % 2 == 0 => self.send_by(&delays, dedup, Some(self.now + 5000)),
+            _ => self.send_by(queue, dedup, None),
+        }
+    }
+
+    fn send_large(&mut self, queue: &Arc<Queue>) {
+        self.sends += 1;
+        let number = self.queues.parts().next_number(self.shards, self.shards.place_of(&queue.name));
+        let whole = format!("{{\"sent\":{}}}\nlarge {}", self.now, self.sends);
+        let head = EnvelopeHead::of(&whole).unwrap();
+        let mut asks = vec![PartsAsk::Create(PartsCause::Client)];
+        let part = |(place, text): (usize, &str)| PartsAsk::Add(PartsCause::Client, place, text.into());
+        asks.extend(parts_of(&whole).into_iter().enumerate().map(part));
+        for ask in asks {
+            self.ask(&self.nameless(), Ask::Parts { number, ask }).unwrap();
+        }
+        let (group, dedup) = (self.next_group(queue), DedupId::parse(&self.sends.to_string()).unwrap());
+        let envelope = head.in_place(number, whole.len()).unwrap();
+        let _ = self.ask(queue, Ask::Send { group, dedup, envelope, cause: Cause::Client });
+        self.queues.parts().settle(number);
+    }
+
+    fn receive(&mut self, queue: &Arc<Queue>, size: u8, visibility: u32) -> Vec<Handed> {
+        let ask = Ask::Receive { size, visibility, attempt: None, most: None, reach: Reach::All };
+        match self.ask(queue, ask) {
+            Ok(Outcome::Received { handed, set_aside, .. }) => {
+                handed.into_iter().chain(set_aside.into_iter().map(|(handed, _)| handed)).collect()
+            }
+            _ => Vec::new(),
+        }
+    }
+
+    fn take(&mut self, queue: &Arc<Queue>, is_deleted: bool) {
+        for handed in self.receive(queue, 1, 0).into_iter().filter(|_| is_deleted) {
+            self.ask(queue, Ask::Delete { receipt: handed.receipt, by_client: false }).unwrap();
+        }
+    }
+
+    fn delete_all(&mut self, queue: &Arc<Queue>) {
+        let handed = queue.state().receipts_between(0, u64::MAX, usize::MAX);
+        for receipt in handed.map_or(Vec::new(), |(receipts, _)| receipts) {
+            self.ask(queue, Ask::Delete { receipt, by_client: false }).unwrap();
+        }
+        while queue.state().count() > 0 {
+            self.take(queue, true);
+        }
+    }
+
+    /// The last receipt of one of the messages that were handed out.
+    fn receipt(&self, queue: &Queue, which: &Index) -> Option<Receipt> {
+        let (receipts, _) = queue.state().receipts_between(0, u64::MAX, usize::MAX)?;
+        (!receipts.is_empty()).then(|| receipts[which.index(receipts.len())])
+    }
+
+    /// Where messages of this queue are moved, if that is there.
+    fn target_of(&self, queue: &Queue) -> Option<Arc<Queue>> {
+        let place = NAMES.iter().position(|name| *name == queue.name.as_str())?;
+        self.queues.find(&QueueName::parse(NAMES[(place + 2) % 4])?)
+    }
+
+    /// Moves the first message of a queue. One that keeps its id is no task's.
+    fn move_first(&mut self, queue: &Arc<Queue>, target: &Arc<Queue>, keeps_id: bool) {
+        for Handed { receipt, envelope, group, .. } in self.receive(queue, 1, 0) {
+            self.sends += 1;
+            let origin = Origin { mark: queue.mark.0, sequence: receipt.sequence };
+            let head = EnvelopeHead::of(&envelope).unwrap();
+            let sent = if queue.name.kind() == QueueKind::Fifo { Some(self.now) } else { head.sent };
+            let (id, source) = (keeps_id.then(Uuid::new_v4), keeps_id.then(|| queue.name.clone()));
+            let head = EnvelopeHead { id, of: Some(origin), sent, due: None, source, ..head };
+            let envelope = match head.parts {
+                Some(_) => head.as_line().unwrap(),
+                None => Envelope::Whole(head.over(&envelope).unwrap()),
+            };
+            let (group, dedup) = (GroupId::parse(&group).unwrap(), DedupId::parse(&self.sends.to_string()).unwrap());
+            let _ = self.ask(target, Ask::Send { group, dedup, envelope, cause: Cause::Move(origin) });
+            self.ask(queue, Ask::Delete { receipt, by_client: false }).unwrap();
+        }
+    }
+
+    pub fn step(&mut self, name: &str, step: &Step) {
+        let name = QueueName::parse(name).unwrap();
+        let place = self.shards.place_of(&name);
+        match step {
+            Step::BeginBook => return self.begin_book(place),
+            Step::EndBook => return self.end_book(place),
+            Step::Wait(time) => return self.now += time,
+            Step::RemoveLeftOver => {
+                for store in self.queues.left_over().of(place) {
+                    let _ = self.ask(&self.nameless(), Ask::Remove { store });
+                    self.queues.left_over().remove(place, store);
+                }
+                return;
+            }
+            Step::RemoveParts => {
+                for number in self.queues.parts().take_those_freed() {
+                    let _ = self.ask(&self.nameless(), Ask::Parts { number, ask: PartsAsk::Remove });
+                }
+                return;
+            }
+            _ => {}
+        }
+        match (self.queues.find(&name), step) {
+            (None, Step::Create) => self.create(&name, place),
+            (None, _) | (_, Step::Create) => {}
+            (Some(queue), step) => self.step_of_queue(&queue, step),
+        }
+    }
+
+    fn step_of_queue(&mut self, queue: &Arc<Queue>, step: &Step) {
+        let key = |key: &u8| format!("key {key}");
+        match step {
+            Step::Remove => self.change(queue, TableChange::Removed),
+            Step::Tag(of) => self.change(queue, TableChange::Tag(BTreeMap::from([(key(of), self.now.to_string())]))),
+            Step::Untag(of) => self.change(queue, TableChange::Untag(vec![key(of)])),
+            Step::Timeout(value) => {
+                let given = [("VisibilityTimeout".to_string(), value.to_string())];
+                let given = GivenAttributes::read(queue.name.kind(), &given).unwrap();
+                self.change(queue, TableChange::Attributes(given));
+            }
+            Step::Purging => {
+                let last = queue.state().last_sequence;
+                self.change(queue, TableChange::Purging(last));
+            }
+            Step::Purged => {
+                if queue.state().purging().is_some() {
+                    queue.delays().into_iter().for_each(|delays| self.delete_all(&delays));
+                    self.delete_all(queue);
+                }
+                self.change(queue, TableChange::Purged);
+            }
+            Step::Task(is_new, moved) => {
+                let (destination, rate, failure, starter) = (None, None, None, None);
+                let status = if *moved == 8 { Status::Completed } else { Status::Running };
+                self.tasks += u64::from(*is_new);
+                let (moved, started) = (*moved, queue.state().tasks().last().map_or(0, |last| last.started));
+                let started = if *is_new || started == 0 { self.tasks } else { started };
+                let id = Uuid::from_u128(u128::from(started));
+                let (up_to, to_move) = (9, 9);
+                let task = MoveTask { id, destination, rate, up_to, to_move, moved, started, status, failure, starter };
+                self.change(queue, TableChange::Task(task));
+            }
+            Step::Send => self.send(queue, None),
+            Step::Delay if queue.name.kind() == QueueKind::Standard => {
+                if queue.delays().is_none() {
+                    let (delays, create) = Queue::beside(queue, queue.state().entry.store);
+                    self.ask(&Arc::new(delays), create).unwrap();
+                }
+                self.send(&queue.delays().unwrap(), Some(self.now + 5000));
+            }
+            Step::Move | Step::MoveDead => {
+                if let Some(target) = self.target_of(queue) {
+                    self.move_first(queue, &target, matches!(step, Step::MoveDead));
+                }
+            }
+            Step::MoveDue => {
+                if let Some(delays) = queue.delays() {
+                    self.move_first(&delays, queue, true);
+                }
+            }
+            Step::SendByCall(call) => self.send_by_call(queue, *call),
+            Step::SendLarge => self.send_large(queue),
+            Step::DelayAll(seconds) if queue.name.kind() == QueueKind::Fifo => {
+                let given = [("DelaySeconds".to_string(), seconds.to_string())];
+                let given = GivenAttributes::read(queue.name.kind(), &given).unwrap();
+                self.change(queue, TableChange::Attributes(given));
+            }
+            Step::Receive(size, visibility) => drop(self.receive(queue, *size, *visibility)),
+            Step::Change(which, visibility) => {
+                if let Some(receipt) = self.receipt(queue, which) {
+                    let (visibility, by) = (*visibility, Changer::Client);
+                    let _ = self.ask(queue, Ask::ChangeVisibility { receipt, visibility, by });
+                }
+            }
+            Step::Delete(which) => {
+                if let Some(receipt) = self.receipt(queue, which) {
+                    self.ask(queue, Ask::Delete { receipt, by_client: false }).unwrap();
+                }
+            }
+            Step::Take(is_deleted) => {
+                self.take(queue, *is_deleted);
+                queue.delays().into_iter().for_each(|delays| self.take(&delays, *is_deleted));
+            }
+            Step::GoOver => {
+                let is_empty = queue.delays().map_or(true, |delays| delays.state().count() == 0);
+                if is_empty && queue.state().count() == 0 && queue.state().purging().is_none() {
+                    // No queue does so before it is at rest.
+                    self.now += WINDOW;
+                    let store = self.queues.next_store_name(self.shards, self.shards.place_of(&queue.name));
+                    self.ask(queue, Ask::Create { store, visibility: 30, bytes: 0 }).unwrap();
+                    self.change(queue, TableChange::GoneOver(store));
+                }
+            }
+            _ => {}
+        }
+    }
+}
