@@ -67,17 +67,23 @@ pub type Rights = Option<Arc<Keys>>;
 /// So many tasks of a queue are remembered (API Reference, ListMessageMoveTasks).
 const MOST: usize = 10;
 
-/// Takes up how a task stands. One that has ended stays so.
-pub fn merge(tasks: &mut Vec<MoveTask>, task: &MoveTask) {
-    match tasks.iter_mut().find(|known| known.id == task.id) {
+/// How a task stands behind this, by what is known of tasks. One that has ended stays so.
+pub fn merged(tasks: &[MoveTask], task: &MoveTask) -> MoveTask {
+    match tasks.iter().find(|known| known.id == task.id) {
         Some(known) => {
-            let moved = known.moved.max(task.moved);
-            if known.status == Status::Running {
-                *known = task.clone();
-            }
-            known.moved = moved;
+            let stands = if known.status == Status::Running { task } else { known };
+            MoveTask { moved: known.moved.max(task.moved), ..stands.clone() }
         }
-        None => tasks.push(task.clone()),
+        None => task.clone(),
+    }
+}
+
+/// Takes up how a task stands.
+pub fn merge(tasks: &mut Vec<MoveTask>, task: &MoveTask) {
+    let merged = merged(tasks, task);
+    match tasks.iter_mut().find(|known| known.id == task.id) {
+        Some(known) => *known = merged,
+        None => tasks.push(merged),
     }
     // A book that is begun anew may say them in another order.
     tasks.sort_by_key(|task| task.started);

@@ -44,7 +44,10 @@ impl State {
                 (entry.purged, entry.purging) = (Some(moment), Some(Purging { up_to: *last, delayed_up_to }));
             }
             TableChange::Purged => (entry.purged, entry.purging) = (Some(moment), None),
-            TableChange::Task(task) => return Some(Entry::Task(entry.mark, task.clone())),
+            // What is said last counts, also where nothing before it stands there any more.
+            TableChange::Task(task) => {
+                return Some(Entry::Task(entry.mark, move_tasks::merged(&self.tasks, task)));
+            }
             TableChange::GoneOver(store) => (entry.store, entry.base) = (*store, self.last_sequence),
             TableChange::Removed => {
                 return Some(Entry::Removed(Removal { name: entry.name, mark: entry.mark, at: moment }));

@@ -501,3 +501,15 @@ fn a_call_that_is_looked_up_when_it_is_old_counts_until_it_is_forgotten() {
     let in_use = queue.state().bytes_of_all();
     assert_eq!((looked_up, queues.bytes_in_use()), ([true, false], in_use));
 }
+
+#[test]
+fn what_is_said_of_a_task_that_has_ended_is_that_it_has() {
+    let mut state = state();
+    let (destination, rate, failure, starter, status) = (None, None, None, None, Status::Running);
+    let (id, up_to, to_move, moved, started) = (Uuid::from_u128(7), 9, 9, 3, 5);
+    let task = MoveTask { id, destination, rate, up_to, to_move, moved, started, status, failure, starter };
+    state.said_of_task(&MoveTask { status: Status::Cancelled, ..task.clone() }, 1, Size::default());
+    let said = state.entry_after(&TableChange::Task(MoveTask { moved: 4, ..task.clone() }), 0, 9);
+    let expected = MoveTask { moved: 4, status: Status::Cancelled, ..task };
+    assert_eq!(said, Some(Entry::Task(state.entry.mark, expected)));
+}
