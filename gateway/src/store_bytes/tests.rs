@@ -100,6 +100,60 @@ fn each_store_that_is_none_has_its_fault() {
     assert_eq!([read(&[&other]), read(&[])], [Err(Fault::OtherVersion), Err(Fault::Truncated)]);
 }
 
+/// What a store of these parts is read as.
+fn read_parts(parts: &[Part<'_>]) -> Result<String, Fault> {
+    let mut bytes = chunk();
+    parts.iter().for_each(|part| append(&mut bytes, part));
+    read(&[&bytes])
+}
+
+#[test]
+fn each_part_stands_where_it_can() {
+    let living = QueuePart { incarnation: 1, timeout: 30, makes_ids: false, sent: 2, uses: 3, last: 9 };
+    let start = Part::Start { entries: 3, last: 9 };
+    let client = |client| Part::Client { client, number: 7 };
+    let name = |name, creations, queue| Part::Name { name, creations, removed: None, queue };
+    let (queue, removed) = (name("q.fifo", 1, Some(living)), name("r.fifo", 1, None));
+    let handed = |sequence, handings| {
+        let (group, body, handed, until) = ("g", "b", 0, 0);
+        Part::Message { sequence, group, body, handings, handed, until }
+    };
+    let message = |sequence| handed(sequence, 0);
+    let accepted = |id, moment| Part::Accepted { id, moment, sequence: 1 };
+    let (end, tag, number) = (Part::End, Err(Fault::BadTag), Err(Fault::BadNumber));
+    let good = [start, client(1), queue, message(1), message(2), accepted("a", 1), accepted("b", 1), removed, end];
+    assert!(read_parts(&good).is_ok());
+    for (parts, fault) in [
+        (vec![queue, end], tag.clone()),
+        (vec![start, start, end], tag.clone()),
+        (vec![start, end, end], tag.clone()),
+        (vec![start, queue, client(1), end], tag.clone()),
+        (vec![start, message(1), end], tag.clone()),
+        (vec![start, removed, message(1), end], tag.clone()),
+        (vec![start, removed, accepted("a", 1), end], tag.clone()),
+        (vec![start, queue, accepted("a", 1), message(1), end], tag),
+        (vec![start, client(1), client(1), end], number.clone()),
+        (vec![start, queue, removed, queue, end], number.clone()),
+        (vec![start, removed, removed, end], number.clone()),
+        (vec![start, name("q.fifo", 4, None), end], number.clone()),
+        (vec![start, name("q.fifo", 1, Some(QueuePart { uses: 4, ..living })), end], number.clone()),
+        (vec![start, name("q.fifo", 1, Some(QueuePart { last: 10, ..living })), end], number.clone()),
+        (vec![start, name("q.fifo", 1, Some(QueuePart { sent: 4, ..living })), end], number.clone()),
+        (vec![start, name("q.fifo", 1, Some(QueuePart { incarnation: 0, ..living })), end], number.clone()),
+        (vec![start, queue, message(2), message(1), end], number.clone()),
+        (vec![start, queue, message(3), end], number.clone()),
+        (vec![start, queue, message(0), end], number.clone()),
+        (vec![start, queue, handed(1, 4), end], number.clone()),
+        (vec![start, queue, accepted("a", 2), accepted("b", 1), end], number.clone()),
+        (vec![start, queue, accepted("a", 10), end], number.clone()),
+        (vec![start, queue, accepted("a", 1), accepted("a", 1), end], number.clone()),
+        (vec![start, queue, accepted("a", 1), accepted("b", 1), accepted("c", 1), end], number),
+        (vec![start, queue, message(1)], Err(Fault::Truncated)),
+    ] {
+        assert_eq!(read_parts(&parts), fault, "{parts:?}");
+    }
+}
+
 #[test]
 fn no_front_of_a_store_is_one_and_nothing_comes_behind_its_end() {
     for (bytes, _) in written_stores() {
