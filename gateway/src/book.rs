@@ -6,10 +6,12 @@
 use std::sync::Arc;
 use std::time::Duration;
 
+use uuid::Uuid;
+
 use crate::errors::SqsError;
 use crate::journal::Need;
 use crate::queues::ask::{Ask, StoreName};
-use crate::queues::book::{Entry, Removal, Size};
+use crate::queues::book::{Entry, ProgramEntry, Removal, Size};
 use crate::queues::Queue;
 use crate::store::{Operation, Store};
 
@@ -129,6 +131,9 @@ async fn bring_up_to_date(store: &Store, place: usize) -> Result<(), SqsError> {
     if !store.wait_for(place).await {
         return Err(SqsError::store_is_gone());
     }
+    if store.is_kept() && !books.has_program(place) {
+        say_program(store, place).await?;
+    }
     let earlier = books.earlier(place);
     // Where no book goes with it, as in an older journal, nothing is gained by it on a full disk.
     let need = if earlier.is_empty() { Need::More } else { Need::Free };
@@ -165,6 +170,17 @@ async fn say_all(store: &Store, place: usize, need: Need) -> Result<(), SqsError
         }
     }
     Ok(())
+}
+
+/// Has a book say what nothing but the store says, where programs keep their lines: which program has it, the jumps of the
+/// clock, and what attempts were given.
+async fn say_program(store: &Store, place: usize) -> Result<(), SqsError> {
+    let attempts = of_place(store, place).flat_map(|queue| queue.state().entries_of_attempts()).map(Entry::Attempt);
+    let jumps = store.queues().jumps().all().into_iter().map(|(moment, uncounted)| Entry::Jump(moment, uncounted));
+    let secret = store.queues().secret(place).unwrap_or_else(Uuid::new_v4);
+    let program = ProgramEntry { place, count: store.places().len() as u32, secret };
+    let entries = attempts.chain(jumps).chain([Entry::Program(program)]);
+    store.perform_nameless(place, entries.map(Operation::Say).collect()).await
 }
 
 fn is_for_now(error: &SqsError) -> bool {

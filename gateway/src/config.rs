@@ -14,6 +14,7 @@ use crate::actions::{Owner, Pauses};
 use crate::limits::Bounds;
 use crate::queues::shards::Shards;
 use crate::serve::Settings;
+use crate::store::Keeping;
 
 /// What was asked for can't be meant: the command line, a variable or the file is at fault.
 #[derive(Debug, Error)]
@@ -49,6 +50,9 @@ pub struct Options {
     /// Keep all on disk, in FILE.1 and so on, and start from it
     #[arg(long, value_name = "FILE", env = "HOBBYCHAIR_JOURNAL")]
     journal: Option<PathBuf>,
+    /// Have cq keep all on disk in place of the gateway, in FILE, or in FILE.1 and so on where several share the queues
+    #[arg(long, value_name = "FILE", env = "HOBBYCHAIR_PROVED_JOURNAL")]
+    proved_journal: Option<PathBuf>,
     /// Refuse sends when messages use so many bytes, as 512MiB
     #[arg(long, value_name = "SIZE", env = "HOBBYCHAIR_MEMORY")]
     memory: Option<Size>,
@@ -324,6 +328,10 @@ const CQ_TIMEOUT: u32 = 30;
 const REQUEST_MEMORY: u64 = 256 << 20;
 const LEAST_REQUEST_MEMORY: usize = 64 << 20;
 
+/// In MiB, what cq takes.
+const LEAST_KEPT: u64 = 64;
+const MOST_KEPT: u64 = 1 << 20;
+
 impl Options {
     /// These options, and those of the file that they name, where there are none of these.
     pub fn with_file(self) -> Result<Options> {
@@ -343,6 +351,7 @@ impl Options {
             threads: self.threads.or(file.threads),
             shards: self.shards.or(file.shards),
             journal: self.journal.or(file.journal),
+            proved_journal: self.proved_journal.or(file.proved_journal),
             memory: self.memory.or(file.memory),
             request_memory: self.request_memory.or(file.request_memory),
             journal_size: self.journal_size.or(file.journal_size),
@@ -387,7 +396,10 @@ impl Options {
             (None, None) => None,
             _ => return Err(Misuse("a certificate and its key are given together".into()).into()),
         };
-        if self.journal_size.is_some() && self.journal.is_none() {
+        if self.journal.is_some() && self.proved_journal.is_some() {
+            return Err(Misuse("there is one journal: that of the gateway or that of cq".into()).into());
+        }
+        if self.journal_size.is_some() && self.journal.is_none() && self.proved_journal.is_none() {
             return Err(Misuse("a size of the journal is given, and no journal".into()).into());
         }
         let peek = self.peek.unwrap_or(false);
@@ -404,6 +416,10 @@ impl Options {
             None => Shards::ONE,
             Some(count) => Shards::new(count).ok_or_else(|| Misuse("shards must be 1 to 16".into()))?,
         };
+        let keeping = match self.proved_journal {
+            Some(path) => Some(Keeping { path, size: size_of_each(self.journal_size, shards)? }),
+            None => None,
+        };
         Ok(Settings {
             host: self.host.unwrap_or_else(|| LOOPBACK.into()),
             port: self.port.unwrap_or(PORT),
@@ -411,6 +427,7 @@ impl Options {
             cq_timeout: Duration::from_secs(u64::from(between("cq-timeout", cq_timeout, 1, 3_600)?)),
             shards,
             journal: self.journal,
+            keeping,
             bounds: Bounds { memory: self.memory.map(|size| size.0), journal: self.journal_size.map(|size| size.0) },
             request_memory: request_memory(self.request_memory)?,
             credentials: self.credentials,
@@ -431,6 +448,17 @@ impl Options {
             clock_file: self.clock_file,
         })
     }
+}
+
+/// How large each program makes its journal, in MiB, where they are so large together.
+fn size_of_each(size: Option<Size>, shards: Shards) -> Result<Option<u64>> {
+    let Some(Size(bytes)) = size else { return Ok(None) };
+    let each = (bytes / u64::from(shards.count())) >> 20;
+    if !(LEAST_KEPT..=MOST_KEPT).contains(&each) {
+        let why = format!("journal-size must be {LEAST_KEPT}MiB or more for each program, and {MOST_KEPT}MiB or less");
+        return Err(Misuse(why).into());
+    }
+    Ok(Some(each))
 }
 
 /// The longest request and the answer to it have to find room.
@@ -532,10 +560,17 @@ mod tests {
         let alone = Options { key: Some("k".into()), ..Options::default() };
         let none = Options { connections: Some(0), ..Options::default() };
         let size = Options { journal_size: Some(Size(1)), ..Options::default() };
+        let (journal, proved_journal) = (Some("a".into()), Some("b".into()));
+        let both = Options { journal, proved_journal, ..Options::default() };
         let many = Options { shards: Some(17), ..Options::default() };
         let little = Options { request_memory: Some(Size(1 << 20)), ..Options::default() };
         let peek = Options { peek: Some(true), ..Options::default() };
-        for bad in [alone, none, size, many, little, peek] {
+        let (journal, shards) = (Some(PathBuf::from("a")), Some(2));
+        let small =
+            Options { proved_journal: journal, shards, journal_size: Some(Size(127 << 20)), ..Options::default() };
+        let kept = Options { journal_size: Some(Size(130 << 20)), ..small.clone() };
+        assert_eq!(settings(kept).unwrap().keeping.unwrap().size, Some(65));
+        for bad in [alone, none, size, both, small, many, little, peek] {
             assert!(settings(bad).unwrap_err().is::<Misuse>());
         }
         for bad in [0, MOST_THREADS + 1, u32::MAX] {

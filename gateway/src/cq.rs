@@ -2,12 +2,13 @@
 
 use std::io;
 use std::os::unix::process::CommandExt;
+use std::path::PathBuf;
 use std::process::Stdio;
 use std::time::Duration;
 
 use thiserror::Error;
 use tokio::io::AsyncReadExt;
-use tokio::process::{Child, Command};
+use tokio::process::{Child, ChildStderr, Command};
 
 use crate::pipes::{Input, Output};
 
@@ -26,16 +27,36 @@ pub enum CqError {
     NotBuilt(String),
 }
 
+impl CqError {
+    /// Whether another program has the file in which this one keeps its lines.
+    pub fn is_busy(&self) -> bool {
+        matches!(self, CqError::Gone(said) if said.contains("JournalBusy"))
+    }
+}
+
 /// A running `cq session`. It ends when this is dropped.
 pub struct Cq {
     process: Child,
     pub input: Input,
     pub output: Output,
+    /// Of one that keeps its lines: what it says of its end.
+    errors: Option<ChildStderr>,
+}
+
+/// The file in which a program keeps its lines.
+#[derive(Clone, Debug)]
+pub struct KeptFile {
+    pub path: PathBuf,
+    /// How large it is made, in MiB.
+    pub size: Option<u64>,
 }
 
 const VERSION: &str = env!("CARGO_PKG_VERSION");
 /// So long a program that has closed its output has to end by itself.
 const LAST_MOMENTS: Duration = Duration::from_secs(1);
+
+/// No more is read of what it says of its end.
+const LONGEST_WORDS: u64 = 4096;
 
 const VERSION_TIME: Duration = Duration::from_secs(10);
 
@@ -45,15 +66,32 @@ const NOT_BUILT: i32 = 126;
 impl Cq {
     /// Starts the program. It gets no signals of the terminal, so that it outlives the gateway's own end in good order.
     pub fn start(program: &str) -> Result<Cq, CqError> {
+        Cq::start_as(program, |_| {})
+    }
+
+    /// Starts one that keeps its lines in a file, and tells its store first, however long that takes.
+    pub fn start_keeping(program: &str, file: &KeptFile) -> Result<Cq, CqError> {
+        let cq = Cq::start_as(program, |command| {
+            command.arg("--journal").arg(&file.path).arg("--tell-store").stderr(Stdio::piped());
+            if let Some(size) = file.size {
+                command.arg("--journal-size").arg(size.to_string());
+            }
+        })?;
+        Ok(cq.with_patience(Duration::MAX))
+    }
+
+    fn start_as(program: &str, told: impl FnOnce(&mut std::process::Command)) -> Result<Cq, CqError> {
         let not_started = |why: String| CqError::NotStarted { program: program.into(), why };
         let mut command = std::process::Command::new(program);
         command.arg("session").stdin(Stdio::piped()).stdout(Stdio::piped()).process_group(0);
+        told(&mut command);
         end_with_the_gateway(&mut command);
         let mut process =
             Command::from(command).kill_on_drop(true).spawn().map_err(|error| not_started(error.to_string()))?;
         let pipes = process.stdin.take().zip(process.stdout.take());
         let (input, output) = pipes.ok_or_else(|| not_started("it has no pipes".into()))?;
-        Ok(Cq { process, input: Input::new(input), output: Output::new(output) })
+        let errors = process.stderr.take();
+        Ok(Cq { process, input: Input::new(input), output: Output::new(output), errors })
     }
 
     /// Starts so many programs, each of which has `patience` for an answer.
@@ -70,12 +108,24 @@ impl Cq {
     /// Waits for the end of a program that has closed its output, and says how it ended. One that goes on is ended.
     pub async fn end(&mut self) -> CqError {
         match tokio::time::timeout(LAST_MOMENTS, self.process.wait()).await {
-            Ok(Ok(status)) => CqError::Gone(format!("it ended with {}", said(status))),
+            Ok(Ok(status)) => CqError::Gone(format!("it ended with {}{}", said(status), self.last_words().await)),
             Ok(Err(error)) => CqError::Gone(error.to_string()),
             Err(_) => {
                 self.stop().await;
                 CqError::Gone("it closed its output and went on".into())
             }
+        }
+    }
+
+    /// What a program that has ended said of that, where it wasn't said in the log.
+    async fn last_words(&mut self) -> String {
+        let Some(errors) = self.errors.take() else { return String::new() };
+        let (mut said, mut errors) = (Vec::new(), errors.take(LONGEST_WORDS));
+        let read = tokio::time::timeout(LAST_MOMENTS, errors.read_to_end(&mut said)).await;
+        let said = String::from_utf8_lossy(&said);
+        match (read, said.trim()) {
+            (_, "") => String::new(),
+            (_, words) => format!(": {words}"),
         }
     }
 

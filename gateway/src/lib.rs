@@ -46,7 +46,6 @@ mod rolling;
 mod seeded;
 mod serve;
 mod store;
-#[cfg(test)]
 mod store_bytes;
 mod texts;
 mod tls;

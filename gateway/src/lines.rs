@@ -8,7 +8,7 @@ use thiserror::Error;
 
 use crate::handles::Receipt;
 use crate::queues::ask::{Ask, PartsAsk, StoreName};
-use crate::texts::hex;
+use crate::texts::{bytes_of_hex, hex};
 
 /// The kinds of asks.
 #[derive(Clone, Copy, Debug, PartialEq, Eq, Serialize, Deserialize)]
@@ -92,6 +92,14 @@ impl<'a> AskFields<'a> {
     }
 }
 
+/// How long the line of a send is, but for numbers that all have: what can be longer in one than in another.
+pub fn length_of(ask: &Ask) -> usize {
+    let Ask::Send { group, dedup, envelope, .. } = ask else { return 0 };
+    let texts = [group.as_str(), dedup.as_str(), envelope.stored()];
+    // A text can be written as JSON.
+    texts.iter().map(|text| serde_json::to_string(text).map_or(0, |json| json.len())).sum()
+}
+
 /// The group of all parts, and that of all entries of a book.
 const PARTS_GROUP: &str = "parts";
 const BOOK_GROUP: &str = "book";
@@ -171,6 +179,9 @@ pub fn append_request(
     append_number(out, "{\"op\":\"arrive\",\"at\":", SERVER.into())?;
     append_number(out, ",\"clock\":", clock)?;
     append_number(out, ",\"client\":", client.into())?;
+    // So a line is no shorter than an earlier one whose ask is as long.
+    let digits = client.checked_ilog10().unwrap_or(0) as usize + 1;
+    out.extend(std::iter::repeat(b' ').take(CLIENT_DIGITS.saturating_sub(digits)));
     append_number(out, ",\"number\":", number)?;
     out.extend_from_slice(b",\"ask\":");
     out.extend_from_slice(ask.get().as_bytes());
@@ -178,6 +189,9 @@ pub fn append_request(
     out.extend_from_slice(PUT);
     Ok(())
 }
+
+/// No client has more digits.
+const CLIENT_DIGITS: usize = 3;
 
 fn append_number(out: &mut Vec<u8>, name: &str, number: u64) -> Result<(), serde_json::Error> {
     out.extend_from_slice(name.as_bytes());
@@ -229,11 +243,21 @@ pub struct StoreMessage {
 #[derive(Debug)]
 pub enum OutputLine<'a> {
     /// The answer to the request or query of this client and number.
-    Answer { client: u32, number: u64, reply: StoreReply, text: &'a str },
-    /// The request's own line was refused, by this number.
-    Refused(u32),
+    Answer { client: u32, number: u64, reply: StoreReply, text: &'a str, line: u64 },
+    /// A line was refused, by this code: that of a request, or where there is no room the one that should have given its
+    /// answer.
+    Refused { code: u32, line: u64 },
     /// The line that should have given the answer of a refused request.
-    Nothing,
+    Nothing { line: u64 },
+}
+
+/// What a program that keeps its lines in a file tells at its start.
+#[derive(Debug, PartialEq, Eq)]
+pub enum StartLine {
+    /// A chunk of the store.
+    Chunk(Vec<u8>),
+    /// That was all of it, and so many lines are kept.
+    Ready { lines: u64 },
 }
 
 /// The program wrote what it never should.
@@ -249,6 +273,17 @@ struct OutputFields<'a> {
     #[serde(borrow)]
     reply: Option<ReplyFields<'a>>,
     refused: Option<u32>,
+    #[serde(default)]
+    line: u64,
+}
+
+#[derive(Deserialize)]
+struct StartFields<'a> {
+    #[serde(borrow)]
+    kind: Cow<'a, str>,
+    #[serde(borrow)]
+    chunk: Option<Cow<'a, str>>,
+    lines: Option<u64>,
 }
 
 #[derive(Deserialize)]
@@ -265,19 +300,47 @@ struct ReplyFields<'a> {
 
 const OUTBOX_EMPTY: u32 = 34;
 
+/// The journal of the program has no room for a line of this kind. It changed nothing, and isn't counted.
+pub const NO_ROOM: u32 = 70;
+
+fn bad_output(line: &[u8]) -> BadOutput {
+    BadOutput(String::from_utf8_lossy(&line[..line.len().min(200)]).into_owned())
+}
+
+/// Reads a line that a program writes at its start, without its line feed.
+pub fn read_start(line: &[u8]) -> Result<StartLine, BadOutput> {
+    let fields: StartFields<'_> = serde_json::from_slice(line).map_err(|_| bad_output(line))?;
+    let read = match (fields.kind.as_ref(), fields.chunk, fields.lines) {
+        ("store", Some(chunk), _) => bytes_of_hex(&chunk).map(StartLine::Chunk),
+        ("ready", _, Some(lines)) => Some(StartLine::Ready { lines }),
+        _ => None,
+    };
+    read.ok_or_else(|| bad_output(line))
+}
+
+/// Appends the line that has an answer given. Where none waits, it is answered so.
+pub fn append_put(out: &mut Vec<u8>) {
+    out.extend_from_slice(PUT);
+}
+
 /// Reads a line of output, without its line feed.
 pub fn read_output(line: &[u8]) -> Result<OutputLine<'_>, BadOutput> {
-    let bad = || BadOutput(String::from_utf8_lossy(&line[..line.len().min(200)]).into_owned());
+    let bad = || bad_output(line);
     let text = std::str::from_utf8(line).map_err(|_| bad())?;
     let fields: OutputFields<'_> = serde_json::from_str(text).map_err(|_| bad())?;
     if let Some(code) = fields.refused {
-        return Ok(if code == OUTBOX_EMPTY { OutputLine::Nothing } else { OutputLine::Refused(code) });
+        let line = fields.line;
+        return Ok(if code == OUTBOX_EMPTY {
+            OutputLine::Nothing { line }
+        } else {
+            OutputLine::Refused { code, line }
+        });
     }
     let (Some(client), Some(number), Some(reply)) = (fields.client, fields.number.or(fields.tag), fields.reply) else {
         return Err(bad());
     };
-    let reply = read_reply(reply).ok_or_else(bad)?;
-    Ok(OutputLine::Answer { client, number, reply, text: text_of_reply(text).ok_or_else(bad)? })
+    let (reply, text) = (read_reply(reply).ok_or_else(bad)?, text_of_reply(text).ok_or_else(bad)?);
+    Ok(OutputLine::Answer { client, number, reply, text, line: fields.line })
 }
 
 /// The text of the reply in a line, where nothing stands behind it. Only numbers stand before it. Serde could tell it, too,
@@ -333,7 +396,7 @@ mod tests {
     fn requests_become_two_lines() {
         let receipt = Receipt { sequence: 12, ordinal: 4 };
         let line = line_of(&Ask::ChangeVisibility { receipt, visibility: 9, by: Changer::Client });
-        let expected = "{\"op\":\"arrive\",\"at\":1,\"clock\":5,\"client\":2,\"number\":3,\"ask\":{\"kind\":\"change\",\
+        let expected = "{\"op\":\"arrive\",\"at\":1,\"clock\":5,\"client\":2  ,\"number\":3,\"ask\":{\"kind\":\"change\",\
             \"queue\":\"7.fifo\",\"visibility\":9,\"receipt\":\"1-2-4\"}}\n{\"op\":\"put\",\"from\":1,\"to\":\"clients\"}\n";
         assert_eq!(line, expected);
     }
@@ -341,7 +404,7 @@ mod tests {
     #[test]
     fn answers_are_read() {
         let line = br#"{"client":1,"length":3,"line":6,"number":9,"reply":{"kind":"received","messages":[{"body":"a\n","group":"g","receipt":"1-2-1"}]}}"#;
-        let Ok(OutputLine::Answer { client: 1, number: 9, reply: StoreReply::Received(given), text }) =
+        let Ok(OutputLine::Answer { client: 1, number: 9, reply: StoreReply::Received(given), text, line: 6 }) =
             read_output(line)
         else {
             panic!()
@@ -350,11 +413,28 @@ mod tests {
         assert_eq!((text, given[0].body.as_str()), (expected, "a\n"));
         assert_eq!(read_receipt(&given[0].receipt, 10), Some(Receipt { sequence: 12, ordinal: 1 }));
         let refused = br#"{"line":3,"name":"BadLine","refused":61}"#;
-        assert!(matches!(read_output(refused), Ok(OutputLine::Refused(61))));
+        assert!(matches!(read_output(refused), Ok(OutputLine::Refused { code: 61, line: 3 })));
         let put = br#"{"line":4,"name":"OutboxEmpty","refused":34}"#;
-        assert!(matches!(read_output(put), Ok(OutputLine::Nothing)));
+        assert!(matches!(read_output(put), Ok(OutputLine::Nothing { line: 4 })));
         for bad in [&b"hello"[..], b"{}", b"{\"client\":1,\"number\":1,\"reply\":{\"kind\":\"x\"}}"] {
             assert!(read_output(bad).is_err());
+        }
+    }
+
+    #[test]
+    fn what_is_told_at_a_start_is_read() {
+        let chunk = read_start(br#"{"chunk":"0105ff","kind":"store"}"#).unwrap();
+        assert_eq!(chunk, StartLine::Chunk(vec![1, 5, 255]));
+        let ready = read_start(br#"{"clients":2,"kind":"ready","lines":7,"queriers":0}"#).unwrap();
+        assert_eq!(ready, StartLine::Ready { lines: 7 });
+        for bad in [
+            &b"ready"[..],
+            b"{}",
+            b"{\"kind\":\"ready\"}",
+            b"{\"kind\":\"store\",\"chunk\":\"0\"}",
+            b"{\"kind\":\"store\",\"chunk\":\"0G\"}",
+        ] {
+            assert!(read_start(bad).is_err());
         }
     }
 

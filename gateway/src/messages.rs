@@ -272,6 +272,17 @@ impl Envelope {
         Ok(Envelope::Split { stub, whole })
     }
 
+    /// Has what goes into the store say that it was sent at this moment. Before what it says of that no client's text stands.
+    pub fn stamp(&mut self, moment: Moment) {
+        const NAME: &str = "\"sent\":";
+        let Envelope::Whole(text) = self else { return };
+        let Some(start) = text.find(NAME).map(|place| place + NAME.len()) else { return };
+        let digits = text[start..].bytes().take_while(u8::is_ascii_digit).count();
+        if text[start..start + digits].parse() != Ok(moment) {
+            text.replace_range(start..start + digits, &moment.to_string());
+        }
+    }
+
     /// What the store has.
     pub fn stored(&self) -> &str {
         match self {
@@ -494,6 +505,24 @@ mod tests {
             assert_eq!(own_id(envelope.stored()), id);
         }
         assert_eq!(read_envelope("hello"), None);
+    }
+
+    #[test]
+    fn an_envelope_says_when_it_was_asked_for() {
+        let body = Body::parse("a \"sent\":5 b").unwrap();
+        let group = GroupId::parse("\"sent\":7").ok();
+        for id in [None, Some(Uuid::from_u128(7))] {
+            let own = Metadata { id, group: group.clone(), ..metadata() };
+            for sent in [own.sent, 9, 1_700_000_000_001] {
+                let mut envelope = Envelope::new(&own, &body).unwrap();
+                envelope.stamp(sent);
+                let read = read_envelope(envelope.stored());
+                assert_eq!(read, Some((Metadata { sent, ..own.clone() }, body.as_str())));
+                let mut line = EnvelopeHead::of(envelope.whole()).unwrap().in_place(12, 300_000).unwrap();
+                line.stamp(8);
+                assert_eq!(EnvelopeHead::of(line.stored()).unwrap().sent, Some(8));
+            }
+        }
     }
 
     #[test]

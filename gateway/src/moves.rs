@@ -11,7 +11,10 @@ use std::collections::{HashMap, HashSet};
 use std::sync::{Arc, Mutex, MutexGuard, PoisonError};
 use std::time::Duration;
 
+use hmac::{Hmac, Mac};
 use serde::{Deserialize, Serialize};
+use sha2::Sha256;
+use uuid::Uuid;
 
 use crate::errors::SqsError;
 use crate::handles::Receipt;
@@ -20,13 +23,54 @@ use crate::parts;
 use crate::queues::ask::{Ask, Cause, Changer, Fate, Handed, PartsCause};
 use crate::queues::Queue;
 use crate::store::{Copy, Held, Store};
-use crate::texts::{hex, DedupId, GroupId, QueueKind};
+use crate::texts::{bytes_of_hex, hex, DedupId, GroupId, QueueKind};
 
 /// Which message a copy is of: the mark of its queue, and its sequence number there.
 #[derive(Clone, Copy, Debug, PartialEq, Eq, Hash, Serialize, Deserialize)]
 pub struct Origin {
     pub mark: u64,
     pub sequence: u64,
+}
+
+/// A deduplication id that says of which message a send is the copy. What makes it known from those of clients is made with
+/// a secret of the program that has the copy.
+#[derive(Clone, Debug, PartialEq, Eq)]
+pub struct CopyId {
+    origin: Origin,
+    seal: Vec<u8>,
+}
+
+const COPY: &str = "copy-";
+const SEAL_BYTES: usize = 16;
+
+impl CopyId {
+    fn seal(origin: Origin, secret: Uuid) -> Hmac<Sha256> {
+        let mut mac = Hmac::<Sha256>::new_from_slice(secret.as_bytes()).expect("a key may have any length");
+        mac.update(&origin.mark.to_be_bytes());
+        mac.update(&origin.sequence.to_be_bytes());
+        mac
+    }
+
+    /// The id of the copy of this message.
+    pub fn text(origin: Origin, secret: Uuid) -> String {
+        let seal = CopyId::seal(origin, secret).finalize().into_bytes();
+        format!("{COPY}{:016x}{:016x}{}", origin.mark, origin.sequence, hex(&seal[..SEAL_BYTES]))
+    }
+
+    /// Reads an id that has this form.
+    pub fn read(id: &str) -> Option<CopyId> {
+        let bytes = bytes_of_hex(id.strip_prefix(COPY)?)?;
+        let number = |place: usize| bytes.get(place..place + 8)?.try_into().map(u64::from_be_bytes).ok();
+        let origin = Origin { mark: number(0)?, sequence: number(8)? };
+        let seal = bytes.get(16..).filter(|seal| seal.len() == SEAL_BYTES)?.into();
+        Some(CopyId { origin, seal })
+    }
+
+    /// What it is a copy of, if it was made with this secret.
+    pub fn origin(&self, secret: Uuid) -> Option<Origin> {
+        let seal = CopyId::seal(self.origin, secret);
+        seal.verify_truncated_left(&self.seal).is_ok().then_some(self.origin)
+    }
 }
 
 /// Messages that have a copy, and that may not be deleted yet.
@@ -43,7 +87,8 @@ impl Copies {
         self.origins().insert(origin);
     }
 
-    fn has(&self, origin: Origin) -> bool {
+    /// Whether it has a copy.
+    pub fn has(&self, origin: Origin) -> bool {
         self.origins().contains(&origin)
     }
 
@@ -140,7 +185,7 @@ async fn move_held(
     kind: MoveKind,
 ) -> Moved {
     let mut moved = Moved { copied: Vec::new(), failed: Vec::new(), result: Ok(()) };
-    let copies = copies_of(store, queue, messages, kind, &mut moved);
+    let copies = copies_of(store, queue, target, messages, kind, &mut moved);
     let (handed, copies): (Vec<_>, Vec<_>) = copies.into_iter().unzip();
     let (copies, numbers) = match put_all(store, target, copies).await {
         Ok(put) => put,
@@ -194,6 +239,7 @@ async fn put_all(store: &Store, target: &Queue, copies: Vec<Copy>) -> Result<(Ve
 fn copies_of(
     store: &Store,
     queue: &Queue,
+    target: &Queue,
     messages: Vec<Handed>,
     kind: MoveKind,
     moved: &mut Moved,
@@ -205,7 +251,7 @@ fn copies_of(
             moved.copied.push(sequence);
             continue;
         }
-        match copy_of(store, queue, &handed, kind) {
+        match copy_of(store, queue, target, &handed, kind) {
             Ok(ask) => copies.push((handed, Copy { sequence, ask })),
             Err(error) => {
                 moved.result = Err(error);
@@ -226,7 +272,7 @@ fn origin_of(queue: &Queue, handed: &Handed) -> Origin {
 
 /// The send of a copy. Clients see the message as it was, but for the moment of its send and what it says of its
 /// queue, and of one that leaves a dead-letter queue its id.
-fn copy_of(store: &Store, queue: &Queue, handed: &Handed, kind: MoveKind) -> Result<Ask, SqsError> {
+fn copy_of(store: &Store, queue: &Queue, target: &Queue, handed: &Handed, kind: MoveKind) -> Result<Ask, SqsError> {
     let no_envelope = || SqsError::InternalFailure("The store has a message in no form.".into());
     let head = EnvelopeHead::of(&handed.envelope).ok_or_else(no_envelope)?;
     let is_new = kind == MoveKind::Redrive;
@@ -248,7 +294,12 @@ fn copy_of(store: &Store, queue: &Queue, handed: &Handed, kind: MoveKind) -> Res
     };
     let envelope = envelope.map_err(|_| no_envelope())?;
     let group = GroupId::parse(&handed.group)?;
-    let dedup = DedupId::parse(&hex(&rand::random::<[u8; 16]>()))?;
+    let dedup = match store.secret_of(target) {
+        // The store remembers for a while that there was this copy.
+        Some(secret) => CopyId::text(origin, secret),
+        None => hex(&rand::random::<[u8; 16]>()),
+    };
+    let dedup = DedupId::parse(&dedup)?;
     Ok(Ask::Send { group, dedup, envelope, cause: Cause::Move(origin) })
 }
 
@@ -391,5 +442,25 @@ async fn delete_copied(store: &Store) {
     }
     if finished > 0 {
         tracing::info!("{finished} messages had been moved, and were there still");
+    }
+}
+
+#[cfg(test)]
+mod tests {
+    use super::*;
+
+    #[test]
+    fn the_id_of_a_copy_says_of_what_it_is_one_and_no_client_can_make_it() {
+        let (origin, secret) = (Origin { mark: u64::MAX - 1, sequence: 12 }, Uuid::from_u128(7));
+        let text = CopyId::text(origin, secret);
+        assert!(DedupId::parse(&text).is_ok_and(|id| id.call_key().is_none()));
+        let read = CopyId::read(&text).unwrap();
+        assert_eq!((read.origin(secret), read.origin(Uuid::from_u128(8))), (Some(origin), None));
+        let other = CopyId::text(Origin { sequence: 13, ..origin }, secret);
+        let forged = format!("{}{}", &other[..37], &text[37..]);
+        assert_eq!(CopyId::read(&forged).unwrap().origin(secret), None);
+        for bad in [&text[..text.len() - 2], &text[5..], "copy-", "copy-00", &text.to_uppercase()] {
+            assert_eq!(CopyId::read(bad), None, "{bad}");
+        }
     }
 }

@@ -165,6 +165,8 @@ pub fn read(store: &Store, envelope: &str) -> impl Future<Output = Result<Read, 
     async {
         let Some((answers, head)) = begun else { return Ok(Read::Whole) };
         match answers.await.pop().unwrap_or_else(|| Err(SqsError::store_is_gone())) {
+            // Parts of another message may stand there by now.
+            Ok(Outcome::Parts(whole)) if head.bytes.is_some_and(|bytes| bytes != whole.len() as u64) => Ok(Read::Gone),
             Ok(Outcome::Parts(whole)) => Ok(Read::InParts(head.over(&whole).ok_or_else(no_parts)?)),
             Err(SqsError::QueueDoesNotExist) => Ok(Read::Gone),
             Ok(_) => Err(no_parts()),

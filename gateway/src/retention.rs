@@ -42,6 +42,12 @@ impl Jumps {
         }
     }
 
+    /// All of them, in order: when each start was, and how many milliseconds before it don't count.
+    pub fn all(&self) -> Vec<(Moment, u64)> {
+        let jumps = self.0.read().unwrap_or_else(PoisonError::into_inner);
+        jumps.iter().map(|jump| (jump.moment, jump.uncounted)).collect()
+    }
+
     /// The last moment of a send whose message is too old at `now`, where messages are kept for `period` milliseconds.
     pub fn horizon(&self, now: Moment, period: u64) -> Option<Moment> {
         let mut horizon = now.checked_sub(period)?;

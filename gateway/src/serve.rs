@@ -3,6 +3,7 @@
 use std::cell::Cell;
 use std::io::Write;
 use std::path::PathBuf;
+use std::sync::atomic::Ordering;
 use std::sync::{Arc, OnceLock};
 use std::time::Duration;
 
@@ -17,9 +18,9 @@ use crate::actions::{Actions, Owner, Pauses};
 use crate::admin::{Admin, Health};
 use crate::book;
 use crate::budget::Budget;
-use crate::clock::Clock;
+use crate::clock::{Clock, Moment};
 use crate::config::{Address, DeclaredQueue, Misuse};
-use crate::cq::{test_built, test_version, Cq};
+use crate::cq::{test_built, test_version, Cq, KeptFile};
 use crate::delays;
 use crate::ending::End;
 use crate::http::{is_of_this_machine, listen, Addresses, Door, Hosts, Places, Service};
@@ -31,10 +32,13 @@ use crate::moves;
 use crate::parts;
 use crate::peek::Peeks;
 use crate::purges;
+use crate::queues::book::Entry;
 use crate::queues::shards::Shards;
-use crate::queues::Queues;
+use crate::queues::{Image, Queues};
 use crate::retention;
-use crate::store::{self, Ended, ReplayError, Replayed, Start, Store, Tables};
+use crate::store::{
+    self, Ended, Keeping, Kept, Operation, Ready, ReplayError, Replayed, Start, Store, Tables, ToldError,
+};
 use crate::tls::Certificate;
 
 /// What a gateway is told at its start.
@@ -49,6 +53,8 @@ pub struct Settings {
     /// How many of it share the queues.
     pub shards: Shards,
     pub journal: Option<PathBuf>,
+    /// The programs keep their lines themselves, in place of a journal.
+    pub keeping: Option<Keeping>,
     pub bounds: Bounds,
     /// So many bytes may be kept by all requests that are being served.
     pub request_memory: usize,
@@ -92,7 +98,8 @@ pub async fn serve(settings: Settings) -> Result<()> {
     let preparing = tokio::spawn(prepare(settings.clone()));
     let Some(prepared) = unless_ended(preparing, &mut signals, &wants_reading).await? else { return Ok(()) };
     // The system ends a program with the thread that started it, and this one is there to the end.
-    let cqs = Cq::start_all(&settings.program, settings.shards.count(), settings.cq_timeout)?;
+    let count = if settings.keeping.is_some() { 0 } else { settings.shards.count() };
+    let cqs = Cq::start_all(&settings.program, count, settings.cq_timeout)?;
     let starting = tokio::spawn(start(settings.clone(), prepared, cqs));
     let Some(started) = unless_ended(starting, &mut signals, &wants_reading).await? else { return Ok(()) };
     if wants_reading.get() {
@@ -229,12 +236,83 @@ struct RunningStore {
     journal: Option<Journal>,
 }
 
-/// Brings the programs to where the journal is.
-async fn begin(settings: &Settings, health: &Health, mut cqs: Vec<Cq>) -> Result<RunningStore> {
-    let clock = Arc::new(match &settings.clock_file {
+fn clock_of(settings: &Settings) -> Arc<Clock> {
+    Arc::new(match &settings.clock_file {
         Some(path) => Clock::of_file(path),
         None => Clock::new(),
-    });
+    })
+}
+
+/// Starts a program that keeps its lines, and takes up what it tells of its store.
+async fn tell(program: &str, file: &KeptFile, patience: Duration, peek: bool) -> Result<(Ready, Image), ToldError> {
+    let mut image = Image::new(peek);
+    let ready = store::start_told(program, file, patience, &mut |chunk| image.feed(chunk)).await?;
+    Ok((ready, image))
+}
+
+/// Starts programs that keep their lines, and makes the tables of what each tells of its store.
+async fn begin_kept(settings: &Settings, health: &Health, keeping: &Keeping) -> Result<RunningStore> {
+    let (clock, queues) = (clock_of(settings), Arc::new(Queues::new(settings.peek)));
+    let (shards, program, patience) = (settings.shards, settings.program.clone(), settings.cq_timeout);
+    let starting: Vec<_> = shards
+        .all()
+        .map(|shard| {
+            let (program, file, peek) = (program.clone(), keeping.file(shards, shard.place()), settings.peek);
+            tokio::spawn(async move {
+                let told = match tell(&program, &file, patience, peek).await {
+                    Err(error) if error.is_of_program() => {
+                        tracing::warn!("cq is started again. Before, {error}");
+                        tell(&program, &file, patience, peek).await
+                    }
+                    told => told,
+                };
+                told.map(|(ready, image)| (ready, image, file))
+            })
+        })
+        .collect();
+    let (mut cqs, mut begun, mut last, mut lines) = (Vec::new(), Vec::new(), 0, 0);
+    for (shard, starting) in shards.all().zip(starting) {
+        let (ready, image, file) = starting.await??;
+        last = last.max(image.last());
+        lines += ready.lines;
+        begun.push((ready.line, image.largest_number()));
+        cqs.push(ready.cq);
+        queues.take_up(shard, image).with_context(|| file.path.display().to_string())?;
+    }
+    clock.go_on_from(last);
+    health.replayed.store(lines, Ordering::Relaxed);
+    if lines > 0 {
+        say(&format!("took up {lines} lines of the journal"));
+    }
+    let jump = retention::uncounted(last, clock.now()).map(|uncounted| tell_jump(&queues, clock.now(), uncounted));
+    let kept = Some(Kept { keeping: keeping.clone(), begun });
+    let bounds = Bounds { journal: None, ..settings.bounds };
+    let (store, ended) =
+        store::start(Start { program, patience, shards, cqs, queues, clock, journal: None, kept, bounds });
+    finish_all(&store, jump).await;
+    Ok(RunningStore { store, ended, journal: None })
+}
+
+/// Brings to its end what was cut off, before anybody is served.
+async fn finish_all(store: &Store, jump: Option<Entry>) {
+    book::prepare(store).await;
+    if let Some(jump) = jump {
+        if let Err(error) = store.perform_nameless(0, vec![Operation::Say(jump)]).await {
+            tracing::warn!("a later start doesn't know that the clock was far ahead: {error}");
+        }
+    }
+    store.queues().parts().settle_all();
+    moves::finish(store).await;
+    purges::finish(store).await;
+    delays::take_over(store).await;
+}
+
+/// Brings the programs to where the journal is.
+async fn begin(settings: &Settings, health: &Health, mut cqs: Vec<Cq>) -> Result<RunningStore> {
+    if let Some(keeping) = &settings.keeping {
+        return begin_kept(settings, health, keeping).await;
+    }
+    let clock = clock_of(settings);
     let mut queues = Arc::new(Queues::new(settings.peek));
     let locked = lock_journal(settings).await?;
     let shards = settings.shards;
@@ -258,12 +336,8 @@ async fn begin(settings: &Settings, health: &Health, mut cqs: Vec<Cq>) -> Result
     let (program, patience, bounds) = (settings.program.clone(), settings.cq_timeout, settings.bounds);
     let journals = journal.clone();
     let (store, ended) =
-        store::start(Start { program, patience, shards, cqs, queues, clock, journal: journals, bounds });
-    book::prepare(&store).await;
-    store.queues().parts().settle_all();
-    moves::finish(&store).await;
-    purges::finish(&store).await;
-    delays::take_over(&store).await;
+        store::start(Start { program, patience, shards, cqs, queues, clock, journal: journals, kept: None, bounds });
+    finish_all(&store, None).await;
     Ok(RunningStore { store, ended, journal })
 }
 
@@ -286,14 +360,21 @@ async fn feed(
     Ok(fed)
 }
 
-/// The clock is more than a day ahead of the journal: of that time a day counts for retention, now and at later starts.
+/// The clock is more than a day ahead of the journal: of that time a day counts for retention. Tells what a book is to say,
+/// so that it does so at later starts, too.
+fn tell_jump(queues: &Queues, now: Moment, uncounted: u64) -> Entry {
+    tracing::warn!("the clock is far ahead of the last record: {uncounted} ms of it make no message older");
+    queues.jumps().add(now, uncounted);
+    Entry::Jump(now, uncounted)
+}
+
+/// The same, where the gateway has a journal of its own.
 fn record_jump(journal: &Journal, tables: &Tables, uncounted: u64) -> Result<()> {
     let now = tables.clock.now();
-    tracing::warn!("the clock is far ahead of the last record: {uncounted} ms of it make no message older");
+    tell_jump(&tables.queues, now, uncounted);
     let mut batch = CommitBatch { count: 1, ..CommitBatch::default() };
     Record::of_jump(now, uncounted).append(&mut batch.records)?;
     journal.write_first(batch);
-    tables.queues.jumps().add(now, uncounted);
     Ok(())
 }
 

@@ -152,8 +152,7 @@ impl DedupId {
 
     /// The call that it stands for, if it does for one.
     pub fn call_key(&self) -> Option<CallKey> {
-        let front = self.0.get(..32).filter(|_| self.0.len() == 64)?;
-        u128::from_str_radix(front, 16).ok().map(CallKey)
+        CallKey::of(&self.0)
     }
 
     /// The id that stands for this one in its group alone, where a queue's ids count by group.
@@ -173,6 +172,14 @@ impl DedupId {
 /// A part of a call's digest, by which it is known among others.
 #[derive(Clone, Copy, Debug, PartialEq, Eq, Hash)]
 pub struct CallKey(u128);
+
+impl CallKey {
+    /// That of the call for which a deduplication id stands, if it does for one.
+    pub fn of(id: &str) -> Option<CallKey> {
+        let front = id.get(..32).filter(|_| id.len() == 64)?;
+        u128::from_str_radix(front, 16).ok().map(CallKey)
+    }
+}
 
 /// A receive request attempt id: 1 to 128 ASCII letters, digits and punctuation marks
 /// (API Reference, ReceiveMessage, `ReceiveRequestAttemptId`).
@@ -219,6 +226,17 @@ pub fn is_of_xml(text: &str) -> bool {
 
 pub fn is_xml_character(character: char) -> bool {
     matches!(character, '\t' | '\n' | '\r' | ' '..='\u{fffd}' | '\u{10000}'..)
+}
+
+/// The bytes of lower-case hex digits; none where there are others.
+pub fn bytes_of_hex(digits: &str) -> Option<Vec<u8>> {
+    let value = |digit: u8| match digit {
+        b'0'..=b'9' => Some(digit - b'0'),
+        b'a'..=b'f' => Some(digit - b'a' + 10),
+        _ => None,
+    };
+    let pairs = digits.as_bytes().chunks(2);
+    pairs.map(|pair| Some(value(pair[0])? << 4 | value(*pair.get(1)?)?)).collect()
 }
 
 /// Bytes as lower-case hex digits.

@@ -5,7 +5,7 @@ use sha2::{Digest, Sha256};
 
 use super::claim::{Claim, Scope, ALGORITHM};
 use super::file::Secret;
-use crate::texts::hex;
+use crate::texts::{bytes_of_hex, hex};
 
 /// A key that is made of a secret for one day, region and service.
 #[derive(Clone)]
@@ -23,7 +23,8 @@ impl SigningKey {
 
     /// Whether a signature of 64 hex digits in lower case is right. Takes the same time wherever it is wrong.
     pub fn is_right(&self, text: &str, signature: &str) -> bool {
-        bytes_of_hex(signature).is_some_and(|bytes| hmac(&self.0, text.as_bytes()).verify_slice(&bytes).is_ok())
+        let is_right = |bytes: Vec<u8>| hmac(&self.0, text.as_bytes()).verify_slice(&bytes).is_ok();
+        bytes_of_hex(signature).is_some_and(is_right)
     }
 }
 
@@ -38,20 +39,4 @@ fn hmac(key: &[u8], data: &[u8]) -> Hmac<Sha256> {
     let mut mac = Hmac::<Sha256>::new_from_slice(key).expect("a key may have any length");
     mac.update(data);
     mac
-}
-
-fn bytes_of_hex(text: &str) -> Option<[u8; 32]> {
-    let digit = |byte: u8| match byte {
-        b'0'..=b'9' => Some(byte - b'0'),
-        b'a'..=b'f' => Some(byte - b'a' + 10),
-        _ => None,
-    };
-    if text.len() != 64 {
-        return None;
-    }
-    let mut bytes = [0; 32];
-    for (byte, pair) in bytes.iter_mut().zip(text.as_bytes().chunks_exact(2)) {
-        *byte = digit(pair[0])? << 4 | digit(pair[1])?;
-    }
-    Some(bytes)
 }

@@ -41,10 +41,11 @@ impl Actions {
             return Err(SqsError::ServiceUnavailable("Too many requests are being served.".into()));
         }
         if let Some(handed) = self.receive_again(&queue, &receive, visibility).await? {
+            self.keep_attempt(&queue, &receive).await;
             return self.received(&queue, handed, &receive.shown).await;
         }
-        let ask =
-            Ask::Receive { size: receive.size, visibility, attempt: receive.attempt, most: None, reach: Reach::All };
+        let attempt = receive.attempt.clone();
+        let ask = Ask::Receive { size: receive.size, visibility, attempt, most: None, reach: Reach::All };
         let Delivered { mut handed, openings } = deliveries::receive(&self.store, &queue, ask.clone()).await?;
         if handed.is_empty() && wait == 0 && has_most_in_flight(&self.store, &queue) {
             let message = "Too many messages of the queue are in flight.";
@@ -59,6 +60,7 @@ impl Actions {
             // Receives that wait for nothing don't pay for its size.
             handed = Box::pin(polling::wait(&self.store, &queue, ask, waiter, openings)).await?;
         }
+        self.keep_attempt(&queue, &receive).await;
         self.received(&queue, handed, &receive.shown).await
     }
 
@@ -75,6 +77,12 @@ impl Actions {
             |handed: &Handed| Ask::ChangeVisibility { receipt: handed.receipt, visibility, by: Changer::Attempt };
         let answers = self.store.ask_all(queue, found.iter().map(change).collect()).await;
         Ok(answers.iter().all(Result::is_ok).then_some(found))
+    }
+
+    async fn keep_attempt(&self, queue: &Queue, receive: &Receive) {
+        if let Some(attempt) = &receive.attempt {
+            self.store.keep_attempt(queue, attempt).await;
+        }
     }
 
     async fn received(&self, queue: &Arc<Queue>, handed: Vec<Handed>, shown: &Shown) -> Result<Performed, SqsError> {

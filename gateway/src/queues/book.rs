@@ -6,13 +6,14 @@ use std::collections::{BTreeMap, BTreeSet};
 use std::sync::{Mutex, MutexGuard, PoisonError};
 
 use serde::{Deserialize, Serialize};
+use uuid::Uuid;
 
 use super::ask::StoreName;
 use crate::attributes::QueueAttributes;
 use crate::clock::Moment;
 use crate::limits::MESSAGE_BYTES;
 use crate::move_tasks::MoveTask;
-use crate::texts::QueueName;
+use crate::texts::{AttemptId, QueueName};
 
 /// What an entry says.
 #[derive(Clone, Debug, PartialEq, Eq, Serialize, Deserialize)]
@@ -22,6 +23,12 @@ pub enum Entry {
     Removed(Removal),
     /// How a task stands that moves messages out of the queue of this mark.
     Task(u64, MoveTask),
+    /// Which program has the book, where programs keep their lines themselves.
+    Program(ProgramEntry),
+    /// Where programs do so: what a receive with an attempt id was given.
+    Attempt(AttemptEntry),
+    /// Where programs do so: of the time before a start at this moment so many milliseconds make no message older.
+    Jump(Moment, u64),
 }
 
 /// How a queue stands. A queue is there from its first entry on; its name in the store is created before.
@@ -59,6 +66,28 @@ pub struct Removal {
     pub name: QueueName,
     pub mark: u64,
     pub at: Moment,
+}
+
+/// A program that keeps its lines itself.
+#[derive(Clone, Debug, PartialEq, Eq, Serialize, Deserialize)]
+pub struct ProgramEntry {
+    pub place: usize,
+    /// How many share the queues.
+    pub count: u32,
+    /// By this the sends of copies to its queues are known from those of clients.
+    pub secret: Uuid,
+}
+
+/// What a receive with an attempt id was given, out of the queue of this mark. It counts as long as its messages are in
+/// flight by these handings, and up to this moment.
+#[derive(Clone, Debug, PartialEq, Eq, Serialize, Deserialize)]
+pub struct AttemptEntry {
+    pub mark: u64,
+    pub id: AttemptId,
+    pub moment: Moment,
+    pub until: Moment,
+    /// Sequence numbers, and which handing of each this was.
+    pub handed: Vec<(u64, u64)>,
 }
 
 fn is_zero(number: &u64) -> bool {
@@ -135,6 +164,8 @@ struct Book {
     number: u64,
     /// What its entries take.
     size: Size,
+    /// It says which program has it.
+    has_program: bool,
 }
 
 /// The books of all programs, by their places: the last of each is the one that is written to, and the others are to be
@@ -149,7 +180,7 @@ impl Books {
 
     /// The store has this one, and from now on it is written to.
     pub fn add(&self, place: usize, number: u64) {
-        self.books().entry(place).or_default().push(Book { number, size: Size::default() });
+        self.books().entry(place).or_default().push(Book { number, size: Size::default(), has_program: false });
     }
 
     /// The store hasn't got it any more. Tells what its entries took of memory.
@@ -168,6 +199,18 @@ impl Books {
             return size.memory;
         }
         0
+    }
+
+    /// The book of this number says which program has it.
+    pub fn program_said(&self, place: usize, number: u64) {
+        let mut books = self.books();
+        let found = books.entry(place).or_default().iter_mut().find(|book| book.number == number);
+        found.into_iter().for_each(|book| book.has_program = true);
+    }
+
+    /// Whether the one that is written to says which program has it.
+    pub fn has_program(&self, place: usize) -> bool {
+        self.books().get(&place).and_then(|books| books.last()).is_some_and(|book| book.has_program)
     }
 
     /// What the records of all books take of the journal.

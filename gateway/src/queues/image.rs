@@ -10,15 +10,16 @@ use std::sync::Arc;
 use thiserror::Error;
 
 use super::ask::StoreName;
-use super::book::{Entry, Size};
+use super::book::{AttemptEntry, Entry, Size};
 use super::groups::Group;
+use super::shards::Shard;
 use super::{Queue, Queues};
 use crate::clock::Moment;
 use crate::messages::EnvelopeHead;
 use crate::move_tasks::MoveTask;
-use crate::moves::Origin;
+use crate::moves::{CopyId, Origin};
 use crate::store_bytes::{Fault, Part, QueuePart, StoreReader};
-use crate::texts::{CallKey, DedupId};
+use crate::texts::CallKey;
 
 /// Why there are no tables of a store's bytes.
 #[derive(Debug, Error)]
@@ -40,7 +41,17 @@ pub struct Image {
     /// The names that the store has had, and those of their queues that live.
     names: BTreeMap<StoreName, Option<StoredQueue>>,
     current: Option<StoreName>,
+    /// The numbers of parts that were removed, and when.
+    removed_parts: Vec<(u64, Moment)>,
+    /// How many bytes of messages in flight are kept, since attempts may have been given them.
+    in_flight: usize,
 }
+
+/// Numbers of requests rise by one, and so far none comes.
+const LARGEST: u64 = u64::MAX / 2;
+
+/// No more of these are kept. Whatever attempt was given others is forgotten.
+const MOST_IN_FLIGHT: usize = 64 << 20;
 
 /// A queue as the store has it.
 #[derive(Default)]
@@ -51,6 +62,8 @@ pub(super) struct StoredQueue {
     /// The entries of a book, by their sequence numbers.
     entries: Vec<String>,
     pub(super) accepted: Vec<AcceptedSend>,
+    /// What attempts were given, in the order in which books say it.
+    pub(super) attempts: Vec<AttemptEntry>,
 }
 
 pub(super) struct StoredMessage {
@@ -62,12 +75,14 @@ pub(super) struct StoredMessage {
     /// When it was handed out last, and up to when it is hidden, or 0.
     pub(super) handed: Moment,
     pub(super) until: Moment,
-    /// The ids of its group and its envelope, where operators look at messages.
-    pub(super) copy: Option<(Box<str>, Arc<str>)>,
+    /// The id of its group and its envelope, where operators look at messages, or where an attempt may have been given it.
+    pub(super) text: Option<(Box<str>, Arc<str>)>,
 }
 
 pub(super) struct AcceptedSend {
     pub(super) call: Option<CallKey>,
+    /// What it seems to be the copy of.
+    copy: Option<CopyId>,
     pub(super) moment: Moment,
     pub(super) sequence: u64,
 }
@@ -112,12 +127,12 @@ impl Image {
         match part {
             Part::Start { last, .. } => self.last = *last,
             Part::Client { number, .. } => self.largest_number = self.largest_number.max(*number),
-            Part::Name { name, queue, .. } => self.take_name(name, queue.as_ref())?,
+            Part::Name { name, removed, queue, .. } => self.take_name(name, *removed, queue.as_ref())?,
             Part::Message { .. } => self.take_message(part)?,
             Part::Accepted { id, moment, sequence } => {
                 if let Some(queue) = self.current_queue() {
-                    let call = DedupId::parse(id).ok().and_then(|id| id.call_key());
-                    queue.accepted.push(AcceptedSend { call, moment: *moment, sequence: *sequence });
+                    let (call, copy) = (CallKey::of(id), CopyId::read(id));
+                    queue.accepted.push(AcceptedSend { call, copy, moment: *moment, sequence: *sequence });
                 }
             }
             Part::End => {}
@@ -126,10 +141,14 @@ impl Image {
     }
 
     /// Names that aren't the gateway's are passed over.
-    fn take_name(&mut self, name: &str, queue: Option<&QueuePart>) -> Result<(), ImageError> {
+    fn take_name(&mut self, name: &str, removed: Option<Moment>, queue: Option<&QueuePart>) -> Result<(), ImageError> {
         self.current = StoreName::parse(name);
         if let Some(store) = self.current {
-            if queue.is_some_and(|queue| queue.incarnation != 1) {
+            if let (Some(number), Some(removed), None) = (store.parts(), removed, queue) {
+                self.removed_parts.push((number, removed));
+            }
+            // No receipt is of parts.
+            if store.parts().is_none() && queue.is_some_and(|queue| queue.incarnation != 1) {
                 return Err(ImageError::Foreign(name.into(), "it was created more than once"));
             }
             let queue = queue.map(|queue| StoredQueue { sent: queue.sent, ..StoredQueue::default() });
@@ -143,9 +162,13 @@ impl Image {
     }
 
     fn take_message(&mut self, part: &Part<'_>) -> Result<(), ImageError> {
-        let (keeps_copies, store) = (self.keeps_copies, self.current);
-        let (Some(store), Some(queue)) = (store, self.current_queue()) else { return Ok(()) };
         let Part::Message { sequence, group, body, handings, handed, until } = *part else { return Ok(()) };
+        let is_in_flight = until > self.last && self.in_flight + body.len() <= MOST_IN_FLIGHT;
+        if is_in_flight {
+            self.in_flight += body.len();
+        }
+        let (is_kept, store) = (self.keeps_copies || is_in_flight, self.current);
+        let (Some(store), Some(queue)) = (store, self.current_queue()) else { return Ok(()) };
         if store.book().is_some() {
             queue.entries.push(body.into());
         } else if store.parts().is_none() {
@@ -159,7 +182,7 @@ impl Image {
                 handings,
                 handed,
                 until,
-                copy: keeps_copies.then(|| (group.into(), body.into())),
+                text: is_kept.then(|| (group.into(), body.into())),
             });
         }
         Ok(())
@@ -167,16 +190,24 @@ impl Image {
 }
 
 impl Queues {
-    /// Takes up what the store of the program at this place has. Of no queue of it anything was known.
-    pub fn take_up(&self, place: usize, image: Image) -> Result<(), ImageError> {
+    /// Takes up what the store of a program has. Of no queue of it anything was known.
+    pub fn take_up(&self, shard: Shard, image: Image) -> Result<(), ImageError> {
+        let place = shard.place();
         image.reader.end()?;
+        if image.largest_number > LARGEST {
+            return Err(ImageError::Foreign(image.largest_number.to_string(), "no request has such a number"));
+        }
         image.names.keys().for_each(|name| self.saw_store_name(*name));
         let living = image.names.into_iter().filter_map(|(name, queue)| Some((name, queue?)));
         let (books, mut living): (BTreeMap<_, _>, BTreeMap<_, _>) = living.partition(|(name, _)| name.book().is_some());
-        for queue in self.take_up_books(place, books)? {
+        let Told { by_mark, mut attempts, .. } = self.take_up_books(shard, books)?;
+        let is_there = |queue: &Arc<Queue>| self.find(&queue.name).is_some_and(|found| Arc::ptr_eq(&found, queue));
+        for (mark, queue) in by_mark.into_iter().filter(|(_, queue)| is_there(queue)) {
             let store = queue.state().entry.store;
             let not_there = || ImageError::Foreign(store.text(), "a book says of it, and it isn't there");
-            let stored = living.remove(&store).ok_or_else(not_there)?;
+            let mut stored = living.remove(&store).ok_or_else(not_there)?;
+            stored.attempts = attempts.remove(&mark).unwrap_or_default();
+            self.take_up_copies(place, &stored.accepted);
             let copied = self.take_up_messages(&queue, stored, image.last);
             if let Some(stored) = living.remove(&store.of_delays()) {
                 let delays = Arc::new(Queue::beside(&queue, store).0);
@@ -188,35 +219,44 @@ impl Queues {
             }
         }
         living.keys().filter_map(|name| name.parts()).for_each(|number| self.parts.found(number));
+        image.removed_parts.into_iter().for_each(|(number, moment)| self.parts.was_removed(number, moment));
         // No queue goes by the others.
         self.left_over.set(place, living.into_keys().filter(|name| name.parts().is_none()));
         Ok(())
     }
 
-    /// Takes up what books say, in their order. Tells the queues that are there.
-    fn take_up_books(
-        &self,
-        place: usize,
-        books: BTreeMap<StoreName, StoredQueue>,
-    ) -> Result<Vec<Arc<Queue>>, ImageError> {
-        let mut told = Told { queues: self, place, by_mark: HashMap::new(), tasks: HashMap::new() };
+    /// Takes up what books say, in their order.
+    fn take_up_books(&self, shard: Shard, books: BTreeMap<StoreName, StoredQueue>) -> Result<Told<'_>, ImageError> {
+        let place = shard.place();
+        let mut told =
+            Told { queues: self, place, by_mark: HashMap::new(), tasks: HashMap::new(), attempts: HashMap::new() };
         for (name, book) in books {
             let Some(number) = name.book() else { continue };
             self.books.add(place, number);
             for text in book.entries {
                 let no_entry = |_| ImageError::Foreign(name.text(), "a message of it is no entry of a book");
                 let entry = serde_json::from_str(&text).map_err(no_entry)?;
+                if !is_of_program(&entry, shard) {
+                    let why = "it is that of another program, or of another number of programs (--shards)";
+                    return Err(ImageError::Foreign(name.text(), why));
+                }
                 self.count_entry(place, number, Size::of(&text));
                 told.take(&entry, number, Size::of(&text));
             }
         }
-        let is_there = |queue: &Arc<Queue>| self.find(&queue.name).is_some_and(|found| Arc::ptr_eq(&found, queue));
-        Ok(told.by_mark.into_values().filter(is_there).collect())
+        Ok(told)
+    }
+
+    /// Takes up which messages have copies here, also where these are gone by now.
+    fn take_up_copies(&self, place: usize, accepted: &[AcceptedSend]) {
+        let Some(secret) = self.secret(place) else { return };
+        let copies = accepted.iter().filter_map(|send| send.copy.as_ref()?.origin(secret));
+        copies.for_each(|origin| self.copies.mark_copied(origin));
     }
 
     /// Takes up the messages of a queue. Tells of which messages they are copies.
     fn take_up_messages(&self, queue: &Arc<Queue>, stored: StoredQueue, last: Moment) -> Vec<Origin> {
-        let Named { parts, origins } = self.counted(queue, |state| state.take_up(stored, last));
+        let Named { parts, origins } = self.counted(queue, |state| state.take_up(stored, last, self.keeps_copies));
         parts.into_iter().for_each(|number| self.parts.name(number));
         origins.iter().for_each(|origin| self.copies.mark_copied(*origin));
         origins
@@ -232,6 +272,14 @@ impl Queues {
     }
 }
 
+/// Whether an entry that says which program has its book says that of this one.
+fn is_of_program(entry: &Entry, shard: Shard) -> bool {
+    match entry {
+        Entry::Program(program) => (program.place, program.count) == (shard.place(), shard.count()),
+        _ => true,
+    }
+}
+
 /// What books have said so far.
 struct Told<'a> {
     queues: &'a Queues,
@@ -239,6 +287,7 @@ struct Told<'a> {
     by_mark: HashMap<u64, Arc<Queue>>,
     /// Tasks of queues of which nothing was said yet: where a book was begun anew, they stand before their queue.
     tasks: HashMap<u64, Vec<(MoveTask, u64, Size)>>,
+    attempts: HashMap<u64, Vec<AttemptEntry>>,
 }
 
 impl Told<'_> {
@@ -260,6 +309,9 @@ impl Told<'_> {
                 Some(queue) => queues.said(place, queue, entry, book, size),
                 None => self.tasks.entry(*mark).or_default().push((task.clone(), book, size)),
             },
+            Entry::Attempt(attempt) => self.attempts.entry(attempt.mark).or_default().push(attempt.clone()),
+            Entry::Program(program) => queues.program_said(program, book),
+            Entry::Jump(moment, uncounted) => queues.jumps.add(*moment, *uncounted),
         }
     }
 }

@@ -3,7 +3,6 @@
 pub mod ask;
 pub mod book;
 mod groups;
-#[cfg(test)]
 mod image;
 mod parts;
 pub mod shards;
@@ -16,6 +15,7 @@ use std::sync::atomic::{AtomicU64, Ordering};
 use std::sync::{Arc, Mutex, MutexGuard, OnceLock, PoisonError, RwLock, Weak};
 
 use tokio::sync::Notify;
+use uuid::Uuid;
 
 use crate::clock::Moment;
 use crate::delays::Alarms;
@@ -29,7 +29,8 @@ use crate::polling::Polls;
 use crate::retention::Jumps;
 use crate::texts::{QueueKind, QueueName};
 use ask::{Ask, Cause, Outcome, StoreName, TableChange};
-use book::{Books, Entry, LeftOver, QueueEntry, Removal, Size};
+use book::{Books, Entry, LeftOver, ProgramEntry, QueueEntry, Removal, Size};
+pub use image::{Image, ImageError};
 pub use parts::Parts;
 use shards::Shards;
 pub use state::{Chunk, Cursor, Peeked, State, Visibility};
@@ -151,6 +152,8 @@ pub struct Queues {
     jumps: Jumps,
     copies: Copies,
     parts: Parts,
+    /// Of programs that keep their lines themselves, by their places.
+    secrets: Mutex<HashMap<usize, Uuid>>,
     /// Queues that tasks have moved messages out of, by their marks, and the places of the programs that have them.
     tasked: Mutex<HashMap<u64, (usize, Weak<Queue>)>>,
     alarms: Alarms,
@@ -299,7 +302,7 @@ impl Queues {
         moment: Moment,
     ) -> Result<(Outcome, bool), SqsError> {
         match (ask, reply) {
-            (Ask::Parts { number, ask }, reply) => self.parts.apply_reply(*number, ask, reply),
+            (Ask::Parts { number, ask }, reply) => self.parts.apply_reply(*number, ask, reply, moment),
             (_, StoreReply::Refused(code)) if !matches!(ask, Ask::ChangeVisibility { .. }) => {
                 Err(SqsError::of_refusal(code))
             }
@@ -350,7 +353,26 @@ impl Queues {
                 self.counted(queue, |state| state.said_of_task(task, book, size));
                 self.remember_tasked(place, queue);
             }
+            // The tables have it.
+            Entry::Attempt(_) => {}
+            Entry::Program(program) => self.program_said(program, book),
+            Entry::Jump(moment, uncounted) => self.jumps.add(*moment, *uncounted),
         }
+    }
+
+    /// The book of this number says which program has it.
+    fn program_said(&self, program: &ProgramEntry, book: u64) {
+        self.books.program_said(program.place, book);
+        self.secrets().insert(program.place, program.secret);
+    }
+
+    fn secrets(&self) -> MutexGuard<'_, HashMap<usize, Uuid>> {
+        self.secrets.lock().unwrap_or_else(PoisonError::into_inner)
+    }
+
+    /// The secret of the program at this place, if a book says it.
+    pub fn secret(&self, place: usize) -> Option<Uuid> {
+        self.secrets().get(&place).copied()
     }
 
     fn tasked(&self) -> MutexGuard<'_, HashMap<u64, (usize, Weak<Queue>)>> {

@@ -1,13 +1,15 @@
 //! Which queues of the store have the parts of messages, and how many messages name each. A message that is moved and its
 //! copy name the same parts for a moment.
 
-use std::collections::{HashMap, HashSet};
+use std::collections::{BTreeSet, HashMap, HashSet};
 use std::sync::{Mutex, MutexGuard, PoisonError};
 
 use tokio::sync::Notify;
 
 use super::ask::{Outcome, PartsAsk};
 use super::shards::Shards;
+use super::REMOVAL_PAUSE;
+use crate::clock::Moment;
 use crate::errors::SqsError;
 use crate::lines::StoreReply;
 
@@ -25,6 +27,9 @@ struct Entries {
     /// Those that no message names any more.
     freed: HashSet<u64>,
     last_number: u64,
+    /// Numbers that had parts, by when these were removed. Where none is used again, nobody counts them.
+    removed: BTreeSet<(Moment, u64)>,
+    are_used_again: bool,
 }
 
 impl Entries {
@@ -47,9 +52,17 @@ impl Parts {
         self.entries.lock().unwrap_or_else(PoisonError::into_inner)
     }
 
-    /// A number that no parts have had, for the program at this place.
-    pub fn next_number(&self, shards: Shards, place: usize) -> u64 {
+    /// A number that no parts have had, for the program at this place. Where a moment is given, it may be one whose parts were
+    /// removed so long before that its name is free again: such a store never forgets a name.
+    pub fn next_number(&self, shards: Shards, place: usize, now: Option<Moment>) -> u64 {
         let mut entries = self.entries();
+        entries.are_used_again |= now.is_some();
+        let is_free = |removed: Moment| now.is_some_and(|now| removed + REMOVAL_PAUSE <= now);
+        let mut free = entries.removed.iter().take_while(|(removed, _)| is_free(*removed));
+        if let Some(found) = free.find(|(_, number)| shards.place_of_number(*number) == place).copied() {
+            entries.removed.remove(&found);
+            return found.1;
+        }
         entries.last_number = shards.number_above(entries.last_number, place);
         entries.last_number
     }
@@ -61,7 +74,13 @@ impl Parts {
     }
 
     /// Applies the store's reply. The second value says whether the journal has to know.
-    pub fn apply_reply(&self, number: u64, ask: &PartsAsk, reply: StoreReply) -> Result<(Outcome, bool), SqsError> {
+    pub fn apply_reply(
+        &self,
+        number: u64,
+        ask: &PartsAsk,
+        reply: StoreReply,
+        moment: Moment,
+    ) -> Result<(Outcome, bool), SqsError> {
         match (ask, reply) {
             (_, StoreReply::Refused(code)) => Err(SqsError::of_refusal(code)),
             (PartsAsk::Create(_), StoreReply::Created) => {
@@ -74,7 +93,11 @@ impl Parts {
                 Ok((Outcome::Parts(texts.concat()), false))
             }
             (PartsAsk::Remove, StoreReply::Removed) => {
-                self.entries().by_number.remove(&number);
+                let mut entries = self.entries();
+                entries.by_number.remove(&number);
+                if entries.are_used_again {
+                    entries.removed.insert((moment, number));
+                }
                 Ok((Outcome::Done, true))
             }
             _ => Err(SqsError::InternalFailure("The store's answer doesn't fit the request.".into())),
@@ -87,6 +110,7 @@ impl Parts {
         let mut told: Vec<_> =
             self.entries().by_number.iter().map(|(number, entry)| format!("{number}: {entry:?}")).collect();
         told.sort_unstable();
+        told.push(format!("{:?}", self.entries().removed));
         told
     }
 
@@ -99,6 +123,13 @@ impl Parts {
     /// The store has them.
     pub fn found(&self, number: u64) {
         self.entries().by_number.entry(number).or_default().is_there = true;
+    }
+
+    /// The store had them, and they were removed at this moment. Their number is used again.
+    pub fn was_removed(&self, number: u64, moment: Moment) {
+        let mut entries = self.entries();
+        entries.are_used_again = true;
+        entries.removed.insert((moment, number));
     }
 
     /// A message names them.
@@ -163,7 +194,7 @@ mod tests {
     }
 
     fn create(parts: &Parts, number: u64) {
-        parts.apply_reply(number, &PartsAsk::Create(PartsCause::Client), StoreReply::Created).unwrap();
+        parts.apply_reply(number, &PartsAsk::Create(PartsCause::Client), StoreReply::Created, 0).unwrap();
     }
 
     #[test]
@@ -178,7 +209,7 @@ mod tests {
         assert!(freed(&parts).is_empty());
         parts.unname(1);
         assert_eq!(freed(&parts), [1]);
-        parts.apply_reply(1, &PartsAsk::Remove, StoreReply::Removed).unwrap();
+        parts.apply_reply(1, &PartsAsk::Remove, StoreReply::Removed, 0).unwrap();
         parts.settle(1);
         assert_eq!((freed(&parts), parts.entries().by_number.len()), (vec![], 0));
     }
@@ -222,11 +253,26 @@ mod tests {
             parts.saw_number(100);
             let mut last = 100;
             for place in (0..count as usize).chain(0..count as usize) {
-                let number = parts.next_number(shards, place);
+                let number = parts.next_number(shards, place, None);
                 assert!(number > last && shards.place_of_number(number) == place, "{number} of {count}");
                 last = number;
             }
         }
+    }
+
+    #[test]
+    fn a_number_is_used_again_once_its_name_is_free_by_its_program_alone() {
+        let (parts, shards) = (Parts::default(), Shards::new(2).unwrap());
+        let numbers: Vec<_> = [0, 1, 0, 1].map(|place| parts.next_number(shards, place, Some(0))).to_vec();
+        for (number, moment) in numbers.iter().zip([5, 6, 7, 8]) {
+            parts.apply_reply(*number, &PartsAsk::Remove, StoreReply::Removed, moment).unwrap();
+        }
+        let next = |place, now| parts.next_number(shards, place, now);
+        let fresh = [next(0, None), next(1, Some(REMOVAL_PAUSE + 5)), next(0, Some(REMOVAL_PAUSE + 4))];
+        assert!(fresh.iter().all(|number| !numbers.contains(number)));
+        let again = [(1, 6), (0, 7), (0, 7)].map(|(place, since)| next(place, Some(REMOVAL_PAUSE + since)));
+        assert_eq!(again, [numbers[1], numbers[0], numbers[2]]);
+        assert!(!numbers.contains(&next(0, Some(u64::MAX))));
     }
 
     #[test]
@@ -237,7 +283,7 @@ mod tests {
             group: "parts".into(),
             receipt: "1-1-1".into(),
         });
-        let read = parts.apply_reply(1, &PartsAsk::Read, StoreReply::Received(given.to_vec())).unwrap();
+        let read = parts.apply_reply(1, &PartsAsk::Read, StoreReply::Received(given.to_vec()), 0).unwrap();
         assert!(matches!(read, (Outcome::Parts(text), false) if text == "onetwo"));
     }
 }

@@ -68,6 +68,11 @@ impl Shard {
     pub fn place(self) -> usize {
         self.place as usize
     }
+
+    /// How many share the queues.
+    pub fn count(self) -> u32 {
+        self.shards.count()
+    }
 }
 
 #[cfg(test)]

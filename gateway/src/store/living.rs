@@ -16,12 +16,12 @@ use crate::journal::Record;
 use crate::lines::{self, AskFields, OutputLine, StoreReply};
 use crate::messages::{parts_of, Envelope, EnvelopeHead};
 use crate::move_tasks::{MoveTask, Status};
-use crate::moves::Origin;
+use crate::moves::{CopyId, Origin};
 use crate::queues::ask::{Ask, Cause, Changer, Handed, Outcome, PartsAsk, PartsCause, Reach, StoreName, TableChange};
-use crate::queues::book::{Entry, QueueEntry};
+use crate::queues::book::{Entry, ProgramEntry, QueueEntry};
 use crate::queues::shards::Shards;
 use crate::queues::{Queue, Queues};
-use crate::texts::{DedupId, GroupId, QueueKind, QueueName};
+use crate::texts::{AttemptId, DedupId, GroupId, QueueKind, QueueName};
 
 /// So long ids count, in milliseconds.
 const WINDOW: u64 = 300_000;
@@ -43,6 +43,8 @@ pub enum Step {
     Move,
     /// The same, as a dead letter.
     MoveDead,
+    /// Where the other queue is with another program, all is received and deleted there before the original goes.
+    MoveAndConsume,
     /// The first delayed message is moved into its queue.
     MoveDue,
     Send,
@@ -55,6 +57,8 @@ pub enum Step {
     DelayAll(u32),
     /// So many messages are received, and hidden for so many seconds.
     Receive(u8, u32),
+    /// Some messages of a FIFO queue are received under an attempt id, or once more.
+    Attempt(u8),
     /// A message that was received is hidden for so many seconds from now on.
     Change(Index, u32),
     /// It is deleted.
@@ -86,6 +90,7 @@ pub fn steps() -> impl Strategy<Value = Steps> {
         2 => (any::<bool>(), 0..9u64).prop_map(|(is_new, moved)| Step::Task(is_new, moved)),
         4 => Just(Step::Move),
         2 => Just(Step::MoveDead),
+        2 => Just(Step::MoveAndConsume),
         2 => Just(Step::MoveDue),
         6 => Just(Step::Send),
         3 => (0..3u8).prop_map(Step::SendByCall),
@@ -93,6 +98,7 @@ pub fn steps() -> impl Strategy<Value = Steps> {
         3 => Just(Step::Delay),
         1 => select(vec![0u32, 5, 60]).prop_map(Step::DelayAll),
         4 => (1..=3u8, select(vec![0u32, 1, 30, 43_200])).prop_map(|(size, visibility)| Step::Receive(size, visibility)),
+        3 => (0..2u8).prop_map(Step::Attempt),
         2 => (any::<Index>(), select(vec![0u32, 30])).prop_map(|(which, visibility)| Step::Change(which, visibility)),
         3 => any::<Index>().prop_map(Step::Delete),
         1 => Just(Step::RemoveParts),
@@ -149,7 +155,9 @@ pub struct Told {
     parts: Vec<String>,
     /// The last numbers of names.
     numbers: [u64; 3],
+    /// Without what attempts were given, and that.
     bytes: u64,
+    pub attempts: Vec<(u64, Vec<String>)>,
     kept: u64,
 }
 
@@ -162,6 +170,7 @@ pub fn told(queues: &Queues, shards: Shards, now: Moment) -> Told {
         });
         format!("{} {:?} {delays:?}", queue.state().told_by_bytes(now), queue.mark)
     };
+    let attempts: Vec<_> = queues.all().iter().map(|queue| queue.state().attempts_told()).collect();
     let book = |place| {
         let books = queues.books();
         (books.current(place), books.earlier(place), books.bytes_of_current(place))
@@ -172,9 +181,15 @@ pub fn told(queues: &Queues, shards: Shards, now: Moment) -> Told {
         books: (0..shards.count() as usize).map(book).collect(),
         parts: queues.parts().told(),
         numbers: queues.last_numbers(),
-        bytes: queues.bytes_in_use(),
+        bytes: queues.bytes_in_use() - attempts.iter().map(|(bytes, _)| bytes).sum::<u64>(),
+        attempts,
         kept: queues.kept_for_books(),
     }
+}
+
+/// The secret of the program at this place.
+fn secret_of(place: usize) -> Uuid {
+    Uuid::from_u128(place as u128)
 }
 
 /// What was there behind a line of the journal.
@@ -184,6 +199,10 @@ pub struct Seen {
     /// What the bytes of the stores tell of it, and these stores.
     pub told: Told,
     pub stores: Vec<StoreByRules>,
+    /// The last line belongs to an attempt, and no book says that yet.
+    pub is_attempt_unsaid: bool,
+    /// The messages that had a copy by then.
+    pub copied: Vec<Origin>,
 }
 
 impl Seen {
@@ -197,19 +216,25 @@ pub struct Living {
     pub queues: Queues,
     pub shards: Shards,
     stores: Vec<StoreByRules>,
+    is_kept: bool,
     now: Moment,
     sends: u64,
     tasks: u64,
     /// The lines of the journal, the replies to these, and what was there behind each of them.
     pub lines: Vec<(Vec<u8>, String)>,
     pub seen: Vec<Seen>,
+    is_attempt_unsaid: bool,
+    copied: Vec<Origin>,
 }
 
 impl Living {
-    pub fn new(shards: Shards) -> Living {
+    /// `keeps_copies`: messages are to be looked at. `is_kept`: the stores keep their own journals, so names are used again.
+    pub fn new(shards: Shards, keeps_copies: bool, is_kept: bool) -> Living {
         let stores = vec![StoreByRules::default(); shards.count() as usize];
-        let (queues, lines, seen) = (Queues::default(), Vec::new(), Vec::new());
-        let mut living = Living { queues, shards, stores, now: 1000, sends: 0, tasks: 0, lines, seen };
+        let (queues, lines, seen) = (Queues::new(keeps_copies), Vec::new(), Vec::new());
+        let (now, sends, tasks, is_attempt_unsaid, copied) = (1000, 0, 0, false, Vec::new());
+        let mut living =
+            Living { queues, shards, stores, is_kept, now, sends, tasks, lines, seen, is_attempt_unsaid, copied };
         shards.all().for_each(|shard| living.begin_book(shard.place()));
         living
     }
@@ -239,7 +264,8 @@ impl Living {
             self.lines.push((line, text));
             let (now, shown) = (self.now, shown(&self.queues, self.shards, self.now));
             let (told, stores) = (told(&self.queues, self.shards, self.now), self.stores.clone());
-            self.seen.push(Seen { now, shown, told, stores });
+            let (is_attempt_unsaid, copied) = (self.is_attempt_unsaid, self.copied.clone());
+            self.seen.push(Seen { now, shown, told, stores, is_attempt_unsaid, copied });
         }
         Ok(outcome)
     }
@@ -263,6 +289,16 @@ impl Living {
     fn begin_book(&mut self, place: usize) {
         let store = StoreName::of_book(self.queues.next_book(self.shards, place));
         self.ask(&self.nameless(), Ask::Create { store, visibility: 0, bytes: 0 }).unwrap();
+        let attempts: Vec<_> = self.queues.all().iter().flat_map(|queue| queue.state().entries_of_attempts()).collect();
+        let of_place = attempts.into_iter().filter(|attempt| {
+            let of_mark = self.queues.all().into_iter().find(|queue| queue.mark.0 == attempt.mark);
+            of_mark.is_some_and(|queue| self.shards.place_of(&queue.name) == place)
+        });
+        of_place.collect::<Vec<_>>().into_iter().for_each(|attempt| {
+            self.say(&self.nameless(), place, Entry::Attempt(attempt));
+        });
+        let program = ProgramEntry { place, count: self.shards.count(), secret: secret_of(place) };
+        self.say(&self.nameless(), place, Entry::Program(program));
     }
 
     fn end_book(&mut self, place: usize) {
@@ -330,7 +366,8 @@ impl Living {
 
     fn send_large(&mut self, queue: &Arc<Queue>) {
         self.sends += 1;
-        let number = self.queues.parts().next_number(self.shards, self.shards.place_of(&queue.name));
+        let (place, now) = (self.shards.place_of(&queue.name), self.is_kept.then_some(self.now));
+        let number = self.queues.parts().next_number(self.shards, place, now);
         let whole = format!("{{\"sent\":{}}}\nlarge {}", self.now, self.sends);
         let head = EnvelopeHead::of(&whole).unwrap();
         let mut asks = vec![PartsAsk::Create(PartsCause::Client)];
@@ -352,6 +389,28 @@ impl Living {
                 handed.into_iter().chain(set_aside.into_iter().map(|(handed, _)| handed)).collect()
             }
             _ => Vec::new(),
+        }
+    }
+
+    /// Receives under an attempt id, or gives once more what it was given. Then the book says it.
+    fn receive_by_attempt(&mut self, queue: &Arc<Queue>, id: u8) {
+        let (id, visibility) = (AttemptId::parse(&id.to_string()).unwrap(), 7);
+        self.is_attempt_unsaid = true;
+        let given = queue.state().attempt(&id, self.now);
+        match given {
+            Some(given) => given.into_iter().for_each(|handed| {
+                let (receipt, by) = (handed.receipt, Changer::Attempt);
+                let _ = self.ask(queue, Ask::ChangeVisibility { receipt, visibility, by });
+            }),
+            None => {
+                let (size, attempt, most, reach) = (2, Some(id.clone()), None, Reach::All);
+                let _ = self.ask(queue, Ask::Receive { size, visibility, attempt, most, reach });
+            }
+        }
+        self.is_attempt_unsaid = false;
+        let entry = queue.state().entry_of_attempt(&id, self.now);
+        if let Some(entry) = entry {
+            self.say(&self.nameless(), self.shards.place_of(&queue.name), Entry::Attempt(entry));
         }
     }
 
@@ -384,7 +443,7 @@ impl Living {
     }
 
     /// Moves the first message of a queue. One that keeps its id is no task's.
-    fn move_first(&mut self, queue: &Arc<Queue>, target: &Arc<Queue>, keeps_id: bool) {
+    fn move_first(&mut self, queue: &Arc<Queue>, target: &Arc<Queue>, keeps_id: bool, is_consumed: bool) {
         for Handed { receipt, envelope, group, .. } in self.receive(queue, 1, 0) {
             self.sends += 1;
             let origin = Origin { mark: queue.mark.0, sequence: receipt.sequence };
@@ -396,8 +455,14 @@ impl Living {
                 Some(_) => head.as_line().unwrap(),
                 None => Envelope::Whole(head.over(&envelope).unwrap()),
             };
-            let (group, dedup) = (GroupId::parse(&group).unwrap(), DedupId::parse(&self.sends.to_string()).unwrap());
-            let _ = self.ask(target, Ask::Send { group, dedup, envelope, cause: Cause::Move(origin) });
+            let place = self.shards.place_of(&target.name);
+            let dedup = DedupId::parse(&CopyId::text(origin, secret_of(place))).unwrap();
+            let (group, cause) = (GroupId::parse(&group).unwrap(), Cause::Move(origin));
+            self.copied.push(origin);
+            self.ask(target, Ask::Send { group, dedup, envelope, cause }).unwrap();
+            if is_consumed && self.shards.place_of(&queue.name) != place {
+                self.delete_all(target);
+            }
             self.ask(queue, Ask::Delete { receipt, by_client: false }).unwrap();
         }
     }
@@ -472,14 +537,15 @@ impl Living {
                 }
                 self.send(&queue.delays().unwrap(), Some(self.now + 5000));
             }
-            Step::Move | Step::MoveDead => {
+            Step::Move | Step::MoveDead | Step::MoveAndConsume => {
                 if let Some(target) = self.target_of(queue) {
-                    self.move_first(queue, &target, matches!(step, Step::MoveDead));
+                    let is_consumed = matches!(step, Step::MoveAndConsume);
+                    self.move_first(queue, &target, matches!(step, Step::MoveDead), is_consumed);
                 }
             }
             Step::MoveDue => {
                 if let Some(delays) = queue.delays() {
-                    self.move_first(&delays, queue, true);
+                    self.move_first(&delays, queue, true, false);
                 }
             }
             Step::SendByCall(call) => self.send_by_call(queue, *call),
@@ -490,6 +556,7 @@ impl Living {
                 self.change(queue, TableChange::Attributes(given));
             }
             Step::Receive(size, visibility) => drop(self.receive(queue, *size, *visibility)),
+            Step::Attempt(id) if queue.name.kind() == QueueKind::Fifo => self.receive_by_attempt(queue, *id),
             Step::Change(which, visibility) => {
                 if let Some(receipt) = self.receipt(queue, which) {
                     let (visibility, by) = (*visibility, Changer::Client);

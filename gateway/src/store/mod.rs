@@ -8,28 +8,32 @@ mod figures;
 pub mod living;
 mod replay;
 mod task;
+mod told;
 
 use std::future::Future;
 use std::sync::Arc;
 
 use tokio::sync::{mpsc, oneshot};
+use uuid::Uuid;
 
 use crate::budget::Share;
 use crate::clock::Clock;
 use crate::errors::SqsError;
 use crate::handles::{Mark, Receipt};
 use crate::journal::{Journal, Need};
+use crate::lines;
 use crate::queues::ask::{Ask, Cause, Handed, Outcome, PartsAsk, Reach, StoreName, TableChange};
 use crate::queues::book::Entry;
 use crate::queues::shards::Shards;
 use crate::queues::{Queue, Queues};
-use crate::texts::QueueName;
+use crate::texts::{AttemptId, QueueKind, QueueName};
 use admission::Admission;
 use figures::Counters;
 
 pub use figures::{Figures, JournalFigures};
 pub use replay::{replay_all, ReplayError, Replayed, Tables};
-pub use task::{start, Ended, Start};
+pub use task::{start, Ended, Kept, Start};
+pub use told::{start as start_told, Keeping, Ready, ToldError};
 
 /// Operations that are performed one after the other, and where their answers go.
 struct Job {
@@ -128,6 +132,8 @@ pub struct Store {
     queues: Arc<Queues>,
     clock: Arc<Clock>,
     journal: Option<Journal>,
+    /// The programs keep their lines themselves.
+    is_kept: bool,
     admission: Arc<Admission>,
     counters: Arc<Counters>,
 }
@@ -149,6 +155,11 @@ impl Store {
 
     pub fn clock(&self) -> &Clock {
         &self.clock
+    }
+
+    /// Whether the programs keep their lines themselves. Then all that is to outlive the gateway stands in their stores.
+    pub fn is_kept(&self) -> bool {
+        self.is_kept
     }
 
     /// Whether space of the journal is wanted back: its bound or its disk is full.
@@ -234,7 +245,8 @@ impl Store {
 
     /// A number for the parts of a message of this queue.
     pub fn next_parts(&self, queue: &Queue) -> u64 {
-        self.queues.parts().next_number(self.shards, self.shards.place_of(&queue.name))
+        let now = self.is_kept.then(|| self.clock.now());
+        self.queues.parts().next_number(self.shards, self.shards.place_of(&queue.name), now)
     }
 
     /// The answers to asks of the queue that has the parts of this number.
@@ -268,6 +280,23 @@ impl Store {
     pub fn begin_changes(&self, queue: &Arc<Queue>, changes: Vec<TableChange>) -> impl Future<Output = Answers> + Send {
         let operations = changes.into_iter().map(Operation::Change).collect();
         self.begin(self.place_of(&queue.name), Some(queue.clone()), operations)
+    }
+
+    /// By what the copies that come to this queue are known, where nothing but the store says which there were.
+    pub fn secret_of(&self, target: &Queue) -> Option<Uuid> {
+        self.queues.secret(self.place_of(&target.name))
+    }
+
+    /// Has the book say what an attempt was given, where nothing else keeps it. Where there is no room for that, a start doesn't
+    /// know it.
+    pub async fn keep_attempt(&self, queue: &Queue, attempt: &AttemptId) {
+        let entry = queue.state().entry_of_attempt(attempt, self.clock.now());
+        if let Some(entry) = entry.filter(|_| self.is_kept) {
+            let say = Operation::Say(Entry::Attempt(entry));
+            if let Err(error) = self.perform_nameless(self.place_of(&queue.name), vec![say]).await {
+                tracing::warn!("a start will know nothing of an attempt at {}: {error}", queue.name);
+            }
+        }
     }
 
     /// Creates a queue. Its name in the store comes first, and with what the book says the queue is there. Where the book
@@ -470,6 +499,22 @@ impl Held {
     /// Sends copies to another queue and deletes their originals, and tells of each copy whether it is there. An
     /// original that isn't deleted then is left to the caller.
     pub async fn move_to(&self, target: &Arc<Queue>, copies: Vec<Copy>) -> Vec<Answer> {
+        let may_lack_room = self.store.is_kept && target.name.kind() == QueueKind::Fifo;
+        let runs = if may_lack_room { runs_of(copies) } else { vec![copies] };
+        let (mut answers, mut refusal) = (Vec::new(), None);
+        for run in runs {
+            if let Some(error) = &refusal {
+                answers.extend(run.iter().map(|_| Err(SqsError::clone(error))));
+                continue;
+            }
+            let moved = self.move_run(target, run).await;
+            refusal = moved.iter().find_map(|answer| answer.as_ref().err().cloned());
+            answers.extend(moved);
+        }
+        answers
+    }
+
+    async fn move_run(&self, target: &Arc<Queue>, copies: Vec<Copy>) -> Vec<Answer> {
         let count = copies.len();
         let shards = self.store.shards;
         if shards.place_of(&self.queue.name) != shards.place_of(&target.name) {
@@ -505,6 +550,23 @@ impl Held {
     }
 }
 
+/// Copies in runs in which none is shorter than one before it. Where a program's journal has no room for one, it has none
+/// for those behind it in its run, so messages of a group stay in their order.
+fn runs_of(copies: Vec<Copy>) -> Vec<Vec<Copy>> {
+    let (mut runs, mut last): (Vec<Vec<Copy>>, usize) = (Vec::new(), usize::MAX);
+    for copy in copies {
+        let length = lines::length_of(&copy.ask);
+        if length < last {
+            runs.push(Vec::new());
+        }
+        last = length;
+        if let Some(run) = runs.last_mut() {
+            run.push(copy);
+        }
+    }
+    runs
+}
+
 impl Drop for Held {
     fn drop(&mut self) {
         let (sender, _) = oneshot::channel();
@@ -524,3 +586,26 @@ struct Hold {
 }
 
 type Holds = std::collections::HashMap<Mark, Hold>;
+
+#[cfg(test)]
+mod tests {
+    use super::*;
+    use crate::messages::Envelope;
+    use crate::moves::Origin;
+    use crate::texts::{DedupId, GroupId};
+
+    #[test]
+    fn a_copy_that_has_room_has_none_before_it_in_its_run_that_has_none() {
+        let copy = |(sequence, body): (u64, &str)| {
+            let (group, dedup) = (GroupId::parse("g").unwrap(), DedupId::parse("d").unwrap());
+            let (envelope, cause) = (Envelope::Whole(body.into()), Cause::Move(Origin { mark: 1, sequence }));
+            Copy { sequence, ask: Ask::Send { group, dedup, envelope, cause } }
+        };
+        // In a line a quotation mark takes two bytes.
+        let bodies = ["aa", "bb", "\"b", "cc", "dddd", "d", "eee", "\"\"\"", "ffffff"];
+        let runs = runs_of((1..).zip(bodies).map(copy).collect());
+        let runs: Vec<Vec<_>> = runs.iter().map(|run| run.iter().map(|copy| copy.sequence).collect()).collect();
+        assert_eq!(runs, [vec![1, 2, 3], vec![4, 5], vec![6, 7, 8, 9]]);
+        assert!(runs_of(Vec::new()).is_empty());
+    }
+}

@@ -462,6 +462,8 @@ impl Replay {
                 }
                 queue
             }
+            // No journal of the gateway's own has any.
+            Entry::Program(_) | Entry::Attempt(_) | Entry::Jump(..) => None,
         }
     }
 

@@ -104,6 +104,13 @@ impl Attempts {
         self.by_id.get(id).filter(|found| now < found.end())
     }
 
+    /// What each was given, in order of their ids.
+    pub(super) fn all(&self) -> impl Iterator<Item = (&AttemptId, &Attempt)> {
+        let mut all: Vec<_> = self.by_id.iter().collect();
+        all.sort_unstable_by_key(|(id, _)| *id);
+        all.into_iter()
+    }
+
     pub(super) fn bytes(&self) -> u64 {
         self.bytes
     }

@@ -208,7 +208,6 @@ impl Calls {
     }
 
     /// Takes up what calls sent, of which nothing was known.
-    #[cfg(test)]
     pub(super) fn take_up(&mut self, sends: impl Iterator<Item = (Moment, CallKey, First)>) {
         for (moment, key, first) in sends {
             self.firsts.insert(key, (moment, first));

@@ -10,7 +10,6 @@ mod numbers;
 mod peek;
 mod receipts;
 mod said;
-#[cfg(test)]
 mod stored;
 #[cfg(test)]
 mod tests;
@@ -22,7 +21,7 @@ use std::sync::Arc;
 use uuid::Uuid;
 
 use super::ask::{Ask, Cause, Changer, Fate, Handed, Outcome, Reach, TableChange};
-use super::book::{QueueEntry, Size};
+use super::book::{AttemptEntry, QueueEntry, Size};
 use super::groups::{Group, Groups};
 use crate::attributes::QueueAttributes;
 use crate::clock::Moment;
@@ -314,10 +313,7 @@ impl State {
             }
         }
         if let (Some(attempt), false) = (attempt, handed.is_empty()) {
-            // What the store has no room for is kept with its message.
-            let is_copy =
-                |one: &&Handed| self.messages.get(one.receipt.sequence).is_some_and(|own| own.envelope.is_none());
-            let bytes = handed.iter().filter(is_copy).map(|one| one.envelope.len() as u64).sum();
+            let bytes = self.bytes_of_copies(&handed);
             self.attempts.insert(attempt, Attempt { moment, until, handed: handed.clone(), bytes });
         }
         if opened {
@@ -325,6 +321,28 @@ impl State {
         }
         let outcome = Outcome::Received { handed, set_aside, openings: self.openings };
         Ok(Applied { outcome, changed, opened, parts: None })
+    }
+
+    /// What the envelopes of these messages take that aren't kept with them: what the store has no room for is.
+    fn bytes_of_copies(&self, handed: &[Handed]) -> u64 {
+        let is_copy = |one: &&Handed| self.messages.get(one.receipt.sequence).is_some_and(|own| own.envelope.is_none());
+        handed.iter().filter(is_copy).map(|one| one.envelope.len() as u64).sum()
+    }
+
+    fn attempt_entry(&self, id: &AttemptId, attempt: &Attempt) -> AttemptEntry {
+        let handed = attempt.handed.iter().map(|one| (one.receipt.sequence, one.receipt.ordinal)).collect();
+        let (moment, until) = (attempt.moment, attempt.until);
+        AttemptEntry { mark: self.entry.mark, id: id.clone(), moment, until, handed }
+    }
+
+    /// What a book is to say of what this attempt was given at the last, if it still counts.
+    pub fn entry_of_attempt(&self, id: &AttemptId, now: Moment) -> Option<AttemptEntry> {
+        self.attempts.find(id, now).map(|attempt| self.attempt_entry(id, attempt))
+    }
+
+    /// The same of all attempts.
+    pub fn entries_of_attempts(&self) -> Vec<AttemptEntry> {
+        self.attempts.all().map(|(id, attempt)| self.attempt_entry(id, attempt)).collect()
     }
 
     fn hand(&mut self, given: StoreMessage, receiving: &Receiving<'_>) -> Result<(Handed, Option<Fate>), SqsError> {

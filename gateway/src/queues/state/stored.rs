@@ -1,29 +1,38 @@
 //! Takes up what the store has of a queue, as its bytes tell it.
 
+use std::collections::HashMap;
 use std::sync::Arc;
 
+use super::attempts::Attempt;
 use super::delayed::First;
 use super::message::{Handing, Message};
 use super::{State, WINDOW};
 use crate::clock::Moment;
-use crate::handles::Mark;
+use crate::handles::{Mark, Receipt};
 use crate::messages::message_id;
 #[cfg(test)]
 use crate::move_tasks::MoveTask;
+use crate::queues::ask::Handed;
+use crate::queues::book::AttemptEntry;
 use crate::queues::image::{AcceptedSend, Named, StoredMessage, StoredQueue};
 use crate::texts::{CallKey, QueueKind};
 
 impl State {
     /// Takes up the messages that the store has, whose last entry is of the moment `last`. Tells what they name.
-    pub(in crate::queues) fn take_up(&mut self, stored: StoredQueue, last: Moment) -> Named {
+    pub(in crate::queues) fn take_up(&mut self, stored: StoredQueue, last: Moment, keeps_copies: bool) -> Named {
         self.last_sequence = self.entry.base + stored.sent;
-        let mut named = Named::default();
-        for message in stored.messages {
+        let (mut named, mut texts) = (Named::default(), HashMap::new());
+        for mut message in stored.messages {
             named.parts.extend(message.head.parts);
             named.origins.extend(message.head.of);
+            let text = if keeps_copies { message.text.clone() } else { message.text.take() };
+            texts.extend(text.map(|text| (self.entry.base + message.sequence, text)));
             self.take_up_message(message);
         }
         self.groups = self.groups_of_delayed();
+        for attempt in stored.attempts {
+            self.take_up_attempt(&attempt, &texts);
+        }
         self.take_up_sends(&stored.accepted);
         if self.kind == QueueKind::Standard && self.entry.store.main().is_none() {
             let base = self.entry.base;
@@ -33,7 +42,7 @@ impl State {
     }
 
     fn take_up_message(&mut self, stored: StoredMessage) {
-        let StoredMessage { group, head, handings, handed, until, copy, .. } = stored;
+        let StoredMessage { group, head, handings, handed, until, text, .. } = stored;
         let sequence = self.entry.base + stored.sequence;
         let source = head.source.map(Arc::new);
         let bytes = stored.bytes + head.bytes.unwrap_or(0);
@@ -42,7 +51,7 @@ impl State {
         // Of the handings the store has the last one alone.
         message.last = (handings > 0).then_some(Handing { moment: handed, first: handed, touched: false });
         self.longest_envelope = self.longest_envelope.max(bytes);
-        if let Some((group_id, envelope)) = copy {
+        if let Some((group_id, envelope)) = text {
             message.bytes += (group_id.len() + envelope.len()) as u64;
             (message.group_id, message.envelope) = (Some(group_id), Some(envelope));
         }
@@ -53,6 +62,24 @@ impl State {
         }
         if let Some(due) = head.due {
             self.due.add(sequence, due);
+        }
+    }
+
+    /// Takes up what an attempt was given, if that is all in flight by these handings, and nobody has changed it since.
+    fn take_up_attempt(&mut self, entry: &AttemptEntry, texts: &HashMap<u64, (Box<str>, Arc<str>)>) {
+        let handed_by = |(sequence, ordinal): &(u64, u64)| {
+            let message = self.messages.get(*sequence)?;
+            let is_held = message.ordinal == *ordinal && message.until() == entry.until;
+            let (last, (group, envelope)) = (message.last.filter(|_| is_held)?, texts.get(sequence)?);
+            let receipt = Receipt { sequence: *sequence, ordinal: *ordinal };
+            let (moment, first, group) = (last.moment, last.first, group.to_string());
+            Some(Handed { receipt, count: *ordinal, moment, first, group, envelope: envelope.clone() })
+        };
+        let handed: Option<Vec<_>> = entry.handed.iter().map(handed_by).collect();
+        if let Some(handed) = handed {
+            let (moment, until) = (entry.moment, entry.until);
+            let bytes = self.bytes_of_copies(&handed);
+            self.attempts.insert(&entry.id, Attempt { moment, until, handed, bytes });
         }
     }
 
@@ -78,6 +105,16 @@ impl State {
 
 #[cfg(test)]
 impl State {
+    /// What attempts were given, as far as the bytes tell it, and how many bytes that takes.
+    pub fn attempts_told(&self) -> (u64, Vec<String>) {
+        let of_handed = |handed: &Handed| (handed.receipt, handed.count, handed.moment, handed.envelope.clone());
+        let told = self.attempts.all().map(|(id, attempt)| {
+            let handed: Vec<_> = attempt.handed.iter().map(of_handed).collect();
+            format!("{id:?} {} {} {} {handed:?}", attempt.moment, attempt.until, attempt.bytes)
+        });
+        (self.attempts.bytes(), told.collect())
+    }
+
     /// What the tables have that the store's bytes tell, too, at this moment.
     pub fn told_by_bytes(&mut self, now: Moment) -> String {
         self.look_at_ages(now);

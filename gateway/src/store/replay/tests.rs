@@ -68,7 +68,7 @@ impl Living {
 #[test]
 fn a_replay_of_any_front_of_the_asks_makes_the_tables_that_were_there() {
     check(1000, (1..=2u32, steps(), any::<Index>(), any::<bool>()), |(shards, steps, front, are_gone)| {
-        let mut living = Living::new(Shards::new(shards).unwrap());
+        let mut living = Living::new(Shards::new(shards).unwrap(), false, false);
         steps.iter().for_each(|(name, step)| living.step(name, step));
         living.compare(living.lines.len(), are_gone)?;
         living.compare(front.index(living.lines.len() + 1), are_gone)

@@ -1,10 +1,11 @@
 //! Answers: what the program said, what the journal keeps of it, and who is told.
 
 use super::entries::{Entry, Open, OpenAsk};
+use super::room::need_of;
 use super::{Ended, Task};
 use crate::errors::SqsError;
-use crate::journal::Record;
-use crate::lines::{self, OutputLine, StoreReply};
+use crate::journal::{Need, Record};
+use crate::lines::{self, OutputLine, StoreReply, NO_ROOM};
 use crate::queues::ask::{Ask, Outcome};
 use crate::store::{Answer, AnswerSender};
 
@@ -14,9 +15,16 @@ impl Task {
         let whole = self.incoming.split_to(end + 1);
         for line in lines::split_lines(&whole[..end]) {
             match lines::read_output(line)? {
-                OutputLine::Nothing => {}
-                OutputLine::Refused(code) => self.refused(code)?,
-                OutputLine::Answer { client, number, reply, text } => self.answered(client, number, reply, text)?,
+                OutputLine::Nothing { line } => (self.line, self.is_put_next) = (line, false),
+                OutputLine::Refused { code: NO_ROOM, line } => self.no_room(line)?,
+                OutputLine::Refused { code, line } => {
+                    self.line = line;
+                    self.refused(code)?;
+                }
+                OutputLine::Answer { client, number, reply, text, line } => {
+                    self.line = line;
+                    self.answered(client, number, reply, text)?;
+                }
             }
             self.finish_ready();
         }
@@ -32,13 +40,41 @@ impl Task {
         }
     }
 
+    /// The program's journal has no room for a line. That of a request did nothing, and is told so. Behind it stands the
+    /// line that should have given its answer, which is refused, too, or is answered by nothing.
+    fn no_room(&mut self, line: u64) -> Result<(), Ended> {
+        if std::mem::take(&mut self.is_put_next) {
+            return Ok(());
+        }
+        if line != self.line + 1 {
+            return Err(Ended::Full);
+        }
+        let next = self.take_next(|entry| !matches!(entry, Entry::Ready(_)));
+        let Some(Open { entry, sender }) = next else { return Err(Ended::NotNext { client: 0, number: 0 }) };
+        (self.is_put_next, self.ends) = (true, 0);
+        match entry {
+            Entry::Ask(asked) if asked.is_done => return Err(Ended::Full),
+            Entry::Ask(asked) => {
+                self.close(&asked);
+                self.give_room_back(&asked);
+                self.finish(Err(refusal_for_room(need_of(&asked.ask))), sender);
+                self.go_on_with(&asked, false)?;
+            }
+            // It is seen to answer all the same.
+            Entry::Moment(_) if sender.is_some() => self.finish(Ok(Outcome::Done), sender),
+            Entry::Count { .. } => self.finish(Err(refusal_for_room(Need::Less)), sender),
+            Entry::Moment(_) | Entry::Probe { .. } | Entry::Ready(_) => {}
+        }
+        Ok(())
+    }
+
     fn refused(&mut self, code: u32) -> Result<(), Ended> {
         let next = self.take_next(|entry| matches!(entry, Entry::Ask(_)));
         let Some(Open { entry: Entry::Ask(asked), sender }) = next else {
             return Err(Ended::NotNext { client: 0, number: 0 });
         };
+        (self.is_put_next, self.ends) = (true, 0);
         self.close(&asked);
-        self.ends = 0;
         self.give_room_back(&asked);
         let start: String = asked.raw.get().chars().take(200).collect();
         // A client may have said what stands in it.
@@ -50,7 +86,7 @@ impl Task {
     fn answered(&mut self, client: u32, number: u64, reply: StoreReply, text: &str) -> Result<(), Ended> {
         let is_answered = |entry: &Entry| match entry {
             Entry::Ask(asked) => (asked.client, asked.number) == (client, number),
-            Entry::Moment => number == 0,
+            Entry::Moment(_) => number == 0,
             Entry::Probe { tag, .. } | Entry::Count { tag, .. } => *tag == number,
             Entry::Ready(_) => false,
         };
@@ -67,7 +103,7 @@ impl Task {
                 self.finish(answer, sender);
                 self.go_on_with(&asked, is_done)
             }
-            Entry::Moment => {
+            Entry::Moment(_) => {
                 if sender.is_some() {
                     self.finish(Ok(Outcome::Done), sender);
                 }
@@ -190,5 +226,14 @@ impl Task {
             Some(journal) => journal.hand_over(&mut self.batch),
             None => self.batch.send_answers(),
         }
+    }
+}
+
+/// What is told of a request for which a program's journal has no room.
+fn refusal_for_room(need: Need) -> SqsError {
+    let message = "The journal is full.";
+    match need {
+        Need::More => SqsError::OverLimit(message.into()),
+        _ => SqsError::ServiceUnavailable(message.into()),
     }
 }

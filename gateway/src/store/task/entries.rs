@@ -19,8 +19,8 @@ pub(super) struct Open {
 
 pub(super) enum Entry {
     Ask(Box<OpenAsk>),
-    /// The request that moves the store's moment on before a count.
-    Moment,
+    /// The request that moves the store's moment on, to this one, before a count.
+    Moment(Moment),
     Count {
         tag: u64,
         queue: Arc<Queue>,
@@ -46,6 +46,8 @@ pub(super) struct OpenAsk {
     /// Bytes of memory that it was counted with.
     pub(super) weight: u64,
     pub(super) ends: u32,
+    /// The program has done it, and was started again before it was answered.
+    pub(super) is_done: bool,
     /// Of a copy: what it is one of.
     pub(super) original: Option<Original>,
 }

@@ -9,7 +9,7 @@ mod outgoing;
 mod room;
 mod starting;
 
-use std::collections::VecDeque;
+use std::collections::{HashMap, VecDeque};
 use std::sync::Arc;
 use std::time::Duration;
 
@@ -21,18 +21,20 @@ use tokio::sync::{mpsc, oneshot, watch};
 use super::admission::Admission;
 use super::figures::Counters;
 use super::replay::{replay, ReplayError};
+use super::told::{self, Keeping, ToldError};
 use super::{Answers, Hold, Holds, Job, Operation, Store};
 use crate::clock::Clock;
-use crate::cq::{Cq, CqError};
+use crate::cq::{Cq, CqError, KeptFile};
 use crate::errors::SqsError;
 use crate::journal::{CommitBatch, Journal, JournalError};
 use crate::limits::Bounds;
 use crate::lines::BadOutput;
 use crate::queues::shards::{Shard, Shards};
 use crate::queues::{Queue, Queues};
+use crate::store_bytes::{Part, StoreReader};
 use crate::texts::STORE_LIMIT;
 use clients::{Clients, CLIENTS};
-use entries::{Entry, Open, Pending};
+use entries::{Entry, Open, OpenAsk, Pending};
 use moving::{Moving, Original};
 use outgoing::Outgoing;
 
@@ -51,6 +53,11 @@ pub enum Ended {
     Journal(#[from] JournalError),
     #[error("a line for cq can't be written: {0}")]
     Line(#[from] serde_json::Error),
+    #[error(transparent)]
+    Told(#[from] ToldError),
+    /// What was asked is done, and its answer can't be had.
+    #[error("cq has no room left to give an answer: its journal is full to the last byte")]
+    Full,
 }
 
 /// No more is read from the pipe, or gathered for it, at once.
@@ -74,6 +81,12 @@ struct Task {
     queues: Arc<Queues>,
     clock: Arc<Clock>,
     journal: Option<Journal>,
+    /// Where the program keeps its lines, if it does.
+    file: Option<KeptFile>,
+    /// The number of the last line that the program has counted, as it tells it.
+    line: u64,
+    /// The next line of output is that of the line which should have given a refused request's answer.
+    is_put_next: bool,
     admission: Arc<Admission>,
     counters: Arc<Counters>,
     /// How many open requests the counters know of.
@@ -111,7 +124,16 @@ pub struct Start {
     pub queues: Arc<Queues>,
     pub clock: Arc<Clock>,
     pub journal: Option<Journal>,
+    /// Of programs that keep their lines: where, and how they began.
+    pub kept: Option<Kept>,
     pub bounds: Bounds,
+}
+
+/// What is known of programs that keep their lines.
+pub struct Kept {
+    pub keeping: Keeping,
+    /// Of each: the number of the last line that it counted, and the largest number of a request.
+    pub begun: Vec<(u64, u64)>,
 }
 
 /// Starts the tasks, one for each shard. What the second value gives is why the first of them ended.
@@ -123,10 +145,13 @@ pub fn start(start: Start) -> (Store, oneshot::Receiver<Ended>) {
     }
     let counters = Arc::new(Counters::default());
     let (ended, mut reasons) = mpsc::unbounded_channel();
-    let mut jobs = Vec::new();
+    let (mut jobs, is_kept) = (Vec::new(), start.kept.is_some());
     for (cq, shard) in start.cqs.into_iter().zip(start.shards.all()) {
         let (queue, waiting) = mpsc::unbounded_channel();
         jobs.push(queue);
+        let begun = start.kept.as_ref().and_then(|kept| kept.begun.get(shard.place()).copied());
+        // Numbers in use begin above all that any earlier run can have used.
+        let (line, last_number) = begun.unwrap_or_else(|| (0, start.clock.now() << 20));
         let mut task = Task {
             shard,
             program: start.program.clone(),
@@ -135,6 +160,9 @@ pub fn start(start: Start) -> (Store, oneshot::Receiver<Ended>) {
             queues: start.queues.clone(),
             clock: start.clock.clone(),
             journal: start.journal.clone(),
+            file: start.kept.as_ref().map(|kept| kept.keeping.file(start.shards, shard.place())),
+            line,
+            is_put_next: false,
             admission: admission.clone(),
             counters: counters.clone(),
             open_counted: 0,
@@ -143,8 +171,7 @@ pub fn start(start: Start) -> (Store, oneshot::Receiver<Ended>) {
             moving: None,
             open: VecDeque::new(),
             clients: Clients::new(),
-            // Numbers in use begin above all that any earlier run can have used.
-            last_number: start.clock.now() << 20,
+            last_number,
             out: Outgoing::default(),
             incoming: BytesMut::new(),
             answers: Vec::new(),
@@ -167,6 +194,7 @@ pub fn start(start: Start) -> (Store, oneshot::Receiver<Ended>) {
         queues: start.queues,
         clock: start.clock,
         journal: start.journal,
+        is_kept,
         admission,
         counters,
     };
@@ -186,11 +214,16 @@ impl Task {
                 Ok(()) => {}
                 Err(ended) => {
                     let gone = matches!(ended, Ended::Cq(_) | Ended::BadOutput(_) | Ended::NotNext { .. });
-                    if !gone || self.journal.is_none() || self.ends >= MOST_ENDS_IN_A_ROW {
+                    let is_kept = self.journal.is_some() || self.file.is_some();
+                    if !gone || !is_kept || self.ends >= MOST_ENDS_IN_A_ROW {
                         return ended;
                     }
                     tracing::error!("{ended}");
-                    if let Err(ended) = self.start_again().await {
+                    let begun = match self.file.clone() {
+                        Some(file) => self.start_again_on(&file).await,
+                        None => self.start_again().await,
+                    };
+                    if let Err(ended) = begun {
                         return ended;
                     }
                 }
@@ -310,10 +343,45 @@ impl Task {
         self.out.clear();
         self.clients = Clients::new();
         self.waits_for_answer = false;
+        self.ask_all_again(Task::ask_again)?;
+        tracing::warn!("cq was started again, and is where the journal is");
+        Ok(())
+    }
+
+    /// Starts a program again that keeps its lines, and asks what is open once more, as it was asked the first time: what
+    /// was done by then has its kept reply. So the tables stay what they are.
+    async fn start_again_on(&mut self, file: &KeptFile) -> Result<(), Ended> {
+        self.ends += 1;
+        self.counters.count_restart();
+        tokio::time::sleep(pause(self.ends)).await;
+        self.hand_over();
+        self.cq.stop().await;
+        let (mut reader, mut numbers) = (StoreReader::default(), HashMap::new());
+        let mut take = |chunk: &[u8]| {
+            let read = reader.feed(chunk, |part| {
+                if let Part::Client { client, number } = part {
+                    numbers.insert(client, number);
+                }
+            });
+            Ok(read?)
+        };
+        let ready = told::start(&self.program, file, self.patience, &mut take).await?;
+        (self.cq, self.line, self.is_put_next) = (ready.cq, ready.line, false);
+        self.incoming.clear();
+        self.out.clear();
+        self.waits_for_answer = false;
+        let is_done = |asked: &OpenAsk| numbers.get(&asked.client) == Some(&asked.number);
+        self.ask_all_again(|task, entry| task.repeat(entry, is_done))?;
+        tracing::warn!("cq was started again, and is where its journal is");
+        Ok(())
+    }
+
+    /// Asks what is open once more, in its order, as far as that isn't given up.
+    fn ask_all_again(&mut self, ask: impl Fn(&mut Task, Entry) -> Result<Again, Ended>) -> Result<(), Ended> {
         let mut given_up = None;
         let mut copies_given_up = Vec::new();
         for open in std::mem::take(&mut self.open) {
-            let entry = match self.ask_again(open.entry)? {
+            let entry = match ask(self, open.entry)? {
                 Again::Open(entry) => entry,
                 Again::GivenUp(queue, original) => {
                     given_up = Some(queue);
@@ -331,8 +399,22 @@ impl Task {
             let entry = self.probe(queue)?;
             self.open.push_back(Open { entry, sender: None });
         }
-        tracing::warn!("cq was started again, and is where the journal is");
         Ok(())
+    }
+
+    /// Asks once more under the same number. What the program has done isn't given up: it has its kept reply.
+    fn repeat(&mut self, entry: Entry, is_done: impl Fn(&OpenAsk) -> bool) -> Result<Again, Ended> {
+        let Entry::Ask(mut asked) = entry else { return self.ask_again(entry) };
+        asked.ends += 1;
+        asked.is_done = is_done(&asked);
+        if asked.ends >= MOST_ENDS && !asked.is_done {
+            self.clients.give_back(asked.client);
+            self.forget_open(&asked.ask);
+            self.give_room_back(&asked);
+            return Ok(Again::GivenUp(asked.queue, asked.original));
+        }
+        self.write(&asked)?;
+        Ok(Again::Open(Entry::Ask(asked)))
     }
 
     fn ask_again(&mut self, entry: Entry) -> Result<Again, Ended> {
@@ -358,7 +440,8 @@ impl Task {
                 self.write_count(tag, &queue)?;
                 Entry::Probe { tag, queue }
             }
-            Entry::Moment => self.moment()?,
+            // Whatever is asked behind it has its first clock, too.
+            Entry::Moment(moment) => self.moment_at(moment)?,
             other => other,
         }))
     }

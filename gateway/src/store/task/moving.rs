@@ -10,6 +10,7 @@ use serde_json::value::RawValue;
 use super::clients::CLIENTS;
 use super::entries::{Entry, Open, OpenAsk, StartOutcome};
 use super::room::{bytes_of, need_of};
+use super::starting::stamped;
 use super::{Ended, Task};
 use crate::clock::Moment;
 use crate::errors::SqsError;
@@ -61,6 +62,8 @@ impl Task {
         }
         let moment = self.clock.now();
         let mut asked = Vec::with_capacity(copies.len());
+        let copies: Vec<_> =
+            copies.into_iter().map(|copy| Copy { ask: stamped(copy.ask, &target, moment), ..copy }).collect();
         for copy in &copies {
             let raw = serde_json::value::to_raw_value(&AskFields::of(store, base, &copy.ask))?;
             let rooms = match self.set_aside(&copy.ask, bytes_of(&raw)) {
@@ -116,7 +119,8 @@ impl Task {
         let client = self.clients.take(false).unwrap_or(CLIENTS);
         self.last_number += 1;
         let number = self.last_number;
-        let asked = OpenAsk { queue, ask, raw, moment, client, number, room, weight: 0, ends: 0, original };
+        let asked =
+            OpenAsk { queue, ask, raw, moment, client, number, room, weight: 0, ends: 0, is_done: false, original };
         self.write(&asked)?;
         self.open.push_back(Open { entry: Entry::Ask(Box::new(asked)), sender: None });
         Ok(())

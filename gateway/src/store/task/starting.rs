@@ -103,6 +103,7 @@ impl Task {
                 return ready(Err(SqsError::of_expiry()));
             }
         }
+        let ask = stamped(ask, &queue, moment);
         let weight = match self.admission.admit(&ask, moment) {
             Ok(weight) => weight,
             Err(error) => return ready(Err(error)),
@@ -168,6 +169,7 @@ impl Task {
             room,
             weight,
             ends: 0,
+            is_done: false,
             original: None,
         };
         self.write(&asked)?;
@@ -195,8 +197,12 @@ impl Task {
     }
 
     pub(super) fn moment(&mut self) -> Result<Entry, Ended> {
-        lines::append_moment(&mut self.out.bytes, self.clock.now())?;
-        Ok(Entry::Moment)
+        self.moment_at(self.clock.now())
+    }
+
+    pub(super) fn moment_at(&mut self, moment: Moment) -> Result<Entry, Ended> {
+        lines::append_moment(&mut self.out.bytes, moment)?;
+        Ok(Entry::Moment(moment))
     }
 
     fn count(&mut self, queue: Arc<Queue>) -> Result<Entry, Ended> {
@@ -307,6 +313,15 @@ fn repeated(ask: &Ask, queue: &Queue, now: Moment) -> Option<Outcome> {
         }
         _ => None,
     }
+}
+
+/// The ask, whose message says that it was sent at this moment. In a FIFO queue moments rise with sequence numbers then,
+/// and the message tells what the tables have.
+pub(super) fn stamped(mut ask: Ask, queue: &Queue, moment: Moment) -> Ask {
+    if let (Ask::Send { envelope, .. }, QueueKind::Fifo) = (&mut ask, queue.name.kind()) {
+        envelope.stamp(moment);
+    }
+    ask
 }
 
 /// Whether this sends a message of an older journal that a purge has taken meanwhile.
