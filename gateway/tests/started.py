@@ -6,7 +6,9 @@ import base64
 import json
 import os
 import re
+import shutil
 import subprocess
+import tempfile
 import urllib.error
 import urllib.parse
 import urllib.request
@@ -20,6 +22,26 @@ from botocore.config import Config
 
 TOP = Path(__file__).resolve().parents[2]
 START = 1_700_000_000_000
+
+# Whether gateways that have a journal leave it to cq. Then what tests say of its size, in bytes of records, counts for none.
+IS_KEPT_BY_CQ = os.environ.get("HOBBYCHAIR_TEST_JOURNAL") == "proved"
+
+
+def _of_journal(words: list[str]) -> list[str]:
+    """The words, where a journal is to be kept by cq."""
+    if not IS_KEPT_BY_CQ or "--journal" not in words:
+        return words
+    words = ["--proved-journal" if word == "--journal" else word for word in words]
+    if "--journal-size" in words:
+        place = words.index("--journal-size")
+        del words[place : place + 2]
+    programs = int(words[words.index("--shards") + 1]) if "--shards" in words else 1
+    return [*words, *size_of_journals(programs)]
+
+
+def size_of_journals(programs: int) -> list[str]:
+    """So large are journals that so many programs keep: as small as they can be."""
+    return ["--journal-size", f"{64 * programs}MiB"]
 
 
 def program() -> str:
@@ -47,6 +69,19 @@ def run(*words: str, timeout: float = 60, **variables: str) -> subprocess.Comple
     )
 
 
+def names_in_store(journal: Path) -> set[str]:
+    """The names that live in the store by a journal that `cq` keeps. Nobody asks for anything meanwhile."""
+    with tempfile.TemporaryDirectory() as room:
+        copy = shutil.copy(journal, room)
+        told = subprocess.run([program(), "session", "--journal", copy, "--tell-store"], stdin=subprocess.DEVNULL,
+                              capture_output=True, check=True, text=True).stdout
+    lines = [json.loads(line) for line in told.splitlines()]
+    digits = "01" + "".join(line["chunk"][2:] for line in lines if line["kind"] == "store")
+    words = subprocess.run([TOP / "check" / "wire", "store"], input=digits, capture_output=True, check=True, text=True).stdout
+    names = re.findall(r"name ([0-9a-f]+) \d+ (?:\d+|none) (\d+|none)", words)
+    return {bytes.fromhex(name).decode() for name, incarnation in names if incarnation != "none"}
+
+
 class Refused(Exception):
     """An error of SQS, whichever way it came."""
 
@@ -61,7 +96,7 @@ class Started:
     """A running gateway."""
 
     def __init__(self, *words: str, room: Path | None = None) -> None:
-        self.words = list(words)
+        self.words = _of_journal(list(words))
         self.clock_file = None
         if room is not None:
             self.clock_file = room / "clock"

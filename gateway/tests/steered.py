@@ -18,7 +18,7 @@ def told():
         with open({orders!r}) as file: return json.load(file)
     except (OSError, ValueError): return {{}}
 
-cq = subprocess.Popen([{program!r}, 'session'], stdin=subprocess.PIPE)
+cq = subprocess.Popen([{program!r}, *sys.argv[1:]], stdin=subprocess.PIPE)
 found, counted = None, 0
 for number, line in enumerate(sys.stdin.buffer):
     text = line.decode()

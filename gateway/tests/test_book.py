@@ -11,7 +11,7 @@ from pathlib import Path
 
 import pytest
 
-from started import ByJson, Refused, Started, run
+from started import IS_KEPT_BY_CQ, ByJson, Refused, Started, names_in_store, run
 from steered import SteeredCq
 
 TAGS = {"team": "shop", "kind": "remove"}
@@ -78,6 +78,8 @@ class Kept:
 
     def store_names(self) -> set[str]:
         """The names that the store has by the journal."""
+        if IS_KEPT_BY_CQ:
+            return names_in_store(self.journal)
         names = set()
         for line in run("dump", str(self.journal)).stdout.splitlines():
             ask = json.loads(line).get("ask", {})
@@ -173,6 +175,7 @@ def test_a_change_that_ends_the_program_each_time_changes_nothing(kept):
         kept.restart()
 
 
+@pytest.mark.skipif(IS_KEPT_BY_CQ, reason="the gateway's own journal alone does this")
 def test_no_record_says_anything_of_queues_beside_what_is_asked(kept):
     kept.create()
     kept.call("TagQueue", QueueUrl="q", Tags={"a": "b"})
@@ -281,7 +284,7 @@ def test_a_removal_is_told_in_a_book_that_was_begun_anew(tmp_path):
     large = {f"{number:03}": "v" * 250 for number in range(40)}
     for turn in range(120):
         call("TagQueue", QueueUrl="q", Tags={**large, "turn": str(turn)})
-    data = lambda: b"".join(segment.read_bytes() for segment in tmp_path.glob("journal.[0-9]*"))
+    data = lambda: b"".join(file.read_bytes() for file in tmp_path.glob("journal*"))
     wait_for(lambda: b'{"kind":"remove","queue":"book1.fifo"}' in data())
     gateway.kill()
     gateway.start()

@@ -12,7 +12,7 @@ from pathlib import Path
 
 import pytest
 
-from started import START, ByJson, ByQuery, Refused, Started, run
+from started import IS_KEPT_BY_CQ, START, ByJson, ByQuery, Refused, Started, names_in_store, run
 from steered import SteeredCq
 from test_standard import sent_by_call
 
@@ -78,6 +78,8 @@ class Delayed:
 
     def names(self) -> set[str]:
         """The names in the store of all queues that the journal has."""
+        if IS_KEPT_BY_CQ:
+            return names_in_store(self.journal)
         lines = [json.loads(line) for line in run("dump", str(self.journal)).stdout.splitlines()]
         return {line["ask"]["queue"] for line in lines if "ask" in line}
 
@@ -170,7 +172,7 @@ def test_a_removal_that_is_cut_off_takes_all_or_nothing(delayed, passing):
     delayed.gateway.kill()
     delayed.cq.tell()
     removing.join()
-    assert "undamaged" in run("verify", str(delayed.journal)).stdout
+    assert IS_KEPT_BY_CQ or "undamaged" in run("verify", str(delayed.journal)).stdout
     delayed.gateway.start()
     if passing == 0:
         assert delayed.counts() == [1, 0, 1]
@@ -286,6 +288,7 @@ def test_a_queue_that_was_removed_takes_no_delayed_message(delayed):
     assert {one["MessageId"] for one in delayed.call("ReceiveMessage", QueueUrl="q")["Messages"]} == ids
 
 
+@pytest.mark.skipif(IS_KEPT_BY_CQ, reason="the gateway's own journal alone does this")
 def test_what_is_delayed_goes_over_to_another_name_with_its_queue(tmp_path):
     delayed = Delayed(tmp_path, "--journal-size", "4MiB")
     ids = set()

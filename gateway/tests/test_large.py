@@ -7,7 +7,7 @@ from concurrent.futures import ThreadPoolExecutor
 
 import pytest
 
-from started import ByJson, ByQuery, Refused, Started, run
+from started import IS_KEPT_BY_CQ, ByJson, ByQuery, Refused, Started, run
 
 LONGEST = 1_048_576
 STORE_LIMIT = 262_144
@@ -40,12 +40,12 @@ def test_bodies_on_each_side_of_the_stores_limit_outlive_kills(tmp_path):
             found.update({message["MessageId"]: message["Body"] for message in messages})
         assert found == ids
         told = run("verify", str(path))
-        assert told.returncode == 0 and "undamaged" in told.stdout, told.stdout + told.stderr
+        assert IS_KEPT_BY_CQ or told.returncode == 0 and "undamaged" in told.stdout, told.stdout + told.stderr
         gateway.kill()
         gateway.set_clock(gateway.moment + 600_000)
         gateway.start()
         call = ByJson(gateway.url)
-    assert len(run("dump", str(path)).stdout.splitlines()) >= 2 * (1 + len(bodies))
+    assert IS_KEPT_BY_CQ or len(run("dump", str(path)).stdout.splitlines()) >= 2 * (1 + len(bodies))
     assert gateway.stop() == 0
 
 
@@ -73,6 +73,7 @@ def test_a_batch_that_is_large_together_outlives_a_kill(tmp_path, way):
     assert gateway.stop() == 0
 
 
+@pytest.mark.skipif(IS_KEPT_BY_CQ, reason="the gateway's own journal alone does this")
 def test_a_disk_that_large_bodies_fill_refuses_them_and_ends_no_gateway(small_disk):
     """Eight clients send across the ends of segments until the disk is full."""
     room = small_disk("120m")
@@ -113,6 +114,7 @@ def test_a_disk_that_large_bodies_fill_refuses_them_and_ends_no_gateway(small_di
     assert gateway.stop() == 0
 
 
+@pytest.mark.skipif(IS_KEPT_BY_CQ, reason="the gateway's own journal alone does this")
 def test_a_journal_that_large_bodies_fill_is_free_again_when_they_go(tmp_path):
     """Their records go as those of small ones do, and a start has what is left."""
     path = tmp_path / "journal"

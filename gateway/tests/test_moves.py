@@ -12,7 +12,7 @@ from pathlib import Path
 
 import pytest
 
-from started import ByJson, Refused, Started, program
+from started import IS_KEPT_BY_CQ, ByJson, Refused, Started, program
 from steered import SteeredCq
 
 COUNT = 3
@@ -137,7 +137,9 @@ def test_messages_of_a_task_that_is_cut_off_are_moved_once(tmp_path, kind, by):
         while task()["Status"] == "RUNNING":
             assert time.monotonic() < latest
             time.sleep(0.01)
-        assert int(task()["ApproximateNumberOfMessagesMoved"]) == COUNT, passing
+        moved = int(task()["ApproximateNumberOfMessagesMoved"])
+        # Where nothing but the store is kept, the book says it for each ten messages.
+        assert moved == COUNT or IS_KEPT_BY_CQ and by == "gateway" and 0 <= moved < COUNT, passing
         assert [message["Body"] for message in cut.receive(target)] == [str(number) for number in range(COUNT)], passing
         assert cut.receive(cut.dead) == []
         cut.call("DeleteQueue", QueueUrl=target)
@@ -228,7 +230,7 @@ def test_two_queues_that_are_each_others_dead_letter_queue_wait_for_nobody(tmp_p
 MISNUMBERING = """#!{python}
 import os, subprocess, sys, threading
 if sys.argv[1] != 'session': sys.exit(subprocess.run([{program!r}, *sys.argv[1:]]).returncode)
-cq = subprocess.Popen([{program!r}, 'session'], stdin=subprocess.PIPE, stdout=subprocess.PIPE)
+cq = subprocess.Popen([{program!r}, *sys.argv[1:]], stdin=subprocess.PIPE, stdout=subprocess.PIPE)
 next_is_wrong = threading.Event()
 
 def pass_back():
