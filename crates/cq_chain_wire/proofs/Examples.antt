@@ -12,12 +12,12 @@ use Rattle.cq_store_wire.specs.Order.{all_clients, all_names, parts_of}
 use Rattle.cq_store_wire.specs.Reading.{part_at, start_at}
 use Rattle.cq_wire.specs.declared.fault.WireFault.TheVariants.{BadTag, BadNumber, BytesLeft, Truncated}
 use Rattle.cq_wire.specs.Layout.{number32, number64, text, flag, optional, ask, request, entry, reply}
-use Rattle.cq_wire.specs.Reading.{number_at, moment_at, whole_at, all_of}
+use Rattle.cq_wire.specs.Reading.{number_at, server_at, moment_at, whole_at, all_of}
 use Rattle.cq_chain_wire.specs.declared.reader.Progress.TheVariants.{More, Whole}
 use Rattle.cq_chain_wire.specs.Feeding.{all_fed, chunk_fed, end_fed, kind_fed, piece_fed, plain_fed}
 use Rattle.cq_chain_wire.specs.Layout.{answer, message}
 use Rattle.cq_chain_wire.specs.Pieces.{snapshot_end, snapshot_piece}
-use Rattle.cq_chain_wire.specs.Reading.{server_at, report_at, message_at}
+use Rattle.cq_chain_wire.specs.Reading.{report_at, message_at}
 
 -- the number 7 in four bytes, and 258 in eight
 seven : List ℕ

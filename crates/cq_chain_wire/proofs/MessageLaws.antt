@@ -1,5 +1,5 @@
 -- Messages that are read were written so, and what was written is read.
-use Rattle.std.proofs.Common.{◌≡◌, ℕ, ◌^◌, ◌<◌, Bool, true, cond, eqb, leb, leb-true, le-leb, List, [], ◌∷◌, ◌++◌, Result, Ok, Err, refl, sym, subst, append_assoc}
+use Rattle.std.proofs.Common.{◌≡◌, ℕ, ◌^◌, ◌<◌, Bool, true, cond, eqb, List, [], ◌∷◌, ◌++◌, Result, Ok, Err, refl, sym, subst, append_assoc}
 use Rattle.std.specs.Prelude.{⊤}
 use Rattle.std.specs.Int.{w32, w64}
 use Rattle.std.proofs.lemmas.Bool.{eqb-true}
@@ -8,28 +8,20 @@ use Rattle.cq_chain.specs.declared.message.Answer.{Answer}
 use Rattle.cq_chain.specs.declared.message.Message.{Message}
 use Rattle.cq_chain.specs.declared.message.Message.TheVariants as kinds
 use Rattle.cq_wire.specs.declared.fault.WireFault.{WireFault}
-use Rattle.cq_wire.specs.declared.fault.WireFault.TheVariants.{BadTag, BadNumber}
+use Rattle.cq_wire.specs.declared.fault.WireFault.TheVariants.{BadTag}
 use Rattle.cq_wire.specs.Layout.{number32, number64, flag, optional, entry, reply}
-use Rattle.cq_wire.specs.Limits.{IfThere, IsEntry, IsReply}
-use Rattle.cq_wire.specs.Reading.{◌>>=◌, number_at, flag_at, optional_at, entry_at, reply_at}
+use Rattle.cq_wire.specs.Limits.{IfThere, IsServer, IsEntry, IsReply}
+use Rattle.cq_wire.specs.Reading.{◌>>=◌, number_at, server_at, flag_at, optional_at, entry_at, reply_at}
 use Rattle.cq_wire.proofs.Fronts.{IsBytes, IsBytes-rest, Takes, Takes-then, Takes-nothing, Takes-tagged, Reads, IsRead, bind_ok, ok_is, either, read_as}
-use Rattle.cq_wire.proofs.Sequences.{kept_reads, kept_is_read, one, two, four, one_read, two_read, four_read}
-use Rattle.cq_wire.proofs.PartLaws.{reads32, reads64, is_read32, is_read64, flag_reads, flag_is_read, optional_reads, optional_is_read}
+use Rattle.cq_wire.proofs.Sequences.{one, two, four, one_read, two_read, four_read}
+use Rattle.cq_wire.proofs.PartLaws.{reads32, reads64, is_read32, is_read64, server_reads, server_is_read, flag_reads, flag_is_read, optional_reads, optional_is_read}
 use Rattle.cq_wire.proofs.AskLaws.{entry_reads, entry_is_read}
 use Rattle.cq_wire.proofs.ReplyLaws.{reply_reads, reply_is_read}
 use Rattle.cq_chain_wire.specs.Layout.{answer, message}
-use Rattle.cq_chain_wire.specs.Limits.{IsServer, IsAnswer, IsMessage}
-use Rattle.cq_chain_wire.specs.Reading.{server_at, answer_at, fwd_at, ack_at, report_at, adopt_at, be_tail_at, feed_at, have_at, adopted_at, caught_at, answered_at, message_at}
+use Rattle.cq_chain_wire.specs.Limits.{IsAnswer, IsMessage}
+use Rattle.cq_chain_wire.specs.Reading.{answer_at, fwd_at, ack_at, report_at, adopt_at, be_tail_at, feed_at, have_at, adopted_at, caught_at, answered_at, message_at}
 
 -- ---- parts
-
-server_reads : Reads number32 server_at IsServer
-unfolding server_at
-server_reads bytes x fits e = let r = kept_reads number32 (number_at w32) (λ n. n < 2 ^ 32) (λ n. leb 1 n) BadNumber reads32 bytes x fits e in (r.0, (leb-true _ _ r.1.1, r.1.0))
-
-server_is_read : IsRead number32 server_at IsServer
-unfolding server_at
-server_is_read n rest le = kept_is_read number32 (number_at w32) (λ n. n < 2 ^ 32) (λ n. leb 1 n) BadNumber is_read32 n rest (le.1, le-leb _ _ le.0)
 
 made_answer : ℕ → ℕ → Bool → ℕ → Reply → Answer
 made_answer client number is_query length r = record { client = client; number = number; is_query = is_query; length = length; reply = r }

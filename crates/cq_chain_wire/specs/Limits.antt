@@ -1,13 +1,9 @@
 -- Which messages have bytes: all that the type has but snapshots.
-use Rattle.std.specs.Prelude.{ℕ, ◌<◌, ◌≤◌, ◌^◌, ⊤}
+use Rattle.std.specs.Prelude.{◌<◌, ◌^◌, ⊤}
 use Rattle.cq_chain.specs.declared.message.Answer.{Answer}
 use Rattle.cq_chain.specs.declared.message.Message.{Message}
 use Rattle.cq_chain.specs.declared.message.Message.TheVariants as kinds
-use Rattle.cq_wire.specs.Limits.{IfThere, IsEntry, IsReply}
-
--- a server's number
-abbrev pub IsServer : ℕ → Type 0
-IsServer n = (1 ≤ n) × (n < 2 ^ 32)
+use Rattle.cq_wire.specs.Limits.{IfThere, IsServer, IsEntry, IsReply}
 
 abbrev pub IsAnswer : Answer → Type 0
 IsAnswer a = (a.client < 2 ^ 32) × ((a.number < 2 ^ 64) × (⊤ × ((a.length < 2 ^ 64) × IsReply a.reply)))

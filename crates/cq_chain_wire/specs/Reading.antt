@@ -1,17 +1,11 @@
 -- Reading messages from left to right, up to the first fault.
-use Rattle.std.specs.Prelude.{ℕ, ◌==◌, [], ◌∷◌, Ok, Err, nat_le, if◌then◌else◌}
+use Rattle.std.specs.Prelude.{◌==◌, [], ◌∷◌, Ok, Err, if◌then◌else◌}
 use Rattle.std.specs.Int.{w32, w64}
 use Rattle.cq_chain.specs.declared.message.Answer.{Answer}
 use Rattle.cq_chain.specs.declared.message.Message.{Message}
 use Rattle.cq_chain.specs.declared.message.Message.TheVariants as kinds
-use Rattle.cq_wire.specs.declared.fault.WireFault.TheVariants.{Truncated, BadTag, BadNumber}
-use Rattle.cq_wire.specs.Reading.{◌>>=◌, Reader, kept, number_at, flag_at, optional_at, entry_at, reply_at}
-
--- a server's number, which isn't 0
-unfoldable pub server_at : Reader ℕ
-server_at bytes = do
-  n ← number_at w32 bytes
-  kept (nat_le 1 n.0) BadNumber n
+use Rattle.cq_wire.specs.declared.fault.WireFault.TheVariants.{Truncated, BadTag}
+use Rattle.cq_wire.specs.Reading.{◌>>=◌, Reader, number_at, server_at, flag_at, optional_at, entry_at, reply_at}
 
 unfoldable pub answer_at : Reader Answer
 answer_at bytes = do

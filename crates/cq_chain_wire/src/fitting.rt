@@ -1,13 +1,13 @@
 //! What holds of each message, so that it has bytes.
-ghost use Rattle.std.specs.Prelude.{◌≡◌, ◌≤◌, ◌<◌, ◌^◌, true, false};
-ghost use Rattle.cq_wire.specs.Limits.{IfThere};
+ghost use Rattle.std.specs.Prelude.{◌≡◌, ◌<◌, ◌^◌, true, false};
+ghost use Rattle.cq_wire.specs.Limits.{IfThere, IsServer};
 ghost use Rattle.cq_chain_wire.specs.Laws.{IsSound};
-ghost use Rattle.cq_chain_wire.specs.Limits.{IsServer, IsAnswer, IsPlain, IsMessage};
+ghost use Rattle.cq_chain_wire.specs.Limits.{IsAnswer, IsPlain, IsMessage};
 
 use cq_base::ServerId;
 use cq_chain::{Answer, Message};
 use cq_store_wire::store_fits;
-use cq_wire::{entry_fits, reply_fits};
+use cq_wire::{entry_fits, reply_fits, server_fits};
 
 /// Whether the message isn't a snapshot: O(1).
 pub fn is_plain(message: &Message) -> bool
@@ -18,12 +18,6 @@ pub fn is_plain(message: &Message) -> bool
         Message::Snap { state: _ } => false,
         _ => true,
     }
-}
-
-fn server_fits(id: ServerId)
-    ensures { IsServer id }
-{
-    let _number = id.get();
 }
 
 fn server_if_fits(id: Option<ServerId>)

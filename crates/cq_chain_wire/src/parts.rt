@@ -1,23 +1,12 @@
 //! Messages by their kinds, each from the front of bytes. Each answers the message and the bytes behind it.
 ghost use Rattle.std.specs.Prelude.{◌≡◌};
-ghost use Rattle.cq_wire.specs.Reading.{Gives, optional_at};
-ghost use Rattle.cq_chain_wire.specs.Reading.{server_at, answer_at, fwd_at, ack_at, report_at, adopt_at, be_tail_at, feed_at, have_at, adopted_at, caught_at, answered_at, message_at};
+ghost use Rattle.cq_wire.specs.Reading.{Gives, optional_at, server_at};
+ghost use Rattle.cq_chain_wire.specs.Reading.{answer_at, fwd_at, ack_at, report_at, adopt_at, be_tail_at, feed_at, have_at, adopted_at, caught_at, answered_at, message_at};
 
 use cq_base::ServerId;
 use cq_chain::{Answer, Message};
-use cq_wire::{ReadFault, WireFault, entry_of, flag_of, reply_of, u32_of, u64_of};
+use cq_wire::{ReadFault, WireFault, entry_of, flag_of, reply_of, server_of, u32_of, u64_of};
 use std::alloc::Global;
-
-#[tactic(auto, unfolding(crate::specs::Reading::server_at))]
-fn server_of(bytes: &[u8]) -> Result<(ServerId, &[u8]), ReadFault>
-    ensures { Gives (λ x. (x.0, x.1.now)) result (server_at bytes.now) }
-{
-    let (number, rest) = u32_of(bytes)?;
-    match ServerId::new(number) {
-        Some(id) => Ok((id, rest)),
-        None => Err(ReadFault::Bad(WireFault::BadNumber)),
-    }
-}
 
 #[tactic(auto, unfolding(cq_wire::specs::Reading::optional_at))]
 fn server_if_of(bytes: &[u8]) -> Result<(Option<ServerId>, &[u8]), ReadFault>

@@ -2,14 +2,13 @@
 ghost use Rattle.std.specs.Prelude.{◌≡◌, ◌++◌, OnOk};
 ghost use Rattle.std.specs.List.{flat_map};
 ghost use Rattle.cq_base.specs.Relations.{IsPrefix};
-ghost use Rattle.cq_wire.specs.Layout.{receipt};
 ghost use Rattle.cq_store_wire.specs.Bodies.{all_recorded, and_bodies, and_body, and_reply, mention as mentioned, recorded, reply_recorded};
 ghost use Rattle.cq_store_wire.specs.Layout.{delivery_record, mention, reply_record};
 ghost use Rattle.cq_store_wire.specs.declared.reply.ReplyRecord.TheVariants as records;
 
 use crate::bodies::Bodies;
-use cq_base::{Body, Delivery, NoMemory, Receipt, Reply};
-use cq_wire::{Writer, put_reply};
+use cq_base::{Body, Delivery, NoMemory, Reply};
+use cq_wire::{Writer, put_receipt, put_reply};
 
 /// Puts the body where it is mentioned first, and its number where it is mentioned again. After `NoMemory` it may be known.
 #[tactic(auto, unfolding(crate::specs::Layout::mention, crate::specs::Bodies::mention))]
@@ -29,16 +28,6 @@ fn put_mention(out: &mut Writer, bodies: &mut Bodies, body: &Body) -> Result<(),
             out.put_u64(number as u64)
         }
     }
-}
-
-#[tactic(auto, unfolding(cq_wire::specs::Layout::receipt))]
-fn put_receipt(out: &mut Writer, handle: Receipt) -> Result<(), NoMemory>
-    ensures ok { OnOk result (out.new.value ≡ out.old.value ++ receipt handle) }
-    ensures before { out.new.before ≡ out.old.before }
-{
-    out.put_u64(handle.incarnation())?;
-    out.put_u64(handle.sequence())?;
-    out.put_u64(handle.handing())
 }
 
 #[tactic(auto, unfolding(crate::specs::Layout::delivery_record))]

@@ -1,25 +1,11 @@
 //! Kept replies, each from the front of bytes.
 ghost use Rattle.std.specs.Prelude.{◌≡◌};
-ghost use Rattle.cq_wire.specs.Reading.{Gives, listed_at, receipt_at, several_at};
+ghost use Rattle.cq_wire.specs.Reading.{Gives, listed_at, several_at};
 ghost use Rattle.cq_store_wire.specs.Reading.{delivery_record_at, mention_at, other_at, received_at, reply_record_at};
 
 use crate::reply::{DeliveryRecord, DeliveryRecords, Mention, ReplyRecord};
-use cq_base::Receipt;
-use cq_wire::{ReadFault, WireFault, body_of, group_of, reply_of, u64_of};
+use cq_wire::{ReadFault, WireFault, body_of, group_of, receipt_of, reply_of, u64_of};
 use std::alloc::Global;
-
-#[tactic(auto, unfolding(cq_wire::specs::Reading::receipt_at))]
-fn receipt_of(bytes: &[u8]) -> Result<(Receipt, &[u8]), ReadFault>
-    ensures { Gives (λ x. (x.0, x.1.now)) result (receipt_at bytes.now) }
-{
-    let (incarnation, rest) = u64_of(bytes)?;
-    let (sequence, rest) = u64_of(rest)?;
-    let (handing, rest) = u64_of(rest)?;
-    match Receipt::new(incarnation, sequence, handing) {
-        Some(receipt) => Ok((receipt, rest)),
-        None => Err(ReadFault::Bad(WireFault::BadNumber)),
-    }
-}
 
 #[tactic(auto, unfolding(crate::specs::Reading::mention_at, crate::specs::Reading::first_at, crate::specs::Reading::again_at))]
 fn mention_of(alloc: Global, bytes: &[u8]) -> Result<(Mention, &[u8]), ReadFault>

@@ -12,8 +12,8 @@ use Rattle.cq_base.specs.Texts.{is_queue_name, is_id, is_body}
 use Rattle.cq_wire.specs.declared.fault.WireFault.{WireFault}
 use Rattle.cq_wire.specs.declared.fault.WireFault.TheVariants.{Truncated, BadText, BadNumber}
 use Rattle.cq_wire.specs.Layout.{number32, number64, text, flag, optional, receipt}
-use Rattle.cq_wire.specs.Limits.{IsName, IsId, IsBody, IsSeconds, IsBatch, IfThere}
-use Rattle.cq_wire.specs.Reading.{◌>>=◌, Reader, kept, number_at, bytes_at, text_at, flag_at, moment_at, seconds_at, batch_at, name_at, id_at, body_at, optional_at, receipt_at}
+use Rattle.cq_wire.specs.Limits.{IsServer, IsName, IsId, IsBody, IsSeconds, IsBatch, IfThere}
+use Rattle.cq_wire.specs.Reading.{◌>>=◌, Reader, kept, number_at, bytes_at, run_at, server_at, text_at, flag_at, moment_at, seconds_at, batch_at, name_at, id_at, body_at, optional_at, receipt_at}
 use Rattle.cq_wire.proofs.Fronts.{IsBytes, IsBytes-take, IsBytes-drop, IsBytes-rest, Takes, Takes-then, Reads, IsRead, bind_ok, ok_is, kept_ok}
 use Rattle.cq_wire.proofs.Sequences.{kept_reads, kept_is_read}
 
@@ -92,6 +92,30 @@ bytes_take n bytes x fits e =
     let len : length (take n bytes) ≡ n = omega (arith, length-take n bytes) in
     let made : Takes bytes (take n bytes) (drop n bytes) = record { parts = sym (take-append-drop n bytes); rest_fits = IsBytes-drop n bytes fits } in
     subst (λ (y : List ℕ × List ℕ). Takes bytes y.0 y.1 × (length y.0 ≡ n)) g.1 (made, len)
+
+pub run_reads : Reads text run_at (λ t. length t < 2 ^ 32)
+unfolding run_at text
+run_reads bytes x fits e =
+    let n = bind_ok (number_at w32 bytes) (λ n. bytes_at n.0 n.1) x e in
+    let number = reads32 bytes n.0 fits n.1 in
+    let front = bytes_take n.0.0 n.0.1 x number.0.rest_fits n.2 in
+    let both = Takes-then bytes (number32 n.0.0) n.0.1 x.0 x.1 number.0 front.0 in
+    (subst (λ (m : ℕ). Takes bytes (number32 m ++ x.0) x.1) (sym front.1) both, omega (arith, front.1, number.1))
+
+pub run_is_read : IsRead text run_at (λ t. length t < 2 ^ 32)
+unfolding run_at bytes_at text
+run_is_read t rest fits =
+    let long : ltb (length (t ++ rest)) (length t) ≡ false = le-ltb _ _ (omega (arith, length-append t rest)) in
+    let grouped : (number32 (length t) ++ t) ++ rest ≡ number32 (length t) ++ (t ++ rest) = simp append_assoc in
+    rw (grouped, is_read32 (length t) (t ++ rest) fits, long, take_at t rest (length t) refl, drop_at t rest (length t) refl) refl
+
+pub server_reads : Reads number32 server_at IsServer
+unfolding server_at
+server_reads bytes x fits e = let r = kept_reads number32 (number_at w32) (λ n. n < 2 ^ 32) (λ n. leb 1 n) BadNumber reads32 bytes x fits e in (r.0, (leb-true _ _ r.1.1, r.1.0))
+
+pub server_is_read : IsRead number32 server_at IsServer
+unfolding server_at
+server_is_read n rest le = kept_is_read number32 (number_at w32) (λ n. n < 2 ^ 32) (λ n. leb 1 n) BadNumber is_read32 n rest (le.1, le-leb _ _ le.0)
 
 pub text_reads : Reads text text_at IsText
 unfolding text_at text

@@ -23,6 +23,10 @@ IsId t = (is_utf8 t ≡ true) × (is_id t ≡ true)
 abbrev pub IsBody : List ℕ → Type 0
 IsBody t = (is_utf8 t ≡ true) × (is_body t ≡ true)
 
+-- a server's number
+abbrev pub IsServer : ℕ → Type 0
+IsServer n = (1 ≤ n) × (n < 2 ^ 32)
+
 abbrev pub IsSeconds : ℕ → Type 0
 IsSeconds n = n ≤ SECONDS_LIMIT
 

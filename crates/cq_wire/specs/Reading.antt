@@ -51,6 +51,18 @@ kept passes fault x = if passes then Ok x else Err fault
 unfoldable pub bytes_at : ℕ → Reader (List ℕ)
 bytes_at n bytes = if nat_lt (length bytes) n then Err Truncated else Ok (take n bytes, drop n bytes)
 
+-- bytes behind their number
+unfoldable pub run_at : Reader (List ℕ)
+run_at bytes = do
+  n ← number_at w32 bytes
+  bytes_at n.0 n.1
+
+-- a server's number, which isn't 0
+unfoldable pub server_at : Reader ℕ
+server_at bytes = do
+  n ← number_at w32 bytes
+  kept (nat_le 1 n.0) BadNumber n
+
 unfoldable pub text_at : Reader (List ℕ)
 text_at bytes = do
   n ← number_at w32 bytes

@@ -131,6 +131,7 @@ fn ask_of(alloc: Global, bytes: &[u8]) -> Result<(Ask, &[u8]), ReadFault>
     }
 }
 
+/// A request. O(bytes of it), and memory for its texts alone.
 #[tactic(auto, unfolding(crate::specs::Reading::request_at))]
 pub fn request_of(alloc: Global, bytes: &[u8]) -> Result<(Request, &[u8]), ReadFault>
     ensures { Gives (λ x. (x.0, x.1.now)) result (request_at bytes.now) }
@@ -161,6 +162,7 @@ pub fn entry_of(alloc: Global, bytes: &[u8]) -> Result<(Entry, &[u8]), ReadFault
     Ok((Entry { moment, request }, rest))
 }
 
+/// A query. O(bytes of it), and memory for its text alone.
 #[tactic(auto, unfolding(crate::specs::Reading::query_at))]
 pub fn query_of(alloc: Global, bytes: &[u8]) -> Result<(Query, &[u8]), ReadFault>
     ensures { Gives (λ x. (x.0, x.1.now)) result (query_at bytes.now) }

@@ -1,11 +1,11 @@
 //! Each value of the types has bytes.
 ghost use Rattle.std.specs.Prelude.{◌≤◌, ◌<◌, ◌^◌};
 ghost use Rattle.cq_base.specs.Handle.{IsHandle};
-ghost use Rattle.cq_wire.specs.Limits.{IfThere, IsName, IsId, IsBody, IsSeconds, IsAsk, IsRequest, IsEntry, IsQuery, IsDelivery, AreListed, IsReply};
+ghost use Rattle.cq_wire.specs.Limits.{IfThere, IsServer, IsName, IsId, IsBody, IsSeconds, IsAsk, IsRequest, IsEntry, IsQuery, IsDelivery, AreListed, IsReply};
 
 use cq_base::{
     Ask, Body, DedupId, Delivery, Entry, GroupId, Query, QueueName, Receipt, Reply, Request,
-    Seconds,
+    Seconds, ServerId,
 };
 
 /// Each name has bytes.
@@ -38,6 +38,13 @@ pub fn body_fits(body: &Body)
     ensures { IsBody body.now }
 {
     let _text = body.as_str();
+}
+
+/// Each server's number has bytes.
+pub fn server_fits(id: ServerId)
+    ensures { IsServer id }
+{
+    let _number = id.get();
 }
 
 fn dedup_if_fits(id: &Option<DedupId>)

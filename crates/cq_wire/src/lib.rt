@@ -17,15 +17,17 @@ mod version;
 mod write;
 mod writer;
 
-pub use asks::entry_of;
+pub use asks::{entry_of, query_of, request_of};
 pub use fault::{ReadFault, WireFault};
 pub use fitting::{
     body_fits, dedup_fits, entry_fits, group_fits, name_fits, query_fits, reply_fits, request_fits,
+    server_fits,
 };
 pub use parts::{
-    body_of, dedup_of, flag_of, group_of, moment_of, name_of, seconds_of, u32_of, u64_of,
+    body_of, dedup_of, flag_of, group_of, moment_of, name_of, receipt_of, run_of, seconds_of,
+    server_of, u32_of, u64_of,
 };
-pub use put::{put_entry, put_reply};
+pub use put::{put_entry, put_query, put_receipt, put_reply, put_request};
 pub use read::{read_entry, read_query, read_reply, read_request};
 pub use replies::reply_of;
 pub use version::VERSION;

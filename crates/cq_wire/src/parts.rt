@@ -1,11 +1,13 @@
 //! The parts of values, each from the front of bytes. Each answers the part and the bytes behind it.
 ghost use Rattle.std.specs.Prelude.{◌≡◌};
 ghost use Rattle.std.specs.Int.{w32, w64};
-ghost use Rattle.cq_wire.specs.Reading.{Gives, number_at, bytes_at, text_at, flag_at, moment_at, seconds_at, batch_at, name_at, id_at, body_at, optional_at, receipt_at};
+ghost use Rattle.cq_wire.specs.Reading.{Gives, number_at, bytes_at, run_at, server_at, text_at, flag_at, moment_at, seconds_at, batch_at, name_at, id_at, body_at, optional_at, receipt_at};
 ghost use Rattle.cq_wire.specs.within.Checked.{utf8_in};
 
 use crate::fault::{ReadFault, WireFault};
-use cq_base::{BaseFault, BatchSize, Body, DedupId, GroupId, Moment, QueueName, Receipt, Seconds};
+use cq_base::{
+    BaseFault, BatchSize, Body, DedupId, GroupId, Moment, QueueName, Receipt, Seconds, ServerId,
+};
 use std::alloc::Global;
 use std::str;
 
@@ -45,6 +47,27 @@ fn bytes_of(count: usize, bytes: &[u8]) -> Result<(&[u8], &[u8]), ReadFault>
         return Err(ReadFault::Bad(WireFault::Truncated));
     }
     Ok(bytes.split_at(count))
+}
+
+/// Bytes behind their number, which has four bytes. O(1).
+#[tactic(auto, unfolding(crate::specs::Reading::run_at))]
+pub fn run_of(bytes: &[u8]) -> Result<(&[u8], &[u8]), ReadFault>
+    ensures { Gives (λ x. (x.0.now, x.1.now)) result (run_at bytes.now) }
+{
+    let (count, rest) = u32_of(bytes)?;
+    bytes_of(count as usize, rest)
+}
+
+/// The number of a server, of four bytes; `BadNumber` where it is 0. O(1).
+#[tactic(auto, unfolding(crate::specs::Reading::server_at))]
+pub fn server_of(bytes: &[u8]) -> Result<(ServerId, &[u8]), ReadFault>
+    ensures { Gives (λ x. (x.0, x.1.now)) result (server_at bytes.now) }
+{
+    let (number, rest) = u32_of(bytes)?;
+    match ServerId::new(number) {
+        Some(id) => Ok((id, rest)),
+        None => Err(ReadFault::Bad(WireFault::BadNumber)),
+    }
 }
 
 fn str_of(bytes: &[u8]) -> Result<&str, ReadFault>
@@ -199,6 +222,7 @@ pub fn seconds_if_of(bytes: &[u8]) -> Result<(Option<Seconds>, &[u8]), ReadFault
     }
 }
 
+/// A receipt, of 24 bytes; `BadNumber` where one of its numbers is 0. O(1).
 #[tactic(auto, unfolding(crate::specs::Reading::receipt_at))]
 pub fn receipt_of(bytes: &[u8]) -> Result<(Receipt, &[u8]), ReadFault>
     ensures { Gives (λ x. (x.0, x.1.now)) result (receipt_at bytes.now) }

@@ -37,8 +37,9 @@ fn put_seconds_if(out: &mut Writer, seconds: Option<Seconds>) -> Result<(), NoMe
     }
 }
 
+/// Puts a receipt: O(1). After `NoMemory` a front of its bytes may be there.
 #[tactic(auto, unfolding(crate::specs::Layout::receipt))]
-fn put_receipt(out: &mut Writer, handle: Receipt) -> Result<(), NoMemory>
+pub fn put_receipt(out: &mut Writer, handle: Receipt) -> Result<(), NoMemory>
     ensures ok { OnOk result (out.new.value ≡ out.old.value ++ receipt handle) }
     ensures before { out.new.before ≡ out.old.before }
 {
@@ -168,6 +169,7 @@ fn put_ask(out: &mut Writer, value: &Ask) -> Result<(), NoMemory>
     }
 }
 
+/// Puts a request, without a version: O(bytes of it). After `NoMemory` a front of its bytes may be there.
 #[tactic(auto, unfolding(crate::specs::Layout::request))]
 pub fn put_request(out: &mut Writer, value: &Request) -> Result<(), NoMemory>
     ensures ok { OnOk result (out.new.value ≡ out.old.value ++ request value.now) }
@@ -188,6 +190,7 @@ pub fn put_entry(out: &mut Writer, value: &Entry) -> Result<(), NoMemory>
     put_request(out, &value.request)
 }
 
+/// Puts a query, without a version: O(bytes of it). After `NoMemory` a front of its bytes may be there.
 #[tactic(auto, unfolding(crate::specs::Layout::query))]
 pub fn put_query(out: &mut Writer, value: &Query) -> Result<(), NoMemory>
     ensures ok { OnOk result (out.new.value ≡ out.old.value ++ query value.now) }

@@ -97,14 +97,23 @@ impl Writer {
         }
     }
 
-    /// Writes the number of bytes of a text, and these. After `NoMemory` the number may be there.
+    /// Writes the number of these bytes, and the bytes. After `NoMemory` the number may be there.
     #[tactic(auto, unfolding(crate::specs::Layout::text))]
+    pub fn put_run(&mut self, run: &[u8]) -> Result<(), NoMemory>
+        requires { length run.now < 2 ^ 32 }
+        ensures ok { OnOk result (self.new.value ≡ self.old.value ++ text run.now) }
+        ensures before { self.new.before ≡ self.old.before }
+    {
+        self.put_u32(run.len() as u32)?;
+        self.put(run)
+    }
+
+    /// The same of the bytes of a text.
     pub fn put_text(&mut self, words: &str) -> Result<(), NoMemory>
         requires { length words.now < 2 ^ 32 }
         ensures ok { OnOk result (self.new.value ≡ self.old.value ++ text words.now) }
         ensures before { self.new.before ≡ self.old.before }
     {
-        self.put_u32(words.len() as u32)?;
-        self.put(words.as_bytes())
+        self.put_run(words.as_bytes())
     }
 }
