@@ -1,4 +1,5 @@
 //! Values as hex digits and as words.
+use crate::frames::{add_command, add_response};
 use crate::kinds::Value;
 use crate::made::{Draws, value};
 use crate::stored::add_store;
@@ -102,7 +103,7 @@ fn add_ask(text: &mut String, ask: &Ask) -> io::Result<()> {
     }
 }
 
-fn add_request(text: &mut String, request: &Request) -> io::Result<()> {
+pub fn add_request(text: &mut String, request: &Request) -> io::Result<()> {
     write!(text, " {} {}", request.client, request.number)?;
     add_ask(text, &request.ask)
 }
@@ -112,8 +113,8 @@ fn add_entry(text: &mut String, entry: &Entry) -> io::Result<()> {
     add_request(text, &entry.request)
 }
 
-fn add_query(text: &mut String, query: &Query) -> io::Result<()> {
-    write!(text, "query {} {}", query.client, query.tag)?;
+pub fn add_query(text: &mut String, query: &Query) -> io::Result<()> {
+    write!(text, " {} {}", query.client, query.tag)?;
     add_text(text, query.queue.as_str())
 }
 
@@ -203,7 +204,10 @@ pub fn add_value(text: &mut String, value: &Value) -> io::Result<()> {
             text.push_str("request")?;
             add_request(text, request)
         }
-        Value::Query(query) => add_query(text, query),
+        Value::Query(query) => {
+            text.push_str("query")?;
+            add_query(text, query)
+        }
         Value::Reply(reply) => {
             text.push_str("reply")?;
             add_reply(text, reply)
@@ -211,6 +215,14 @@ pub fn add_value(text: &mut String, value: &Value) -> io::Result<()> {
         Value::Message(message) => {
             text.push_str("message")?;
             add_message(text, message)
+        }
+        Value::Command(command) => {
+            text.push_str("command")?;
+            add_command(text, command)
+        }
+        Value::Response(response) => {
+            text.push_str("response")?;
+            add_response(text, response)
         }
     }
 }

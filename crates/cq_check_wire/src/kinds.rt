@@ -3,6 +3,7 @@ use crate::stop;
 use cq_base::{Entry, NoMemory, Query, Reply, Request};
 use cq_chain::Message;
 use cq_chain_wire::{is_plain, read_message, write_message};
+use cq_frames::{Command, Response, read_command, read_response, write_command, write_response};
 use cq_wire::{
     ReadFault, read_entry, read_query, read_reply, read_request, write_entry, write_query,
     write_reply, write_request,
@@ -18,6 +19,8 @@ pub enum Kind {
     Query,
     Reply,
     Message,
+    Command,
+    Response,
 }
 
 impl Kind {
@@ -29,17 +32,21 @@ impl Kind {
             "query" => Some(Kind::Query),
             "reply" => Some(Kind::Reply),
             "message" => Some(Kind::Message),
+            "command" => Some(Kind::Command),
+            "response" => Some(Kind::Response),
             _ => None,
         }
     }
 }
 
-pub const KINDS: [Kind; 5] = [
+pub const KINDS: [Kind; 7] = [
     Kind::Entry,
     Kind::Request,
     Kind::Query,
     Kind::Reply,
     Kind::Message,
+    Kind::Command,
+    Kind::Response,
 ];
 
 /// A value of some kind.
@@ -50,6 +57,8 @@ pub enum Value {
     Query(Query),
     Reply(Reply),
     Message(Message),
+    Command(Command),
+    Response(Response),
 }
 
 /// Writes a message. A snapshot isn't written.
@@ -69,6 +78,8 @@ impl Value {
             Value::Query(_) => Kind::Query,
             Value::Reply(_) => Kind::Reply,
             Value::Message(_) => Kind::Message,
+            Value::Command(_) => Kind::Command,
+            Value::Response(_) => Kind::Response,
         }
     }
 
@@ -79,6 +90,8 @@ impl Value {
             Value::Query(query) => write_query(bytes, query),
             Value::Reply(reply) => write_reply(bytes, reply),
             Value::Message(message) => write_plain(bytes, message),
+            Value::Command(command) => write_command(bytes, command),
+            Value::Response(response) => write_response(bytes, response),
         }
     }
 
@@ -116,6 +129,14 @@ fn read_once(alloc: Global, kind: Kind, bytes: &[u8]) -> Result<Value, ReadFault
         },
         Kind::Message => match read_message(alloc, bytes) {
             Ok(message) => Ok(Value::Message(message)),
+            Err(fault) => Err(fault),
+        },
+        Kind::Command => match read_command(alloc, bytes) {
+            Ok(command) => Ok(Value::Command(command)),
+            Err(fault) => Err(fault),
+        },
+        Kind::Response => match read_response(alloc, bytes) {
+            Ok(response) => Ok(Value::Response(response)),
             Err(fault) => Err(fault),
         },
     }

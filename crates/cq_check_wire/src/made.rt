@@ -1,4 +1,5 @@
 //! Values made by a seed.
+use crate::frames::{command, response};
 use crate::kinds::Value;
 use crate::stop;
 use cq_base::{
@@ -37,14 +38,14 @@ impl Draws {
     }
 
     /// A number of few digits or of many.
-    fn number(&mut self) -> u64 {
+    pub fn number(&mut self) -> u64 {
         let shift = u32::from(self.small(64));
         let drawn = self.generator.next_u64();
         drawn.checked_shr(shift).unwrap_or(0)
     }
 
     /// A number of 32 bits.
-    fn number32(&mut self) -> u32 {
+    pub fn number32(&mut self) -> u32 {
         u32::try_from(self.number()).unwrap_or(u32::MAX)
     }
 
@@ -157,7 +158,7 @@ fn ask(alloc: Global, draws: &mut Draws) -> io::Result<Ask> {
     })
 }
 
-fn request(alloc: Global, draws: &mut Draws) -> io::Result<Request> {
+pub fn request(alloc: Global, draws: &mut Draws) -> io::Result<Request> {
     Ok(Request {
         client: draws.number32(),
         number: draws.number(),
@@ -165,14 +166,18 @@ fn request(alloc: Global, draws: &mut Draws) -> io::Result<Request> {
     })
 }
 
+pub fn moment(draws: &mut Draws) -> io::Result<Moment> {
+    Moment::new(draws.number().min(MOMENT_LIMIT)).ok_or(stop("no moment"))
+}
+
 fn entry(alloc: Global, draws: &mut Draws) -> io::Result<Entry> {
     Ok(Entry {
-        moment: Moment::new(draws.number().min(MOMENT_LIMIT)).ok_or(stop("no moment"))?,
+        moment: moment(draws)?,
         request: request(alloc, draws)?,
     })
 }
 
-fn query(alloc: Global, draws: &mut Draws) -> io::Result<Query> {
+pub fn query(alloc: Global, draws: &mut Draws) -> io::Result<Query> {
     Ok(Query {
         client: draws.number32(),
         tag: draws.number(),
@@ -222,7 +227,7 @@ fn reply(alloc: Global, draws: &mut Draws) -> io::Result<Reply> {
     })
 }
 
-fn server(draws: &mut Draws) -> io::Result<ServerId> {
+pub fn server(draws: &mut Draws) -> io::Result<ServerId> {
     ServerId::new(draws.number32().max(1)).ok_or(stop("no server"))
 }
 
@@ -300,11 +305,13 @@ pub fn message(alloc: Global, draws: &mut Draws) -> io::Result<Message> {
 
 /// A value of some kind.
 pub fn value(alloc: Global, draws: &mut Draws) -> io::Result<Value> {
-    Ok(match draws.below(5) {
+    Ok(match draws.below(7) {
         0 => Value::Entry(entry(alloc, draws)?),
         1 => Value::Request(request(alloc, draws)?),
         2 => Value::Query(query(alloc, draws)?),
         3 => Value::Reply(reply(alloc, draws)?),
-        _ => Value::Message(message(alloc, draws)?),
+        4 => Value::Message(message(alloc, draws)?),
+        5 => Value::Command(command(alloc, draws)?),
+        _ => Value::Response(response(alloc, draws)?),
     })
 }

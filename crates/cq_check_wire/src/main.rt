@@ -21,6 +21,7 @@
 #![tactic(auto)]
 
 mod dump;
+mod frames;
 mod given;
 mod kinds;
 mod made;

@@ -1,0 +1,4 @@
+pub mod PartLaws
+pub mod CommandLaws
+pub mod ResponseLaws
+pub mod Examples

@@ -1,0 +1,4 @@
+pub mod Frames
+pub mod Layout
+pub mod Limits
+pub mod Reading
