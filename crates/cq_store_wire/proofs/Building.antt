@@ -159,6 +159,10 @@ tested-name kept n e =
 abbrev store_or : Bool → StoreKept → Result StoreKept WireFault
 store_or is kept = cond is (Ok kept) (Err BadNumber)
 
+-- what is kept of a name to whose queue nothing more comes
+pub recorded : (n : NameRecord) (living : Option Incarnation) (one : QueueRecord) → one ≡ record { creations = n.creations; removed = n.removed; living = living } → living ≡ n.living → one ≡ record_of n
+recorded n living one is same = subst (λ (l : Option Incarnation). one ≡ record { creations = n.creations; removed = n.removed; living = l }) same is
+
 pub name-put : (kept after : StoreKept) (n : NameRecord) (one : QueueRecord) → one ≡ record_of n → IsNextName kept n.name one → after ≡ and_name n.name one kept → closed kept (Some n) ≡ Ok after
 unfolding closed
 name-put kept after n one same next is =

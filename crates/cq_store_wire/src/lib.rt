@@ -7,6 +7,7 @@ mod bodies;
 mod build;
 mod fitting;
 pub mod laws;
+mod open_queue;
 mod part;
 mod partial_store;
 mod parts;
@@ -20,6 +21,7 @@ mod resolved;
 mod writer;
 
 pub use fitting::store_fits;
+pub use open_queue::OpenQueue;
 pub use part::{NameRecord, Part};
 pub use pass::passed;
 pub use reader::StoreReader;

@@ -4,6 +4,7 @@ ghost use Rattle.cq_wire.specs.Reading.{Gives};
 ghost use Rattle.cq_store_wire.specs.Building.{closed, in_name, put, with_accepted, with_message};
 
 use crate::build::State;
+use crate::open_queue::OpenQueue;
 use crate::reply::ReplyRecord;
 use cq_base::{Moment, QueueName};
 use cq_messages::Message;
@@ -20,7 +21,7 @@ pub struct NameRecord {
     /// When the last removal took effect.
     pub removed: Option<Moment>,
     /// The incarnation as which the queue lives.
-    pub living: Option<Queue>,
+    pub living: Option<OpenQueue>,
 }
 
 /// Written out, not derived: CONTRIBUTING.md, "Drop".
@@ -36,7 +37,7 @@ impl Drop for NameRecord {
 }
 
 /// The queue with that message behind all others.
-fn with_message(queue: Queue, message: Message) -> Result<Queue, ReadFault>
+fn with_message(queue: OpenQueue, message: Message) -> Result<OpenQueue, ReadFault>
     ensures { Gives (λ q. q) result (with_message message queue) }
 {
     if queue.accepted(0).is_some() {
@@ -51,7 +52,7 @@ fn with_message(queue: Queue, message: Message) -> Result<Queue, ReadFault>
 }
 
 /// The queue with that accepted send behind all others whose ids are kept.
-fn with_accepted(queue: Queue, accepted: Accepted) -> Result<Queue, ReadFault>
+fn with_accepted(queue: OpenQueue, accepted: Accepted) -> Result<OpenQueue, ReadFault>
     ensures { Gives (λ q. q) result (with_accepted accepted queue) }
 {
     let mut queue = queue;
@@ -59,6 +60,16 @@ fn with_accepted(queue: Queue, accepted: Accepted) -> Result<Queue, ReadFault>
         Ok(true) => Ok(queue),
         Ok(false) => Err(ReadFault::Bad(WireFault::BadNumber)),
         Err(_) => Err(ReadFault::NoMemory),
+    }
+}
+
+/// The queue, if there is one, to which nothing more comes.
+fn closed_if(living: Option<OpenQueue>) -> Option<Queue>
+    ensures { result ≡ living }
+{
+    match living {
+        Some(queue) => Some(queue.closed()),
+        None => None,
     }
 }
 
@@ -116,7 +127,8 @@ impl NameRecord {
             living,
         } = self;
         let mut store = store;
-        match store.restore_name(name, QueueRecord::restored(creations, removed, living)) {
+        let record = QueueRecord::restored(creations, removed, closed_if(living));
+        match store.restore_name(name, record) {
             Ok(true) => Ok(store),
             Ok(false) => Err(ReadFault::Bad(WireFault::BadNumber)),
             Err(_) => Err(ReadFault::NoMemory),

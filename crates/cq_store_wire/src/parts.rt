@@ -3,6 +3,7 @@ ghost use Rattle.std.specs.Prelude.{◌≡◌};
 ghost use Rattle.cq_wire.specs.Reading.{Gives, optional_at, moment_at};
 ghost use Rattle.cq_store_wire.specs.Reading.{a_message_at, a_name_at, accepted_at, an_accepted_at, client_at, handings_at, message_at, name_record_at, part_at, queue_at, start_at, uses_at};
 
+use crate::open_queue::OpenQueue;
 use crate::part::{NameRecord, Part};
 use crate::replies::reply_record_of;
 use cq_base::{HISTORY_LIMIT, Moment};
@@ -28,7 +29,7 @@ fn uses_of(bytes: &[u8]) -> Result<((u64, u64, Moment), &[u8]), ReadFault>
 }
 
 #[tactic(auto, unfolding(crate::specs::Reading::any_queue_at, crate::specs::Reading::queue_at))]
-fn queue_of(alloc: Global, bytes: &[u8]) -> Result<(Queue, &[u8]), ReadFault>
+fn queue_of(alloc: Global, bytes: &[u8]) -> Result<(OpenQueue, &[u8]), ReadFault>
     ensures { Gives (λ x. (x.0, x.1.now)) result (queue_at bytes.now) }
 {
     let (number, rest) = u64_of(bytes)?;
@@ -45,11 +46,14 @@ fn queue_of(alloc: Global, bytes: &[u8]) -> Result<(Queue, &[u8]), ReadFault>
         return Err(ReadFault::Bad(WireFault::BadNumber));
     }
     let queue = Queue::restored(alloc, number, visibility, content, sent, used, last);
-    Ok((queue, rest))
+    match OpenQueue::new(alloc, queue) {
+        Ok(open) => Ok((open, rest)),
+        Err(_) => Err(ReadFault::NoMemory),
+    }
 }
 
 #[tactic(auto, unfolding(cq_wire::specs::Reading::optional_at))]
-fn queue_if_of(alloc: Global, bytes: &[u8]) -> Result<(Option<Queue>, &[u8]), ReadFault>
+fn queue_if_of(alloc: Global, bytes: &[u8]) -> Result<(Option<OpenQueue>, &[u8]), ReadFault>
     ensures { Gives (λ x. (x.0, x.1.now)) result (optional_at queue_at bytes.now) }
 {
     let (is_there, rest) = flag_of(bytes)?;
