@@ -1,6 +1,6 @@
 -- What waits in outboxes after a message is put into one of them, or taken out.
 use Rattle.std.proofs.Common.{◌≡◌, ℕ, ◌+◌, ◌≤◌, ◌∙◌, ap, sym, List, [], ◌∷◌, ◌++◌, length, drop, Option, Some, None, Bool, true, false, cond, eqb, suc, append-nil, append_assoc, arith, inl, inr, subst, refl, if◌then◌else◌}
-use Rattle.std.specs.Prelude.{IfSome, IfNone}
+use Rattle.std.specs.Prelude.{IfSome, IfNone, slice_get}
 use Rattle.std.proofs.lemmas.Bool.{cases_Bool, true≢false, eqb-true, eqb-false, eq-eqb, ne_eqb}
 use Rattle.std.specs.Map.{lookup}
 use Rattle.cq_base.specs.contracts.party.PartyPartialEq.TheImpl.{eq-value as derived}
@@ -37,6 +37,11 @@ none-mean (m ∷ ms) h = absurd h
 first-mean : (x : rust.Message) (xs : List rust.Message) (ms : List Message) → AllMean (x ∷ xs) ms → IsFirst (Some x) ms
 first-mean x xs [] h = absurd h
 first-mean x xs (m ∷ ms) h = h.0
+
+-- the one that a look shows
+pub looked-first : (seen : Option rust.Message) (xs : List rust.Message) (ms : List Message) → seen ≡ slice_get xs 0 → AllMean xs ms → IsFirst seen ms
+looked-first seen [] ms is h = subst (λ o. IsFirst o ms) (sym is) (none-mean ms h)
+looked-first seen (x ∷ xs) ms is h = subst (λ o. IsFirst o ms) (sym is) (first-mean x xs ms h)
 
 -- and the others
 rest-mean : (x : rust.Message) (xs : List rust.Message) (ms : List Message) → AllMean (x ∷ xs) ms → AllMean xs (drop 1 ms)

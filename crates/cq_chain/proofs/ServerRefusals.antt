@@ -1,5 +1,6 @@
 -- When a server refuses what comes to it, and when a message is no news.
 use Rattle.std.proofs.Common.{◌≡◌, ℕ, ◌≤◌, ◌<◌, ◌∙◌, ap, sym, List, length, Option, Some, None, true, false, nat_lt, nat_le, subst, refl, min, ◌&&◌, ◌==◌, ◌+◌, if◌then◌else◌, Result, Ok, Err}
+use Rattle.std.specs.Prelude.{IfErr, OnOk}
 use Rattle.std.specs.Result.{IsErrAnd}
 use Rattle.std.proofs.lemmas.Bool.{leb-true, leb-false, lt-ltb, le-ltb}
 use Rattle.cq_base.specs.declared.ask.Entry.{Entry}
@@ -9,6 +10,8 @@ use Rattle.cq_chain.specs.declared.fault.WorldFault.{WorldFault}
 use Rattle.cq_chain.specs.declared.fault.WorldFault.TheVariants.{NotHead, HistoryFull, NotTail, NoMemory}
 use Rattle.cq_chain.specs.declared.message.Message as rust
 use Rattle.cq_chain.specs.declared.message.Message.TheVariants as stored
+use Rattle.cq_chain.specs.declared.message.Untaken.{Untaken}
+use Rattle.cq_chain.specs.Faults.{IsRefusal}
 use Rattle.cq_chain.specs.Messages.{Message, Fwd, Snap, Ack, BeHead, Report, Adopt, BeTail, Feed}
 use Rattle.cq_chain.specs.Refusals.{unless_full, refusal_of_arrival, refusal_of_query, refusal_of_taking}
 use Rattle.cq_chain.specs.Servers.{Server, acts, is_that}
@@ -21,6 +24,16 @@ use Rattle.cq_chain.specs.Steps.{is_next, forwarded, acknowledged, headed, repor
 pub no_memory : (result : Result (Unit {0}) WorldFault) (refusal : Option WorldFault) → IsErrAnd result (λ fault. fault ≡ NoMemory) → refusal ≡ None → IsRefusedBy refusal result
 no_memory (Ok x) refusal h none = none
 no_memory (Err fault) refusal h none = subst (λ f. IsRefusedBy refusal (Err f)) (sym h) none
+
+-- the same of a message that comes back
+pub none-refused : {E : Type 0} (result : Result (Unit {0}) E) (refusal : Option WorldFault) → refusal ≡ None → OnOk result (refusal ≡ None)
+none-refused (Ok x) refusal none = none
+none-refused (Err e) refusal none = tt
+
+pub for-memory : (result : Result (Unit {0}) Untaken) (refusal : Option WorldFault) (message : rust.Message) → IfErr result (λ untaken. (untaken.message ≡ message) × (untaken.fault ≡ NoMemory)) → refusal ≡ None
+    → IfErr result (λ untaken. IsRefusal untaken.fault refusal)
+for-memory (Ok x) refusal message back none = tt
+for-memory (Err untaken) refusal message back none = subst (λ f. IsRefusal f refusal) (sym back.1) none
 
 full-at_limit : (count : ℕ) (entries : List Entry) → count ≡ length entries → nat_le HISTORY_LIMIT count ≡ true → unless_full entries ≡ Some HistoryFull
 full-at_limit count entries same h = let e : nat_lt (length entries) HISTORY_LIMIT ≡ false = le-ltb (length entries) HISTORY_LIMIT (subst (λ n. HISTORY_LIMIT ≤ n) same (leb-true HISTORY_LIMIT count h)) in rw e

@@ -18,6 +18,6 @@ pub use client::Client;
 pub use fault::{ClientFault, WorldFault};
 pub use fifo::Fifo;
 pub use master::Master;
-pub use message::{Answer, Message};
+pub use message::{Answer, Message, Untaken};
 pub use server::Server;
 pub use snapshot::Snapshot;

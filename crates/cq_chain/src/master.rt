@@ -1,5 +1,5 @@
 //! The master: who is in the chain, and what each member is told.
-ghost use Rattle.std.specs.Prelude.{◌≡◌, ◌&&◌, ℕ, List, [], length, is_none, Err, OnOk, OnErr, IfOk};
+ghost use Rattle.std.specs.Prelude.{◌≡◌, ◌&&◌, ℕ, List, [], length, option_map, is_none, Err, OnOk, OnErr, IfOk};
 ghost use Rattle.cq_base.specs.declared.party.Party as rust_party;
 ghost use Rattle.cq_base.specs.declared.party.Party.TheVariants as parties;
 ghost use Rattle.cq_chain.specs.declared.fault.WorldFault.TheVariants as faults;
@@ -181,6 +181,14 @@ impl Master {
             → MasterStandsFor self.new m (drained outbox (parties.Server to)) }
     {
         self.outboxes.pop(Party::Server(to))
+    }
+
+    /// The first message that waits for that server, which stays in its outbox until `put` takes it out: O(1).
+    pub fn first_for(&self, to: ServerId) -> Option<&Message>
+        ensures { (m : masters.Master) (outbox : rust_party.Party → List sent.Message) → MasterStandsFor self.now m outbox
+            → IsFirst (option_map (λ message. message.now) result) (outbox (parties.Server to)) }
+    {
+        self.outboxes.first(Party::Server(to))
     }
 
     /// How many messages wait for that server: O(1).

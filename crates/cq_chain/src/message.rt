@@ -1,7 +1,9 @@
 //! What servers, the master and the clients tell each other.
-ghost use Rattle.std.specs.Prelude.{◌≡◌};
+ghost use Rattle.std.specs.Prelude.{◌≡◌, IfErr, IfOk};
 ghost use Rattle.cq_chain.specs.Stands.{answer_of};
+ghost use Rattle.cq_chain.specs.declared.message.Message.TheVariants as stored;
 
+use crate::fault::WorldFault;
 use crate::snapshot::Snapshot;
 use cq_base::{Entry, Reply, ServerId};
 
@@ -84,6 +86,13 @@ impl Drop for Message {
     }
 }
 
+/// A message that a server handed back, and why it didn't take it.
+#[derive(Debug, Drop)]
+pub struct Untaken {
+    pub message: Message,
+    pub fault: WorldFault,
+}
+
 impl Message {
     /// The answer that it is, if it is one; none for each other message, which is dropped. O(1).
     pub fn into_answer(self) -> Option<Answer>
@@ -92,6 +101,17 @@ impl Message {
         match self {
             Message::Answer(answer) => Some(answer),
             _ => None,
+        }
+    }
+
+    /// The snapshot that it is, if it is one; itself, if it isn't. O(1).
+    pub(crate) fn into_snapshot(self) -> Result<Snapshot, Message>
+        ensures snapshot { IfOk result (λ state. self ≡ stored.Snap state) }
+        ensures other { IfErr result (λ message. message ≡ self) }
+    {
+        match self {
+            Message::Snap { state } => Ok(state),
+            other => Err(other),
         }
     }
 }

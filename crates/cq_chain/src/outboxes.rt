@@ -1,5 +1,5 @@
 //! What waits at a server, or at the master, for each party.
-ghost use Rattle.std.specs.Prelude.{◌≡◌, ◌<◌, ◌≤◌, ◌==◌, List, [], ◌∷◌, length, false, None, OnOk};
+ghost use Rattle.std.specs.Prelude.{◌≡◌, ◌<◌, ◌≤◌, ◌==◌, List, [], ◌∷◌, length, option_map, false, None, OnOk};
 ghost use Rattle.std.specs.List.{list_all};
 ghost use Rattle.std.specs.Map.{values_of};
 ghost use Rattle.cq_base.specs.declared.party.Party as rust_party;
@@ -59,6 +59,17 @@ impl Outboxes {
         match self.fifos.get(&to) {
             Some(fifo) => fifo.len(),
             None => 0,
+        }
+    }
+
+    /// The first message that waits for the party, which stays where it is: O(1).
+    pub fn first(&self, to: Party) -> Option<&Message>
+        ensures { (outbox : rust_party.Party → List sent.Message) → Waits self.now outbox
+            → IsFirst (option_map (λ message. message.now) result) (outbox to) }
+    {
+        match self.fifos.get(&to) {
+            Some(fifo) => fifo.first(),
+            None => None,
         }
     }
 

@@ -1,5 +1,5 @@
 //! A server of the chain: its state, and the calls that read it.
-ghost use Rattle.std.specs.Prelude.{◌≡◌, ◌≤◌, ◌+◌, ◌-◌, ◌==◌, nat_le, ℕ, List, [], length, if◌then◌else◌, None, Some, IfOk};
+ghost use Rattle.std.specs.Prelude.{◌≡◌, ◌≤◌, ◌+◌, ◌-◌, ◌==◌, nat_le, ℕ, List, [], length, option_map, if◌then◌else◌, None, Some, IfOk};
 ghost use Rattle.cq_base.specs.declared.limits.TheConstants.{HISTORY_LIMIT};
 ghost use Rattle.cq_base.specs.declared.party.Party as rust_party;
 ghost use Rattle.cq_chain.specs.Messages as sent;
@@ -139,6 +139,14 @@ impl Server {
             → StandsFor self.new s (drained outbox to) }
     {
         self.outboxes.pop(to)
+    }
+
+    /// The first message that waits for that party, which stays in its outbox until `put` takes it out: O(1).
+    pub fn first_for(&self, to: Party) -> Option<&Message>
+        ensures { (s : states.Server) (outbox : rust_party.Party → List sent.Message) → StandsFor self.now s outbox
+            → IsFirst (option_map (λ message. message.now) result) (outbox to) }
+    {
+        self.outboxes.first(to)
     }
 
     /// How many messages wait for that party: O(1).

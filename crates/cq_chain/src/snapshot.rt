@@ -68,4 +68,12 @@ impl Snapshot {
     {
         &self.store
     }
+
+    /// Its store, which is given away: O(1).
+    pub fn into_store(self) -> Store
+        ensures { result ≡ self }
+    {
+        let Snapshot { store } = self;
+        store
+    }
 }

@@ -7,10 +7,9 @@ use Rattle.cq_chain.specs.Messages.{Message}
 use Rattle.cq_chain.specs.Parties.{same}
 use Rattle.cq_chain.specs.Servers.{Server}
 use Rattle.cq_chain.specs.Stands as chain
-use Rattle.cq_chain.specs.Stands.{Means, IsFirst, IsRefusedBy, drained}
+use Rattle.cq_chain.specs.Stands.{Means, IsFirst, drained}
 use Rattle.cq_chain.specs.Refusals.{refusal_of_taking}
 use Rattle.cq_chain.specs.Steps.{takes}
-use Rattle.cq_chain.specs.declared.fault.WorldFault.{WorldFault}
 use Rattle.cq_events.specs.Acts.{Acts}
 use Rattle.cq_nodes.specs.Ends.{with_back}
 use Rattle.cq_nodes.specs.Moves.{Passes, TakesOne}
@@ -62,7 +61,7 @@ pub put-done : (old new : rust_server.Server) (back : Party → Option rust.Mess
 put-done old new back to m passes = (put-does old new back to m passes, tt)
 
 -- a core took a message, whatever it means, and didn't refuse it
-pub took-done : (old new : rust_server.Server) (back : Party → Option rust.Message) (from : Party) (x : rust.Message) (r : Result (Unit {0}) WorldFault) → ((m : Message) → Means x m → OnOk r (chain.Does old new (takes from m)))
-    → ((s : Server) (outbox : Party → List Message) (m : Message) → chain.StandsFor old s outbox → Means x m → IsRefusedBy (refusal_of_taking from m s) r) → OnOk r (TakesOne old new back from x)
+pub took-done : {E : Type 0} (old new : rust_server.Server) (back : Party → Option rust.Message) (from : Party) (x : rust.Message) (r : Result (Unit {0}) E) → ((m : Message) → Means x m → OnOk r (chain.Does old new (takes from m)))
+    → ((s : Server) (outbox : Party → List Message) (m : Message) → chain.StandsFor old s outbox → Means x m → OnOk r (refusal_of_taking from m s ≡ None)) → OnOk r (TakesOne old new back from x)
 took-done old new back from x (Ok u) h free = server-took old new back from x h (λ m means s outbox stands. free s outbox m stands means)
 took-done old new back from x (Err e) h free = tt

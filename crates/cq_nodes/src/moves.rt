@@ -1,5 +1,5 @@
 //! What a server's node does at one end of a link, in one step.
-ghost use Rattle.std.specs.Prelude.{◌≡◌, ◌≤◌, ◌+◌, ℕ, length, ◌++◌, map, None, true, false, Ok, Option, List, OnOk, OnErr};
+ghost use Rattle.std.specs.Prelude.{◌≡◌, ◌≤◌, ◌+◌, ℕ, length, ◌++◌, map, None, true, false, Ok, Option, List, IfErr, OnOk, OnErr};
 ghost use Rattle.cq_base.specs.declared.party.Party as rust_party;
 ghost use Rattle.cq_chain.specs.declared.message.Message as rust_message;
 ghost use Rattle.cq_chain.specs.Messages as sent;
@@ -12,7 +12,7 @@ ghost use Rattle.cq_nodes.specs.Moves.{waits, Passes, PutsOne, TakesOne, Reads, 
 
 use crate::ends::{In, Out, party_at};
 use cq_base::Party;
-use cq_chain::{Message, Server, WorldFault};
+use cq_chain::{Message, Server, Untaken, WorldFault};
 use cq_link::{PutEnd, TakeEnd};
 use std::sync::Wait;
 
@@ -84,13 +84,14 @@ pub fn put_one<R: Wait, P: PutEnd<Message> + Drop>(
     put_first(rt, core, to, out)
 }
 
-/// Gives the core a message.
-fn read(core: &mut Server, from: Party, message: &Message) -> Result<(), WorldFault>
+/// Gives the core a message, which comes back where it isn't taken.
+fn read(core: &mut Server, from: Party, message: Message) -> Result<(), Untaken>
     ensures ok { (back : rust_party.Party → Option rust_message.Message)
-        → OnOk result (TakesOne core.old core.new back from message.now) }
+        → OnOk result (TakesOne core.old core.new back from message) }
     ensures err { OnErr result (Keeps core.old core.new) }
+    ensures back { IfErr result (λ untaken. untaken.message ≡ message) }
 {
-    core.take(from, message)
+    core.take_owned(from, message)
 }
 
 /// The message that was taken but not read, or else the next one of the link.
@@ -134,11 +135,11 @@ fn take_first<R: Wait, T: TakeEnd<Message> + Drop>(
     ensures unread { length (listed end.new.unread) ≤ faults_of result }
 {
     match next_message(rt, end) {
-        Some(message) => match read(core, from, &message) {
+        Some(message) => match read(core, from, message) {
             Ok(()) => Ok(true),
-            Err(fault) => {
-                end.unread = Some(message);
-                Err(fault)
+            Err(untaken) => {
+                end.unread = Some(untaken.message);
+                Err(untaken.fault)
             }
         },
         None => Ok(false),
