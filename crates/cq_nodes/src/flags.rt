@@ -1,4 +1,6 @@
 //! What nodes on different threads tell each other beside their links.
+ghost use Rattle.std.specs.Prelude.{◌≡◌, ◌+◌, ◌-◌, ◌^◌, ◌==◌, ◌||◌, ◌&&◌, min};
+
 use crate::bell::Bell;
 use cq_base::{NoMemory, Party, ServerId};
 use crossbeam_utils::CachePadded;
@@ -6,11 +8,39 @@ use std::alloc::Global;
 use std::sync::atomic::Ordering::SeqCst;
 use std::sync::atomic::{AtomicBool, AtomicU64};
 
+/// Where the flags of that server stand.
+fn place_of(id: ServerId) -> usize
+    ensures { result ≡ id - 1 }
+{
+    (id.get() - 1) as usize
+}
+
+/// What a server tells that found nothing after so many crashes: one more than these, since 0 is told before its first such turn.
+fn look_after(crashes: u64) -> u64
+    ensures { result ≡ min (crashes + 1) (2 ^ 64 - 1) }
+{
+    crashes.saturating_add(1)
+}
+
+/// Whether a server is out: it has crashed, or it wasn't full and found nothing after so many crashes.
+fn is_out(crashed: bool, looked: u64, crashes: u64) -> bool
+    ensures { result ≡ (crashed || looked == min (crashes + 1) (2 ^ 64 - 1)) }
+{
+    crashed || looked == look_after(crashes)
+}
+
+/// Whether servers and the master have nothing to wait for: they are to end, or both clients have ended.
+fn is_over(are_to_end: bool, first_ended: bool, second_ended: bool) -> bool
+    ensures { result ≡ (are_to_end || first_ended && second_ended) }
+{
+    are_to_end || first_ended && second_ended
+}
+
 /// What the others know of a server beside its links.
 #[derive(Drop)]
 struct ServerFlags {
     crashed: AtomicBool,
-    /// One more than the number of crashes before the last turn in which it wasn't full and found nothing: 0 if there was
+    /// What `look_after` gives of the crashes before the last turn in which it wasn't full and found nothing: 0 if there was
     /// none.
     looked: AtomicU64,
     bell: Bell,
@@ -28,7 +58,7 @@ impl ServerFlags {
 
     /// Whether it has crashed, or wasn't full and found nothing after so many crashes.
     fn is_out(&self, crashes: u64) -> bool {
-        self.crashed.load(SeqCst) || self.looked.load(SeqCst) == crashes.saturating_add(1)
+        is_out(self.crashed.load(SeqCst), self.looked.load(SeqCst), crashes)
     }
 }
 
@@ -60,8 +90,8 @@ impl ClientFlags {
 }
 
 /// Which servers have crashed, which of the two clients have ended, whether all nodes are to stop or give up, and the bells
-/// of all nodes. All nodes of a run share it. No contract says anything of it: a server that is told to be down too early,
-/// or too late, changes only what the nodes do next.
+/// of all nodes. All nodes of a run share it. What is decided by it are functions with contracts; that it holds what was told,
+/// none says: a server that is told to be down too early, or too late, changes only what the nodes do next.
 #[derive(Drop)]
 pub struct Flags {
     servers: Vec<CachePadded<ServerFlags>>,
@@ -99,7 +129,7 @@ impl Flags {
 
     /// What is known of that server, if it is one of them.
     fn server(&self, id: ServerId) -> Option<&ServerFlags> {
-        match self.servers.get((id.get() - 1) as usize) {
+        match self.servers.get(place_of(id)) {
             Some(server) => Some(server),
             None => None,
         }
@@ -160,7 +190,7 @@ impl Flags {
     /// a further crash, and O(1) otherwise.
     pub fn find_nothing(&self, id: ServerId, crashes: u64) {
         if let Some(server) = self.server(id) {
-            let looked = crashes.saturating_add(1);
+            let looked = look_after(crashes);
             if server.looked.load(SeqCst) != looked {
                 server.looked.store(looked, SeqCst);
                 self.give_up_if_lost();
@@ -177,7 +207,11 @@ impl Flags {
     /// Whether the servers and the master have nothing to wait for: both clients have ended, or all nodes are to stop or
     /// give up.
     pub fn have_ended(&self) -> bool {
-        self.are_to_end() || self.first.has_ended() && self.second.has_ended()
+        is_over(
+            self.are_to_end(),
+            self.first.has_ended(),
+            self.second.has_ended(),
+        )
     }
 
     /// All nodes are to stop at their next turn.
