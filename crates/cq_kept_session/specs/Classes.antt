@@ -7,7 +7,7 @@ use Rattle.cq_events.specs.declared.event.Event.TheVariants as events
 use Rattle.cq_script.specs.declared.event_line.Line.{Line}
 use Rattle.cq_script.specs.declared.event_line.Line.TheVariants as lines
 use Rattle.cq_kept_session.specs.declared.class.LineClass.{LineClass}
-use Rattle.cq_kept_session.specs.declared.class.LineClass.TheVariants.{Adds, Changes, Frees}
+use Rattle.cq_kept_session.specs.declared.class.LineClass.TheVariants.{Adds, Changes, Frees, Moves}
 
 -- what an ask does to what a session holds
 abbrev pub class_of_ask : Ask → LineClass
@@ -22,8 +22,8 @@ class_of_ask (Delete queue receipt) = Frees
 abbrev pub class_of_event : Event → LineClass
 class_of_event (events.Arrive at clock request) = class_of_ask request.ask
 class_of_event (events.Ask at query) = Changes
-class_of_event (events.Put source target) = Frees
-class_of_event (events.Take source target) = Frees
+class_of_event (events.Put source target) = Moves
+class_of_event (events.Take source target) = Moves
 class_of_event (events.Crash server) = Changes
 class_of_event (events.Detect server) = Changes
 class_of_event (events.Join server) = Changes
@@ -39,4 +39,5 @@ class_of_line None = Adds
 abbrev pub reserve_of : LineClass → ℕ → ℕ
 reserve_of Adds len = len / 2
 reserve_of Changes len = len / 4
-reserve_of Frees len = 0
+reserve_of Frees len = len / 64
+reserve_of Moves len = 0

@@ -15,8 +15,10 @@ pub enum LineClass {
     Adds,
     /// It changes what is there.
     Changes,
-    /// It deletes or removes, or moves messages between parties. It is the last to be refused.
+    /// It deletes or removes.
     Frees,
+    /// It moves messages between parties, as a put of an answer to a client. It is the last to be refused: what was taken can be answered.
+    Moves,
 }
 
 /// The class of a line, its line feed left out.
@@ -42,6 +44,6 @@ fn class_of_event(event: &Event) -> LineClass
         Event::Ask { .. } | Event::Crash { .. } | Event::Detect { .. } | Event::Join { .. } => {
             LineClass::Changes
         }
-        Event::Put { .. } | Event::Take { .. } => LineClass::Frees,
+        Event::Put { .. } | Event::Take { .. } => LineClass::Moves,
     }
 }

@@ -16,7 +16,8 @@ fn reserve_of(class: LineClass, len: usize) -> usize
     match class {
         LineClass::Adds => len / 2,
         LineClass::Changes => len / 4,
-        LineClass::Frees => 0,
+        LineClass::Frees => len / 64,
+        LineClass::Moves => 0,
     }
 }
 

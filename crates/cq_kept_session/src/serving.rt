@@ -20,8 +20,8 @@ impl<D: Device> KeptSession<D> {
 
     /// Takes whole lines, as `take` does, while there is room for them. Where there is little, each line is taken by itself, or refused
     /// by a line such as `{"line":3,"name":"NoRoom","refused":70}`: first those that may add a queue or a message, then those that change
-    /// what is there, and last those that delete. A refused line changes nothing, nothing of it is kept, and it isn't counted: the next
-    /// line that is taken has its number. After a fault the session is to be opened anew.
+    /// what is there, then those that delete, and last puts and takes. A refused line changes nothing, nothing of it is kept, and it isn't
+    /// counted: the next line that is taken has its number. After a fault the session is to be opened anew.
     pub fn take_lines<W: Sink>(&mut self, lines: &[u8], writer: &mut W) -> Result<(), TakeFault>
         requires kept { IsKept self.old }
         requires short { length lines.now ≤ TEXT_LIMIT }

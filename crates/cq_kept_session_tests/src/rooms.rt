@@ -27,6 +27,9 @@ const RECEIVE: &str = r#"{"kind":"receive","queue":"q.fifo","size":1}"#;
 
 const DELETE: &str = r#"{"kind":"delete","queue":"q.fifo","receipt":"1-1-1"}"#;
 
+/// The line that gives an answer which waits.
+const PUT: &str = "{\"op\":\"put\",\"from\":1,\"to\":\"clients\"}\n";
+
 /// How many lines of a text refuse a line for which there is no room.
 fn refusals(text: &[u8]) -> usize {
     text.split(|byte| *byte == b'\n')
@@ -61,6 +64,13 @@ fn take_whole<D: Device>(
     kept.take_lines(lines, &mut Checked::new(&mut *told))
 }
 
+/// The line of a request.
+fn arrive(alloc: Global, number: u64, ask: &str) -> Result<String, AllocError> {
+    format!(in alloc;
+        "{{\"op\":\"arrive\",\"at\":1,\"clock\":1000,\"client\":1,\"number\":{number},\"ask\":{ask}}}\n"
+    )
+}
+
 /// Takes a request and the put of its answer.
 fn request<D: Device>(
     alloc: Global,
@@ -72,9 +82,8 @@ fn request<D: Device>(
     requires { IsKept kept.old }
     ensures { OnOk result (IsKept kept.new) }
 {
-    let lines = format!(in alloc;
-        "{{\"op\":\"arrive\",\"at\":1,\"clock\":1000,\"client\":1,\"number\":{number},\"ask\":{ask}}}\n{{\"op\":\"put\",\"from\":1,\"to\":\"clients\"}}\n"
-    )?;
+    let mut lines = arrive(alloc, number, ask)?;
+    lines.push_str(PUT)?;
     Ok(take_whole(kept, lines.as_bytes(), told)?)
 }
 
