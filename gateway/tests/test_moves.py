@@ -223,6 +223,9 @@ def test_two_queues_that_are_each_others_dead_letter_queue_wait_for_nobody(tmp_p
     for name in names:
         while messages := call("ReceiveMessage", QueueUrl=name, MaxNumberOfMessages=10, VisibilityTimeout=600).get("Messages"):
             bodies += [message["Body"] for message in messages]
+            # Whatever is behind one of its group comes then.
+            for message in messages:
+                call("DeleteMessage", QueueUrl=name, ReceiptHandle=message["ReceiptHandle"])
     assert sorted(bodies) == sorted(f"{name}/{number}" for name in names for number in range(20))
     assert gateway.stop() == 0
 
