@@ -4,8 +4,15 @@ _cq() {
     case ${COMP_WORDS[1]} in
     replay) COMPREPLY=($(compgen -W "--servers --help" -- "$word")) ;;
     live) COMPREPLY=($(compgen -W "--servers --turns --help" -- "$word")) ;;
-    session) COMPREPLY=($(compgen -W "--servers --help" -- "$word")) ;;
-    *) [ "$COMP_CWORD" -gt 1 ] || COMPREPLY=($(compgen -W "replay session live help --help --version" -- "$word")) ;;
+    session)
+        if [ "${COMP_WORDS[COMP_CWORD - 1]}" = --journal ]; then
+            COMPREPLY=($(compgen -f -- "$word"))
+        else
+            COMPREPLY=($(compgen -W "--servers --journal --journal-size --two-syncs --tell-store --help" -- "$word"))
+        fi
+        ;;
+    verify | copy | dump) COMPREPLY=($(compgen -f -- "$word") $(compgen -W "--help" -- "$word")) ;;
+    *) [ "$COMP_CWORD" -gt 1 ] || COMPREPLY=($(compgen -W "replay session live verify copy dump help --help --version" -- "$word")) ;;
     esac
 }
 complete -F _cq cq

@@ -1,6 +1,7 @@
 -- Worked command lines: what each asks for, or which faults it may be told. They were worked out by hand.
-use Rattle.std.proofs.Common.{◌≡◌, ◌∷◌, [], None, Some, map, true, false, codes, refl}
-use Rattle.clap.specs.Words.{fault_of, subcommand_of}
+use Rattle.std.proofs.Common.{◌≡◌, List, ◌∷◌, [], Option, None, Some, map, true, false, codes, refl}
+use Rattle.std.specs.Prelude.{option_and_then}
+use Rattle.clap.specs.Words.{Row, Text, fault_of, first_of, subcommand_of}
 use Rattle.clap.specs.declared.error.kind.ErrorKind.TheVariants.{OutOfMemory}
 use Rattle.clap.proofs.OnLiterals.{clap_on_literals}
 use Rattle.cq_args.specs.declared.invocation.Invocation.TheVariants.{Live, Replay, Session}
@@ -67,6 +68,30 @@ servers_found :
     ≡ Some (codes "3") ∷ Some (codes "5") ∷ Some (codes "1") ∷ Some (codes "2") ∷ Some (codes "1") ∷ []
 unfolding clap_on_literals
 servers_found = refl
+
+-- the files that a parse finds
+abbrev file_in : Text → Option (Text × List Row) → Option Text
+file_in id found = option_and_then (λ command. first_of id command.1) found
+
+files_found :
+    map {B = Option Text × Option Text} (λ args. (file_in (codes "FILE") (subcommand_of program_app args), file_in (codes "TO") (subcommand_of program_app args))) (
+    (codes "verify" ∷ codes "a" ∷ []) ∷ (codes "copy" ∷ codes "a" ∷ codes "b" ∷ []) ∷ (codes "dump" ∷ codes "--" ∷ codes "-a" ∷ []) ∷ (codes "replay" ∷ []) ∷ [] ∷ []
+    )
+    ≡ (Some (codes "a"), None) ∷ (Some (codes "a"), Some (codes "b")) ∷ (Some (codes "-a"), None) ∷ (None, None) ∷ (None, None) ∷ []
+unfolding clap_on_literals
+files_found = refl
+
+bad_file_args :
+    map (λ args. all_are is_usage (fault_of program_app args)) (
+    (codes "verify" ∷ []) ∷ (codes "copy" ∷ codes "a" ∷ []) ∷ (codes "dump" ∷ []) ∷ (codes "verify" ∷ codes "a" ∷ codes "b" ∷ []) ∷ (codes "copy" ∷ codes "a" ∷ codes "b" ∷ codes "c" ∷ [])
+    ∷ (codes "dump" ∷ codes "a" ∷ codes "--servers" ∷ codes "1" ∷ [])
+    ∷ (codes "verify" ∷ codes "a" ∷ []) ∷ (codes "copy" ∷ codes "a" ∷ codes "b" ∷ []) ∷ []
+    )
+    ≡ true ∷ true ∷ true ∷ true ∷ true
+    ∷ true
+    ∷ false ∷ false ∷ []
+unfolding clap_on_literals
+bad_file_args = refl
 
 help_args :
     map (λ args. all_are is_help (fault_of program_app args)) (

@@ -7,14 +7,17 @@ use Rattle.clap.specs.Simple.{on_top}
 use Rattle.clap.specs.declared.builder.action.ArgAction.TheVariants.{SetTrue}
 use Rattle.clap.specs.declared.builder.value_parser.ValueParser.TheVariants.{Signed, Unsigned}
 use Rattle.cq_args.specs.declared.invocation.Invocation.{Invocation}
-use Rattle.cq_args.specs.declared.invocation.Invocation.TheVariants.{Kept, Live, Replay, Session}
+use Rattle.cq_args.specs.declared.invocation.Invocation.TheVariants.{Copy, Dump, Kept, Live, Replay, Session, Verify}
 
--- how many servers the chain begins with
+-- how many servers the chain begins with; no command about a journal's file has any
 abbrev pub size_of : Invocation → ℕ
 size_of (Replay size) = size
 size_of (Session size) = size
 size_of (Kept size journal) = size
 size_of (Live size turns) = size
+size_of (Verify path) = 0
+size_of (Copy path to) = 0
+size_of (Dump path) = 0
 
 -- the name of the command
 abbrev pub name_of : Invocation → Text
@@ -22,6 +25,9 @@ name_of (Replay size) = codes "replay"
 name_of (Session size) = codes "session"
 name_of (Kept size journal) = codes "session"
 name_of (Live size turns) = codes "live"
+name_of (Verify path) = codes "verify"
+name_of (Copy path to) = codes "copy"
+name_of (Dump path) = codes "dump"
 
 -- `--servers N`, a number from 1 to 8, and its text if it isn't given
 abbrev pub servers_rule : Text → Rule
@@ -90,6 +96,18 @@ turns_rule = record (new_rule (codes "turns")) {
 abbrev pub live_app : App
 live_app = with_rule (command_app (codes "live") (codes "3")) turns_rule
 
+-- `FILE` or `TO`, which has to be there
+abbrev pub file_rule : Text → Rule
+file_rule id = record (new_rule id) { required = true }
+
+-- a command of that name, `verify FILE` or `dump FILE`
+abbrev pub file_app : Text → App
+file_app name = with_rule (new_app name) (file_rule (codes "FILE"))
+
+-- `copy FILE TO`
+abbrev pub copy_app : App
+copy_app = with_rule (file_app (codes "copy")) (file_rule (codes "TO"))
+
 -- the program without its commands; its arguments begin behind its name, and it has a version to tell
 abbrev pub bare_app : App
 bare_app = on_top (λ s. record s { no_binary_name = true; has_version = true }) (new_app (codes "cq"))
@@ -98,12 +116,16 @@ bare_app = on_top (λ s. record s { no_binary_name = true; has_version = true })
 abbrev pub with_command : App → App → App
 with_command program command = with_subcommand program command.top
 
--- the program, whose commands are `replay`, `session` and `live`; the first two have 1 server if no number is given
-abbrev pub program_app : App
-program_app =
+-- the program with its commands `replay`, `session` and `live`; the first two have 1 server if no number is given
+abbrev pub serving_app : App
+serving_app =
     with_command (with_command
     (with_command bare_app (command_app (codes "replay") (codes "1"))) session_app)
     live_app
+
+-- the program, with `verify`, `copy` and `dump` too
+abbrev pub program_app : App
+program_app = with_command (with_command (with_command serving_app (file_app (codes "verify"))) copy_app) (file_app (codes "dump"))
 
 -- the text of the number of servers that a parse found: "1" where no subcommand stands
 abbrev pub text_in : Option (Text × List Row) → Option Text
@@ -147,9 +169,36 @@ abbrev pub HasJournal : Option (Text × List Row) → Invocation → Type 0
 HasJournal None invocation = ⊤
 HasJournal (Some found) invocation = AsksJournal found.1 invocation
 
--- the command of that name is asked for, on so many servers, for so many turns, and with that journal
+-- it is about a journal's file
+abbrev pub IsOnFile : Invocation → Type 0
+IsOnFile (Verify path) = ⊤
+IsOnFile (Copy path to) = ⊤
+IsOnFile (Dump path) = ⊤
+IsOnFile _ = ⊥
+
+-- so many servers are asked for, if the command has any
+abbrev pub HasServers : Option (Text × List Row) → Invocation → Type 0
+HasServers found (Verify path) = ⊤
+HasServers found (Copy path to) = ⊤
+HasServers found (Dump path) = ⊤
+HasServers found invocation = IsSized found (size_of invocation)
+
+-- these files are named, if the command is about any
+abbrev pub AsksFiles : List Row → Invocation → Type 0
+AsksFiles rows (Verify path) = first_of (codes "FILE") rows ≡ Some path.now
+AsksFiles rows (Copy path to) = (first_of (codes "FILE") rows ≡ Some path.now) × (first_of (codes "TO") rows ≡ Some to.now)
+AsksFiles rows (Dump path) = first_of (codes "FILE") rows ≡ Some path.now
+AsksFiles rows _ = ⊤
+
+-- and that is so of what a parse found
+abbrev pub HasFiles : Option (Text × List Row) → Invocation → Type 0
+HasFiles None invocation = IsOnFile invocation → ⊥
+HasFiles (Some found) invocation = AsksFiles found.1 invocation
+
+-- the command of that name is asked for, on so many servers, for so many turns, with that journal, or about these files
 abbrev pub IsAsked : Option (Text × List Row) → Invocation → Type 0
-IsAsked found invocation = (name_in found ≡ name_of invocation) × IsSized found (size_of invocation) × HasTurns found invocation × HasJournal found invocation
+IsAsked found invocation =
+    (name_in found ≡ name_of invocation) × HasServers found invocation × HasTurns found invocation × HasJournal found invocation × HasFiles found invocation
 
 -- ---- good arguments
 
@@ -170,6 +219,9 @@ abbrev pub LacksJournalIn : Option (Text × List Row) → Invocation → Type 0
 LacksJournalIn (Some found) (Session size) = LacksJournal found.1
 LacksJournalIn None (Session size) = ⊥
 LacksJournalIn found (Kept size journal) = ⊥
+LacksJournalIn found (Verify path) = ⊥
+LacksJournalIn found (Copy path to) = ⊥
+LacksJournalIn found (Dump path) = ⊥
 LacksJournalIn found _ = ⊤
 
 -- the number that a text of one digit from 1 to 8 is

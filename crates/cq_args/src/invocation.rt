@@ -6,7 +6,7 @@ ghost use Rattle.clap.specs.declared.builder.command.Command.TheViews.{out-Comma
 ghost use Rattle.clap.specs.declared.error.kind.ErrorKind.TheVariants.{OutOfMemory};
 ghost use Rattle.cq_args.specs.declared.invocation.TheConstants.{ZERO_DIGIT};
 ghost use Rattle.cq_args.specs.declared.invocation.Invocation.{Invocation};
-ghost use Rattle.cq_args.specs.CommandLine.{AsksJournal, IsAsked, LacksJournal, LacksJournalIn, IsNumber, IsSized, ReadsTurns, asked_invocation, command_app, journal_rule, journal_size_rule, live_app, name_in, name_of, program_app, session_app, session_name, size_of, tell_store_rule, text_in, turns_rule, turns_text, two_syncs_rule};
+ghost use Rattle.cq_args.specs.CommandLine.{AsksFiles, AsksJournal, IsAsked, IsOnFile, LacksJournal, LacksJournalIn, IsNumber, IsSized, ReadsTurns, asked_invocation, command_app, copy_app, file_app, file_rule, journal_rule, journal_size_rule, live_app, name_in, name_of, program_app, serving_app, session_app, session_name, size_of, tell_store_rule, text_in, turns_rule, turns_text, two_syncs_rule};
 
 use clap::error::ErrorKind;
 use clap::{Arg, ArgAction, ArgMatches, Command, Error, value_parser};
@@ -55,6 +55,19 @@ pub enum Invocation<'a> {
         size: ChainSize,
         turns: u64,
     },
+    /// What the journal in a file has.
+    Verify {
+        path: &'a str,
+    },
+    /// Another file with what the journal in a file has.
+    Copy {
+        path: &'a str,
+        to: &'a str,
+    },
+    /// The lines of the journal in a file.
+    Dump {
+        path: &'a str,
+    },
 }
 
 const REPLAY: &str = "replay";
@@ -62,6 +75,16 @@ const REPLAY: &str = "replay";
 const SESSION: &str = "session";
 
 const LIVE: &str = "live";
+
+const VERIFY: &str = "verify";
+
+const COPY: &str = "copy";
+
+const DUMP: &str = "dump";
+
+const FILE: &str = "FILE";
+
+const TO: &str = "TO";
 
 const SERVERS: &str = "servers";
 
@@ -211,9 +234,47 @@ fn live<'a>(alloc: Global) -> Result<Command<'a>, AllocError>
     command.arg(turns_option(alloc))
 }
 
-/// The program's command line.
-fn program<'a>(alloc: Global) -> Result<Command<'a>, AllocError>
-    ensures { IfOk result (λ command. app_of command ≡ program_app) }
+/// The name of a file, which has to be given.
+fn file<'a>(alloc: Global, id: &'a str, help: &'a str) -> Arg<'a>
+    ensures rule { rule_of result ≡ file_rule id.now }
+    ensures local { result.global ≡ false }
+{
+    Arg::new(alloc, id).required(true).help(help)
+}
+
+/// The subcommand of that name, which is about a journal's file.
+fn file_command<'a>(alloc: Global, name: &'a str, about: &'a str) -> Result<Command<'a>, AllocError>
+    ensures app { IfOk result (λ command. app_of command ≡ file_app name.now) }
+    ensures local { IfOk result (λ command. (out-Command command).has_globals ≡ false) }
+{
+    let path = file(
+        alloc,
+        FILE,
+        "The file of a journal, which a session may keep meanwhile",
+    );
+    Command::new(alloc, name).about(about).arg(path)
+}
+
+/// The subcommand that copies a journal.
+fn copy<'a>(alloc: Global) -> Result<Command<'a>, AllocError>
+    ensures app { IfOk result (λ command. app_of command ≡ copy_app) }
+    ensures local { IfOk result (λ command. (out-Command command).has_globals ≡ false) }
+{
+    let command = file_command(
+        alloc,
+        COPY,
+        "Copies a journal, also that of a session that runs",
+    )?;
+    command.arg(file(
+        alloc,
+        TO,
+        "The file that is made of it; there must be none yet",
+    ))
+}
+
+/// The program's command line without those commands that are about a journal's file.
+fn serving_program<'a>(alloc: Global) -> Result<Command<'a>, AllocError>
+    ensures { IfOk result (λ command. app_of command ≡ serving_app) }
 {
     let replay = command(
         alloc,
@@ -233,6 +294,28 @@ fn program<'a>(alloc: Global) -> Result<Command<'a>, AllocError>
         .subcommand(replay)?
         .subcommand(session)?
         .subcommand(live)
+}
+
+/// The program's command line.
+fn program<'a>(alloc: Global) -> Result<Command<'a>, AllocError>
+    ensures { IfOk result (λ command. app_of command ≡ program_app) }
+{
+    let program = serving_program(alloc)?;
+    let verify = file_command(
+        alloc,
+        VERIFY,
+        "Tells what a journal has, or where it is damaged",
+    )?;
+    let copy = copy(alloc)?;
+    let dump = file_command(
+        alloc,
+        DUMP,
+        "Writes the lines of a journal, and before them the store that stands for those that it hasn't any more",
+    )?;
+    program
+        .subcommand(verify)?
+        .subcommand(copy)?
+        .subcommand(dump)
 }
 
 /// How many servers are asked for; one where no subcommand stands.
@@ -288,8 +371,8 @@ fn session_in<'a>(options: &ArgMatches<'a>, size: ChainSize) -> Option<Invocatio
     }
 }
 
-/// What is asked for; a replay where no subcommand stands.
-fn invocation_in<'a>(matches: &ArgMatches<'a>) -> Option<Invocation<'a>>
+/// What is asked for, but for the commands that are about a journal's file; a replay where no subcommand stands.
+fn serving_in<'a>(matches: &ArgMatches<'a>) -> Option<Invocation<'a>>
     ensures asked { IfSome result (IsAsked (subcommand_rows_of matches.now)) }
     ensures good { (invocation : Invocation) → text_in (subcommand_rows_of matches.now) ≡ Some ((ZERO_DIGIT + size_of invocation) ∷ [])
         → 1 ≤ size_of invocation → size_of invocation ≤ CHAIN_LIMIT → name_in (subcommand_rows_of matches.now) ≡ name_of invocation
@@ -307,6 +390,38 @@ fn invocation_in<'a>(matches: &ArgMatches<'a>) -> Option<Invocation<'a>>
             turns: turns_in(matches)?,
         }),
         Some(_) => None,
+    }
+}
+
+/// The command about a journal's file of this name, as these options say. `None`: there is no such command.
+fn file_word_in<'a>(name: &str, options: &ArgMatches<'a>) -> Option<Invocation<'a>>
+    ensures { IfSome result (λ it. (name_of it ≡ name.now) × IsOnFile it × AsksFiles (rows_of (found_of options.now)) it) }
+{
+    match name {
+        VERIFY => Some(Invocation::Verify {
+            path: options.get_str(FILE)?,
+        }),
+        COPY => Some(Invocation::Copy {
+            path: options.get_str(FILE)?,
+            to: options.get_str(TO)?,
+        }),
+        DUMP => Some(Invocation::Dump {
+            path: options.get_str(FILE)?,
+        }),
+        _ => None,
+    }
+}
+
+/// What is asked for; a replay where no subcommand stands.
+fn invocation_in<'a>(matches: &ArgMatches<'a>) -> Option<Invocation<'a>>
+    ensures asked { IfSome result (IsAsked (subcommand_rows_of matches.now)) }
+    ensures good { (invocation : Invocation) → text_in (subcommand_rows_of matches.now) ≡ Some ((ZERO_DIGIT + size_of invocation) ∷ [])
+        → 1 ≤ size_of invocation → size_of invocation ≤ CHAIN_LIMIT → name_in (subcommand_rows_of matches.now) ≡ name_of invocation
+        → ReadsTurns (turns_text (subcommand_rows_of matches.now)) invocation → LacksJournalIn (subcommand_rows_of matches.now) invocation → result ≡ Some invocation }
+{
+    match matches.subcommand() {
+        Some((name @ (VERIFY | COPY | DUMP), options)) => file_word_in(name, options),
+        _ => serving_in(matches),
     }
 }
 

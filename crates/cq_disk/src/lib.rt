@@ -19,7 +19,7 @@ pub use fault::DeviceFault;
 pub use host::Host;
 pub use memory::Memory;
 pub use modelled::Modelled;
-pub use opening::{OpenFault, create, open};
+pub use opening::{OpenFault, create, open, open_to_read, put_in_place, remove};
 pub use record::{Call, Record};
 pub use region::Region;
 pub use start::{Start, Unknown};

@@ -11,7 +11,7 @@ use Rattle.cq_journal.specs.declared.journal.Journal.{Journal}
 use Rattle.cq_journal.specs.declared.number.TheConstants.{NUMBER_LIMIT}
 use Rattle.cq_journal.specs.Base.{HasEitherRecords}
 use Rattle.cq_journal.specs.Intact.{IsIntact}
-use Rattle.cq_journal.specs.Journal.{journal_device, journal_half, journal_places, journal_records, region_len, HasRegions, IsJournal}
+use Rattle.cq_journal.specs.Journal.{journal_device, journal_half, journal_places, journal_records, region_len, HasRegions, IsJournal, StaysJournal}
 use Rattle.cq_journal.specs.Regions.{Each, AreApart, HasRecords, kept, places_text, records_at}
 use Rattle.cq_journal.specs.Rests.{Rests}
 use Rattle.cq_journal.specs.Root.{IsRoot, root_number}
@@ -78,23 +78,37 @@ module _ {D : Type 0} {g : Ghosts D} where
       later = later;
     }
 
-    pub journal_read : new.end ≡ old.end → root_number new.root ≡ root_number old.root → (IsTrue (g.is_honest (journal_device new)) → IsTrue (g.is_honest (journal_device old))) → IsRoot new.root → IsJournal old → IsJournal new
-    journal_read end number honest root journal =
-        let q = journal.regions in
+    pub regions_read : root_number new.root ≡ root_number old.root → (IsTrue (g.is_honest (journal_device new)) → IsTrue (g.is_honest (journal_device old))) → IsRoot new.root → HasRegions old → HasRegions new
+    regions_read number honest root q =
         let new_bytes = g.seen (journal_device new) in
         record {
-          regions = record {
-            root = root;
-            behind = subst (λ (ns : List ℕ). Each (λ n. journal_half new + journal_half new ≤ n) ns) (sym places_are) (subst (λ (k : ℕ). Each (λ n. k + k ≤ n) (journal_places old)) (sym half) q.behind);
-            within = subst (λ (ns : List ℕ). Each (λ n. n + new.len ≤ length new_bytes) ns) (sym places_are)
-                (subst (λ (k : ℕ). Each (λ n. n + k ≤ length new_bytes) (journal_places old)) (sym read.len) (subst (λ (bytes : List ℕ). Each (λ n. n + old.len ≤ length bytes) (journal_places old)) (sym read.seen) q.within));
-            apart = subst (λ (k : ℕ). Each (λ n. AreApart k n new.growing) new.closed.items) (sym read.len)
-                (subst (λ (gr : ℕ). Each (λ n. AreApart old.len n gr) new.closed.items) (sym read.growing) (subst (λ (ns : List ℕ). Each (λ n. AreApart old.len n old.growing) ns) (λ i. (sym read.closed i).items) q.apart));
-            small = subst (λ (ns : List ℕ). Each (λ n. n < NUMBER_LIMIT) ns) (sym places_are) q.small;
-            names = λ now. (λ i. root_of (half i) (read.seen i)) ∙ q.names (honest now) ∙ (λ i. Some (numbered (sym number i) (places_text (sym places_are i))));
-          };
-          log = subst (λ (e : ℕ). IsLog (part new.growing new.len new_bytes) e) (sym end) (subst (λ (bytes : List ℕ). IsLog bytes old.end) (λ i. part (sym read.growing i) (sym read.len i) (sym read.seen i)) journal.log);
+          root = root;
+          behind = subst (λ (ns : List ℕ). Each (λ n. journal_half new + journal_half new ≤ n) ns) (sym places_are) (subst (λ (k : ℕ). Each (λ n. k + k ≤ n) (journal_places old)) (sym half) q.behind);
+          within = subst (λ (ns : List ℕ). Each (λ n. n + new.len ≤ length new_bytes) ns) (sym places_are)
+              (subst (λ (k : ℕ). Each (λ n. n + k ≤ length new_bytes) (journal_places old)) (sym read.len) (subst (λ (bytes : List ℕ). Each (λ n. n + old.len ≤ length bytes) (journal_places old)) (sym read.seen) q.within));
+          apart = subst (λ (k : ℕ). Each (λ n. AreApart k n new.growing) new.closed.items) (sym read.len)
+              (subst (λ (gr : ℕ). Each (λ n. AreApart old.len n gr) new.closed.items) (sym read.growing) (subst (λ (ns : List ℕ). Each (λ n. AreApart old.len n old.growing) ns) (λ i. (sym read.closed i).items) q.apart));
+          small = subst (λ (ns : List ℕ). Each (λ n. n < NUMBER_LIMIT) ns) (sym places_are) q.small;
+          names = λ now. (λ i. root_of (half i) (read.seen i)) ∙ q.names (honest now) ∙ (λ i. Some (numbered (sym number i) (places_text (sym places_are i))));
         }
+
+    pub stays_read : new.end ≡ old.end → root_number new.root ≡ root_number old.root → (IsTrue (g.is_honest (journal_device new)) → IsTrue (g.is_honest (journal_device old))) → IsRoot new.root → HasRegions old → StaysJournal old new
+    stays_read end number honest root q =
+        let new_bytes = g.seen (journal_device new) in
+        let regions = regions_read number honest root q in
+        record {
+          regions = regions;
+          journal = λ journal. record {
+            regions = regions;
+            log = subst (λ (e : ℕ). IsLog (part new.growing new.len new_bytes) e) (sym end) (subst (λ (bytes : List ℕ). IsLog bytes old.end) (λ i. part (sym read.growing i) (sym read.len i) (sym read.seen i)) journal.log);
+          };
+        }
+
+  pub stays_self : (j : Journal D g) → HasRegions j → StaysJournal j j
+  stays_self j q = record { regions = q; journal = λ journal. journal }
+
+  pub stays_journal_on : (a b c : Journal D g) → StaysJournal a b → StaysJournal b c → StaysJournal a c
+  stays_journal_on a b c p q = record { regions = q.regions; journal = λ journal. q.journal (p.journal journal) }
 
 -- one region more
 pub records_next : (len : ℕ) (ns : List ℕ) (i : ℕ) (bytes : List ℕ) → i < length ns → records_at len (take (i + 1) ns) bytes ≡ records_at len (take i ns) bytes ++ records (part (get_or ns i 0) len bytes)

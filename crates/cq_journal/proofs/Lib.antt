@@ -3,6 +3,7 @@ mod Bases
 mod Changes
 pub mod Copies
 mod Examples
+mod Faults
 mod Halves
 mod Intact
 mod Moves

@@ -1,10 +1,14 @@
 -- The regions of a journal, one by one.
 use Rattle.std.proofs.Common.{◌≡◌, ℕ, zero, suc, ◌+◌, ◌<◌, ◌≤◌, List, [], ◌∷◌, ◌++◌, length, take, append_assoc, refl, sym, ◌∙◌, ap, arith}
-use Rattle.std.specs.Prelude.{get_or}
+use Rattle.std.specs.Prelude.{IsTrue, Some, get_or}
 use Rattle.cq_disk.specs.Region.{part}
+use Rattle.cq_disk.specs.declared.device.Device.{Ghosts}
 use Rattle.cq_records.specs.Frames.{records}
-use Rattle.cq_journal.specs.Regions.{all_records, records_at, regions_at}
-use Rattle.cq_journal.proofs.Regions.{append-none}
+use Rattle.cq_journal.specs.Journal.{HasRegions, journal_device, journal_half, journal_places, journal_records, journal_regions, region_len}
+use Rattle.cq_journal.specs.Regions.{all_records, kept, kept_regions, named_regions, records_at, regions_at}
+use Rattle.cq_journal.specs.Root.{root_number}
+use Rattle.cq_journal.specs.declared.journal.Journal.{Journal}
+use Rattle.cq_journal.proofs.Regions.{append-none, kept_of, places_back}
 
 pub regions_long : (len : ℕ) (ns bytes : List ℕ) → length (regions_at len ns bytes) ≡ length ns
 regions_long len [] bytes = refl
@@ -39,3 +43,12 @@ regions_whole [] zero long = refl
 regions_whole [] (suc i) long = refl
 regions_whole (rs ∷ regions) zero long = absurd (omega (arith, long))
 regions_whole (rs ∷ regions) (suc i) long = ap (λ (more : List (List (List ℕ))). rs ∷ more) (regions_whole regions i (omega (arith, long)))
+
+-- the regions of a journal are those that its root names
+pub regions_named : {D : Type 0} {g : Ghosts D} (j : Journal D g) → HasRegions j → IsTrue (g.is_honest (journal_device j)) → kept_regions (journal_half j) (region_len j) (g.seen (journal_device j)) ≡ Some (journal_regions j)
+regions_named {D} {g} j q honest =
+    let bytes = g.seen (journal_device j) in
+    ap (named_regions (region_len j) bytes) (q.names honest) ∙ ap (λ (ns : List ℕ). Some (regions_at (region_len j) ns bytes)) (places_back (journal_places j) q.small)
+
+pub records_named : {D : Type 0} {g : Ghosts D} (j : Journal D g) → HasRegions j → IsTrue (g.is_honest (journal_device j)) → kept (journal_half j) (region_len j) (g.seen (journal_device j)) ≡ Some (journal_records j)
+records_named {D} {g} j q honest = kept_of (journal_half j) (region_len j) (root_number j.root) (journal_places j) (g.seen (journal_device j)) q.small (q.names honest)

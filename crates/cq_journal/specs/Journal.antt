@@ -57,6 +57,11 @@ module _ {D : Type 0} {g : Ghosts D} where
     pub regions : HasRegions j
     pub log : IsLog (part j.growing j.len (g.seen (journal_device j))) j.end
 
+  -- where its regions were read: it has them, and is a journal if it was one
+  pub record StaysJournal (old new : Journal D g) : Type 0 where
+    pub regions : HasRegions new
+    pub journal : IsJournal old → IsJournal new
+
   -- a region at this place lies behind the root, in the device and apart from all that count, and the root may name it
   pub record IsFree (j : Journal D g) (place : ℕ) : Type 0 where
     pub behind : journal_half j + journal_half j ≤ place

@@ -1,6 +1,6 @@
 -- What a journal's file stands for. Behind the root lie regions of one length, each of them a log. The root's text names the places
 -- of those that count, in order, and their records are the journal's.
-use Rattle.std.specs.Prelude.{◌≡◌, ◌⊎◌, ℕ, ◌+◌, ◌≤◌, true, List, [], ◌∷◌, ◌++◌, take, drop, Option, Some, None, ⊤}
+use Rattle.std.specs.Prelude.{◌≡◌, ◌⊎◌, ℕ, ◌+◌, ◌-◌, ◌%◌, ◌≤◌, true, List, [], ◌∷◌, ◌++◌, take, drop, Option, Some, None, ⊤}
 use Rattle.cq_disk.specs.Region.{part}
 use Rattle.cq_records.specs.Frames.{frames, records, all_sound}
 use Rattle.cq_journal.specs.Numbers.{digits, number_of}
@@ -40,6 +40,14 @@ named_records len bytes (Some root) = Some (records_at len (places_in (drop 5 ro
 abbrev pub kept : ℕ → ℕ → List ℕ → Option (List (List ℕ))
 kept half len bytes = named_records len bytes (root_of half bytes)
 
+-- the records of each of its regions, in order
+abbrev pub named_regions : ℕ → List ℕ → Option (List ℕ) → Option (List (List (List ℕ)))
+named_regions len bytes None = None
+named_regions len bytes (Some root) = Some (regions_at len (places_in (drop 5 root)) bytes)
+
+abbrev pub kept_regions : ℕ → ℕ → List ℕ → Option (List (List (List ℕ)))
+kept_regions half len bytes = named_regions len bytes (root_of half bytes)
+
 -- each of these numbers is so
 abbrev pub Each : (ℕ → Type 0) → List ℕ → Type 0
 Each P [] = ⊤
@@ -52,6 +60,10 @@ AreSound len places bytes = Each (λ n. all_sound (frames (part n len bytes)) �
 -- no byte is of both regions
 abbrev pub AreApart : ℕ → ℕ → ℕ → Type 0
 AreApart len a b = (a + len ≤ b) ⊎ (b + len ≤ a)
+
+-- a region at this place lies so many whole regions behind that one
+abbrev pub IsInSteps : ℕ → ℕ → ℕ → Type 0
+IsInSteps len low place = (place - low) % len ≡ 0
 
 -- the journal's records are those from before, and behind them so many of the batch's, from the first on
 abbrev pub HasPrefixOf : ℕ → ℕ → List (List ℕ) → List (List ℕ) → List ℕ → Type 0

@@ -49,7 +49,7 @@ pub fn read_region_rests<D: Device>(
     alloc: Global,
     index: usize,
     text: &mut Vec<u8>,
-) -> Result<(), RegionFault>
+) -> Result<usize, RegionFault>
     requires journal { IsJournal journal.old }
     requires index { index < length (journal_regions journal.old) }
     ensures tries { Tries rests journal.old journal.new }

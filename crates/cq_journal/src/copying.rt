@@ -14,12 +14,12 @@ use std::alloc::Global;
 impl<D: Device> Journal<D> {
     ghost use Rattle.cq_journal.specs.Base.{IsBase, base_records};
     ghost use Rattle.cq_journal.specs.Intact.{LeavesIntact, StaysIntact};
-    ghost use Rattle.cq_journal.specs.Journal.{IsJournal, journal_device, journal_half, journal_records, region_len};
+    ghost use Rattle.cq_journal.specs.Journal.{HasRegions, IsJournal, StaysJournal, journal_device, journal_half, journal_records, region_len};
     ghost use Rattle.cq_journal.specs.Rests.{Rests};
     ghost use Rattle.cq_journal.specs.within.Reads.{IsRead, closed_places};
 
     /// Puts this journal's records in the place of another one's, which is on another device. This journal is the same, at each
-    /// moment; a crash at any moment leaves the other one with the records from before, or with all of this one's. `Full`: the other
+    /// moment, and needn't be ready for records; a crash at any moment leaves the other one with the records from before, or with all of this one's. `Full`: the other
     /// one has too few free regions, or they are too short; both journals have the records from before. After another fault both are
     /// to be opened anew. It takes memory for the records of a region, and time in proportion to all regions.
     pub fn copy_into<E: Device>(
@@ -27,10 +27,10 @@ impl<D: Device> Journal<D> {
         alloc: Global,
         to: &mut Journal<E>,
     ) -> Result<(), OpenFault>
-        requires journal { IsJournal self.old }
+        requires has_regions { HasRegions self.old }
         requires there { IsJournal to.old }
 
-        ensures journal { OnOk result (IsJournal self.new) }
+        ensures journal { OnOk result (StaysJournal self.old self.new) }
         ensures rests { Rests self.old self.new }
         ensures there { OnOk result (IsJournal to.new) }
         ensures lengths { OnOk result ((journal_half to.new ≡ journal_half to.old) × (region_len to.new ≡ region_len to.old)) }
@@ -40,34 +40,36 @@ impl<D: Device> Journal<D> {
         ensures intact { LeavesIntact to.old to.new }
         ensures stays { OnOk result (StaysIntact to.old to.new) }
         ensures honest { IsTrue (E.is_honest (journal_device to.new)) → IsTrue (E.is_honest (journal_device to.old)) }
-        ensures full { IsErrOf result OpenFault.Full → IsJournal self.new }
+        ensures full { IsErrOf result OpenFault.Full → StaysJournal self.old self.new }
         ensures full_there { IsErrOf result OpenFault.Full → IsJournal to.new × (journal_records to.new ≡ journal_records to.old) }
         ensures failed { IsErrOf result OpenFault.Failed → (D.faults (journal_device self.old) < D.faults (journal_device self.new)) ⊎ (E.faults (journal_device to.old) < E.faults (journal_device to.new)) }
     {
         let mut base = to.begin_base(alloc)?;
-        self.copy_all(alloc, to, &mut base)?;
+        self.copy_to_base(alloc, to, &mut base)?;
         to.rewrite(alloc, base)?;
         Ok(())
     }
 
-    /// Adds the records of all regions to a base of another journal, each region's into one of its own.
-    fn copy_all<E: Device>(
+    /// Adds the records of all regions to a base of another journal, each region's into one of its own. This journal is the same, at each
+    /// moment, and needn't be ready for records; the other one has the records from before, also after a crash. `Full`: it has too few
+    /// free regions, or they are too short, and goes on. It takes memory for the records of a region.
+    pub fn copy_to_base<E: Device>(
         &mut self,
         alloc: Global,
         to: &mut Journal<E>,
         base: &mut Base,
     ) -> Result<(), OpenFault>
-        requires journal { IsJournal self.old }
+        requires has_regions { HasRegions self.old }
         requires there { IsJournal to.old }
         requires base { IsBase to.old base.old }
 
-        ensures journal { OnOk result (IsJournal self.new) }
+        ensures journal { OnOk result (StaysJournal self.old self.new) }
         ensures rests { Rests self.old self.new }
         ensures there { OnOk result (IsJournal to.new) }
         ensures base { OnOk result (IsBase to.new base.new) }
         ensures rests_there { Rests to.old to.new }
         ensures copied { OnOk result (IsTrue (D.is_honest (journal_device self.new)) → base_records to.new base.new ≡ base_records to.old base.old ++ journal_records self.old) }
-        ensures full { IsErrOf result OpenFault.Full → IsJournal self.new }
+        ensures full { IsErrOf result OpenFault.Full → StaysJournal self.old self.new }
         ensures full_there { IsErrOf result OpenFault.Full → IsJournal to.new }
         ensures failed { IsErrOf result OpenFault.Failed → (D.faults (journal_device self.old) < D.faults (journal_device self.new)) ⊎ (E.faults (journal_device to.old) < E.faults (journal_device to.new)) }
     {
@@ -83,18 +85,18 @@ impl<D: Device> Journal<D> {
         to: &mut Journal<E>,
         base: &mut Base,
     ) -> Result<(), OpenFault>
-        requires journal { IsJournal self.old }
+        requires has_regions { HasRegions self.old }
         requires there { IsJournal to.old }
         requires base { IsBase to.old base.old }
 
         ensures read { OnOk result (IsRead self.old self.new) }
-        ensures journal { OnOk result (IsJournal self.new) }
+        ensures journal { OnOk result (StaysJournal self.old self.new) }
         ensures rests { Rests self.old self.new }
         ensures there { OnOk result (IsJournal to.new) }
         ensures base { OnOk result (IsBase to.new base.new) }
         ensures rests_there { Rests to.old to.new }
         ensures copied { OnOk result (IsTrue (D.is_honest (journal_device self.new)) → base_records to.new base.new ≡ base_records to.old base.old ++ records_at (region_len self.old) (closed_places self.old) (D.seen (journal_device self.old))) }
-        ensures full { IsErrOf result OpenFault.Full → IsJournal self.new }
+        ensures full { IsErrOf result OpenFault.Full → StaysJournal self.old self.new }
         ensures full_there { IsErrOf result OpenFault.Full → IsJournal to.new }
         ensures failed { IsErrOf result OpenFault.Failed → (D.faults (journal_device self.old) < D.faults (journal_device self.new)) ⊎ (E.faults (journal_device to.old) < E.faults (journal_device to.new)) }
     {
@@ -116,19 +118,19 @@ impl<D: Device> Journal<D> {
         to: &mut Journal<E>,
         base: &mut Base,
     ) -> Result<(), OpenFault>
-        requires journal { IsJournal self.old }
+        requires has_regions { HasRegions self.old }
         requires within { place + region_len self.old ≤ length (D.seen (journal_device self.old)) }
         requires there { IsJournal to.old }
         requires base { IsBase to.old base.old }
 
         ensures read { IsRead self.old self.new }
-        ensures journal { OnOk result (IsJournal self.new) }
+        ensures journal { OnOk result (StaysJournal self.old self.new) }
         ensures rests { Rests self.old self.new }
         ensures there { OnOk result (IsJournal to.new) }
         ensures base { OnOk result (IsBase to.new base.new) }
         ensures rests_there { Rests to.old to.new }
         ensures copied { OnOk result (IsTrue (D.is_honest (journal_device self.new)) → base_records to.new base.new ≡ base_records to.old base.old ++ records (part place (region_len self.old) (D.seen (journal_device self.old)))) }
-        ensures full { IsErrOf result OpenFault.Full → IsJournal self.new }
+        ensures full { IsErrOf result OpenFault.Full → StaysJournal self.old self.new }
         ensures full_there { IsErrOf result OpenFault.Full → IsJournal to.new }
         ensures failed { IsErrOf result OpenFault.Failed → (D.faults (journal_device self.old) < D.faults (journal_device self.new)) ⊎ (E.faults (journal_device to.old) < E.faults (journal_device to.new)) }
     {

@@ -1,10 +1,10 @@
 //! How a root is read.
-ghost use Rattle.std.specs.Prelude.{◌≡◌, ◌⊎◌, ◌+◌, ◌<◌, ◌≤◌, false, length, Some, None, IsTrue, IfOk, OnOk, IfSome, MatchOption, IsErrOf, ⊤};
+ghost use Rattle.std.specs.Prelude.{◌≡◌, ◌⊎◌, ◌+◌, ◌<◌, ◌≤◌, true, false, length, Some, None, IsTrue, IfOk, OnOk, IfSome, MatchOption, IsErrOf, ⊤};
 ghost use Rattle.cq_disk.specs.Device.{Only, LeavesOnly, HasCause};
 ghost use Rattle.cq_disk.specs.Region.{part};
 ghost use Rattle.cq_records.specs.Frames.{frames, all_sound};
 ghost use Rattle.cq_journal.specs.Roots.{number_in, half_of, HasSoundHalves};
-ghost use Rattle.cq_journal.specs.Found.{items_of, IsChosen, IsFound};
+ghost use Rattle.cq_journal.specs.Found.{items_of, HasGrown, IsChosen, IsFound};
 ghost use Rattle.cq_journal.specs.within.Refreshed.{IsRefreshed};
 
 use crate::number::read_number;
@@ -12,6 +12,12 @@ use crate::refresh::refresh;
 use cq_disk::{Device, DeviceFault, Region, TornWrites};
 use cq_records::{ReadFault, read_record};
 use std::alloc::Global;
+
+/// How many digits a number has.
+const DIGITS: usize = 5;
+
+/// Where the places begin in a root's record, behind its number.
+const PLACES: usize = DIGITS;
 
 /// A root that was found in two halves: where the half in use begins, its number, and its record, which is the number
 /// and the text.
@@ -53,8 +59,12 @@ pub fn read_root<D: Device>(
     Ok(found)
 }
 
-/// The root that two halves have, of which the region is the first.
-fn find_root<D: Device>(alloc: Global, region: &mut Region<D>) -> Result<Option<Found>, ReadFault>
+/// Reads the root that two halves have, of which the region is the first, and writes nothing: what is read may be less than `read_root`
+/// leaves on the medium, for a root that is only read. `None` and `Damaged` are those of `read_root`. It syncs the device first.
+pub fn find_root<D: Device>(
+    alloc: Global,
+    region: &mut Region<D>,
+) -> Result<Option<Found>, ReadFault>
     requires start { region.old.start ≡ 0 }
     requires room { region.old.len + region.old.len ≤ length (D.seen region.old.device) }
 
@@ -168,4 +178,27 @@ fn choose(
         return Ok(found_at(half, b, second));
     }
     Ok(found_at(0, a, first))
+}
+
+/// Whether a root that was found later names all regions that an earlier one does, first and in their order, and each change between the two
+/// named one region more: then what the earlier one names has stayed where it was. O(regions).
+pub fn has_grown(first: &Found, later: &Found) -> bool
+    ensures grown { result ≡ true → HasGrown first.now later.now }
+    ensures not { result ≡ false → HasGrown first.now later.now → ⊥ }
+{
+    let (front, all) = (first.bytes.as_slice(), later.bytes.as_slice());
+    if front.len() < PLACES || all.len() < front.len() || later.number < first.number {
+        return false;
+    }
+    if ((all.len() - front.len()) / DIGITS) as u64 != later.number - first.number {
+        return false;
+    }
+    are_same(&front[PLACES..front.len()], &all[PLACES..front.len()])
+}
+
+fn are_same(first: &[u8], second: &[u8]) -> bool
+    ensures same { result ≡ true → first.now ≡ second.now }
+    ensures other { result ≡ false → first.now ≡ second.now → ⊥ }
+{
+    first == second
 }

@@ -1,6 +1,6 @@
 //! The places of regions as the text of a root.
 ghost use Rattle.std.specs.Prelude.{◌≡◌, ◌++◌, ◌∷◌, [], ◌<◌, true, false, drop, OnOk, IfOk};
-ghost use Rattle.cq_journal.specs.Regions.{AreApart, Each, places_in, places_text};
+ghost use Rattle.cq_journal.specs.Regions.{AreApart, Each, IsInSteps, places_in, places_text};
 ghost use Rattle.cq_journal.specs.Roots.{numbered};
 ghost use Rattle.cq_journal.specs.within.Bounds.{IsWithin};
 
@@ -23,6 +23,29 @@ pub(crate) fn are_apart(len: usize, places: &[u64], place: usize) -> bool
 {
     for other in places {
         if !is_apart(len, *other as usize, place) {
+            return false;
+        }
+    }
+    true
+}
+
+/// Whether a region of this length lies so many whole ones behind that place.
+fn is_in_steps(len: usize, low: usize, place: u64) -> bool
+    requires { 0 < len }
+    ensures in_steps { result ≡ true → IsInSteps len low place }
+    ensures not { result ≡ false → IsInSteps len low place → ⊥ }
+{
+    (place as usize).saturating_sub(low) % len == 0
+}
+
+/// Whether each of these regions lies so: O(places).
+pub(crate) fn are_in_steps(len: usize, low: usize, places: &[u64]) -> bool
+    requires { 0 < len }
+    ensures in_steps { result ≡ true → Each (IsInSteps len low) places.now }
+    ensures not { result ≡ false → Each (IsInSteps len low) places.now → ⊥ }
+{
+    for place in places {
+        if !is_in_steps(len, low, *place) {
             return false;
         }
     }

@@ -1,16 +1,18 @@
 //! What the regions of a journal have, read one by one.
-ghost use Rattle.std.specs.Prelude.{◌≡◌, ◌++◌, ◌+◌, ◌<◌, ◌≤◌, ℕ, [], false, length, drop, get_or, Err, IsTrue, OnOk, IsErrOf};
+ghost use Rattle.std.specs.Prelude.{◌≡◌, ◌++◌, ◌+◌, ◌<◌, ◌≤◌, ℕ, [], true, false, length, drop, get_or, Err, IsTrue, IfOk, OnOk, IsErrOf};
 ghost use Rattle.cq_disk.specs.Region.{part};
 ghost use Rattle.cq_records.specs.Frames.{frames, records, joined, all_sound, IsDamaged};
 ghost use Rattle.cq_journal.specs.Intact.{IsIntact};
+ghost use Rattle.cq_journal.specs.Regions.{Each, IsInSteps};
 
+use crate::places::are_in_steps;
 use crate::{Journal, RegionFault};
 use cq_disk::Device;
 use cq_records::ReadFault;
 use std::alloc::Global;
 
 impl<D: Device> Journal<D> {
-    ghost use Rattle.cq_journal.specs.Journal.{HasRegions, IsJournal, journal_device, journal_half, journal_places, journal_regions, region_len, IsDamagedAt};
+    ghost use Rattle.cq_journal.specs.Journal.{HasRegions, StaysJournal, journal_device, journal_half, journal_places, journal_regions, region_len, IsDamagedAt};
     ghost use Rattle.cq_journal.specs.Rests.{Rests};
 
     /// How many regions count.
@@ -20,21 +22,41 @@ impl<D: Device> Journal<D> {
         self.closed.len() + 1
     }
 
-    /// Adds the records of a region to a text, one behind the other: the first region is at 0. The journal is the same,
-    /// at each moment, also where a record is damaged. It takes memory for the region's records. After a fault the text may have
-    /// some of them.
+    /// Whether each region lies so many whole ones behind the root, as those do that a journal with regions and halves of these lengths goes
+    /// on in: O(regions that count).
+    pub fn is_in_steps(&self) -> bool
+        requires has_regions { HasRegions self.now }
+        ensures in_steps { result ≡ true → Each (IsInSteps (region_len self.now) (journal_half self.now + journal_half self.now)) (journal_places self.now) }
+        ensures not { result ≡ false → 0 < region_len self.now → Each (IsInSteps (region_len self.now) (journal_half self.now + journal_half self.now)) (journal_places self.now) → ⊥ }
+    {
+        let _whole = self.root.log.device.device.len();
+        let half = self.root.log.device.len;
+        let low = half + half;
+        if self.len == 0 {
+            return false;
+        }
+        if !are_in_steps(self.len, low, &self.closed) {
+            return false;
+        }
+        are_in_steps(self.len, low, &[self.growing as u64])
+    }
+
+    /// Adds the records of a region to a text, one behind the other, and gives their number: the first region is at 0. The journal is the
+    /// same, at each moment, also where a record is damaged; it needn't be ready for records. It takes memory for the region's records.
+    /// After a fault the text may have some of them.
     pub fn read_region(
         &mut self,
         alloc: Global,
         index: usize,
         text: &mut Vec<u8>,
-    ) -> Result<(), RegionFault>
-        requires journal { IsJournal self.old }
+    ) -> Result<usize, RegionFault>
+        requires has_regions { HasRegions self.old }
         requires index { index < length (journal_regions self.old) }
 
-        ensures journal { IsJournal self.new }
+        ensures journal { StaysJournal self.old self.new }
         ensures rests { Rests self.old self.new }
         ensures regions { journal_regions self.new ≡ journal_regions self.old }
+        ensures count { IfOk result (λ count. IsTrue (D.is_honest (journal_device self.new)) → count ≡ length (get_or (journal_regions self.old) index [])) }
         ensures read { OnOk result (IsTrue (D.is_honest (journal_device self.new)) → text.new.items ≡ text.old.items ++ joined (get_or (journal_regions self.old) index [])) }
         ensures damaged { (place : ℕ) → result ≡ Err (RegionFault.Damaged place) → IsTrue (D.is_honest (journal_device self.new)) → IsDamagedAt self.old index place }
         ensures refused { (place : ℕ) → result ≡ Err (RegionFault.Damaged place) → IsTrue (D.is_honest (journal_device self.new)) → IsIntact (journal_half self.old) (region_len self.old) (D.seen (journal_device self.old)) → ⊥ }
@@ -44,28 +66,29 @@ impl<D: Device> Journal<D> {
         let place = self.place_of(index);
         let mut at = 0;
         match self.read_place(alloc, place, &mut at, text) {
-            Ok(()) => Ok(()),
+            Ok(count) => Ok(count),
             Err(ReadFault::Damaged) => Err(RegionFault::Damaged(place + at)),
             Err(ReadFault::NoMemory) => Err(RegionFault::NoMemory),
             Err(ReadFault::Failed) => Err(RegionFault::Failed),
         }
     }
 
-    /// Adds the records of the region at this place. After `Damaged` the damaged one begins so many bytes behind it.
+    /// Adds the records of the region at this place, and gives their number. After `Damaged` the damaged one begins so many bytes behind it.
     fn read_place(
         &mut self,
         alloc: Global,
         place: usize,
         at: &mut usize,
         text: &mut Vec<u8>,
-    ) -> Result<(), ReadFault>
-        requires journal { IsJournal self.old }
+    ) -> Result<usize, ReadFault>
+        requires has_regions { HasRegions self.old }
         requires within { place + region_len self.old ≤ length (D.seen (journal_device self.old)) }
         requires start { at.old ≡ 0 }
 
-        ensures journal { IsJournal self.new }
+        ensures journal { StaysJournal self.old self.new }
         ensures rests { Rests self.old self.new }
         ensures regions { journal_regions self.new ≡ journal_regions self.old }
+        ensures count { IfOk result (λ count. IsTrue (D.is_honest (journal_device self.new)) → count ≡ length (records (part place (region_len self.old) (D.seen (journal_device self.old))))) }
         ensures read { OnOk result (IsTrue (D.is_honest (journal_device self.new)) → text.new.items ≡ text.old.items ++ joined (records (part place (region_len self.old) (D.seen (journal_device self.old))))) }
         ensures at { at.new ≤ region_len self.old }
         ensures damaged { IsErrOf result ReadFault.Damaged → IsTrue (D.is_honest (journal_device self.new)) → IsDamaged (drop at.new (part place (region_len self.old) (D.seen (journal_device self.old)))) }

@@ -1,5 +1,5 @@
 //! How the records of a region behind a root are read.
-ghost use Rattle.std.specs.Prelude.{◌≡◌, ◌++◌, ◌+◌, ◌<◌, ◌≤◌, false, length, drop, IsTrue, OnOk, IsErrOf};
+ghost use Rattle.std.specs.Prelude.{◌≡◌, ◌++◌, ◌+◌, ◌<◌, ◌≤◌, false, length, drop, IsTrue, IfOk, OnOk, IsErrOf};
 ghost use Rattle.cq_disk.specs.Device.{LeavesOnly};
 ghost use Rattle.cq_disk.specs.Region.{part};
 ghost use Rattle.cq_records.specs.Batch.{batch_bytes};
@@ -51,8 +51,8 @@ impl<D: Device> Root<D> {
     }
 
     /// Adds the texts of the records of the region of this length at this place to a text, one behind the other, from `at` on. Afterwards
-    /// `at` is behind the last one that was added: after `Damaged`, where the damaged one begins in the region. The root is the same, and
-    /// so is all that is seen; a crash at any moment leaves just this.
+    /// `at` is behind the last one that was added: after `Damaged`, where the damaged one begins in the region. It gives their number. The
+    /// root is the same, and so is all that is seen; a crash at any moment leaves just this.
     pub(crate) fn read_texts_at(
         &mut self,
         alloc: Global,
@@ -60,7 +60,7 @@ impl<D: Device> Root<D> {
         len: usize,
         at: &mut usize,
         text: &mut Vec<u8>,
-    ) -> Result<(), ReadFault>
+    ) -> Result<usize, ReadFault>
         requires root { IsRoot self.old }
         requires within { place + len ≤ length (D.seen (root_device self.old)) }
         requires at { at.old ≤ length (part place len (D.seen (root_device self.old))) }
@@ -68,6 +68,7 @@ impl<D: Device> Root<D> {
         ensures root { IsRoot self.new }
         ensures half { root_half self.new ≡ root_half self.old }
         ensures number { root_number self.new ≡ root_number self.old }
+        ensures count { IfOk result (λ count. IsTrue (D.is_honest (root_device self.new)) → count ≡ length (records (drop at.old (part place len (D.seen (root_device self.old)))))) }
         ensures read { OnOk result (IsTrue (D.is_honest (root_device self.new)) → text.new.items ≡ text.old.items ++ joined (records (drop at.old (part place len (D.seen (root_device self.old)))))) }
         ensures at { at.new ≤ length (part place len (D.seen (root_device self.old))) }
         ensures damaged { IsErrOf result ReadFault.Damaged → IsTrue (D.is_honest (root_device self.new)) → IsDamaged (drop at.new (part place len (D.seen (root_device self.old)))) }

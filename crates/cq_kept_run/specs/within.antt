@@ -1,3 +1,6 @@
 -- What only the private functions cite.
+pub mod Contents
+pub mod Dumps
+pub mod Looks
 pub mod Runs
 pub mod Told

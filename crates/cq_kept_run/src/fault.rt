@@ -7,7 +7,7 @@ use cq_disk::{DeviceFault, OpenFault as FileFault};
 use cq_journal::{OpenFault, RegionFault};
 use cq_kept_session::{ServeFault, StartFault, TakeFault};
 use cq_lines::ScriptFault;
-use cq_records::LogFault;
+use cq_records::{LogFault, ReadFault};
 use std::io;
 use thiserror::Error;
 
@@ -96,6 +96,12 @@ impl From<LogFault> for KeptFault {
             LogFault::NoMemory => KeptFault::Script(ScriptFault::NoMemory),
             LogFault::Full | LogFault::Failed => KeptFault::Journal(JournalFault::Failed),
         }
+    }
+}
+
+impl From<ReadFault> for KeptFault {
+    fn from(fault: ReadFault) -> KeptFault {
+        KeptFault::from(OpenFault::from(fault))
     }
 }
 

@@ -1,11 +1,21 @@
-//! A session that keeps its lines in a file: it is opened or made, what it has is run, and the lines of a reader are served.
+//! A session that keeps its lines in a file: it is opened or made, what it has is run, and the lines of a reader are served. And what is
+//! told or copied of such a file.
 //! `specs/` holds the rules.
 #![tactic(auto)]
 
 mod blank;
+mod copying;
+mod dumping;
 mod fault;
+mod looking;
 mod run;
+mod sizes;
+mod source;
 mod store;
+mod verifying;
 
+pub use copying::copy;
+pub use dumping::dump;
 pub use fault::{JournalFault, KeptFault};
 pub use run::run_kept;
+pub use verifying::verify;

@@ -7,6 +7,7 @@ ghost use Rattle.cq_kept_run.specs.within.Runs.{Serving, TellsRest};
 
 use crate::blank::{fill, is_blank};
 use crate::fault::{JournalFault, KeptFault};
+use crate::sizes::{HALF, REGION};
 use crate::store::{settle, tell_store};
 use cq_base::ChainSize;
 use cq_disk::{Device, Host, Modelled, OpenFault, TornWrites, Unknown, create, open};
@@ -14,12 +15,6 @@ use cq_kept_session::{Highest, KeptSession};
 use cq_lines::{Checked, ScriptFault, Sink};
 use std::alloc::Global;
 use std::io::{self, Read, Write};
-
-/// The length of a half of the root, which names up to 100,000 regions.
-const HALF: usize = 524_288;
-
-/// The length of a region.
-const REGION: usize = 16_777_216;
 
 /// Runs a session on so many servers whose lines the file at a path keeps. Where there is no file, one of so many mebibytes is made.
 /// Where there is one, its lines are run first, and nothing is written of them. Then a line such as

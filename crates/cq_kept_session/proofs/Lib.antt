@@ -1,6 +1,7 @@
 mod Bases
 mod Chunks
 mod Escapes
+mod Gathered
 mod Histories
 mod Mending
 mod Pieces

@@ -1,5 +1,6 @@
 pub mod Bases
 pub mod Classes
+pub mod Contents
 pub mod Examples
 pub mod Kept
 pub mod Outcomes

@@ -1,5 +1,6 @@
 -- What only the private functions cite.
 pub mod Settled
 pub mod Room
+pub mod Contents
 pub mod Readers
 pub mod Stuffing

@@ -6,7 +6,7 @@ use Rattle.cq_main.specs.Outcomes.{RunsBy}
 use Rattle.cq_script.specs.Replays.{Headlines, Replays}
 use Rattle.cq_script.specs.Sessions.{SessionHeadlines, Sessions}
 use Rattle.cq_args.specs.declared.invocation.Invocation.{Invocation}
-use Rattle.cq_args.specs.declared.invocation.Invocation.TheVariants.{Kept, Live, Replay, Session}
+use Rattle.cq_args.specs.declared.invocation.Invocation.TheVariants.{Copy, Dump, Kept, Live, Replay, Session, Verify}
 
 -- On so many servers a script was replayed, the lines of a session were run, or a live script was. What a session with a
 -- journal keeps and writes is said where it is served.
@@ -19,3 +19,9 @@ Runs (Kept size journal) status unread left reader_failed written output writer_
     RunsKept status failed old new
 Runs (Live size turns) status unread left reader_failed written output writer_failed writer_flushed failed old new =
     RunsLive size status unread left reader_failed written output writer_failed writer_flushed failed old new
+Runs (Verify path) status unread left reader_failed written output writer_failed writer_flushed failed old new =
+    RunsKept status failed old new
+Runs (Copy path to) status unread left reader_failed written output writer_failed writer_flushed failed old new =
+    RunsKept status failed old new
+Runs (Dump path) status unread left reader_failed written output writer_failed writer_flushed failed old new =
+    RunsKept status failed old new

@@ -52,6 +52,13 @@ Commands, and when to use which:
            are answered, and a later session with it goes on behind them: it begins with a line such as
            {"clients":2,"kind":"ready","lines":7,"queriers":0}. Where the file has no room, a line is
            refused by one such as {"line":8,"name":"NoRoom","refused":70}, and isn't kept
+  verify   for the file of such a session: how many regions, records, bytes and lines it has, as
+           {"bytes":4096,"kind":"journal","lines":7,"records":3,"regions":1}; where a store stands for
+           its first lines, how many these are
+  copy     to keep a copy of that file; TO is there once all of it is on the disk
+  dump     to see its lines; where a store stands for the first ones, the store comes first, in lines
+           such as {"chunk":"0100..","kind":"store"}. A session may run on a file that is verified,
+           copied or dumped: nothing is written to it
   live     to see a chain at work: servers, a master and two clients run side by side, each on a thread
            of its own; once the clients have their answers, all that the servers and the master did is
            put into one order and checked. It tells how many sends were accepted, and that the audit
@@ -61,14 +68,16 @@ Examples:
   cq replay --servers 3 < SCRIPT
   cq session
   cq session --journal queues.journal --journal-size 1024
+  cq copy queues.journal monday.journal
   cq live --servers 5 --turns 1000000 < LIVE_SCRIPT
 
 Exit statuses:
-  0  the script, the session or the live run came to its end
+  0  the script, the session or the live run came to its end, or the journal was told or copied
   1  the audit of a live run found no order of what was done: 72 AuditRefused
   2  a usage fault, or a fault of the script: 61 BadLine, 62 LineTooLong, 63 TooManyLines, 74 BadScript
   3  the reader or the writer failed, or memory ran out: 64 ReadFailed, 65 WriteFailed, 20 NoMemory;
      a live run had no turns left, or no thread: 71 TurnLimit, 73 SpawnFailed
-  4  the journal of a session: 66 JournalFailed, as where a write or a sync of it failed, 67
-     JournalDamaged, 68 JournalBusy, as another session has it, or 69 NotAJournal
+  4  the journal of a session: 66 JournalFailed, as where a write or a sync of it failed, or where a
+     copy is there already, 67 JournalDamaged, 68 JournalBusy, as another session has it, or 69
+     NotAJournal
 A fault is told by one line on standard error, such as "cq: 61 BadLine line 3"."#;

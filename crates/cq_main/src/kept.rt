@@ -1,4 +1,4 @@
-//! Sessions with a journal: how they are run, how their faults are told, and the status that the program ends with.
+//! Sessions with a journal, and what is told or copied of one: how they are run, how their faults are told, and the status that the program ends with.
 ghost use Rattle.std.specs.Prelude.{◌≡◌, false};
 ghost use Rattle.cq_lines.specs.Checks.{inner_of, is_failed};
 ghost use Rattle.cq_main.specs.KeptOutcomes.{EndsAtJournal, RunsKept};
@@ -7,14 +7,14 @@ ghost use Rattle.cq_main.specs.KeptStatuses.{fault_place};
 use crate::report::report;
 use cq_args::JournalOptions;
 use cq_base::ChainSize;
-use cq_kept_run::{JournalFault, KeptFault, run_kept};
+use cq_kept_run::{JournalFault, KeptFault, copy, dump, run_kept, verify};
 use cq_script::Checked;
 use std::io::{Read, Write};
 
 /// The status with which a fault of the journal ends the program.
 const JOURNAL: u8 = 4;
 
-/// What runs sessions whose lines a file keeps.
+/// What runs sessions whose lines a file keeps, and reads such files.
 pub trait KeptSessions {
     /// Runs the lines of the reader on so many servers, and keeps them as the options say.
     fn run<R: Read, W: Write>(
@@ -24,6 +24,17 @@ pub trait KeptSessions {
         reader: &mut Checked<R>,
         output: &mut Checked<W>,
     ) -> Result<(), KeptFault>
+        requires { is_failed output.old ≡ false };
+
+    /// Tells what the journal in a file has.
+    fn verify<W: Write>(&self, path: &str, output: &mut Checked<W>) -> Result<(), KeptFault>
+        requires { is_failed output.old ≡ false };
+
+    /// Makes another file with what the journal in a file has.
+    fn copy(&self, path: &str, to: &str) -> Result<(), KeptFault>;
+
+    /// Writes the lines of the journal in a file.
+    fn dump<W: Write>(&self, path: &str, output: &mut Checked<W>) -> Result<(), KeptFault>
         requires { is_failed output.old ≡ false };
 }
 
@@ -45,6 +56,18 @@ impl KeptSessions for HostRuntime {
             reader,
             output,
         )
+    }
+
+    fn verify<W: Write>(&self, path: &str, output: &mut Checked<W>) -> Result<(), KeptFault> {
+        verify(self, path, output)
+    }
+
+    fn copy(&self, path: &str, to: &str) -> Result<(), KeptFault> {
+        copy(self, path, to)
+    }
+
+    fn dump<W: Write>(&self, path: &str, output: &mut Checked<W>) -> Result<(), KeptFault> {
+        dump(self, path, output)
     }
 }
 
@@ -85,9 +108,54 @@ pub fn run_journal<H: KeptSessions, R: Read, W: Write, E: Write>(
     requires { is_failed output.old ≡ false }
     ensures { RunsKept result (is_failed errors.new) (E.contents (inner_of errors.old)) (E.contents (inner_of errors.new)) }
 {
-    match rt.run(size, journal, reader, output) {
+    end_kept(&rt.run(size, journal, reader, output), errors)
+}
+
+/// Tells what the journal in a file has, or its fault, and gives the status with which the program ends.
+pub fn run_verify<H: KeptSessions, W: Write, E: Write>(
+    rt: &H,
+    path: &str,
+    output: &mut Checked<W>,
+    errors: &mut Checked<E>,
+) -> u8
+    requires { is_failed output.old ≡ false }
+    ensures { RunsKept result (is_failed errors.new) (E.contents (inner_of errors.old)) (E.contents (inner_of errors.new)) }
+{
+    end_kept(&rt.verify(path, output), errors)
+}
+
+/// Copies the journal in a file, or tells its fault, and gives the status with which the program ends.
+pub fn run_copy<H: KeptSessions, E: Write>(
+    rt: &H,
+    path: &str,
+    to: &str,
+    errors: &mut Checked<E>,
+) -> u8
+    ensures { RunsKept result (is_failed errors.new) (E.contents (inner_of errors.old)) (E.contents (inner_of errors.new)) }
+{
+    end_kept(&rt.copy(path, to), errors)
+}
+
+/// Writes the lines of the journal in a file, or tells its fault, and gives the status with which the program ends.
+pub fn run_dump<H: KeptSessions, W: Write, E: Write>(
+    rt: &H,
+    path: &str,
+    output: &mut Checked<W>,
+    errors: &mut Checked<E>,
+) -> u8
+    requires { is_failed output.old ≡ false }
+    ensures { RunsKept result (is_failed errors.new) (E.contents (inner_of errors.old)) (E.contents (inner_of errors.new)) }
+{
+    end_kept(&rt.dump(path, output), errors)
+}
+
+/// Tells the fault of a session with a journal, or of one that was read, if there is one.
+fn end_kept<E: Write>(answer: &Result<(), KeptFault>, errors: &mut Checked<E>) -> u8
+    ensures { RunsKept result (is_failed errors.new) (E.contents (inner_of errors.old)) (E.contents (inner_of errors.new)) }
+{
+    match answer {
         Ok(()) => 0,
-        Err(KeptFault::Script(fault)) => report(&fault, errors),
-        Err(KeptFault::Journal(fault)) => report_journal(&fault, errors),
+        Err(KeptFault::Script(fault)) => report(fault, errors),
+        Err(KeptFault::Journal(fault)) => report_journal(fault, errors),
     }
 }

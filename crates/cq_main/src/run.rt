@@ -15,7 +15,7 @@ ghost use Rattle.cq_lines.specs.declared.fault.ScriptFault.TheVariants.{NoMemory
 ghost use Rattle.std.specs.declared.io.ErrorKind.TheVariants.{OutOfMemory as NoRoom};
 
 use crate::guide::GUIDE;
-use crate::kept::{KeptSessions, run_journal};
+use crate::kept::{KeptSessions, run_copy, run_dump, run_journal, run_verify};
 use crate::live::run_live;
 use crate::report::report;
 use clap::Error;
@@ -105,6 +105,9 @@ fn carry_out<H: Threads + Wait + Sync + KeptSessions, R: Read, W: Write, E: Writ
         Invocation::Live { size, turns } => run_live(
             rt, alloc, *size, *turns, reader, output, errors,
         ),
+        Invocation::Verify { path } => run_verify(rt, path, output, errors),
+        Invocation::Copy { path, to } => run_copy(rt, path, to, errors),
+        Invocation::Dump { path } => run_dump(rt, path, output, errors),
     }
 }
 

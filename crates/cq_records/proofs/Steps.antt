@@ -28,3 +28,7 @@ module _ (at behind : ℕ) (bytes text : List ℕ) (begins : BeginsWith text (dr
       ap (λ (read : List ℕ). read ++ joined (records (drop behind bytes))) added_is
       ∙ append_assoc texts text (joined (records (drop behind bytes)))
       ∙ ap (λ (rs : List (List ℕ)). texts ++ joined rs) (sym one_read) ∙ so_far
+
+  -- one record more was counted
+  pub one_counted : (count all : ℕ) → count + length (records (drop at bytes)) ≡ all → count + 1 + length (records (drop behind bytes)) ≡ all
+  one_counted count all so_far = omega (arith, so_far, ap length one_read)

@@ -88,15 +88,16 @@ pub fn read_into<D: Device>(
 }
 
 /// Adds the texts of a log's records to a text, one behind the other, from the record at this place on up to the first that
-/// isn't whole. Afterwards the place is behind the last one that was added: after `Damaged`, where the damaged one begins.
-/// It takes memory for all of them. After a fault the text may have some of them.
+/// isn't whole, and gives their number. Afterwards the place is behind the last one that was added: after `Damaged`, where the damaged
+/// one begins. It takes memory for all of them. After a fault the text may have some of them.
 pub fn read_texts<D: Device>(
     alloc: Global,
     device: &mut D,
     at: &mut usize,
     text: &mut Vec<u8>,
-) -> Result<(), ReadFault>
+) -> Result<usize, ReadFault>
     requires { at.old ≤ length (D.seen device.old) }
+    ensures count { IfOk result (λ count. IsTrue (D.is_honest device.new) → count ≡ length (records (drop at.old (D.seen device.old)))) }
     ensures read { OnOk result (IsTrue (D.is_honest device.new) → text.new.items ≡ text.old.items ++ joined (records (drop at.old (D.seen device.old)))) }
     ensures within { at.new ≤ length (D.seen device.old) }
     ensures damaged { IsErrOf result ReadFault.Damaged → IsTrue (D.is_honest device.new) → IsDamaged (drop at.new (D.seen device.old)) }
@@ -109,9 +110,11 @@ pub fn read_texts<D: Device>(
     ensures any_moment { LeavesOnly D.moment D.left_since device.old device.new (D.may_leave device.old) }
     ensures keeps { D.keeps device.old device.new }
 {
+    let mut count = 0;
     while let Some(found) = read_record(alloc, device, *at)? {
         text.extend_from_slice(&found.text)?;
         *at = found.behind;
+        count += 1;
     }
-    Ok(())
+    Ok(count)
 }

@@ -12,3 +12,12 @@ returns-in-Live g c = rw c.in-Live.is c.run_live.ensures
 
 pub returns-in-Kept : goal.returns-in-Kept
 returns-in-Kept g c = rw c.in-Kept.is c.run_journal.ensures
+
+pub returns-in-Verify : goal.returns-in-Verify
+returns-in-Verify g c = rw c.in-Verify.is c.run_verify.ensures
+
+pub returns-in-Copy : goal.returns-in-Copy
+returns-in-Copy g c = rw c.in-Copy.is c.run_copy.ensures
+
+pub returns-in-Dump : goal.returns-in-Dump
+returns-in-Dump g c = rw c.in-Dump.is c.run_dump.ensures

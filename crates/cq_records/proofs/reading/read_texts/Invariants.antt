@@ -1,5 +1,5 @@
 -- The texts of the records before the place have been added.
-use Rattle.std.proofs.Common.{◌≡◌, ◌-◌, ◌≤◌, ◌++◌, List, ℕ, length, drop}
+use Rattle.std.proofs.Common.{◌≡◌, ◌+◌, ◌-◌, ◌≤◌, ◌++◌, List, ℕ, length, drop}
 use Rattle.std.specs.Prelude.{IsTrue, false}
 use Rattle.cq_disk.specs.Device.{LeavesOnly}
 use Rattle.cq_records.specs.Frames.{frames, records, joined, all_sound}
@@ -10,6 +10,8 @@ invariant-loop-found g l = record {
   within : l.at ≤ length (g.D.Device.seen l.device);
   seen : g.D.Device.seen l.device ≡ g.D.Device.seen l.fn.device;
   read : IsTrue (g.D.Device.is_honest l.device) → l.text.items ++ joined (records (drop l.at (g.D.Device.seen l.fn.device))) ≡ l.fn.text.items ++ joined (records (drop l.fn.at (g.D.Device.seen l.fn.device)));
+  few : l.count ≤ l.at;
+  count : IsTrue (g.D.Device.is_honest l.device) → l.count + length (records (drop l.at (g.D.Device.seen l.fn.device))) ≡ length (records (drop l.fn.at (g.D.Device.seen l.fn.device)));
   damaged : IsTrue (g.D.Device.is_honest l.device) → all_sound (frames (drop l.at (g.D.Device.seen l.fn.device))) ≡ false → all_sound (frames (drop l.fn.at (g.D.Device.seen l.fn.device))) ≡ false;
   crash : (c : List ℕ) → g.D.Device.may_leave l.device c → g.D.Device.may_leave l.fn.device c;
   moments : LeavesOnly g.D.Device.moment g.D.Device.left_since l.fn.device l.device (g.D.Device.may_leave l.fn.device);

@@ -1,11 +1,13 @@
 -- One region more was added.
-use Rattle.std.proofs.Common.{◌≡◌, ℕ, ◌+◌, ◌<◌, ◌≤◌, List, ◌++◌, length, take, refl, sym, ◌∙◌, ap, subst, arith, append_assoc}
-use Rattle.std.specs.Prelude.{get_or}
+use Rattle.std.proofs.Common.{◌≡◌, ℕ, ◌+◌, ◌<◌, ◌≤◌, List, ◌++◌, length, take, inr, refl, rules, sym, ◌∙◌, ap, subst, arith, append_assoc}
+use Rattle.std.specs.Prelude.{IsErrOf, get_or}
 use Rattle.cq_disk.specs.Region.{part}
 use Rattle.cq_records.specs.Frames.{records}
+use Rattle.cq_records.specs.declared.fault.LogFault.TheVariants.{Failed, Full}
 use Rattle.cq_journal.specs.Base.{base_records}
 use Rattle.cq_journal.specs.Regions.{records_at}
-use Rattle.cq_journal.proofs.Copies.{get_here, records_next, take_whole, rests_on, rests_self}
+use Rattle.cq_journal.specs.declared.fault.OpenFault.TheVariants.{Full as OpenFull}
+use Rattle.cq_journal.proofs.Copies.{get_here, records_next, take_whole, rests_on, rests_self, stays_journal_on, stays_self}
 use Rattle.cq_journal.proofs.Regions.{append-none, each_at, each_left}
 use Rattle.cq_journal.proofs.journal.Journal.copy_closed.Goals as goal
 
@@ -16,8 +18,8 @@ loop-at-init g c =
     record {
       within = omega arith;
       read = record { closed = refl; growing = refl; len = refl; seen = refl };
-      journal = c.requires.journal;
-      rests = rests_self j (λ f. g.met.D.Device.only_now j.root.log.device.device f) c.requires.journal.regions;
+      journal = stays_self j c.requires.has_regions;
+      rests = rests_self j (λ f. g.met.D.Device.only_now j.root.log.device.device f) c.requires.has_regions;
       there = c.requires.there;
       base = c.requires.base;
       rests_there = rests_self to (λ f. g.met.E.Device.only_now to.root.log.device.device f) c.requires.there.regions;
@@ -60,7 +62,7 @@ loop-at-preserved g c =
     record {
       within = omega (arith, ap (λ v. length v.items) e.read.closed, c.loop-at-test.true, c.len.ensures);
       read = record { closed = closed_is; growing = e.read.growing ∙ inv.read.growing; len = e.read.len ∙ inv.read.len; seen = e.read.seen ∙ inv.read.seen };
-      journal = ok.journal;
+      journal = stays_journal_on j c.loop-at.self c.copy_region.new.self inv.journal ok.journal;
       rests = rests_on j c.loop-at.self c.copy_region.new.self inv.rests e.rests;
       there = widened.journal;
       base = widened.base;
@@ -88,3 +90,22 @@ returns-clause-copied g c = λ honest.
     let inv = c.loop-at.invariant in
     let all : take c.loop-at.at j.closed.items ≡ j.closed.items = take_whole j.closed.items c.loop-at.at (omega (arith, c.len.ensures, c.loop-at-test.false, ap (λ v. length v.items) inv.read.closed)) in
     inv.copied honest ∙ ap (λ (ns : List ℕ). base_records c.args.to.now c.args.base.now ++ records_at j.len ns (g.D.Device.seen j.root.log.device.device)) all
+
+pub returns-in_err-copy_region-clause-full : goal.returns-in_err-copy_region-clause-full
+returns-in_err-copy_region-clause-full g c = λ full.
+    let is : IsErrOf c.copy_region.result OpenFull = search rules in
+    stays_journal_on c.args.self.now c.loop-at.self c.copy_region.new.self c.loop-at.invariant.journal (c.copy_region.ensures.full is)
+
+pub returns-in_err-widen_base-clause-full : goal.returns-in_err-widen_base-clause-full
+returns-in_err-widen_base-clause-full g c = λ _.
+    stays_journal_on c.args.self.now c.loop-at.self c.copy_region.new.self c.loop-at.invariant.journal c.in_ok-copy_region.ensures.journal
+
+pub returns-in_err-widen_base-clause-full_there : goal.returns-in_err-widen_base-clause-full_there
+returns-in_err-widen_base-clause-full_there g c = λ full.
+    let is : IsErrOf c.widen_base.result Full = search rules in
+    (c.widen_base.ensures.full is).0
+
+pub returns-in_err-widen_base-clause-failed : goal.returns-in_err-widen_base-clause-failed
+returns-in_err-widen_base-clause-failed g c = λ failed.
+    let is : IsErrOf c.widen_base.result Failed = search rules in
+    inr (omega (arith, c.loop-at.invariant.rests_there.later, c.copy_region.ensures.rests_there.later, c.widen_base.ensures.failed is))

@@ -1,7 +1,7 @@
 -- The records of the regions before this one were added.
 use Rattle.std.proofs.Common.{◌≡◌, ◌++◌, ◌-◌, ◌≤◌, IsTrue, length, take}
 use Rattle.cq_journal.specs.Base.{IsBase, base_records}
-use Rattle.cq_journal.specs.Journal.{IsJournal, journal_device, region_len}
+use Rattle.cq_journal.specs.Journal.{IsJournal, StaysJournal, journal_device, region_len}
 use Rattle.cq_journal.specs.Regions.{records_at}
 use Rattle.cq_journal.specs.Rests.{Rests}
 use Rattle.cq_journal.specs.within.Reads.{IsRead, closed_places}
@@ -11,7 +11,7 @@ abbrev pub invariant-loop-at : goal.invariant-loop-at
 invariant-loop-at g l = record {
   within : l.at ≤ length (closed_places l.self);
   read : IsRead l.fn.self l.self;
-  journal : IsJournal l.self;
+  journal : StaysJournal l.fn.self l.self;
   rests : Rests l.fn.self l.self;
   there : IsJournal l.to;
   base : IsBase l.to l.base;

@@ -23,11 +23,19 @@ returns-in-Ok-clause-read g c = λ honest.
     ∙ ap (λ (rs : List (List ℕ)). c.args.text.now.items ++ joined rs)
     (ap (λ (n : ℕ). records (part n j.len bytes)) c.place_of-place.ensures.place ∙ sym (region_here j.len (journal_places j) c.args.index bytes below))
 
+pub returns-in-Ok-clause-count : goal.returns-in-Ok-clause-count
+returns-in-Ok-clause-count g c = λ honest.
+    let j = c.args.self.now in
+    let bytes = g.D.Device.seen j.root.log.device.device in
+    let below : c.args.index < length (journal_places j) = omega (arith, c.requires.index, regions_long j.len (journal_places j) bytes) in
+    c.in-Ok.ensures.count honest
+    ∙ (ap (λ (n : ℕ). length (records (part n j.len bytes))) c.place_of-place.ensures.place ∙ ap (λ (rs : List (List ℕ)). length rs) (sym (region_here j.len (journal_places j) c.args.index bytes below)))
+
 pub returns-in-Err-Damaged-clause-refused : goal.returns-in-Err-Damaged-clause-refused
 returns-in-Err-Damaged-clause-refused g c = λ place is honest i.
     let j = c.args.self.now in
     let bytes = g.D.Device.seen j.root.log.device.device in
     let below : c.args.index < length (journal_places j) = omega (arith, c.requires.index, regions_long j.len (journal_places j) bytes) in
     let damaged : IsErrOf c.read_place.result Damaged = search rules in
-    not_both (region_sound j c.requires.journal.regions (c.read_place.ensures.rests.honest honest) i c.args.index below)
+    not_both (region_sound j c.requires.has_regions (c.read_place.ensures.rests.honest honest) i c.args.index below)
     (sym (ap (λ (p : ℕ). all_sound (frames (part p j.len bytes))) c.place_of-place.ensures.place) ∙ c.read_place.ensures.unsound damaged honest)

@@ -50,7 +50,7 @@ loop-index-preserved g c =
     c.in_ok-read_region.ensures.read honest ∙ (λ k. (c.clear.ensures.items k) ++ joined (get_or (i.regions k) at [])) in
     record {
       within = omega (arith, below);
-      journal = subst IsJournal (sym r.same.0) e.journal;
+      journal = subst IsJournal (sym r.same.0) (e.journal.journal i.journal);
       rests = subst (λ it. Rests j it) (sym r.same.0) (rests_on j c.loop-index.self.journal mid i.rests e.rests);
       regions = ap journal_regions r.same.0 ∙ e.regions ∙ i.regions;
       size = r.same.1 ∙ i.size;

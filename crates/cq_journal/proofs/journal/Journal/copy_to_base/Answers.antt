@@ -5,9 +5,9 @@ use Rattle.cq_disk.specs.Region.{part}
 use Rattle.cq_records.specs.Frames.{records}
 use Rattle.cq_journal.specs.Base.{base_records}
 use Rattle.cq_journal.specs.Regions.{records_at}
-use Rattle.cq_journal.proofs.Copies.{rests_on}
+use Rattle.cq_journal.proofs.Copies.{rests_on, stays_journal_on}
 use Rattle.cq_journal.proofs.Regions.{last_of, records_more}
-use Rattle.cq_journal.proofs.journal.Journal.copy_all.Goals as goal
+use Rattle.cq_journal.proofs.journal.Journal.copy_to_base.Goals as goal
 
 on_ok : {T E P Q : Type 0} (r : Result T E) → OnOk r P → (P → Q) → OnOk r Q
 on_ok (Ok x) p step = step p
@@ -40,3 +40,10 @@ returns-clause-copied g c =
     ∙ (λ i. (first.copied (c.copy_region.ensures.rests.honest honest) i) ++ (last_is i))
     ∙ append_assoc before closed last
     ∙ ap (λ (rs : List (List ℕ)). before ++ rs) (sym (records_more j.len j.closed.items j.growing bytes)))
+
+pub returns-clause-journal : goal.returns-clause-journal
+returns-clause-journal g c =
+    on_ok c.copy_region.result c.copy_region.ensures.journal (λ later. stays_journal_on c.args.self.now c.copy_closed.new.self c.copy_region.new.self c.in_ok-copy_closed.ensures.journal later)
+
+pub returns-clause-full : goal.returns-clause-full
+returns-clause-full g c = λ full. stays_journal_on c.args.self.now c.copy_closed.new.self c.copy_region.new.self c.in_ok-copy_closed.ensures.journal (c.copy_region.ensures.full full)
