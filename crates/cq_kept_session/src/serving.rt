@@ -79,7 +79,8 @@ impl<D: Device> KeptSession<D> {
         Ok(())
     }
 
-    /// Takes lines of this class where there is room for them. `false`: there is none, and nothing has changed.
+    /// Takes lines of this class where there is room for them. `false`: there is none, and nothing has changed but that a rewrite is due
+    /// earlier.
     fn take_if_room<W: Sink>(
         &mut self,
         class: LineClass,
@@ -94,6 +95,7 @@ impl<D: Device> KeptSession<D> {
         ensures serves { IfOk result (λ is_taken. Serves self.old self.new (W.contents writer.old) (W.contents writer.new) (if is_taken then as_kept chunk.now else [])) }
     {
         if !self.has_room(class, chunk.len()) {
+            self.schedule.tighten();
             return Ok(false);
         }
         match self.take(chunk, writer) {

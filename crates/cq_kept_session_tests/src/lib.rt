@@ -7,6 +7,8 @@ mod bases;
 #[cfg(test)]
 mod crashes;
 #[cfg(test)]
+mod emptied;
+#[cfg(test)]
 mod openings;
 #[cfg(test)]
 mod rewriting;

@@ -150,7 +150,7 @@ fn a_crash_leaves_the_lines_or_their_base(rt: HostRuntime) -> Result<(), Fail> {
 }
 
 /// The lines of a queue that is made.
-const BEGIN: &[u8] =
+pub(crate) const BEGIN: &[u8] =
     br#"{"op":"arrive","at":1,"clock":1000,"client":1,"number":1,"ask":{"kind":"create","queue":"q.fifo","visibility":30}}
 {"op":"put","from":1,"to":"clients"}
 "#;
@@ -170,7 +170,7 @@ fn round(alloc: Global, number: u64) -> Result<String, AllocError> {
 }
 
 /// Serves these lines.
-fn serve<D: Device>(
+pub(crate) fn serve<D: Device>(
     kept: &mut KeptSession<D>,
     lines: &[u8],
     told: &mut Vec<u8>,

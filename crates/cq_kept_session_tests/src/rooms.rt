@@ -11,10 +11,10 @@ use cq_script::Checked;
 use std::alloc::{AllocError, Global};
 use std::test::Fail;
 
-const LEN: usize = 4_000;
+pub(crate) const LEN: usize = 4_000;
 
 /// Room for three regions: the second one may be gone on in, and the third one is left.
-const WHOLE: usize = 2 * HALF + 3 * LEN;
+pub(crate) const WHOLE: usize = 2 * HALF + 3 * LEN;
 
 /// How many requests of a kind are tried.
 const TRIES: u64 = 200;
@@ -28,10 +28,10 @@ const RECEIVE: &str = r#"{"kind":"receive","queue":"q.fifo","size":1}"#;
 const DELETE: &str = r#"{"kind":"delete","queue":"q.fifo","receipt":"1-1-1"}"#;
 
 /// The line that gives an answer which waits.
-const PUT: &str = "{\"op\":\"put\",\"from\":1,\"to\":\"clients\"}\n";
+pub(crate) const PUT: &str = "{\"op\":\"put\",\"from\":1,\"to\":\"clients\"}\n";
 
 /// How many lines of a text refuse a line for which there is no room.
-fn refusals(text: &[u8]) -> usize {
+pub(crate) fn refusals(text: &[u8]) -> usize {
     text.split(|byte| *byte == b'\n')
         .filter(|line| line.ends_with(br#""name":"NoRoom","refused":70}"#))
         .count()
@@ -65,7 +65,7 @@ fn take_whole<D: Device>(
 }
 
 /// The line of a request.
-fn arrive(alloc: Global, number: u64, ask: &str) -> Result<String, AllocError> {
+pub(crate) fn arrive(alloc: Global, number: u64, ask: &str) -> Result<String, AllocError> {
     format!(in alloc;
         "{{\"op\":\"arrive\",\"at\":1,\"clock\":1000,\"client\":1,\"number\":{number},\"ask\":{ask}}}\n"
     )

@@ -12,6 +12,8 @@ returns-else-header-gt-BYTES_LIMIT c =
     let lines = c.in-Some.lines.now in
     let base = c.in_ok-header-in-Some in
     let P : Type 0 = read (reader_stage c.args.reader) c.args.bytes.now ≡ reader_stage reader in
-    let Q : List ℕ → Type 0 = λ behind. read (reader_stage c.args.reader) c.args.bytes.now ≡ read (whole reader.header reader.store) behind in
-    (tt, some_fed P Q (λ b. b.now) c.in_ok-reader.behind c.in-Some.lines c.in-Some.is c.in_ok-reader.ensures
-    ∙ ap (λ stage. read stage lines) base.ensures ∙ read_lines (Some (base.header, base.store)) [] lines)
+    let Q : List ℕ → Type 0 = λ behind. read (reader_stage c.args.reader) c.args.bytes.now ≡ read (whole reader.header reader.store) behind in (
+      tt,
+      some_fed P Q (λ b. b.now) c.in_ok-reader.behind c.in-Some.lines c.in-Some.is c.in_ok-reader.ensures
+          ∙ ap (λ stage. read stage lines) base.ensures ∙ read_lines (Some (base.header, base.store)) [] lines,
+    )
