@@ -4,7 +4,7 @@ use Rattle.std.proofs.lemmas.Bool.{eqb-true, eq-eqb, false≢true, both_ways, an
 use Rattle.cq_base.proofs.Among.{among-append, among-left, among-right}
 use Rattle.cq_base.specs.declared.party.Party.{Party}
 use Rattle.cq_base.specs.declared.party.Party.TheVariants as parties
-use Rattle.cq_base.specs.Relations.{Among}
+use Rattle.cq_base.specs.Relations.{Among, IsPrefix}
 use Rattle.cq_chain.specs.declared.fault.WorldFault.{WorldFault}
 use Rattle.cq_chain.specs.declared.fault.WorldFault.TheVariants.{LastFull}
 use Rattle.cq_chain.specs.declared.message.Message as rust
@@ -16,7 +16,7 @@ use Rattle.cq_chain.specs.Servers.{first_member, joining}
 use Rattle.cq_chain.specs.Stands.{Means, AllMean, IsFirst}
 use Rattle.cq_events.proofs.Numbers.{in-numbers}
 use Rattle.cq_events.proofs.Parties.{same-true, same-refl}
-use Rattle.cq_events.specs.Actions.{Action, Arrived, Asked, Put, Took, Crashed, Detected, Joined, event_of}
+use Rattle.cq_events.specs.Actions.{Action, Arrived, Asked, Put, Took, Crashed, Detected, Joined, event_of, put_to, taken_from}
 use Rattle.cq_events.specs.Events.{refusal_of, refusal_of_put, refusal_of_take, refusal_of_crash, refusal_of_detect, refusal_at, another_full, after, next, has_party, is_down}
 use Rattle.cq_events.specs.Orders.{of_party, AreEnabled}
 use Rattle.cq_events.specs.Owners.{party_of}
@@ -43,7 +43,7 @@ use Rattle.cq_real_time.proofs.Ordering.{nothing_unknown, to_unknown}
 -- ---- lists
 
 -- where one of a list stands
-among_split : {X : Type 0} (x : X) (xs : List X) → Among x xs → (before behind : List X) × (xs ≡ before ++ (x ∷ behind))
+pub among_split : {X : Type 0} (x : X) (xs : List X) → Among x xs → (before behind : List X) × (xs ≡ before ++ (x ∷ behind))
 among_split x [] h = absurd h
 among_split x (y ∷ xs) (inl e) = ([], xs, ap (λ z. z ∷ xs) (sym e))
 among_split x (y ∷ xs) (inr h) = let rest = among_split x xs h in (y ∷ rest.0, rest.1, ap (λ us. y ∷ us) rest.2)
@@ -91,24 +91,36 @@ put_found from to (events.Join id ∷ es) h = put_behind from to (events.Join id
 
 -- ---- at one moment
 
+-- An order in time, but for what is asked where a server crashes.
+pub record IsTimely (size : ℕ) (actions : Party → List Action) (order : List Event) : Type 0 where
+  pub each : (p : Party) → of_party p order ≡ map (event_of p) (actions p)
+  pub acted : (p : Party) → Acted (first_world size) p (actions p)
+  pub links : (from to : Party) → IsPrefix (taken_from from (actions to)) (put_to to (actions from))
+  pub causes : (from to : Party) (before rest : List Event) → order ≡ before ++ (events.Take from to ∷ rest) → takes_on from to before < puts_on from to before
+  pub detections : (id : ℕ) (before rest : List Event) → order ≡ before ++ (events.Detect id ∷ rest) → Among (events.Crash id) before
+  pub silence : (id : ℕ) (before rest : List Event) (event : Event) → order ≡ before ++ (events.Crash id ∷ rest) → Among event rest → same (parties.Server id) (party_of event) ≡ false
+  pub joins : (id : ℕ) (before rest : List Event) (event : Event) → order ≡ before ++ (event ∷ rest) → same (parties.Server id) (party_of event) ≡ true
+      → (is_in (numbers_from 1 size) id ≡ true) ⊎ Among (events.Join id) before
+
 -- What holds where these events have happened.
-record Now (size : ℕ) (before : List Event) (w : World) (actions : Party → List Action) (link : Party → Party → List rust.Message) : Type 0 where
-  cast : Cast w actions link
-  acted : (q : Party) → Acted w q (actions q)
-  counts : (x y : Party) → same parties.Clients y ≡ false → length (w.link x y) + takes_on x y before ≡ puts_on x y before
-  fell : (id : ℕ) → Among (events.Crash id) before → (w.server id).down ≡ true
-  crashed : (id : ℕ) → (w.server id).down ≡ true → Among (events.Crash id) before
-  used : (id : ℕ) → (is_in (numbers_from 1 size) id ≡ true) ⊎ Among (events.Join id) before → is_in w.master.used id ≡ true
+pub record Now (size : ℕ) (before : List Event) (w : World) (actions : Party → List Action) (link : Party → Party → List rust.Message) : Type 0 where
+  pub cast : Cast w actions link
+  pub acted : (q : Party) → Acted w q (actions q)
+  pub counts : (x y : Party) → same parties.Clients y ≡ false → length (w.link x y) + takes_on x y before ≡ puts_on x y before
+  pub fell : (id : ℕ) → Among (events.Crash id) before → (w.server id).down ≡ true
+  pub crashed : (id : ℕ) → (w.server id).down ≡ true → Among (events.Crash id) before
+  pub used : (id : ℕ) → (is_in (numbers_from 1 size) id ≡ true) ⊎ Among (events.Join id) before → is_in w.master.used id ≡ true
 
 -- The next event isn't refused, finds what it takes, and moves what it puts or takes.
-record Ready (w : World) (p : Party) (d : Action) : Type 0 where
-  free : refusal_of w (event_of p d) ≡ None
-  finds : Finds w p d
-  moves : Moves w (event_of p d)
+pub record Ready (w : World) (p : Party) (d : Action) : Type 0 where
+  pub free : refusal_of w (event_of p d) ≡ None
+  pub finds : Finds w p d
+  pub moves : Moves w (event_of p d)
 
-module _ (size : ℕ) (all : Party → List Action) (order : List Event) (some : 1 ≤ size) (t : IsInTime size all order)
+module _ (size : ℕ) (all : Party → List Action) (order : List Event) (some : 1 ≤ size) (t : IsTimely size all order)
     (before : List Event) (event : Event) (rest : List Event) (split : order ≡ before ++ (event ∷ rest))
-    (actions : Party → List Action) (link : Party → Party → List rust.Message) (now : Now size before (world_after (first_world size) before) actions link) where
+    (actions : Party → List Action) (link : Party → Party → List rust.Message) (now : Now size before (world_after (first_world size) before) actions link)
+    (survives : (id : ℕ) → event ≡ events.Crash id → another_full (world_after (first_world size) before) id ≡ true) where
   abbrev w : World
   w = world_after (first_world size) before
 
@@ -199,7 +211,7 @@ module _ (size : ℕ) (all : Party → List Action) (order : List Event) (some :
   }
 
   -- The next action of a party.
-  ready : (p : Party) (d : Action) (after_it : List Action) → event ≡ event_of p d → party_of event ≡ p → actions p ≡ d ∷ after_it → Ready w p d
+  pub ready : (p : Party) (d : Action) (after_it : List Action) → event ≡ event_of p d → party_of event ≡ p → actions p ≡ d ∷ after_it → Ready w p d
   ready parties.Clients d after_it is own next_is = absurd (cons_nil d after_it (sym next_is ∙ now.acted parties.Clients))
   ready (parties.Server id) (Arrived clock request) after_it is own next_is =
       let self : same (parties.Server id) (party_of event) ≡ true = ap (same (parties.Server id)) own ∙ same-refl (parties.Server id) in
@@ -211,7 +223,7 @@ module _ (size : ℕ) (all : Party → List Action) (order : List Event) (some :
       record { free = refused-ask w id query ∙ at-living w id _ (known id self) (lives id self) ∙ goes.4.1 (w.server id) (w.outbox (parties.Server id)) goes.3; finds = tt; moves = tt }
   ready (parties.Server id) (Crashed count) after_it is own next_is =
       let self : same (parties.Server id) (party_of event) ≡ true = ap (same (parties.Server id)) own ∙ same-refl (parties.Server id) in
-      let other = t.survivors id before rest (split ∙ ap (λ e. before ++ (e ∷ rest)) is) in
+      let other = survives id is in
       record { free = refused-crash w id ∙ at-living w id _ (known id self) (lives id self) ∙ ap (λ (b : Bool). cond b None (Some LastFull)) other; finds = tt; moves = tt }
   ready (parties.Server id) (Put to x) after_it is own next_is =
       let self : same (parties.Server id) (party_of event) ≡ true = ap (same (parties.Server id)) own ∙ same-refl (parties.Server id) in
@@ -313,7 +325,7 @@ module _ (size : ℕ) (all : Party → List Action) (order : List Event) (some :
       | inr new ↦ elim new [ inl e ↦ subst (λ z. is_in (next w z).master.used id ≡ true) e (join_used w id) | inr none ↦ absurd none ]
     ]
 
-    abbrev after_link : Party → Party → List rust.Message
+    abbrev pub after_link : Party → Party → List rust.Message
     after_link = (next_action w actions link p d after_it now.cast next_is r.free).link
 
     now_after : Now size (before ++ event ∷ []) (next w event) (left actions p after_it) after_link
@@ -326,36 +338,20 @@ module _ (size : ℕ) (all : Party → List Action) (order : List Event) (some :
       used = used_after;
     }
 
-    later : Now size (before ++ event ∷ []) (world_after (first_world size) (before ++ event ∷ [])) (left actions p after_it) after_link
+    pub later : Now size (before ++ event ∷ []) (world_after (first_world size) (before ++ event ∷ [])) (left actions p after_it) after_link
     later = subst (λ v. Now size (before ++ event ∷ []) v (left actions p after_it) after_link) (sym world_is) now_after
 
 -- ---- all moments
 
-module _ (size : ℕ) (all : Party → List Action) (order : List Event) (some : 1 ≤ size) (t : IsInTime size all order) where
-  -- what each party has still to do
-  left_each : (actions : Party → List Action) (event : Event) (rest : List Event) (ds : List Action) → ((q : Party) → of_party q (event ∷ rest) ≡ map (event_of q) (actions q))
-      → of_party (party_of event) rest ≡ map (event_of (party_of event)) ds → (q : Party) → of_party q rest ≡ map (event_of q) (left actions (party_of event) ds q)
-  left_each actions event rest ds each own q = go (same q (party_of event)) refl where
-    go : (b : Bool) → same q (party_of event) ≡ b → of_party q rest ≡ map (event_of q) (cond b ds (actions q))
-    go true e = subst (λ p. of_party p rest ≡ map (event_of p) ds) (sym (same-true q (party_of event) e)) own
-    go false e = sym (ap (λ b. cond b (event ∷ of_party q rest) (of_party q rest)) e) ∙ each q
+-- what each party has still to do after the next event
+pub left_each : (actions : Party → List Action) (event : Event) (rest : List Event) (ds : List Action) → ((q : Party) → of_party q (event ∷ rest) ≡ map (event_of q) (actions q))
+    → of_party (party_of event) rest ≡ map (event_of (party_of event)) ds → (q : Party) → of_party q rest ≡ map (event_of q) (left actions (party_of event) ds q)
+left_each actions event rest ds each own q = go (same q (party_of event)) refl where
+  go : (b : Bool) → same q (party_of event) ≡ b → of_party q rest ≡ map (event_of q) (cond b ds (actions q))
+  go true e = subst (λ p. of_party p rest ≡ map (event_of p) ds) (sym (same-true q (party_of event) e)) own
+  go false e = sym (ap (λ b. cond b (event ∷ of_party q rest) (of_party q rest)) e) ∙ each q
 
-  enabled_from : (rest before : List Event) (actions : Party → List Action) (link : Party → Party → List rust.Message) → order ≡ before ++ rest → ((q : Party) → of_party q rest ≡ map (event_of q) (actions q))
-      → Now size before (world_after (first_world size) before) actions link → AreEnabled (world_after (first_world size) before) rest
-  unfolding AreEnabled
-  enabled_from [] before actions link split each now = tt
-  enabled_from (event ∷ rest) before actions link split each now =
-      let p = party_of event in
-      let first = first_action (event_of p) (actions p) event (of_party p rest) (sym (own_events p event rest refl) ∙ each p) in
-      let r = ready size all order some t before event rest split actions link now p first.0 first.1 first.3 refl first.2 in
-      let w = world_after (first_world size) before in (
-        subst (λ e. refusal_of w e ≡ None) (sym first.3) r.free,
-        subst (λ v. AreEnabled v rest) (world-more (first_world size) before event)
-            (enabled_from rest (before ++ event ∷ []) (left actions p first.1) (after_link size all order some t before event rest split actions link now p first.0 first.1 first.3 first.2 r)
-            (split ∙ sym (append_assoc before (event ∷ []) rest)) (left_each actions event rest first.1 each first.4)
-            (later size all order some t before event rest split actions link now p first.0 first.1 first.3 first.2 r)),
-      )
-
+module _ (size : ℕ) (all : Party → List Action) (order : List Event) (t : IsTimely size all order) where
   -- where nothing has happened
   first_down : (id : ℕ) → ((first_world size).server id).down ≡ true → ⊥
   unfolding first_world
@@ -372,7 +368,7 @@ module _ (size : ℕ) (all : Party → List Action) (order : List Event) (some :
   unfolding first_world
   first_used id h = h
 
-  first_now : Now size [] (first_world size) all (λ x y. [])
+  pub first_now : Now size [] (first_world size) all (λ x y. [])
   first_now = record {
     cast = record { lived = λ p. acted_lived (first_world size) p (all p) (t.acted p); means = λ x y. subst (AllMean []) (sym (first_links x y)) tt; law = t.links };
     acted = t.acted;
@@ -382,9 +378,30 @@ module _ (size : ℕ) (all : Party → List Action) (order : List Event) (some :
     used = λ id h. elim h [ inl first ↦ first_used id first | inr none ↦ absurd none ];
   }
 
+module _ (size : ℕ) (all : Party → List Action) (order : List Event) (some : 1 ≤ size) (t : IsInTime size all order) where
+  timely : IsTimely size all order
+  timely = record { each = t.each; acted = t.acted; links = t.links; causes = t.causes; detections = t.detections; silence = t.silence; joins = t.joins }
+
+  enabled_from : (rest before : List Event) (actions : Party → List Action) (link : Party → Party → List rust.Message) → order ≡ before ++ rest → ((q : Party) → of_party q rest ≡ map (event_of q) (actions q))
+      → Now size before (world_after (first_world size) before) actions link → AreEnabled (world_after (first_world size) before) rest
+  unfolding AreEnabled
+  enabled_from [] before actions link split each now = tt
+  enabled_from (event ∷ rest) before actions link split each now =
+      let p = party_of event in
+      let first = first_action (event_of p) (actions p) event (of_party p rest) (sym (own_events p event rest refl) ∙ each p) in
+      let survives = λ (id : ℕ) (is : event ≡ events.Crash id). t.survivors id before rest (split ∙ ap (λ e. before ++ (e ∷ rest)) is) in
+      let r = ready size all order some timely before event rest split actions link now survives p first.0 first.1 first.3 refl first.2 in
+      let w = world_after (first_world size) before in (
+        subst (λ e. refusal_of w e ≡ None) (sym first.3) r.free,
+        subst (λ v. AreEnabled v rest) (world-more (first_world size) before event)
+            (enabled_from rest (before ++ event ∷ []) (left actions p first.1) (after_link size all order some timely before event rest split actions link now survives p first.0 first.1 first.3 first.2 r)
+            (split ∙ sym (append_assoc before (event ∷ []) rest)) (left_each actions event rest first.1 each first.4)
+            (later size all order some timely before event rest split actions link now survives p first.0 first.1 first.3 first.2 r)),
+      )
+
   enabled : AreEnabled (first_world size) order
   unfolding world_after
-  enabled = enabled_from order [] all (λ x y. []) refl t.each first_now
+  enabled = enabled_from order [] all (λ x y. []) refl t.each (first_now size all order timely)
 
 pub orders_in_time_are_runs : OrdersInTimeAreRuns
 orders_in_time_are_runs size all order some t = enabled size all order some t

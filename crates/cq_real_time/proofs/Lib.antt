@@ -3,4 +3,6 @@ pub mod Ordering
 pub mod Acting
 pub mod Counting
 pub mod Enabling
+pub mod Readies
+pub mod ByTheLog
 mod Examples

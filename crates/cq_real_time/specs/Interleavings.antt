@@ -1,15 +1,18 @@
 -- What the parties of a chain did, each by its own core, and one order in time of it all.
-use Rattle.std.specs.Prelude.{◌≡◌, ◌<◌, ◌≤◌, ℕ, ◌+◌, ◌&&◌, List, [], ◌∷◌, ◌++◌, map, true, false, if◌then◌else◌, ◌⊎◌}
+use Rattle.std.specs.Prelude.{◌≡◌, ◌<◌, ◌≤◌, ℕ, ◌+◌, ◌==◌, ◌&&◌, ◌||◌, not, List, [], ◌∷◌, ◌++◌, map, Bool, true, false, if◌then◌else◌, ◌⊎◌}
+use Rattle.std.specs.List.{list_any}
 use Rattle.cq_base.specs.declared.party.Party.{Party}
 use Rattle.cq_base.specs.declared.party.Party.TheVariants as parties
 use Rattle.cq_base.specs.Relations.{Among, IsPrefix}
 use Rattle.cq_chain.specs.declared.master.Master as rust_master
+use Rattle.cq_chain.specs.declared.message.Message as rust
+use Rattle.cq_chain.specs.declared.message.Message.TheVariants as stored
 use Rattle.cq_chain.specs.declared.server.Server as rust_server
-use Rattle.cq_chain.specs.Masters.{Master, numbers_from}
-use Rattle.cq_chain.specs.Messages.{Message}
+use Rattle.cq_chain.specs.Masters.{Master, numbers_from, first_master, detected, joined, hears_from}
+use Rattle.cq_chain.specs.Messages.{Message, Snap, Have, Adopted, Caught, Ready}
 use Rattle.cq_chain.specs.Parties.{same}
 use Rattle.cq_chain.specs.Servers.{Server}
-use Rattle.cq_events.specs.Actions.{Action, CoreState, StandsAs, IsMasterAs, event_of, put_to, taken_from}
+use Rattle.cq_events.specs.Actions.{Action, Took, Detected, Joined, CoreState, StandsAs, IsMasterAs, event_of, put_to, taken_from}
 use Rattle.cq_events.specs.Events.{another_full}
 use Rattle.cq_events.specs.Orders.{of_party, AreEnabled}
 use Rattle.cq_events.specs.Owners.{party_of}
@@ -78,3 +81,68 @@ pub record IsInTime (size : ℕ) (actions : Party → List Action) (order : List
 -- In an order in time each event is enabled: it is a run of the world.
 abbrev pub OrdersInTimeAreRuns : Type 0
 OrdersInTimeAreRuns = (size : ℕ) (actions : Party → List Action) (order : List Event) → 1 ≤ size → IsInTime size actions order → AreEnabled (first_world size) order
+
+-- ---- the master's log
+
+-- what the master hears of a message as it is kept; all that it ignores is one to it
+abbrev pub heard : rust.Message → Message
+heard (stored.Have pred count) = Have pred count
+heard (stored.Adopted succ count) = Adopted succ count
+heard (stored.Caught pred count) = Caught pred count
+heard stored.Ready = Ready
+heard x = Snap []
+
+-- what the master knows after one more action
+abbrev pub learned : Master → Action → Master
+learned m (Took from x) = (hears_from from (heard x) m).master
+learned m (Detected id) = (detected id m).master
+learned m (Joined id) = (joined id m).master
+learned m action = m
+
+-- and after several
+abbrev pub knows : Master → List Action → Master
+knows m [] = m
+knows m (action ∷ log) = knows (learned m action) log
+
+-- the message says that its sender acts
+abbrev pub is_ready : rust.Message → Bool
+is_ready stored.Ready = true
+is_ready x = false
+
+-- the master takes such a message of that server
+abbrev pub takes_ready : ℕ → Action → Bool
+takes_ready id (Took from x) = same from (parties.Server id) && is_ready x
+takes_ready id action = false
+
+-- By what the master did so far a server is full: it is of the first chain, or its Ready was taken.
+abbrev pub full_by_log : ℕ → List Action → ℕ → Bool
+full_by_log size log id = is_in (numbers_from 1 size) id || list_any (takes_ready id) log
+
+-- another member is
+abbrev pub another_full_by_log : ℕ → List Action → ℕ → Bool
+another_full_by_log size log id = list_any (λ other. not (other == id) && full_by_log size log other) (knows (first_master size) log).chain
+
+-- One order in time in which servers crash as the master's log says: a server crashes when it is detected, and a crash that
+-- isn't detected is no event.
+pub record IsByTheLog (size : ℕ) (actions : Party → List Action) (order : List Event) : Type 0 where
+  -- the events of each party are what it did, by its own core
+  pub each : (p : Party) → of_party p order ≡ map (event_of p) (actions p)
+  pub acted : (p : Party) → Acted (first_world size) p (actions p)
+  -- what was taken from a link is what was put on it, in order, and each message was put before it was taken
+  pub links : (from to : Party) → IsPrefix (taken_from from (actions to)) (put_to to (actions from))
+  pub causes : (from to : Party) (before rest : List Event) → order ≡ before ++ (events.Take from to ∷ rest) → takes_on from to before < puts_on from to before
+  -- a detection comes behind the crash of that server, each crash stands just before a detection, and nothing of a server
+  -- comes behind its detection
+  pub detections : (id : ℕ) (before rest : List Event) → order ≡ before ++ (events.Detect id ∷ rest) → Among (events.Crash id) before
+  pub crashes : (id : ℕ) (before rest : List Event) → order ≡ before ++ (events.Crash id ∷ rest) → (later : List Event) × (rest ≡ events.Detect id ∷ later)
+  pub silence : (id : ℕ) (before rest : List Event) (event : Event) → order ≡ before ++ (events.Detect id ∷ rest) → Among event rest → same (parties.Server id) (party_of event) ≡ false
+  -- where the master detects a server, another member is full by what the master did before
+  pub others : (id : ℕ) (log rest : List Action) → actions parties.Master ≡ log ++ (Detected id ∷ rest) → another_full_by_log size log id ≡ true
+  -- what a server does that is none of the first chain comes behind its join
+  pub joins : (id : ℕ) (before rest : List Event) (event : Event) → order ≡ before ++ (event ∷ rest) → same (parties.Server id) (party_of event) ≡ true
+      → (is_in (numbers_from 1 size) id ≡ true) ⊎ Among (events.Join id) before
+
+-- An order by the log is one in time, and so a run of the world.
+abbrev pub OrdersByTheLogAreRuns : Type 0
+OrdersByTheLogAreRuns = (size : ℕ) (actions : Party → List Action) (order : List Event) → 1 ≤ size → IsByTheLog size actions order
+    → IsInTime size actions order × AreEnabled (first_world size) order

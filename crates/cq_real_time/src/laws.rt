@@ -1,6 +1,6 @@
 //! Laws of orders in time. A function here does nothing: its contract is a law, which is proved with it.
 ghost use Rattle.cq_real_time.specs.Laws.{NothingGoesToUnknownServers};
-ghost use Rattle.cq_real_time.specs.Interleavings.{OrdersInTimeAreRuns};
+ghost use Rattle.cq_real_time.specs.Interleavings.{OrdersInTimeAreRuns, OrdersByTheLogAreRuns};
 
 /// Nothing waits for a server that never joined and was no member of the first chain, and nothing stands in a link to it.
 pub fn nothing_goes_to_unknown_servers()
@@ -13,4 +13,12 @@ pub fn nothing_goes_to_unknown_servers()
 /// is enabled: so it is a run of the world, and the laws of the chain hold of it.
 pub fn orders_in_time_are_runs()
     ensures { OrdersInTimeAreRuns }
+{}
+
+/// That another server is full and lives where one crashes can be read off what the master did: it detects a server only
+/// where another member is of the first chain, or the master has taken its Ready. Where each crash is placed just before its
+/// detection, one that is never detected is left out, and nothing of a server comes behind its detection, the order is one in
+/// time, and so a run of the world.
+pub fn orders_by_the_log_are_runs()
+    ensures { OrdersByTheLogAreRuns }
 {}
