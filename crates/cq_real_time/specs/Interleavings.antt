@@ -84,7 +84,7 @@ OrdersInTimeAreRuns = (size : ℕ) (actions : Party → List Action) (order : Li
 
 -- ---- the master's log
 
--- what the master hears of a message as it is kept; all that it ignores is one to it
+-- what the master hears of a message as it is kept: it ignores all but four kinds, as it does an empty snapshot
 abbrev pub heard : rust.Message → Message
 heard (stored.Have pred count) = Have pred count
 heard (stored.Adopted succ count) = Adopted succ count

@@ -15,10 +15,10 @@ pub fn orders_in_time_are_runs()
     ensures { OrdersInTimeAreRuns }
 {}
 
-/// That another server is full and lives where one crashes can be read off what the master did: it detects a server only
-/// where another member is of the first chain, or the master has taken its Ready. Where each crash is placed just before its
-/// detection, one that is never detected is left out, and nothing of a server comes behind its detection, the order is one in
-/// time, and so a run of the world.
+/// That another server is full and lives where one crashes can be read off what the master did. Take such an order, but in
+/// place of that rule each crash stands just before its detection, nothing of a server comes behind its detection, and the
+/// master detects a server only where another member is of the first chain, or the master has taken its Ready. It is an order
+/// in time, and so a run of the world.
 pub fn orders_by_the_log_are_runs()
     ensures { OrdersByTheLogAreRuns }
 {}
